@@ -1,0 +1,106 @@
+-- The points of one race before redress (RRS A4, A5, A6, A7, 30.2, 44.3). Points are tenths, but for what is said to be whole points.
+use Rattle.std.specs.Prelude.{ℕ, ◌+◌, ◌-◌, ◌*◌, ◌/◌, min, max, Bool, true, false, List, [], length, map, sum_by, count_by, find, unwrap_or, Option, Some, None, is_none, nat_eq, slice_index_or}
+use Rattle.std.specs.List.{range_with_len, before_first}
+use Rattle.regatta_terms.specs.Rules.{RulesParts}
+use Rattle.regatta_terms.specs.declared.rules.Absent.{Absent}
+use Rattle.regatta_terms.specs.declared.rules.Absent.TheVariants.{A52, A53}
+use Rattle.regatta_terms.specs.declared.command.Code.{Code}
+use Rattle.regatta_terms.specs.declared.command.Code.TheVariants.{Dnc}
+use Rattle.regatta_terms.specs.declared.sail.Sail.{Sail}
+use Rattle.regatta_scores.specs.declared.sheet.Held.{Held}
+use Rattle.regatta_scores.specs.declared.sheet.Status.{Status}
+use Rattle.regatta_scores.specs.declared.sheet.Status.TheVariants.{Finished, Coded}
+use Rattle.regatta_scores.specs.Order.{in_group, in_order}
+use Rattle.regatta_scores.specs.Sheet.{Sheet, boats, nothing_held}
+use Rattle.regatta_scores.specs.Journal.{Journal, entered, order, held}
+
+-- one race: the boats entered in the series, the finishing order, and what each boat holds
+pub record Race (B : Type 0) : Type 0 where
+  pub entered : List B
+  pub order : List (List B)
+  pub held : B → Held
+
+-- her code if she has one; else she finished if she stands in the order; else she did not come (A5)
+abbrev pub status_by : Option Code → Bool → Status
+status_by (Some code) placed = Coded code
+status_by None true = Finished
+status_by None false = Coded Dnc
+
+-- every boat whose status isn't DNC came to the starting area
+abbrev pub came : Status → Bool
+came (Coded Dnc) = false
+came _ = true
+
+-- points for place p shared by k boats, in tenths (A4, A7)
+abbrev pub shared_points : ℕ → ℕ → ℕ
+shared_points p k = 10 * p + 5 * (k - 1)
+
+-- 20% of the race's DNF score, to the nearest whole point, 0.5 upward (44.3(c)); whole points
+abbrev pub twenty_percent : ℕ → ℕ
+twenty_percent dnf = (2 * dnf + 5) / 10
+
+-- what the penalties of a boat add, in whole points (30.2, 44.3(c))
+abbrev pub penalty_points : RulesParts → ℕ → Held → ℕ
+penalty_points rules dnf held = held.zfp * twenty_percent dnf + held.scp * unwrap_or rules.scp (twenty_percent dnf)
+
+-- a score made worse by penalties, to the DNF score at most; a score at or above that stays (44.3(c))
+abbrev pub penalised : ℕ → ℕ → ℕ → ℕ
+penalised base penalty dnf = max base (min (base + 10 * penalty) (10 * dnf))
+
+-- how many boats of a group of the order finished: a boat with a code is taken out of the finishing order (A6.1)
+abbrev pub finishers : {B : Type 0} → Race B → List B → ℕ
+finishers race group = count_by (λ boat. is_none (race.held boat).code) group
+
+module _ {B : Type 0} (same : B → B → Bool) where
+  abbrev pub status : Race B → B → Status
+  status race boat = status_by (race.held boat).code (in_order same boat race.order)
+
+  -- the groups ahead of hers, and hers
+  abbrev pub groups_ahead : Race B → B → List (List B)
+  groups_ahead race boat = before_first (in_group same boat) race.order
+
+  abbrev pub her_group : Race B → B → List B
+  her_group race boat = unwrap_or (find (in_group same boat) race.order) []
+
+  -- her place: one more than the number of boats that finished in the groups ahead of hers (A4, A6.1)
+  abbrev pub place : Race B → B → ℕ
+  place race boat = 1 + sum_by (finishers race) (groups_ahead race boat)
+
+  -- the number of boats that finished in her group, which share her place (A7)
+  abbrev pub sharing : Race B → B → ℕ
+  sharing race boat = finishers race (her_group race boat)
+
+  -- the race's DNF score in whole points: one more than the boats entered (A5.2), or than those that came to the starting area (A5.3)
+  abbrev pub dnf_by : Absent → Race B → ℕ
+  dnf_by A52 race = length race.entered + 1
+  dnf_by A53 race = count_by (λ boat. came (status race boat)) race.entered + 1
+
+  abbrev pub dnf : RulesParts → Race B → ℕ
+  dnf rules race = dnf_by rules.absent race
+
+  -- the score for her place or her code (A4, A5, A7)
+  abbrev pub base_by : Status → RulesParts → Race B → B → ℕ
+  base_by Finished rules race boat = shared_points (place race boat) (sharing race boat)
+  base_by (Coded Dnc) rules race boat = 10 * (length race.entered + 1)
+  base_by (Coded code) rules race boat = 10 * dnf rules race
+
+  abbrev pub base : RulesParts → Race B → B → ℕ
+  base rules race boat = base_by (status race boat) rules race boat
+
+  -- her score before redress
+  abbrev pub plain : RulesParts → Race B → B → ℕ
+  plain rules race boat = penalised (base rules race boat) (penalty_points rules (dnf rules race) (race.held boat)) (dnf rules race)
+
+-- ---- the race on a sheet, and in the journal
+
+-- on a sheet the boats are numbers, their places in the entry list
+abbrev pub race_of : List (List ℕ) → List Held → Race ℕ
+race_of order held = record { entered = range_with_len 0 (length held); order = order; held = λ boat. slice_index_or held boat nothing_held }
+
+-- the points of each boat on the sheet, before redress
+abbrev pub race_points : RulesParts → Sheet → List ℕ
+race_points rules sheet = map (plain nat_eq rules (race_of sheet.order sheet.held)) (range_with_len 0 (boats sheet))
+
+-- the race in the journal
+abbrev pub journal_race : Journal → ℕ → Race Sail
+journal_race journal race = record { entered = entered journal; order = order journal race; held = held journal race }

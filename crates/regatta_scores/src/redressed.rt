@@ -1,0 +1,121 @@
+//! Points with redress.
+ghost use Rattle.std.specs.Prelude.{◌≡◌, ◌+◌, ◌*◌, ◌<◌, ◌≤◌, ◌++◌, length, take, remove, IfOk, if◌then◌else◌};
+ghost use Rattle.regatta_scores.specs.Averages.{has_average, own_points, average, average_or, counted, total, average_over, redressed, points};
+
+use crate::boats::RowItem;
+use crate::items::Items;
+use crate::points::tenths;
+use regatta_terms::{Redress, Tenths};
+use std::alloc::{AllocError, Global};
+
+/// Whether she has an average as redress.
+fn has_average(redress: Option<Redress>) -> bool
+    ensures { result ≡ has_average redress }
+{
+    matches!(redress, Some(Redress::AllRaces | Redress::RacesBefore))
+}
+
+/// Her points in a race where she has no average.
+fn own_points(item: &RowItem) -> u16
+    ensures { result ≡ own_points item.now item.now.redress }
+{
+    match item.redress {
+        Some(Redress::Points(award)) => award.get() as u16,
+        _ => item.plain.get() as u16,
+    }
+}
+
+#[tactic(auto, using(crate::proofs::Counted::number_more))]
+/// How many races an average counts.
+fn number_counted(items: &[RowItem]) -> u32
+    requires { length items.now ≤ 40 }
+    ensures value { result ≡ length (counted items.now) }
+    ensures bound { result ≤ length items.now }
+{
+    let mut number = 0;
+    for item in items {
+        number += if has_average(item.redress) { 0 } else { 1 };
+    }
+    number
+}
+
+#[tactic(auto, using(crate::proofs::Counted::number_more, crate::proofs::Counted::total_more))]
+/// Her points in the races that an average counts.
+fn total_counted(items: &[RowItem]) -> u32
+    requires { length items.now ≤ 40 }
+    ensures value { result ≡ total (counted items.now) }
+    ensures bound { result ≤ 65535 * length (counted items.now) }
+{
+    let mut total = 0;
+    for item in items {
+        total += if has_average(item.redress) {
+            0
+        } else {
+            u32::from(own_points(item))
+        };
+    }
+    total
+}
+
+#[tactic(auto, using(crate::proofs::Counted::average_small))]
+/// The average of some points, to the nearest tenth.
+fn average(number: u32, sum: u32) -> u16
+    requires some { 0 < number }
+    requires few { number ≤ 80 }
+    requires small { sum ≤ 65535 * number }
+    ensures { result ≡ average number sum }
+{
+    ((2 * sum + number) / (2 * number)) as u16
+}
+
+/// The average, or her score without redress where no race is counted.
+fn average_or(plain: u16, number: u32, sum: u32) -> u16
+    requires few { number ≤ 80 }
+    requires small { sum ≤ 65535 * number }
+    ensures { result ≡ average_or plain number sum }
+{
+    if number == 0 {
+        plain
+    } else {
+        average(number, sum)
+    }
+}
+
+/// Her average over the races before and after.
+#[tactic(auto, using(crate::proofs::Counted::number_parts, crate::proofs::Counted::total_parts))]
+fn average_over(before: &[RowItem], after: &[RowItem], plain: u16) -> u16
+    requires before { length before.now ≤ 40 }
+    requires after { length after.now ≤ 40 }
+    ensures { result ≡ average_over (before.now ++ after.now) plain }
+{
+    let number = number_counted(before) + number_counted(after);
+    let sum = total_counted(before) + total_counted(after);
+    average_or(plain, number, sum)
+}
+
+/// Her points in race `i`.
+fn redressed(row: &[RowItem], i: usize, item: &RowItem) -> u16
+    requires few { length row.now ≤ 40 }
+    requires i { i < length row.now }
+    ensures { result ≡ redressed row.now i item.now item.now.redress }
+{
+    let plain = item.plain.get() as u16;
+    match item.redress {
+        None => plain,
+        Some(Redress::Points(award)) => award.get() as u16,
+        Some(Redress::AllRaces) => average_over(&row[..i], &row[i + 1..], plain),
+        Some(Redress::RacesBefore) => average_over(&row[..i], &[], plain),
+    }
+}
+
+/// One boat's points with redress, over the scored races in order.
+pub fn averages(alloc: Global, row: &[RowItem]) -> Result<Items<Tenths>, AllocError>
+    requires { length row.now ≤ 40 }
+    ensures { IfOk result (λ found. found ≡ points row.now) }
+{
+    let mut found = Vec::new(alloc);
+    for (i, item) in row.iter().enumerate() {
+        found.push(tenths(redressed(row, i, item)))?;
+    }
+    Ok(Items::new(found))
+}

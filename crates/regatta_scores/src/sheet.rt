@@ -1,0 +1,215 @@
+//! One race: who finished in which order, and what each boat holds.
+ghost use Rattle.std.specs.Prelude.{◌≡◌, ◌<◌, ◌≤◌, ◌↔◌, [], nat_eq, slice_get, Some, IsTrue, IfOk};
+ghost use Rattle.regatta_scores.specs.Sheet.{boats, empty_sheet};
+ghost use Rattle.regatta_scores.specs.Order.{in_order};
+ghost use Rattle.regatta_scores.specs.SheetFacts.{IsSheet, IsPlaced, IsUnplaced, Allows};
+ghost use Rattle.regatta_scores.specs.Changes.{after};
+ghost use Rattle.regatta_scores.specs.declared.sheet.Change.TheVariants.{AddBoat, Last, Join, Ahead, Out, Hold as Holds};
+
+use crate::items::Items;
+use crate::orders;
+use regatta_terms::{Code, Redress};
+use std::alloc::{AllocError, Global};
+use std::marker::Model;
+
+/// What a boat holds in one race.
+#[derive(Clone, Copy, Debug, PartialEq, Eq)]
+pub struct Held {
+    pub code: Option<Code>,
+    pub zfp: u8,
+    pub scp: u8,
+    pub redress: Option<Redress>,
+}
+
+/// Nothing is held.
+pub const NOTHING: Held = Held {
+    code: None,
+    zfp: 0,
+    scp: 0,
+    redress: None,
+};
+
+/// A boat finished, or is scored by a code.
+#[derive(Clone, Copy, Debug, PartialEq, Eq)]
+pub enum Status {
+    Finished,
+    Coded(Code),
+}
+
+/// One race. Boats are numbers, their places in the entry list.
+#[derive(Drop)]
+pub struct RaceSheet {
+    order: Vec<Items<u16>>,
+    held: Vec<Held>,
+}
+
+impl Model for RaceSheet {
+    ghost use Rattle.regatta_scores.specs.Sheet.{Sheet};
+
+    ghost Value = { Sheet };
+
+    ghost view = { λ s. record { order = s.order.items; held = s.held.items } };
+
+    ghost use Rattle.regatta_scores.specs.SheetFacts.{IsSheet};
+
+    ghost invariant = { λ s. IsSheet s.order.items s.held.items };
+}
+
+impl RaceSheet {
+    /// A sheet on which nobody is placed and nothing is held.
+    #[tactic(auto, using(crate::proofs::Fresh::fresh_sheet))]
+    pub fn new(alloc: Global, boats: u16) -> Result<RaceSheet, AllocError>
+        requires { boats ≤ 200 }
+        ensures { IfOk result (λ sheet. sheet ≡ empty_sheet boats) }
+    {
+        Ok(RaceSheet {
+            order: Vec::new(alloc),
+            held: vec![in alloc; NOTHING; boats as usize]?,
+        })
+    }
+
+    /// Whether the boat stands in the order.
+    pub fn placed(&self, boat: u16) -> bool
+        requires { boat < boats self.now }
+        ensures { result ≡ in_order nat_eq boat self.now.order }
+    {
+        self.order
+            .iter()
+            .any(|group| group.as_slice().contains(&boat))
+    }
+
+    /// What the boat holds.
+    pub fn held(&self, boat: u16) -> Held
+        requires { boat < boats self.now }
+        ensures value { slice_get self.now.held boat ≡ Some result }
+        ensures few { (result.zfp ≤ 9) × (result.scp ≤ 9) }
+    {
+        self.held[boat as usize]
+    }
+
+    /// Whether nobody is in the order.
+    pub fn is_empty(&self) -> bool
+        ensures { IsTrue result ↔ (self.now.order ≡ []) }
+    {
+        self.order.is_empty()
+    }
+
+    /// The sheet after a change.
+    pub fn after(&self, alloc: Global, change: Change) -> Result<RaceSheet, AllocError>
+        requires { Allows self.now change }
+        ensures { IfOk result (λ sheet. sheet ≡ after self.now change) }
+    {
+        match change {
+            Change::AddBoat => self.with_boat(alloc),
+            Change::Last { boat } => self.with_last(alloc, boat),
+            Change::Join { boat, other } => self.joined(alloc, boat, other),
+            Change::Ahead { boat, other } => self.with_ahead(alloc, boat, other),
+            Change::Out { boat } => self.without(alloc, boat),
+            Change::Hold { boat, held } => self.with_held(alloc, boat, held),
+        }
+    }
+
+    /// A copy of the sheet.
+    #[tactic(auto, using(crate::proofs::Sheets::copied_sheet))]
+    pub fn copied(&self, alloc: Global) -> Result<RaceSheet, AllocError>
+        ensures { IfOk result (λ sheet. sheet ≡ self.now) }
+    {
+        let order = orders::copied_order(alloc, &self.order)?;
+        let held = Vec::from_slice(alloc, &self.held)?;
+        Ok(RaceSheet { order, held })
+    }
+
+    /// The sheet with one more boat.
+    #[tactic(auto, using(crate::proofs::Sheets::more_sheet))]
+    fn with_boat(&self, alloc: Global) -> Result<RaceSheet, AllocError>
+        requires { Allows self.now AddBoat }
+        ensures { IfOk result (λ sheet. sheet ≡ after self.now AddBoat) }
+    {
+        let order = orders::copied_order(alloc, &self.order)?;
+        let mut held = Vec::from_slice(alloc, &self.held)?;
+        held.push(NOTHING)?;
+        Ok(RaceSheet { order, held })
+    }
+
+    /// The sheet with the boat in a group of her own, last.
+    #[tactic(auto, using(crate::proofs::Sheets::last_sheet))]
+    fn with_last(&self, alloc: Global, boat: u16) -> Result<RaceSheet, AllocError>
+        requires { Allows self.now (Last boat) }
+        ensures { IfOk result (λ sheet. sheet ≡ after self.now (Last boat)) }
+    {
+        let order = orders::with_last(alloc, &self.order, boat)?;
+        let held = Vec::from_slice(alloc, &self.held)?;
+        Ok(RaceSheet { order, held })
+    }
+
+    /// The sheet with the boat in the group of the other.
+    #[tactic(auto, using(crate::proofs::Sheets::joined_sheet))]
+    fn joined(&self, alloc: Global, boat: u16, other: u16) -> Result<RaceSheet, AllocError>
+        requires { Allows self.now (Join boat other) }
+        ensures { IfOk result (λ sheet. sheet ≡ after self.now (Join boat other)) }
+    {
+        let order = orders::joined(alloc, &self.order, boat, other)?;
+        let held = Vec::from_slice(alloc, &self.held)?;
+        Ok(RaceSheet { order, held })
+    }
+
+    /// The sheet with the boat directly ahead of the other's group.
+    #[tactic(auto, using(crate::proofs::Sheets::ahead_sheet))]
+    fn with_ahead(&self, alloc: Global, boat: u16, other: u16) -> Result<RaceSheet, AllocError>
+        requires { Allows self.now (Ahead boat other) }
+        ensures { IfOk result (λ sheet. sheet ≡ after self.now (Ahead boat other)) }
+    {
+        let order = orders::with_ahead(alloc, &self.order, boat, other)?;
+        let held = Vec::from_slice(alloc, &self.held)?;
+        Ok(RaceSheet { order, held })
+    }
+
+    /// The sheet without the boat in the order.
+    #[tactic(auto, using(crate::proofs::Sheets::without_sheet))]
+    fn without(&self, alloc: Global, boat: u16) -> Result<RaceSheet, AllocError>
+        requires { Allows self.now (Out boat) }
+        ensures { IfOk result (λ sheet. sheet ≡ after self.now (Out boat)) }
+    {
+        let order = orders::without(alloc, &self.order, boat)?;
+        let held = Vec::from_slice(alloc, &self.held)?;
+        Ok(RaceSheet { order, held })
+    }
+
+    /// The sheet on which the boat holds this.
+    #[tactic(auto, using(crate::proofs::Sheets::held_sheet))]
+    fn with_held(&self, alloc: Global, boat: u16, now: Held) -> Result<RaceSheet, AllocError>
+        requires { Allows self.now (Holds boat now) }
+        ensures { IfOk result (λ sheet. sheet ≡ after self.now (Holds boat now)) }
+    {
+        let order = orders::copied_order(alloc, &self.order)?;
+        let mut held = Vec::from_slice(alloc, &self.held)?;
+        held[boat as usize] = now;
+        Ok(RaceSheet { order, held })
+    }
+
+    /// The finishing order.
+    pub(crate) fn order(&self) -> &[Items<u16>]
+        ensures value { result.now ≡ self.now.order }
+        ensures sheet { IsSheet self.now.order self.now.held }
+    {
+        &self.order
+    }
+
+    /// What each boat holds.
+    pub(crate) fn all_held(&self) -> &[Held]
+        ensures { result.now ≡ self.now.held }
+    {
+        &self.held
+    }
+}
+
+/// One change of a sheet.
+#[derive(Clone, Copy, Debug, PartialEq, Eq)]
+pub enum Change {
+    AddBoat,
+    Last { boat: u16 },
+    Join { boat: u16, other: u16 },
+    Ahead { boat: u16, other: u16 },
+    Out { boat: u16 },
+    Hold { boat: u16, held: Held },
+}
