@@ -10,7 +10,7 @@ use Rattle.regatta_terms.specs.declared.command.Command.{Command}
 use Rattle.regatta_terms.specs.declared.command.Command.TheVariants.{Enter, Finish, Tie, Before, Strike, Mark, Penalise, Redress, Clear, Score, Unscore}
 use Rattle.regatta_scores.specs.Journal.{Journal, same_sail, names_race, sail_entered, commands, entered, race_commands, order_by, held_by, standing_decisions}
 use Rattle.regatta_scores.specs.RacePoints.{Race, journal_race, status, dnf, plain}
-use Rattle.regatta_scores.specs.Laws.{SaysTheSame, RacesAreApart}
+use Rattle.regatta_scores.specs.RaceLaws.{SaysTheSame, RacesAreApart}
 
 no_other : (race other r : ℕ) (b : Bool) → nat_eq race r ≡ true → other ≢ race → nat_eq other r ≡ b → b ≡ false
 no_other race other r false one apart e = refl

@@ -13,9 +13,9 @@ use Rattle.regatta_terms.specs.declared.command.Command.TheVariants.{Mark}
 use Rattle.regatta_scores.specs.declared.sheet.Held.{Held}
 use Rattle.regatta_scores.specs.declared.sheet.Status.TheVariants.{Finished}
 use Rattle.regatta_scores.specs.Order.{in_group}
-use Rattle.regatta_scores.specs.Journal.{Journal, same_sail, race_commands, order, order_by, order_after, held, held_by, decides, is_clear, code_marked, last_of}
+use Rattle.regatta_scores.specs.Journal.{Journal, same_sail, race_commands, order, order_by, order_after, held, held_by, decides, is_clear, code_marked, last_item}
 use Rattle.regatta_scores.specs.RacePoints.{journal_race, status, status_by, finishers, groups_ahead, her_group}
-use Rattle.regatta_scores.specs.Laws.{CodedBoatsLeaveTheOrder}
+use Rattle.regatta_scores.specs.RaceLaws.{CodedBoatsLeaveTheOrder}
 use Rattle.regatta_scores.proofs.Apart.{race_commands_more}
 use Rattle.regatta_scores.proofs.Counts.{count_split, sum_split, count_one, sum_one, found_le}
 
@@ -50,7 +50,7 @@ module _ (journal : Journal) (entry : EntryParts) (race : ℕ) (coded : Sail) (c
   code_given boat e =
       let ds = filter (decides boat) (race_commands journal race) in
       let now : after_last is_clear (filter (decides boat) (race_commands (journal ++ entry ∷ []) race)) ≡ after_last is_clear ds ++ Mark race coded code ∷ [] = ap (after_last is_clear) (decisions_by boat true e) ∙ after_last_push is_clear ds (Mark race coded code) refl in
-      ap (λ cs. last_of (filter_map code_marked cs)) now ∙ ap last_of (filter_map-append code_marked (after_last is_clear ds) (Mark race coded code ∷ [])) ∙ last_push None (filter_map code_marked (after_last is_clear ds)) code
+      ap (λ cs. last_item (filter_map code_marked cs)) now ∙ ap last_item (filter_map-append code_marked (after_last is_clear ds) (Mark race coded code ∷ [])) ∙ last_push None (filter_map code_marked (after_last is_clear ds)) code
 
 finished_codeless : (o : Option Code) (placed : Bool) → status_by o placed ≡ Finished → o ≡ None
 finished_codeless None placed e = refl

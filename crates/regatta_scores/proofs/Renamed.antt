@@ -10,7 +10,7 @@ use Rattle.regatta_terms.specs.declared.command.Code.TheVariants as code
 use Rattle.regatta_scores.specs.declared.sheet.Held.{Held}
 use Rattle.regatta_scores.specs.declared.sheet.Status.{Status}
 use Rattle.regatta_scores.specs.declared.sheet.Status.TheVariants.{Finished, Coded}
-use Rattle.regatta_scores.specs.Order.{in_group, in_order}
+use Rattle.regatta_scores.specs.Order.{in_group, stands_in}
 use Rattle.regatta_scores.specs.RacePoints.{Race, status, status_by, came, finishers, groups_ahead, her_group, place, sharing, dnf, dnf_by, base, base_by, plain, penalised, penalty_points, shared_points}
 use Rattle.regatta_scores.specs.Renaming.{IsRenamed}
 use Rattle.regatta_scores.proofs.Counts.{count_cons}
@@ -55,8 +55,8 @@ module _ {B C : Type 0} (same_b : B → B → Bool) (same_c : C → C → Bool) 
   group_same : (boat : B) → Known boat → (group : List B) → in_group same_c (name boat) (map name group) ≡ in_group same_b boat group
   group_same boat known group = list_any_map name (λ o. same_c o (name boat)) (λ o. same_b o boat) (λ x. r.tells x boat known) group
 
-  pub order_same : (boat : B) → Known boat → in_order same_c (name boat) renamed.order ≡ in_order same_b boat race.order
-  order_same boat known = ap (in_order same_c (name boat)) r.finish ∙ list_any_map (map name) (in_group same_c (name boat)) (in_group same_b boat) (group_same boat known) race.order
+  pub order_same : (boat : B) → Known boat → stands_in same_c (name boat) renamed.order ≡ stands_in same_b boat race.order
+  order_same boat known = ap (stands_in same_c (name boat)) r.finish ∙ list_any_map (map name) (in_group same_c (name boat)) (in_group same_b boat) (group_same boat known) race.order
 
   status_same : (boat : B) → Known boat → status same_c renamed (name boat) ≡ status same_b race boat
   status_same boat known i = status_by (r.holds boat i).code (order_same boat known i)

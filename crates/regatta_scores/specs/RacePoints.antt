@@ -10,7 +10,7 @@ use Rattle.regatta_terms.specs.declared.sail.Sail.{Sail}
 use Rattle.regatta_scores.specs.declared.sheet.Held.{Held}
 use Rattle.regatta_scores.specs.declared.sheet.Status.{Status}
 use Rattle.regatta_scores.specs.declared.sheet.Status.TheVariants.{Finished, Coded}
-use Rattle.regatta_scores.specs.Order.{in_group, in_order}
+use Rattle.regatta_scores.specs.Order.{in_group, stands_in}
 use Rattle.regatta_scores.specs.Sheet.{Sheet, boats, nothing_held}
 use Rattle.regatta_scores.specs.Journal.{Journal, entered, order, held}
 
@@ -53,7 +53,7 @@ finishers race group = count_by (λ boat. is_none (race.held boat).code) group
 
 module _ {B : Type 0} (same : B → B → Bool) where
   abbrev pub status : Race B → B → Status
-  status race boat = status_by (race.held boat).code (in_order same boat race.order)
+  status race boat = status_by (race.held boat).code (stands_in same boat race.order)
 
   -- the groups ahead of hers, and hers
   abbrev pub groups_ahead : Race B → B → List (List B)

@@ -103,11 +103,11 @@ abbrev pub with_row : Row → List Row → List Row
 with_row r [] = r ∷ []
 with_row r (x ∷ xs) = if comes_first r x then r ∷ x ∷ xs else x ∷ with_row r xs
 
-abbrev pub in_order : List Row → List Row
-in_order [] = []
-in_order (x ∷ xs) = with_row x (in_order xs)
+abbrev pub sorted_rows : List Row → List Row
+sorted_rows [] = []
+sorted_rows (x ∷ xs) = with_row x (sorted_rows xs)
 
 -- the standing: the scored races, and one row for each boat entered
 abbrev pub standing : RulesParts → Journal → Standing
 standing rules journal =
-    record { races = scored journal; rows = in_order (map (row rules journal (lines rules journal)) (entered journal)) }
+    record { races = scored journal; rows = sorted_rows (map (row rules journal (lines rules journal)) (entered journal)) }

@@ -1,7 +1,7 @@
 //! One race: who finished in which order, and what each boat holds.
 ghost use Rattle.std.specs.Prelude.{◌≡◌, ◌<◌, ◌≤◌, ◌↔◌, [], nat_eq, slice_get, Some, IsTrue, IfOk};
 ghost use Rattle.regatta_scores.specs.Sheet.{boats, empty_sheet};
-ghost use Rattle.regatta_scores.specs.Order.{in_order};
+ghost use Rattle.regatta_scores.specs.Order.{stands_in};
 ghost use Rattle.regatta_scores.specs.SheetFacts.{IsSheet, IsPlaced, IsUnplaced, Allows};
 ghost use Rattle.regatta_scores.specs.Changes.{after};
 ghost use Rattle.regatta_scores.specs.declared.sheet.Change.TheVariants.{AddBoat, Last, Join, Ahead, Out, Hold as Holds};
@@ -71,7 +71,7 @@ impl RaceSheet {
     /// Whether the boat stands in the order.
     pub fn placed(&self, boat: u16) -> bool
         requires { boat < boats self.now }
-        ensures { result ≡ in_order nat_eq boat self.now.order }
+        ensures { result ≡ stands_in nat_eq boat self.now.order }
     {
         self.order
             .iter()

@@ -6,7 +6,7 @@ use Rattle.regatta_terms.specs.declared.sail.Sail.{Sail}
 use Rattle.regatta_terms.specs.declared.command.Code.{Code}
 use Rattle.regatta_terms.specs.declared.command.Command.TheVariants.{Enter, Mark}
 use Rattle.regatta_scores.specs.declared.sheet.Status.TheVariants.{Finished}
-use Rattle.regatta_scores.specs.Order.{in_group, in_order, times_placed}
+use Rattle.regatta_scores.specs.Order.{in_group, stands_in, times_placed}
 use Rattle.regatta_scores.specs.Journal.{Journal, same_sail, names_race, entered, order, held}
 use Rattle.regatta_scores.specs.RacePoints.{journal_race, status, groups_ahead, her_group, place, sharing, dnf, plain}
 use Rattle.regatta_scores.specs.Ranking.{net, best_to_worst, rank}
@@ -37,11 +37,5 @@ CodedBoatsLeaveTheOrder = (journal : Journal) (entry : EntryParts) (race : ℕ) 
     (boat : Sail) →
     let old = journal_race journal race in
     let new = journal_race (journal ++ entry ∷ []) race in
-    (place same_sail old boat ≡ place same_sail new boat + (if in_order same_sail coded (groups_ahead same_sail old boat) then 1 else 0))
+    (place same_sail old boat ≡ place same_sail new boat + (if stands_in same_sail coded (groups_ahead same_sail old boat) then 1 else 0))
     × (sharing same_sail old boat ≡ sharing same_sail new boat + (if in_group same_sail coded (her_group same_sail old boat) then 1 else 0))
-
--- Two boats share a rank exactly where their series scores, their kept scores from best to worst and their points in each race are equal (A8).
-abbrev pub TiesAreComplete : Type 0
-TiesAreComplete = (rules : RulesParts) (journal : Journal) (a b : Sail) → Contains (entered journal) a → Contains (entered journal) b →
-    (rank (lines rules journal) (line rules journal a) ≡ rank (lines rules journal) (line rules journal b))
-    ↔ ((net (line rules journal a) ≡ net (line rules journal b)) × (best_to_worst (line rules journal a) ≡ best_to_worst (line rules journal b)) × ((line rules journal a).points ≡ (line rules journal b).points))
