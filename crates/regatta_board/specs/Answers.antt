@@ -1,0 +1,43 @@
+-- The answer to an accepted command.
+use Rattle.std.specs.Prelude.{◌+◌, [], ◌∷◌, ◌++◌, length, find, Option, Some, None}
+use Rattle.std.specs.Option.{option_map}
+use Rattle.regatta_terms.specs.Entries.{EntryParts}
+use Rattle.regatta_terms.specs.Rules.{RulesParts}
+use Rattle.regatta_terms.specs.declared.sail.Sail.{Sail}
+use Rattle.regatta_terms.specs.declared.reply.Answer.{Answer}
+use Rattle.regatta_terms.specs.declared.reply.Touched.{Touched}
+use Rattle.regatta_terms.specs.declared.command.Command.{Command}
+use Rattle.regatta_terms.specs.declared.command.Command.TheVariants.{Enter, Finish, Tie, Before, Strike, Mark, Penalise, Redress, Clear, Score, Unscore}
+use Rattle.regatta_scores.specs.declared.table.Row.{Row}
+use Rattle.regatta_scores.specs.Journal.{Journal, same_sail}
+use Rattle.regatta_scores.specs.Standing.{standing}
+
+-- the first boat that a command names
+abbrev pub boat_named : Command → Option Sail
+boat_named (Enter sail) = Some sail
+boat_named (Finish race sail) = Some sail
+boat_named (Tie race sail other) = Some sail
+boat_named (Before race sail other) = Some sail
+boat_named (Strike race sail) = Some sail
+boat_named (Mark race sail code) = Some sail
+boat_named (Penalise race sail kind) = Some sail
+boat_named (Redress race sail redress) = Some sail
+boat_named (Clear race sail) = Some sail
+boat_named (Score race) = None
+boat_named (Unscore race) = None
+
+abbrev pub touched_by : Row → Touched
+touched_by row = record { rank = row.rank; tied = row.tied; net = row.net }
+
+-- the boat's row of the standing, if she is entered
+abbrev pub rank_of : RulesParts → Journal → Sail → Option Touched
+rank_of rules journal boat = option_map touched_by (find (λ row. same_sail boat row.sail) (standing rules journal).rows)
+
+abbrev pub touched : RulesParts → Journal → Option Sail → Option Touched
+touched rules journal None = None
+touched rules journal (Some boat) = rank_of rules journal boat
+
+-- the place of the entry, and where it names a boat her row in the new standing
+abbrev pub answer : RulesParts → Journal → EntryParts → Answer
+answer rules journal entry =
+    record { place = length journal + 1; touched = touched rules (journal ++ entry ∷ []) (boat_named entry.command) }

@@ -1,0 +1,54 @@
+-- What came of a boat in each race that counts, and the line of the table that it makes.
+use Rattle.std.specs.Prelude.{ℕ, Bool, List, length, map, zip, Option}
+use Rattle.regatta_terms.specs.Rules.{RulesParts, exclusions_of}
+use Rattle.regatta_terms.specs.declared.sail.Sail.{Sail}
+use Rattle.regatta_scores.specs.declared.boats.RowItem.{RowItem}
+use Rattle.regatta_scores.specs.declared.boats.Scored.{Scored}
+use Rattle.regatta_scores.specs.declared.boats.Place.{Place}
+use Rattle.regatta_scores.specs.declared.table.Abbrev.{Abbrev}
+use Rattle.regatta_scores.specs.declared.table.Cell.{Cell}
+use Rattle.regatta_scores.specs.declared.table.Row.{Row}
+use Rattle.regatta_scores.specs.Order.{stands_in}
+use Rattle.regatta_scores.specs.Journal.{Journal, same_sail, order, held, scored}
+use Rattle.regatta_scores.specs.RacePoints.{status_by, plain, journal_race}
+use Rattle.regatta_scores.specs.Averages as averages
+use Rattle.regatta_scores.specs.Exclusions as exclusion
+use Rattle.regatta_scores.specs.Ranking.{Line, net}
+use Rattle.regatta_scores.specs.Standing.{is_dne, mark_by}
+use Rattle.regatta_board.specs.declared.outcomes.Outcome.{Outcome}
+
+abbrev pub items : List Outcome → List RowItem
+items outcomes = map (λ o. record { plain = o.plain; redress = o.held.redress }) outcomes
+
+abbrev pub points : List Outcome → List ℕ
+points outcomes = averages.points (items outcomes)
+
+abbrev pub scores_by : List Outcome → List ℕ → List Scored
+scores_by outcomes points = map (λ o. record { points = o.1; dne = is_dne o.0.held.code }) (zip outcomes points)
+
+abbrev pub flags : RulesParts → List Outcome → List Bool
+flags rules outcomes = exclusion.excluded (exclusions_of rules.thresholds (length (scores_by outcomes (points outcomes)))) (scores_by outcomes (points outcomes))
+
+abbrev pub line : RulesParts → List Outcome → Line
+line rules outcomes = record { points = points outcomes; excluded = flags rules outcomes }
+
+unfoldable pub mark : Outcome → Option Abbrev
+mark o = mark_by o.held.redress (status_by o.held.code o.placed) o.held
+
+abbrev pub cell : Outcome → ℕ → Bool → Cell
+cell o points dropped = record { points = points; mark = mark o; dropped = dropped }
+
+abbrev pub cells_by : List Outcome → List ℕ → List Bool → List Cell
+cells_by outcomes points flags = map (λ o. cell o.0 o.1.0 o.1.1) (zip outcomes (zip points flags))
+
+abbrev pub row : RulesParts → Sail → Place → List Outcome → Row
+row rules boat place outcomes =
+    record { sail = boat; rank = place.rank; tied = place.tied; net = net (line rules outcomes); cells = cells_by outcomes (points outcomes) (flags rules outcomes) }
+
+-- what the journal says of a boat
+abbrev pub outcome : RulesParts → Journal → ℕ → Sail → Outcome
+outcome rules journal race boat =
+    record { plain = plain same_sail rules (journal_race journal race) boat; held = held journal race boat; placed = stands_in same_sail boat (order journal race) }
+
+abbrev pub outcomes : RulesParts → Journal → Sail → List Outcome
+outcomes rules journal boat = map (λ race. outcome rules journal race boat) (scored journal)

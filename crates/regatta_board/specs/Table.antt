@@ -1,0 +1,64 @@
+-- The standing made from sheets: boats and races by their numbers.
+use Rattle.std.specs.Prelude.{◌≡◌, ℕ, ◌-◌, ◌≤◌, Bool, false, nat_eq, List, [], length, map, filter, slice_index_or, All}
+use Rattle.std.specs.List.{range_with_len}
+use Rattle.regatta_terms.specs.Rules.{RulesParts}
+use Rattle.regatta_terms.specs.declared.sail.Sail.{Sail}
+use Rattle.regatta_scores.specs.declared.table.Row.{Row}
+use Rattle.regatta_scores.specs.declared.table.Standing.{Standing}
+use Rattle.regatta_scores.specs.Order.{stands_in}
+use Rattle.regatta_scores.specs.Sheet.{Sheet, boats, nothing_held, empty_sheet}
+use Rattle.regatta_scores.specs.RacePoints.{plain, race_of}
+use Rattle.regatta_scores.specs.Ranking.{Line, place}
+use Rattle.regatta_scores.specs.Standing as scores
+use Rattle.regatta_board.specs.declared.outcomes.Outcome.{Outcome}
+use Rattle.regatta_board.specs.Outcomes.{line, row}
+
+-- what is kept of a journal: the boats entered, and of each race its sheet and whether it counts
+pub record Kept : Type 0 where
+  pub sails : List Sail
+  pub sheets : List Sheet
+  pub counts : List Bool
+
+-- 40 races, at most 200 boats, all of them on each sheet
+pub record IsKept (kept : Kept) : Type 0 where
+  pub few : length kept.sails ≤ 200
+  pub sheets : length kept.sheets ≡ 40
+  pub counts : length kept.counts ≡ 40
+  pub same : All (λ sheet. boats sheet ≡ length kept.sails) kept.sheets
+
+abbrev pub no_outcome : Outcome
+no_outcome = record { plain = 0; held = nothing_held; placed = false }
+
+-- what came of each boat on a sheet
+abbrev pub outcome_on : RulesParts → Sheet → ℕ → Outcome
+outcome_on rules sheet boat =
+    record { plain = plain nat_eq rules (race_of sheet.order sheet.held) boat; held = slice_index_or sheet.held boat nothing_held; placed = stands_in nat_eq boat sheet.order }
+
+abbrev pub column : RulesParts → Sheet → List Outcome
+column rules sheet = map (outcome_on rules sheet) (range_with_len 0 (boats sheet))
+
+-- the races that count
+abbrev pub races : List Bool → List ℕ
+races counts = filter (λ race. slice_index_or counts (race - 1) false) (range_with_len 1 40)
+
+abbrev pub columns : RulesParts → List Sheet → List ℕ → List (List Outcome)
+columns rules sheets races = map (λ race. column rules (slice_index_or sheets (race - 1) (empty_sheet 0))) races
+
+-- of one boat
+abbrev pub outcomes : List (List Outcome) → ℕ → List Outcome
+outcomes columns boat = map (λ column. slice_index_or column boat no_outcome) columns
+
+abbrev pub lines : RulesParts → List (List Outcome) → ℕ → List Line
+lines rules columns n = map (λ boat. line rules (outcomes columns boat)) (range_with_len 0 n)
+
+abbrev pub row_of : RulesParts → List Sail → List (List Outcome) → ℕ → Row
+row_of rules sails columns boat =
+    row rules (slice_index_or sails boat []) (place (lines rules columns (length sails)) (line rules (outcomes columns boat))) (outcomes columns boat)
+
+abbrev pub rows : RulesParts → List Sail → List (List Outcome) → List Row
+rows rules sails columns = scores.sorted_rows (map (row_of rules sails columns) (range_with_len 0 (length sails)))
+
+abbrev pub table : RulesParts → Kept → Standing
+table rules kept =
+    let cols = columns rules kept.sheets (races kept.counts) in
+    record { races = races kept.counts; rows = rows rules kept.sails cols }

@@ -1,0 +1,183 @@
+//! What came of a boat in each race that counts, and the line of the table that it makes.
+ghost use Rattle.std.specs.Prelude.{◌≡◌, ◌≤◌, length, IfOk};
+ghost use Rattle.regatta_scores.specs.Standing.{is_dne as is_dne_of, code_mark as code_mark_of};
+ghost use Rattle.regatta_board.specs.Outcomes.{items as items_of, points as points_of, scores_by, flags as flags_of, line as line_of, mark as mark_of, cell as cell_of, cells_by, row as row_of};
+
+use regatta_scores::{
+    Abbrev, BoatLine, Cell, Held, Items, Place, Points, Row, RowItem, Scored, averages, excluded,
+    net,
+};
+use regatta_terms::{Code, Rules, Sail, Tenths};
+use std::alloc::{AllocError, Global};
+
+/// What came of one boat in one race.
+#[derive(Clone, Copy, Debug, PartialEq, Eq)]
+pub struct Outcome {
+    pub plain: Tenths,
+    pub held: Held,
+    pub placed: bool,
+}
+
+/// Her scores before redress, and her redress.
+fn items(alloc: Global, outcomes: &[Outcome]) -> Result<Vec<RowItem>, AllocError>
+    ensures { IfOk result (λ found. found.items ≡ items_of outcomes.now) }
+{
+    outcomes
+        .iter()
+        .map(|o| RowItem {
+            plain: o.plain,
+            redress: o.held.redress,
+        })
+        .collect(alloc)
+}
+
+/// Her points in each race.
+#[tactic(auto, using(crate::proofs::Lengths::lengths))]
+fn points(alloc: Global, outcomes: &[Outcome]) -> Result<Points, AllocError>
+    requires { length outcomes.now ≤ 40 }
+    ensures value { IfOk result (λ found. found ≡ points_of outcomes.now) }
+    ensures long { IfOk result (λ found. length found ≡ length outcomes.now) }
+{
+    averages(alloc, &items(alloc, outcomes)?)
+}
+
+/// Whether the code is a disqualification that is not excludable.
+fn is_dne(code: Option<Code>) -> bool
+    ensures { result ≡ is_dne_of code }
+{
+    matches!(code, Some(Code::Dne))
+}
+
+/// Her points, and whether they are a disqualification that is not excludable.
+fn scores(alloc: Global, outcomes: &[Outcome], points: &[Tenths]) -> Result<Vec<Scored>, AllocError>
+    ensures { IfOk result (λ found. found.items ≡ scores_by outcomes.now points.now) }
+{
+    outcomes
+        .iter()
+        .zip(points.iter())
+        .map(|(o, p)| Scored {
+            points: *p,
+            dne: is_dne(o.held.code),
+        })
+        .collect(alloc)
+}
+
+/// Which of her scores are excluded.
+#[tactic(auto, using(crate::proofs::Lengths::lengths))]
+fn flags(
+    alloc: Global,
+    outcomes: &[Outcome],
+    points: &[Tenths],
+    rules: &Rules,
+) -> Result<Items<bool>, AllocError>
+    requires few { length outcomes.now ≤ 40 }
+    requires points { points.now ≡ points_of outcomes.now }
+    ensures value { IfOk result (λ found. found ≡ flags_of rules.now outcomes.now) }
+    ensures long { IfOk result (λ found. length found ≡ length outcomes.now) }
+{
+    let scores = scores(alloc, outcomes, points)?;
+    let found = excluded(alloc, &scores, rules)?;
+    Ok(found)
+}
+
+#[tactic(auto, using(crate::proofs::Lengths::lengths))]
+/// Her line, by which boats are compared.
+pub(crate) fn line(
+    alloc: Global,
+    outcomes: &[Outcome],
+    rules: &Rules,
+) -> Result<BoatLine, AllocError>
+    requires { length outcomes.now ≤ 40 }
+    ensures { IfOk result (λ found. found ≡ line_of rules.now outcomes.now) }
+{
+    let points = points(alloc, outcomes)?;
+    let flags = flags(alloc, outcomes, points.as_slice(), rules)?;
+    BoatLine::new(alloc, points.as_slice(), flags.as_slice())
+}
+
+fn code_mark(code: Code) -> Abbrev
+    ensures { result ≡ code_mark_of code }
+{
+    match code {
+        Code::Dnc => Abbrev::Dnc,
+        Code::Dns => Abbrev::Dns,
+        Code::Ocs => Abbrev::Ocs,
+        Code::Ufd => Abbrev::Ufd,
+        Code::Bfd => Abbrev::Bfd,
+        Code::Dnf => Abbrev::Dnf,
+        Code::Ret => Abbrev::Ret,
+        Code::Dsq => Abbrev::Dsq,
+        Code::Dne => Abbrev::Dne,
+    }
+}
+
+/// The abbreviation in a cell.
+#[tactic(auto, unfolding(crate::specs::Outcomes::mark))]
+fn mark(outcome: &Outcome) -> Option<Abbrev>
+    ensures { result ≡ mark_of outcome.now }
+{
+    let held = outcome.held;
+    if held.redress.is_some() {
+        return Some(Abbrev::Rdg);
+    }
+    match held.code {
+        Some(code) => Some(code_mark(code)),
+        None if !outcome.placed => Some(Abbrev::Dnc),
+        None if held.zfp > 0 => Some(Abbrev::Zfp),
+        None if held.scp > 0 => Some(Abbrev::Scp),
+        None => None,
+    }
+}
+
+fn cell(outcome: &Outcome, points: Tenths, dropped: bool) -> Cell
+    ensures { result ≡ cell_of outcome.now points dropped }
+{
+    Cell {
+        points,
+        mark: mark(outcome),
+        dropped,
+    }
+}
+
+/// Her cells.
+#[tactic(auto, using(crate::proofs::Zipped::cells_more))]
+fn cells(
+    alloc: Global,
+    outcomes: &[Outcome],
+    points: &[Tenths],
+    flags: &[bool],
+) -> Result<Vec<Cell>, AllocError>
+    requires points { length points.now ≡ length outcomes.now }
+    requires flags { length flags.now ≡ length outcomes.now }
+    ensures { IfOk result (λ found. found.items ≡ cells_by outcomes.now points.now flags.now) }
+{
+    let mut found = Vec::new(alloc);
+    for i in 0..outcomes.len() {
+        found.push(cell(&outcomes[i], points[i], flags[i]))?;
+    }
+    Ok(found)
+}
+
+/// Her line of the table.
+#[tactic(auto, using(crate::proofs::Lengths::lengths))]
+pub(crate) fn row(
+    alloc: Global,
+    boat: Sail,
+    place: Place,
+    outcomes: &[Outcome],
+    rules: &Rules,
+) -> Result<Row, AllocError>
+    requires { length outcomes.now ≤ 40 }
+    ensures { IfOk result (λ found. found ≡ row_of rules.now boat place outcomes.now) }
+{
+    let points = points(alloc, outcomes)?;
+    let flags = flags(alloc, outcomes, points.as_slice(), rules)?;
+    let cells = cells(alloc, outcomes, points.as_slice(), flags.as_slice())?;
+    Ok(Row {
+        sail: boat,
+        rank: place.rank,
+        tied: place.tied,
+        net: net(points.as_slice(), flags.as_slice()),
+        cells: Items::new(cells),
+    })
+}
