@@ -115,7 +115,7 @@ pub fn averages(alloc: Global, row: &[RowItem]) -> Result<Items<Tenths>, AllocEr
 {
     let mut found = Vec::new(alloc);
     for (i, item) in row.iter().enumerate() {
-        found.push(tenths(redressed(row, i, item)))?;
+        found.push(tenths(u32::from(redressed(row, i, item))))?;
     }
     Ok(Items::new(found))
 }
