@@ -1,5 +1,5 @@
 -- The replies to commands of one seat, one after another: the plain, slow meaning of a run.
-use Rattle.std.specs.Prelude.{◌+◌, List, [], ◌∷◌, ◌++◌, Option, Some, None, Result, Ok, Err}
+use Rattle.std.specs.Prelude.{List, [], ◌∷◌, ◌++◌, Option, Some, None, Result, Ok, Err}
 use Rattle.regatta_terms.specs.Entries.{EntryParts}
 use Rattle.regatta_terms.specs.Rules.{RulesParts}
 use Rattle.regatta_terms.specs.declared.command.Role.{Role}
@@ -7,12 +7,12 @@ use Rattle.regatta_terms.specs.declared.command.Command.{Command}
 use Rattle.regatta_terms.specs.declared.reply.Answer.{Answer}
 use Rattle.regatta_terms.specs.declared.reply.Refusal.{Refusal}
 use Rattle.regatta_scores.specs.Journal.{Journal}
-use Rattle.regatta_board.specs.Refusals.{refusal, last_number}
+use Rattle.regatta_board.specs.Refusals.{limits, refusal, next_number}
 use Rattle.regatta_board.specs.Answers.{answer}
 
 -- the next entry of seat 1
 abbrev pub next_entry : Journal → Role → Command → EntryParts
-next_entry journal role command = record { seat = 1; nth = last_number journal 1 + 1; role = role; command = command }
+next_entry journal role command = record { seat = 1; nth = next_number journal 1; role = role; command = command }
 
 -- the reply to an entry, and the journal after it
 abbrev pub reply_by : RulesParts → Journal → EntryParts → Option Refusal → Result Answer Refusal
@@ -27,11 +27,11 @@ abbrev pub replies : RulesParts → Journal → List (Role × Command) → List 
 replies rules journal [] = []
 replies rules journal (c ∷ cs) =
     let entry = next_entry journal c.0 c.1 in
-    let why = refusal journal entry in
+    let why = refusal limits rules journal entry in
     reply_by rules journal entry why ∷ replies rules (journal_by journal entry why) cs
 
-abbrev pub journal_after : Journal → List (Role × Command) → Journal
-journal_after journal [] = journal
-journal_after journal (c ∷ cs) =
+abbrev pub journal_after : RulesParts → Journal → List (Role × Command) → Journal
+journal_after rules journal [] = journal
+journal_after rules journal (c ∷ cs) =
     let entry = next_entry journal c.0 c.1 in
-    journal_after (journal_by journal entry (refusal journal entry)) cs
+    journal_after rules (journal_by journal entry (refusal limits rules journal entry)) cs
