@@ -3,12 +3,12 @@
 
 mod answers;
 mod lines;
-mod program;
-mod replay;
+mod run;
+mod words;
 
-pub use program::program;
 pub use regatta_streams::{Device, Foreign, Sink, Source, StreamFault, Tape};
-pub use replay::{INPUT_LIMIT, RunFault, replay};
+pub use run::{INPUT_LIMIT, RunFault, replay};
+pub use words::program;
 
 #[cfg(test)]
 mod tests;

@@ -59,7 +59,11 @@ fn answers_what_is_not_done_yet(rt: HostRuntime) -> Result<(), Fail> {
         let mut tape = Tape::new(rt.alloc(), line.as_bytes(), 1000, 1000, 0)?;
         let (status, output, _) = run(rt.alloc(), &mut tape, 1000)?;
         let written = output.written();
-        assert_eq!(rt; written.strip_suffix(b"TABLE 0 RACES\n"), Some(reply.as_bytes()), "at {line}");
+        assert_eq!(rt;
+            written.strip_suffix(b"TABLE 0 RACES\n"),
+            Some(reply.as_bytes()),
+            "at {line}"
+        );
         assert_eq!(rt; status, 0);
     }
     Ok(())

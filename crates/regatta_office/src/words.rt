@@ -3,7 +3,7 @@ ghost use Rattle.std.specs.Prelude.{◌≡◌, ◌≢◌, ◌∷◌, [], ℕ, Li
 ghost use Rattle.std.specs.Io.KnownBytes.{Appends};
 ghost use Rattle.regatta_office.specs.Transcript.{run_text};
 
-use crate::replay::{RunFault, replay};
+use crate::run::{RunFault, replay};
 use regatta_streams::{Sink, Source, write_all};
 use std::alloc::Global;
 

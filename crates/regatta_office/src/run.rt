@@ -2,7 +2,7 @@
 ghost use Rattle.std.specs.Prelude.{◌≡◌, ◌+◌, ◌<◌, ◌≤◌, ℕ, List, length, take, OnOk, IfSome, IsErrOf};
 ghost use Rattle.std.specs.Io.KnownBytes.{Appends, IsAtEnd, Keeps};
 ghost use Rattle.regatta_streams.specs.Texts.{GaveAtMost, AppendsPrefix};
-ghost use Rattle.regatta_office.specs.declared.replay.TheConstants.{INPUT_LIMIT};
+ghost use Rattle.regatta_office.specs.declared.run.TheConstants.{INPUT_LIMIT};
 ghost use Rattle.regatta_office.specs.Transcript.{run_text};
 
 use crate::answers::answers;
