@@ -1,6 +1,5 @@
 -- Worked examples of lines, by computation.
 use Rattle.std.specs.Prelude.{◌≡◌, refl, List, ℕ, Result, Ok, Err, ◌++◌, ◌∷◌, [], codes, replicate}
-use Rattle.regatta_terms.specs.declared.command.Command.{Command}
 use Rattle.regatta_terms.specs.declared.command.Command.TheVariants as command
 use Rattle.regatta_terms.specs.declared.command.Code.TheVariants.{Dnf}
 use Rattle.regatta_terms.specs.declared.command.PenaltyKind.TheVariants.{Scp}
