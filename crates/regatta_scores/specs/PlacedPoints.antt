@@ -1,11 +1,12 @@
 -- The points for finishing places, kept for each boat of a sheet by her number.
-use Rattle.std.specs.Prelude.{◌≡◌, ℕ, ◌≤◌, Bool, List, length, count_by, Option, Some, None, is_some, unwrap_or, nat_eq, slice_index_or, if◌then◌else◌}
+use Rattle.std.specs.Prelude.{◌≡◌, ℕ, ◌≤◌, Bool, List, length, count_by, Option, Some, None, is_none, is_some, unwrap_or, nat_eq, slice_index_or, if◌then◌else◌}
 use Rattle.std.specs.List.{range_with_len}
 use Rattle.regatta_terms.specs.Rules.{RulesParts}
+use Rattle.regatta_terms.specs.declared.command.Code.{Code}
 use Rattle.regatta_scores.specs.declared.sheet.Held.{Held}
-use Rattle.regatta_scores.specs.Order.{stands_in}
+use Rattle.regatta_scores.specs.Order.{in_group, stands_in}
 use Rattle.regatta_scores.specs.Sheet.{nothing_held}
-use Rattle.regatta_scores.specs.RacePoints.{Race, race_of, status_by, came, place_points, base_by, penalised, penalty_points}
+use Rattle.regatta_scores.specs.RacePoints.{Race, race_of, status_by, came, place_points, dnf_by, base_by, penalised, penalty_points}
 
 -- the points for her finishing place, or none where she has no place in the order
 abbrev pub placed_points : Race ℕ → ℕ → Option ℕ
@@ -17,7 +18,17 @@ pub record HasPlacedPoints (order : List (List ℕ)) (held : List Held) (points 
   pub by_number : (boat : ℕ) → slice_index_or points boat None ≡ placed_points (race_of order held) boat
   pub few : (boat : ℕ) → unwrap_or (slice_index_or points boat None) 0 ≤ 5000
 
--- whether a boat with this code and these points for a place came to the starting area (A5.3)
+-- each boat of the group has these points now, and every other boat what she had
+pub record GivesPoints (old new : List (Option ℕ)) (group : List ℕ) (points : ℕ) : Type 0 where
+  pub one_each : length new ≡ length old
+  pub given : (boat : ℕ) →
+      slice_index_or new boat None ≡ (if in_group nat_eq boat group then Some points else slice_index_or old boat None)
+
+-- how many boats of the group finished: a boat with a code is taken out (A6.1)
+abbrev pub number_finished : List Held → List ℕ → ℕ
+number_finished held group = count_by (λ boat. is_none (slice_index_or held boat nothing_held).code) group
+
+-- whether a boat that holds this and has these points for a place came to the starting area (A5.3)
 abbrev pub came_with : Held → Option ℕ → Bool
 came_with held placed = came (status_by held.code (is_some placed))
 
@@ -27,8 +38,16 @@ number_came_with held placed =
     count_by (λ boat. came_with (slice_index_or held boat nothing_held) (slice_index_or placed boat None))
     (range_with_len 0 (length held))
 
--- the score before redress of a boat with these points for a place
+-- the race's DNF score in whole points (A5.2, A5.3)
+abbrev pub dnf_with : RulesParts → List Held → List (Option ℕ) → ℕ
+dnf_with rules held placed = dnf_by rules.absent (length held) (number_came_with held placed)
+
+-- the score for her place or her code (A4, A5, A7)
+abbrev pub base_with : Option Code → Option ℕ → ℕ → ℕ → ℕ
+base_with code placed entered dnf =
+    base_by (status_by code (is_some placed)) (unwrap_or placed 0) entered dnf
+
+-- the score before redress of a boat that holds this and has these points for a place
 abbrev pub plain_with : RulesParts → Held → Option ℕ → ℕ → ℕ → ℕ
 plain_with rules held placed entered dnf =
-    let base = base_by (status_by held.code (is_some placed)) (unwrap_or placed 0) entered dnf in
-    penalised base (penalty_points rules dnf held) dnf
+    penalised (base_with held.code placed entered dnf) (penalty_points rules dnf held) dnf
