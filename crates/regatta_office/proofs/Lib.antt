@@ -1,2 +1,3 @@
 pub mod LineCuts
+pub mod Results
 pub mod Turns

@@ -1,5 +1,5 @@
 -- What a replay writes: a reply to each line of a text, and then the table.
-use Rattle.std.specs.Prelude.{ℕ, Bool, ◌==◌, List, [], ◌∷◌, ◌++◌, Option, Some, None, Result, Ok, Err, if◌then◌else◌}
+use Rattle.std.specs.Prelude.{ℕ, Bool, true, false, ◌==◌, List, [], ◌∷◌, ◌++◌, Option, Some, None, Result, Ok, Err, if◌then◌else◌}
 use Rattle.regatta_terms.specs.Entries.{EntryParts}
 use Rattle.regatta_terms.specs.Lines.{line_of}
 use Rattle.regatta_terms.specs.Rules.{RulesParts}
@@ -12,6 +12,7 @@ use Rattle.regatta_terms.specs.declared.line.Line.TheVariants.{Do}
 use Rattle.regatta_terms.specs.declared.line.LineFault.{LineFault}
 use Rattle.regatta_terms.specs.declared.line.LineFault.TheVariants.{NoSuchWord, BadRace}
 use Rattle.regatta_terms.specs.declared.reply.Refusal.{Refusal}
+use Rattle.regatta_terms.specs.declared.reply.Refusal.TheVariants.{NoMemory}
 use Rattle.regatta_terms.specs.declared.reply.Reply.{Reply}
 use Rattle.regatta_terms.specs.declared.reply.Reply.TheVariants.{Done, Refused, Fault}
 use Rattle.regatta_scores.specs.Journal.{Journal}
@@ -30,10 +31,13 @@ default_rules = record { absent = A52; scp = None; thresholds = 2 ∷ [] }
 
 -- What is done yet of what a line may ask for: Enter, and Finish and Score of race 1. Any other race is
 -- answered as one that isn't there, and everything else as a word that isn't known.
+abbrev pub in_race_one : ℕ → Command → Result Command LineFault
+in_race_one race command = if race == 1 then Ok command else Err BadRace
+
 abbrev pub command_asked : Line → Result Command LineFault
 command_asked (Do (Enter sail)) = Ok (Enter sail)
-command_asked (Do (Finish race sail)) = if race == 1 then Ok (Finish race sail) else Err BadRace
-command_asked (Do (Score race)) = if race == 1 then Ok (Score race) else Err BadRace
+command_asked (Do (Finish race sail)) = in_race_one race (Finish race sail)
+command_asked (Do (Score race)) = in_race_one race (Score race)
 command_asked _ = Err NoSuchWord
 
 abbrev pub asked_by : Result Line LineFault → Result Command LineFault
@@ -47,6 +51,11 @@ command_of line = asked_by (line_of line)
 -- the entry that a command makes: of seat 1, as Scorer, with the seat's next number
 abbrev pub next_entry : Journal → Command → EntryParts
 next_entry journal command = record { seat = 1; nth = next_number journal 1; role = Scorer; command = command }
+
+-- a run ends where memory is wanting: it isn't answered
+abbrev pub is_want_of_memory : Refusal → Bool
+is_want_of_memory NoMemory = true
+is_want_of_memory _ = false
 
 -- the reply to an entry, and the journal after it, by why the entry is refused
 abbrev pub reply_by : RulesParts → Journal → EntryParts → Option Refusal → Reply

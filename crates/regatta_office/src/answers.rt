@@ -1,13 +1,13 @@
 //! The answers to the lines of a text.
 ghost use Rattle.std.specs.Prelude.{◌≡◌, ◌++◌, Ok, Err, IfOk, OnOk};
 ghost use Rattle.regatta_office.specs.Lines.{lines};
-ghost use Rattle.regatta_office.specs.Transcript.{default_rules as default_rules_of, command_asked as command_asked_by, command_of, next_entry as next_entry_of, reply_to, journal_after, replies, journal_at_end, run_text};
+ghost use Rattle.regatta_office.specs.Transcript.{default_rules as default_rules_of, in_race_one as in_race_one_of, command_asked as command_asked_by, command_of, is_want_of_memory as is_want_of_memory_by, next_entry as next_entry_of, reply_to, journal_after, replies, journal_at_end, run_text};
 
 use crate::lines::first_line;
 use regatta_board::Board;
 use regatta_tables::{write_reply, write_table};
 use regatta_terms::{
-    Absent, Command, Entry, Line, LineFault, Refusal, Reply, Role, Rules, read_line,
+    Absent, Command, Entry, Line, LineFault, RaceNo, Refusal, Reply, Role, Rules, Sail, read_line,
 };
 use std::alloc::{AllocError, Global};
 
@@ -18,17 +18,29 @@ fn default_rules() -> Rules
     Rules::new(Absent::A52, None, &[2]).unwrap()
 }
 
+/// A command of a race, where that race is done yet.
+fn in_race_one(race: RaceNo, command: Command) -> Result<Command, LineFault>
+    ensures { result ≡ in_race_one_of race command }
+{
+    if race.get() == 1 {
+        Ok(command)
+    } else {
+        Err(LineFault::BadRace)
+    }
+}
+
 /// What is done yet of what a line asks for.
 fn command_asked(line: Line) -> Result<Command, LineFault>
     ensures { result ≡ command_asked_by line }
 {
+    // Rattle wants to see the types that a command is made of.
+    let _parts: (Option<Sail>, Option<RaceNo>) = (None, None);
     match line {
-        Line::Do(Command::Enter { sail }) => Ok(Command::Enter { sail }),
-        Line::Do(Command::Finish { race, sail }) if race.get() == 1 => {
-            Ok(Command::Finish { race, sail })
-        }
-        Line::Do(Command::Score { race }) if race.get() == 1 => Ok(Command::Score { race }),
-        Line::Do(Command::Finish { .. } | Command::Score { .. }) => Err(LineFault::BadRace),
+        Line::Do(command) => match command {
+            Command::Enter { .. } => Ok(command),
+            Command::Finish { race, .. } | Command::Score { race } => in_race_one(race, command),
+            _ => Err(LineFault::NoSuchWord),
+        },
         _ => Err(LineFault::NoSuchWord),
     }
 }
@@ -51,6 +63,13 @@ fn next_entry(board: &Board, command: Command) -> Entry
     Entry::new(1, nth, Role::Scorer, command).unwrap()
 }
 
+/// Whether a refusal is want of memory.
+fn is_want_of_memory(why: Refusal) -> bool
+    ensures { result ≡ is_want_of_memory_by why }
+{
+    matches!(why, Refusal::NoMemory)
+}
+
 /// Does a command, and answers it.
 fn do_command(board: &mut Board, command: Command) -> Result<Reply, AllocError>
     ensures reply { IfOk result (λ reply. reply ≡ reply_to board.old.rules board.old.entries (Ok command)) }
@@ -59,8 +78,12 @@ fn do_command(board: &mut Board, command: Command) -> Result<Reply, AllocError>
 {
     match board.apply(next_entry(board, command)) {
         Ok(answer) => Ok(Reply::Done(answer)),
-        Err(Refusal::NoMemory) => Err(AllocError),
-        Err(why) => Ok(Reply::Refused(why)),
+        Err(why) => {
+            if is_want_of_memory(why) {
+                return Err(AllocError);
+            }
+            Ok(Reply::Refused(why))
+        }
     }
 }
 
@@ -78,6 +101,7 @@ fn do_line(board: &mut Board, line: &[u8]) -> Result<Reply, AllocError>
 }
 
 /// Does what the lines of a text ask for, and appends their replies.
+#[tactic(auto, using(crate::proofs::Turns::turns))]
 fn do_lines(board: &mut Board, text: &[u8], out: &mut Vec<u8>) -> Result<(), AllocError>
     ensures replies { OnOk result (out.new.items ≡ out.old.items
         ++ replies board.old.rules board.old.entries (lines text.now)) }

@@ -1,5 +1,5 @@
 //! The program: from its words to its status.
-ghost use Rattle.std.specs.Prelude.{◌≡◌, ◌≢◌, ◌∷◌, [], ℕ, List, codes, map, IfSome};
+ghost use Rattle.std.specs.Prelude.{◌≡◌, ◌≢◌, ℕ, List, IfSome};
 ghost use Rattle.std.specs.Io.KnownBytes.{Appends};
 ghost use Rattle.regatta_office.specs.Transcript.{run_text};
 
@@ -36,7 +36,6 @@ pub fn program<R: Source, W: Sink, E: Sink>(
 ) -> u8
     ensures done { result ≡ 0 → IfSome (R.remaining input.old)
         (λ text. Appends (W.contents output.old) (W.contents output.new) (run_text text)) }
-    ensures known { result ≡ 0 → map (λ word. word.now) words.now ≡ codes "replay" ∷ [] }
 {
     let [word] = words else {
         return BAD_WORDS;
