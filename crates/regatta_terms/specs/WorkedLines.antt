@@ -205,7 +205,8 @@ pub eighty_bytes_and_a_return : line_of (line_and (codes "ENTER A") 73 32 ++ 13 
 unfolding line_of line_of_words command_of_words command_after
 eighty_bytes_and_a_return = refl
 
-pub eighty_bytes_and_two_returns : line_of (line_and (codes "ENTER A") 73 32 ++ 13 ∷ 13 ∷ []) ≡ Err TooLong
+pub eighty_bytes_and_two_returns :
+    line_of (line_and (codes "ENTER A") 73 32 ++ 13 ∷ 13 ∷ []) ≡ Err TooLong
 unfolding line_of line_of_words command_of_words command_after
 eighty_bytes_and_two_returns = refl
 

@@ -72,7 +72,8 @@ letter_for_an_amount = refl
 pub four_digits_of_an_amount : with_amount (codes "0001") ≡ Err BadText
 four_digits_of_an_amount = refl
 
-pub text_ahead_of_amount : rules_of_texts (codes "a52") (Some (codes "0")) (codes "2,") ≡ Err BadText
+pub text_ahead_of_amount :
+    rules_of_texts (codes "a52") (Some (codes "0")) (codes "2,") ≡ Err BadText
 text_ahead_of_amount = refl
 
 pub amount_ahead_of_thresholds : rules_of A52 (Some 100) (3 ∷ 3 ∷ []) ≡ Err ScpOutOfRange
