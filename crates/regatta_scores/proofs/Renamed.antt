@@ -8,8 +8,6 @@ use Rattle.regatta_terms.specs.declared.rules.Absent.{Absent}
 use Rattle.regatta_terms.specs.declared.rules.Absent.TheVariants.{A52, A53}
 use Rattle.regatta_terms.specs.declared.command.Code.TheVariants as code
 use Rattle.regatta_scores.specs.declared.sheet.Held.{Held}
-use Rattle.regatta_scores.specs.declared.sheet.Status.{Status}
-use Rattle.regatta_scores.specs.declared.sheet.Status.TheVariants.{Finished, Coded}
 use Rattle.regatta_scores.specs.Order.{in_group, stands_in}
 use Rattle.regatta_scores.specs.RacePoints.{Race, status, status_by, came, finishers, groups_ahead, her_group, finishing_place, sharing, number_came, dnf, dnf_by, base, base_by, plain, penalised, penalty_points, shared_points}
 use Rattle.regatta_scores.specs.Renaming.{IsRenamed}
