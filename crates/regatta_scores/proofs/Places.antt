@@ -1,6 +1,6 @@
 -- Where a boat's group stands in an order in which she stands once, and the points that this gives her.
 use Rattle.std.proofs.Common.{◌≡◌, ℕ, suc, ◌+◌, ◌<◌, ◌≤◌, Bool, true, false, List, [], ◌∷◌, ◌++◌, refl, ap, ◌∙◌, sym, arith, take, drop, get_or, length, sum_by, count_by, nat_eq, find, unwrap_or, Option, Some, None, cond, ◌||◌, drop-cons}
-use Rattle.std.specs.List.{before_first, position_or_len, list_any}
+use Rattle.std.specs.List.{before_first, position_or_len}
 use Rattle.std.proofs.lemmas.List.{take-append-drop}
 use Rattle.std.proofs.lemmas.List.Folds.{list_any_more}
 use Rattle.std.proofs.Math.Seq.{take-append_seam}

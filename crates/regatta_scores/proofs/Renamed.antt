@@ -1,12 +1,9 @@
 -- Scores do not depend on what boats are called.
-use Rattle.std.proofs.Common.{◌≡◌, ℕ, zero, suc, ◌+◌, ◌*◌, Bool, true, false, cond, not, ◌||◌, List, [], ◌∷◌, refl, ap, ◌∙◌, sym, map, take, length, count_by, sum_by, find, unwrap_or, Some, is_none}
+use Rattle.std.proofs.Common.{◌≡◌, ℕ, zero, suc, ◌+◌, Bool, true, false, cond, not, ◌||◌, List, [], ◌∷◌, refl, ap, ◌∙◌, sym, map, take, length, count_by, sum_by, find, unwrap_or, Some, is_none}
 use Rattle.std.specs.List.{list_any, before_first, prefix_len, position_or_len, AllByRecursion}
 use Rattle.std.proofs.lemmas.List.{length-map}
 use Rattle.std.proofs.lemmas.List.Sums.{sum_by-cons}
 use Rattle.regatta_terms.specs.Rules.{RulesParts}
-use Rattle.regatta_terms.specs.declared.rules.Absent.{Absent}
-use Rattle.regatta_terms.specs.declared.rules.Absent.TheVariants.{A52, A53}
-use Rattle.regatta_terms.specs.declared.command.Code.TheVariants as code
 use Rattle.regatta_scores.specs.declared.sheet.Held.{Held}
 use Rattle.regatta_scores.specs.Order.{in_group, stands_in}
 use Rattle.regatta_scores.specs.RacePoints.{Race, status, status_by, came, finishers, groups_ahead, her_group, finishing_place, sharing, number_came, dnf, dnf_by, base, base_by, plain, penalised, penalty_points, shared_points}

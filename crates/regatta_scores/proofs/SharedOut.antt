@@ -1,15 +1,14 @@
 -- The points for finishing places are those of places 1 to n.
-use Rattle.std.proofs.Common.{◌≡◌, ℕ, zero, suc, ◌+◌, ◌-◌, ◌*◌, ◌≤◌, Bool, true, false, cond, ◌||◌, List, [], ◌∷◌, ◌++◌, refl, ap, ◌∙◌, sym, arith, append_assoc, count_by, sum_by, Option, Some, None, is_none}
-use Rattle.std.specs.List.{AllByRecursion, list_any, range_with_len}
-use Rattle.std.proofs.Math.Nat.{add-mul, mul-add}
-use Rattle.std.proofs.lemmas.List.Sums.{sum_by-cons, sum_by-append, sum_by_push}
+use Rattle.std.proofs.Common.{◌≡◌, ℕ, zero, suc, ◌+◌, ◌-◌, ◌*◌, Bool, true, false, cond, ◌||◌, List, [], ◌∷◌, ◌++◌, refl, ap, ◌∙◌, sym, arith, append_assoc, count_by, sum_by, Option, Some, None, is_none}
+use Rattle.std.specs.List.{AllByRecursion, range_with_len}
+use Rattle.std.proofs.Math.Nat.{add-mul}
+use Rattle.std.proofs.lemmas.List.Sums.{sum_by-cons, sum_by_push}
 use Rattle.std.specs.Cmp.Lexicographic.{bytes_decides}
 use Rattle.regatta_terms.specs.declared.sail.Sail.{Sail}
 use Rattle.regatta_terms.specs.declared.command.Code.{Code}
-use Rattle.regatta_scores.specs.declared.sheet.Held.{Held}
 use Rattle.regatta_scores.specs.Order.{in_group, stands_in}
 use Rattle.regatta_scores.specs.Journal.{same_sail}
-use Rattle.regatta_scores.specs.RacePoints.{Race, status, status_by, finishers, place_points, shared_points}
+use Rattle.regatta_scores.specs.RacePoints.{Race, status, status_by, finishers, shared_points}
 use Rattle.regatta_scores.specs.RaceLaws.{NobodyTwice, TiesShareEqually, PlacesAreSharedOut, is_finished, finish_points, points_of_places}
 use Rattle.regatta_scores.proofs.Counts.{count_cons}
 use Rattle.regatta_scores.proofs.Places.{place_points_at}

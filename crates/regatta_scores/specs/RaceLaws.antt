@@ -7,7 +7,7 @@ use Rattle.regatta_terms.specs.declared.sail.Sail.{Sail}
 use Rattle.regatta_terms.specs.declared.command.Code.{Code}
 use Rattle.regatta_terms.specs.declared.command.Command.TheVariants.{Enter, Mark}
 use Rattle.regatta_scores.specs.Order.{in_group, stands_in, times_placed}
-use Rattle.regatta_scores.specs.Journal.{Journal, same_sail, names_race, entered, order, held}
+use Rattle.regatta_scores.specs.Journal.{Journal, same_sail, names_race, order, held}
 use Rattle.regatta_scores.specs.RacePoints.{Race, Status, Finished, Coded, journal_race, status, shared_points, groups_ahead, her_group, finishing_place, sharing, dnf, plain}
 
 -- two journals say the same of a race

@@ -1,23 +1,36 @@
-//! One boat's race scores.
+//! One boat's race scores, and her place in the series.
+use crate::items::Items;
 use regatta_terms::{Redress, Tenths};
 
-/// A score before redress, and the redress.
+/// A boat's score in one race before redress, and her redress there (RRS A9).
 #[derive(Clone, Copy, Debug, PartialEq, Eq)]
 pub struct RowItem {
+    /// The points without redress, in tenths.
     pub plain: Tenths,
+    /// What she is given as redress, if anything.
     pub redress: Option<Redress>,
 }
 
-/// A race score, and whether it is a disqualification that is not excludable.
+/// A boat's score in one race, and whether it may be excluded.
 #[derive(Clone, Copy, Debug, PartialEq, Eq)]
 pub struct Scored {
+    /// The points, in tenths.
     pub points: Tenths,
+    /// A disqualification that is not excludable (RRS 90.3(b)).
     pub dne: bool,
 }
+
+/// Which of a boat's scores are excluded, one flag for each race.
+pub type Flags = Items<bool>;
 
 /// A rank, and whether another boat has it too.
 #[derive(Clone, Copy, Debug, PartialEq, Eq)]
 pub struct Place {
+    /// One more than the number of boats that beat her.
     pub rank: u16,
+    /// Whether another boat has this rank.
     pub tied: bool,
 }
+
+/// The places of some boats, in their order.
+pub type Places = Items<Place>;

@@ -1,12 +1,19 @@
-//! Points with redress.
+//! Points with redress (RRS A9).
 ghost use Rattle.std.specs.Prelude.{◌≡◌, ◌+◌, ◌*◌, ◌<◌, ◌≤◌, ◌++◌, length, take, remove, IfOk, if◌then◌else◌};
 ghost use Rattle.regatta_scores.specs.Averages.{has_average, own_points, average, average_or, counted, total, average_over, redressed, points};
 
 use crate::boats::RowItem;
-use crate::items::Items;
-use crate::points::tenths;
+use crate::items::{Items, Points};
 use regatta_terms::{Redress, Tenths};
 use std::alloc::{AllocError, Global};
+
+/// A number of tenths that is in range.
+fn in_tenths(points: u32) -> Tenths
+    requires { points ≤ 65535 }
+    ensures { result ≡ points }
+{
+    Tenths::new(points).unwrap()
+}
 
 /// Whether she has an average as redress.
 fn has_average(redress: Option<Redress>) -> bool
@@ -16,17 +23,17 @@ fn has_average(redress: Option<Redress>) -> bool
 }
 
 /// Her points in a race where she has no average.
-fn own_points(item: &RowItem) -> u16
+fn own_points(item: &RowItem) -> Tenths
     ensures { result ≡ own_points item.now item.now.redress }
 {
     match item.redress {
-        Some(Redress::Points(award)) => award.get() as u16,
-        _ => item.plain.get() as u16,
+        Some(Redress::Points(award)) => in_tenths(award.get()),
+        _ => item.plain,
     }
 }
 
-#[tactic(auto, using(crate::proofs::Counted::number_more))]
 /// How many races an average counts.
+#[tactic(auto, using(crate::proofs::Counted::number_more))]
 fn number_counted(items: &[RowItem]) -> u32
     requires { length items.now ≤ 40 }
     ensures value { result ≡ length (counted items.now) }
@@ -39,8 +46,8 @@ fn number_counted(items: &[RowItem]) -> u32
     number
 }
 
+/// Her points in the races that an average counts, added up.
 #[tactic(auto, using(crate::proofs::Counted::number_more, crate::proofs::Counted::total_more))]
-/// Her points in the races that an average counts.
 fn total_counted(items: &[RowItem]) -> u32
     requires { length items.now ≤ 40 }
     ensures value { result ≡ total (counted items.now) }
@@ -51,25 +58,25 @@ fn total_counted(items: &[RowItem]) -> u32
         total += if has_average(item.redress) {
             0
         } else {
-            u32::from(own_points(item))
+            own_points(item).get()
         };
     }
     total
 }
 
-#[tactic(auto, using(crate::proofs::Counted::average_small))]
 /// The average of some points, to the nearest tenth.
-fn average(number: u32, sum: u32) -> u16
+#[tactic(auto, using(crate::proofs::Counted::average_small))]
+fn average(number: u32, sum: u32) -> Tenths
     requires some { 0 < number }
     requires few { number ≤ 80 }
     requires small { sum ≤ 65535 * number }
     ensures { result ≡ average number sum }
 {
-    ((2 * sum + number) / (2 * number)) as u16
+    in_tenths((2 * sum + number) / (2 * number))
 }
 
 /// The average, or her score without redress where no race is counted.
-fn average_or(plain: u16, number: u32, sum: u32) -> u16
+fn average_or(plain: Tenths, number: u32, sum: u32) -> Tenths
     requires few { number ≤ 80 }
     requires small { sum ≤ 65535 * number }
     ensures { result ≡ average_or plain number sum }
@@ -83,7 +90,7 @@ fn average_or(plain: u16, number: u32, sum: u32) -> u16
 
 /// Her average over the races before and after.
 #[tactic(auto, using(crate::proofs::Counted::number_parts, crate::proofs::Counted::total_parts))]
-fn average_over(before: &[RowItem], after: &[RowItem], plain: u16) -> u16
+fn average_over(before: &[RowItem], after: &[RowItem], plain: Tenths) -> Tenths
     requires before { length before.now ≤ 40 }
     requires after { length after.now ≤ 40 }
     ensures { result ≡ average_over (before.now ++ after.now) plain }
@@ -93,29 +100,34 @@ fn average_over(before: &[RowItem], after: &[RowItem], plain: u16) -> u16
     average_or(plain, number, sum)
 }
 
-/// Her points in race `i`.
-fn redressed(row: &[RowItem], i: usize, item: &RowItem) -> u16
+/// Her points in race `i`, by her redress there.
+fn redressed(row: &[RowItem], i: usize, item: &RowItem) -> Tenths
     requires few { length row.now ≤ 40 }
     requires i { i < length row.now }
     ensures { result ≡ redressed row.now i item.now item.now.redress }
 {
-    let plain = item.plain.get() as u16;
+    let plain = item.plain;
     match item.redress {
         None => plain,
-        Some(Redress::Points(award)) => award.get() as u16,
+        Some(Redress::Points(award)) => in_tenths(award.get()),
         Some(Redress::AllRaces) => average_over(&row[..i], &row[i + 1..], plain),
         Some(Redress::RacesBefore) => average_over(&row[..i], &[], plain),
     }
 }
 
-/// One boat's points with redress, over the scored races in order.
-pub fn averages(alloc: Global, row: &[RowItem]) -> Result<Items<Tenths>, AllocError>
+/// One boat's points with redress, over the scored races in order (RRS A9).
+///
+/// An award is taken as it is. An average is over her points in the other races, or in the races
+/// before, to the nearest tenth with 0.05 upward; races in which she has an average herself don't
+/// count, and where none is left her points are those without redress. At most 40 races; the one
+/// error is want of memory.
+pub fn averages(alloc: Global, row: &[RowItem]) -> Result<Points, AllocError>
     requires { length row.now ≤ 40 }
     ensures { IfOk result (λ found. found ≡ points row.now) }
 {
     let mut found = Vec::new(alloc);
     for (i, item) in row.iter().enumerate() {
-        found.push(tenths(u32::from(redressed(row, i, item))))?;
+        found.push(redressed(row, i, item))?;
     }
     Ok(Items::new(found))
 }

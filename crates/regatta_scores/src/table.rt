@@ -1,45 +1,97 @@
 //! The standing of a series.
+ghost use Rattle.std.specs.Prelude.{◌≡◌};
+ghost use Rattle.regatta_scores.specs.Abbreviations.{abbrev_text};
+
 use crate::items::Items;
 use regatta_terms::{RaceNo, Sail, Tenths};
 
 /// The abbreviation in a cell (RRS A10).
 #[derive(Clone, Copy, Debug, PartialEq, Eq)]
 pub enum Abbrev {
+    /// Did not come to the starting area.
     Dnc,
+    /// Did not start.
     Dns,
+    /// On the course side of the starting line.
     Ocs,
+    /// Disqualified under RRS 30.3.
     Ufd,
+    /// Disqualified under RRS 30.4.
     Bfd,
+    /// Did not finish.
     Dnf,
+    /// Retired.
     Ret,
+    /// Disqualified.
     Dsq,
+    /// Disqualified, and not excludable.
     Dne,
+    /// A 20% penalty under RRS 30.2.
     Zfp,
+    /// A Scoring Penalty.
     Scp,
+    /// Redress was given.
     Rdg,
+}
+
+impl Abbrev {
+    /// The three letters of RRS A10.
+    pub fn text(self) -> &'static str
+        ensures { result.now ≡ abbrev_text self }
+    {
+        match self {
+            Abbrev::Dnc => "DNC",
+            Abbrev::Dns => "DNS",
+            Abbrev::Ocs => "OCS",
+            Abbrev::Ufd => "UFD",
+            Abbrev::Bfd => "BFD",
+            Abbrev::Dnf => "DNF",
+            Abbrev::Ret => "RET",
+            Abbrev::Dsq => "DSQ",
+            Abbrev::Dne => "DNE",
+            Abbrev::Zfp => "ZFP",
+            Abbrev::Scp => "SCP",
+            Abbrev::Rdg => "RDG",
+        }
+    }
 }
 
 /// One boat's score in one race.
 #[derive(Clone, Copy, Debug, PartialEq, Eq)]
 pub struct Cell {
+    /// The points, in tenths, with penalties and redress.
     pub points: Tenths,
+    /// Why she scores so, where it isn't for her place alone.
     pub mark: Option<Abbrev>,
+    /// Whether the score is excluded.
     pub dropped: bool,
 }
+
+/// One boat's scores, one for each scored race.
+pub type Cells = Items<Cell>;
 
 /// One boat's line of the standing.
 #[derive(Drop)]
 pub struct Row {
     pub sail: Sail,
+    /// One more than the number of boats that beat her.
     pub rank: u16,
+    /// Whether another boat has this rank.
     pub tied: bool,
+    /// The series score, in tenths (RRS A2.1).
     pub net: u32,
-    pub cells: Items<Cell>,
+    pub cells: Cells,
 }
 
-/// The standing: the scored races, and one row for each boat.
+/// The rows of a standing, in order of rank and then sail.
+pub type Rows = Items<Row>;
+
+/// Race numbers, rising.
+pub type Races = Items<RaceNo>;
+
+/// The standing: the scored races, and one row for each boat entered.
 #[derive(Drop)]
 pub struct Standing {
-    pub races: Items<RaceNo>,
-    pub rows: Items<Row>,
+    pub races: Races,
+    pub rows: Rows,
 }

@@ -1,4 +1,4 @@
-use Rattle.std.proofs.Common.{◌≡◌, ℕ, ◌+◌, ◌≤◌, length, nat_eq, sum_by, arith, take, drop, ◌++◌, get_or, cond, ap, ◌∙◌, Some, None}
+use Rattle.std.proofs.Common.{◌≡◌, ℕ, ◌+◌, length, nat_eq, sum_by, arith, take, get_or, cond, ap, ◌∙◌, Some, None}
 use Rattle.std.proofs.lemmas.List.Sums.{sum_by_more}
 use Rattle.regatta_scores.specs.Order.{in_group}
 use Rattle.regatta_scores.specs.RacePoints.{race_of, finishers, shared_points}

@@ -1,4 +1,4 @@
-use Rattle.std.proofs.Common.{◌≡◌, ℕ, ◌++◌, ◌∷◌, [], ap, ◌∙◌, sym, nat_eq, get_or, length, refl, None, arith}
+use Rattle.std.proofs.Common.{◌≡◌, ◌++◌, ◌∷◌, [], ap, ◌∙◌, sym, nat_eq, length, refl, None, arith}
 use Rattle.std.proofs.lemmas.List.{get_or_read_under}
 use Rattle.regatta_scores.specs.Sheet.{nothing_held}
 use Rattle.regatta_scores.specs.RacePoints.{race_of, plain, dnf_by}

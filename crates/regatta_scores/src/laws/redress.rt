@@ -1,0 +1,15 @@
+//! Laws of redress.
+ghost use Rattle.regatta_scores.specs.RedressLaws.{RedressLeavesOthers, AveragesLieBetween, AveragesAreNearest};
+
+/// Redress of one boat changes no other boat's points in any race, nor which of them are excluded
+/// (RRS A6.2).
+pub fn redress_leaves_others()
+    ensures { RedressLeavesOthers }
+{}
+
+/// An average lies between the least and the greatest of the points that it counts, and is the
+/// nearest tenth (RRS A9).
+pub fn averages_lie_between()
+    ensures between { AveragesLieBetween }
+    ensures nearest { AveragesAreNearest }
+{}
