@@ -11,10 +11,9 @@ use Rattle.regatta_terms.specs.declared.sail.Sail.{Sail}
 use Rattle.regatta_terms.specs.declared.command.Code.{Code}
 use Rattle.regatta_terms.specs.declared.command.Command.TheVariants.{Mark}
 use Rattle.regatta_scores.specs.declared.sheet.Held.{Held}
-use Rattle.regatta_scores.specs.declared.sheet.Status.TheVariants.{Finished}
-use Rattle.regatta_scores.specs.Order.{in_group}
+use Rattle.regatta_scores.specs.Order.{in_group, stands_in}
 use Rattle.regatta_scores.specs.Journal.{Journal, same_sail, race_commands, order, order_by, order_after, held, held_by, decides, is_clear, code_marked, last_item}
-use Rattle.regatta_scores.specs.RacePoints.{journal_race, status, status_by, finishers, groups_ahead, her_group}
+use Rattle.regatta_scores.specs.RacePoints.{Status, Finished, Coded, journal_race, status, status_by, finishers, groups_ahead, her_group}
 use Rattle.regatta_scores.specs.RaceLaws.{CodedBoatsLeaveTheOrder}
 use Rattle.regatta_scores.proofs.Apart.{race_commands_more}
 use Rattle.regatta_scores.proofs.Counts.{count_split, sum_split, count_one, sum_one, found_le}
@@ -51,6 +50,10 @@ module _ (journal : Journal) (entry : EntryParts) (race : ℕ) (coded : Sail) (c
       let ds = filter (decides boat) (race_commands journal race) in
       let now : after_last is_clear (filter (decides boat) (race_commands (journal ++ entry ∷ []) race)) ≡ after_last is_clear ds ++ Mark race coded code ∷ [] = ap (after_last is_clear) (decisions_by boat true e) ∙ after_last_push is_clear ds (Mark race coded code) refl in
       ap (λ cs. last_item (filter_map code_marked cs)) now ∙ ap last_item (filter_map-append code_marked (after_last is_clear ds) (Mark race coded code ∷ [])) ∙ last_push None (filter_map code_marked (after_last is_clear ds)) code
+
+  status_after : (boat : Sail) (b : Bool) → same_sail boat coded ≡ b → status same_sail (journal_race (journal ++ entry ∷ []) race) boat ≡ cond b (Coded code) (status same_sail (journal_race journal race) boat)
+  status_after boat true e = ap (λ o. status_by o (stands_in same_sail boat (order (journal ++ entry ∷ []) race))) (code_given boat e)
+  status_after boat false e = λ i. status_by (held_stays boat e i).code (stands_in same_sail boat (order_stays i))
 
 finished_codeless : (o : Option Code) (placed : Bool) → status_by o placed ≡ Finished → o ≡ None
 finished_codeless None placed e = refl
@@ -90,4 +93,4 @@ coded_boats_leave journal entry race coded code is_mark once was_finished boat =
     let new_ahead = ap (sum_by (finishers new)) same_ahead in
     let new_hers = ap (finishers new) same_hers in
     let split_hers = group_split journal entry race coded code is_mark was_finished hers in
-    (omega (arith, split, one_ahead, new_ahead), omega (arith, split_hers, one_hers, new_hers))
+    (status_after journal entry race coded code is_mark boat (same_sail boat coded) refl, omega (arith, split, one_ahead, new_ahead), omega (arith, split_hers, one_hers, new_hers))

@@ -6,11 +6,9 @@ use Rattle.regatta_terms.specs.Rules.{RulesParts}
 use Rattle.regatta_terms.specs.declared.sail.Sail.{Sail}
 use Rattle.regatta_terms.specs.declared.command.Code.{Code}
 use Rattle.regatta_terms.specs.declared.command.Command.TheVariants.{Enter, Mark}
-use Rattle.regatta_scores.specs.declared.sheet.Status.{Status}
-use Rattle.regatta_scores.specs.declared.sheet.Status.TheVariants.{Finished}
 use Rattle.regatta_scores.specs.Order.{in_group, stands_in, times_placed}
 use Rattle.regatta_scores.specs.Journal.{Journal, same_sail, names_race, order, held}
-use Rattle.regatta_scores.specs.RacePoints.{Race, journal_race, status, shared_points, groups_ahead, her_group, finishing_place, sharing, dnf, plain}
+use Rattle.regatta_scores.specs.RacePoints.{Race, Status, Finished, Coded, journal_race, status, shared_points, groups_ahead, her_group, finishing_place, sharing, dnf, plain}
 
 -- two journals say the same of a race
 pub record SaysTheSame (old new : Journal) (race : ℕ) : Type 0 where
@@ -40,8 +38,9 @@ EnterKeepsRaces = (journal : Journal) (entry : EntryParts) (sail : Sail) → ent
 abbrev pub NobodyTwice : Race Sail → Type 0
 NobodyTwice race = (boat : Sail) → times_placed same_sail race.order boat ≤ 1
 
--- When a boat that finished is given a code (A6.1), each boat in a later group moves up one place, each in her group
--- shares with one less, and every other place and number of sharers stays.
+-- When a boat that finished is given a code (A6.1), she is scored by it and every other boat's status stays; each boat in
+-- a later group moves up one place, each in her group shares with one less, and every other place and number of sharers
+-- stays.
 abbrev pub CodedBoatsLeaveTheOrder : Type 0
 CodedBoatsLeaveTheOrder = (journal : Journal) (entry : EntryParts) (race : ℕ) (coded : Sail) (code : Code) →
     entry.command ≡ Mark race coded code →
@@ -52,7 +51,8 @@ CodedBoatsLeaveTheOrder = (journal : Journal) (entry : EntryParts) (race : ℕ) 
     let new = journal_race (journal ++ entry ∷ []) race in
     let is_behind = stands_in same_sail coded (groups_ahead same_sail old boat) in
     let is_tied = in_group same_sail coded (her_group same_sail old boat) in
-    (finishing_place same_sail old boat ≡ finishing_place same_sail new boat + (if is_behind then 1 else 0))
+    (status same_sail new boat ≡ (if same_sail boat coded then Coded code else status same_sail old boat))
+    × (finishing_place same_sail old boat ≡ finishing_place same_sail new boat + (if is_behind then 1 else 0))
     × (sharing same_sail old boat ≡ sharing same_sail new boat + (if is_tied then 1 else 0))
 
 -- The points of as many places, from one on: 1 point for first, 2 for second, and so on (A4); tenths.

@@ -9,8 +9,6 @@ use Rattle.regatta_terms.specs.declared.command.Code.{Code}
 use Rattle.regatta_terms.specs.declared.command.Code.TheVariants.{Dnc}
 use Rattle.regatta_terms.specs.declared.sail.Sail.{Sail}
 use Rattle.regatta_scores.specs.declared.sheet.Held.{Held}
-use Rattle.regatta_scores.specs.declared.sheet.Status.{Status}
-use Rattle.regatta_scores.specs.declared.sheet.Status.TheVariants.{Finished, Coded}
 use Rattle.regatta_scores.specs.Order.{in_group, stands_in}
 use Rattle.regatta_scores.specs.Sheet.{Sheet, boats, nothing_held}
 use Rattle.regatta_scores.specs.Journal.{Journal, entered, order, held}
@@ -21,13 +19,18 @@ pub record Race (B : Type 0) : Type 0 where
   pub order : List (List B)
   pub held : B → Held
 
+-- how a boat is scored in a race: she finished, or has a code
+pub data Status : Type 0 where
+  Finished : Status
+  Coded : Code → Status
+
 -- her code if she has one; else she finished if she stands in the order; else she did not come (A5)
 abbrev pub status_by : Option Code → Bool → Status
 status_by (Some code) placed = Coded code
 status_by None true = Finished
 status_by None false = Coded Dnc
 
--- every boat whose status isn't DNC came to the starting area
+-- every boat whose status isn't DNC came to the starting area (A5.3)
 abbrev pub came : Status → Bool
 came (Coded Dnc) = false
 came _ = true

@@ -16,9 +16,7 @@ use Rattle.regatta_scores.specs.declared.table.Cell.{Cell}
 use Rattle.regatta_scores.specs.declared.table.Row.{Row}
 use Rattle.regatta_scores.specs.declared.table.Standing.{Standing}
 use Rattle.regatta_scores.specs.Journal.{Journal, same_sail, entered, held, scored}
-use Rattle.regatta_scores.specs.RacePoints.{status, plain, journal_race}
-use Rattle.regatta_scores.specs.declared.sheet.Status.{Status}
-use Rattle.regatta_scores.specs.declared.sheet.Status.TheVariants.{Finished, Coded}
+use Rattle.regatta_scores.specs.RacePoints.{Status, Finished, Coded, status, plain, journal_race}
 use Rattle.regatta_scores.specs.Averages as averages
 use Rattle.regatta_scores.specs.Exclusions as exclusion
 use Rattle.regatta_scores.specs.Ranking.{Line, net, rank, is_tied}

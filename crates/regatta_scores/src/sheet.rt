@@ -33,13 +33,6 @@ pub const NOTHING: Held = Held {
     redress: None,
 };
 
-/// A boat finished, or is scored by a code.
-#[derive(Clone, Copy, Debug, PartialEq, Eq)]
-pub enum Status {
-    Finished,
-    Coded(Code),
-}
-
 /// One race: the finishing order, in groups of tied boats (RRS A3, A7), and what each boat holds. Boats are numbers from
 /// 0, their places in the entry list, and at most 200.
 #[derive(Drop)]

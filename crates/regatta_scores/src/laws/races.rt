@@ -8,8 +8,8 @@ pub fn races_are_apart()
     ensures enter { EnterKeepsRaces }
 {}
 
-/// When a boat that finished is given a code, the boats behind her move up one place and the boats tied with her share
-/// with one less; every other place and tie stays (RRS A6.1).
+/// When a boat that finished is given a code, she is scored by it, the boats behind her move up one place and the boats
+/// tied with her share with one less; every other status, place and tie stays (RRS A6.1).
 pub fn coded_boats_leave_the_order()
     ensures { CodedBoatsLeaveTheOrder }
 {}
