@@ -1,7 +1,43 @@
-//! Laws of ranks.
-ghost use Rattle.regatta_scores.specs.RankLaws.{TiesAreComplete};
+//! Laws of exclusions, of the comparison of boats, and of ranks.
+ghost use Rattle.regatta_scores.specs.ExclusionLaws.{WorstAreExcluded};
+ghost use Rattle.regatta_scores.specs.RankLaws.{ComparisonIsTotal, BeatingIsAnOrder, KeptScoresRise, TiesAreComplete, RowsTieCompletely, StandingHasTheEntered, RanksFollowEachOther, BeatsInThreeCases};
 
-/// Two boats share a rank exactly where no rule of A8 breaks their tie.
+/// The excluded scores are as many as the rules say or all that may be excluded, and none that is
+/// kept and may be excluded is worse than one that is excluded (RRS A2.1, 90.3(b)).
+pub fn worst_are_excluded()
+    ensures { WorstAreExcluded }
+{}
+
+/// The comparison of boats is a total order.
+pub fn comparison_is_total()
+    ensures total { ComparisonIsTotal }
+    ensures beating { BeatingIsAnOrder }
+{}
+
+/// The kept scores from best to worst rise, and are the kept scores in another order (RRS A8.1).
+pub fn kept_scores_rise()
+    ensures { KeptScoresRise }
+{}
+
+/// Boats with equally many races, and no score below 1.0, beat each other in the three cases of the
+/// rules, and in no other (RRS A2.1, A8.1, A8.2).
+pub fn boats_are_beaten_in_three_cases()
+    ensures { BeatsInThreeCases }
+{}
+
+/// Two boats share a rank exactly where no rule of A8 breaks their tie: their series scores, their
+/// kept scores from best to worst and their points in every scored race are equal.
 pub fn ties_are_complete()
-    ensures { TiesAreComplete }
+    ensures boats { TiesAreComplete }
+    ensures rows { RowsTieCompletely }
+{}
+
+/// The rows of the standing are the boats entered, each once, in order of rank and then sail.
+pub fn standing_has_the_entered()
+    ensures { StandingHasTheEntered }
+{}
+
+/// Ranks begin at 1, and after k boats that share rank r the next rank is r + k.
+pub fn ranks_follow_each_other()
+    ensures { RanksFollowEachOther }
 {}
