@@ -1,0 +1,26 @@
+//! Which board a command was prepared on.
+ghost use Rattle.std.specs.Prelude.{◌≡◌};
+ghost use Rattle.std.specs.Borrow.{ftrue};
+ghost use Rattle.regatta_board.specs.BoardFacts.{BoardValue};
+
+use crate::board::Board;
+use std::marker::Model;
+
+/// The board that a command was prepared on, for clauses alone. It takes no bytes.
+#[derive(Drop)]
+pub(crate) struct Basis {
+    pub ghost board: { BoardValue },
+}
+
+impl Model for Basis {
+    ghost also_owns = { λ _. ftrue };
+}
+
+impl Basis {
+    /// Of this board, as it is now.
+    pub(crate) fn of(board: &Board) -> Basis
+        ensures { result.board ≡ board.now }
+    {
+        Basis {}
+    }
+}
