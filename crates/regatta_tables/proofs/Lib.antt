@@ -1,1 +1,2 @@
+pub mod JournalFacts
 pub mod LineFacts

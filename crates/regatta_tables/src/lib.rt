@@ -1,11 +1,15 @@
 //! A race office's texts: replies, tables, sheets, journals and entry lists.
 #![tactic(auto)]
 
+mod journals;
 mod pieces;
 mod replies;
+mod sheets;
 mod tables;
 
+pub use journals::{Journal, JournalFault, read_journal, write_journal};
 pub use replies::write_reply;
+pub use sheets::write_sheet;
 pub use tables::write_table;
 
 #[cfg(test)]
