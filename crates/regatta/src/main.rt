@@ -26,7 +26,8 @@ fn main(rt: HostRuntime) -> ExitCode {
     let Ok(args) = env::args(&rt) else {
         return ExitCode::from(BAD_WORDS);
     };
-    let Ok(words) = args.skip(1).collect::<Result<Vec<String>, AllocError>>(rt.alloc()) else {
+    let collected: Result<Vec<String>, AllocError> = args.skip(1).collect(rt.alloc());
+    let Ok(words) = collected else {
         let _ = errors.write(b"regatta: no memory\n");
         return ExitCode::from(NO_MEMORY);
     };
