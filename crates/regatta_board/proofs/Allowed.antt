@@ -20,7 +20,7 @@ placed_same journal race boat known = by (order journal race)
     by [] = refl
     by (g ∷ gs) = λ i. group_numbered (entered journal) boat known g i || by gs i
 
-place_below : (xs : List Sail) (x : Sail) → list_any (same_sail x) xs ≡ true → place_in xs x < length xs
+pub place_below : (xs : List Sail) (x : Sail) → list_any (same_sail x) xs ≡ true → place_in xs x < length xs
 place_below [] x h = cc
 place_below (z ∷ zs) x h = by (same_sail x z) refl (place_below zs x)
   where

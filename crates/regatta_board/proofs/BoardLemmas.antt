@@ -1,18 +1,24 @@
 -- What is kept on a board.
-use Rattle.std.proofs.Common.{◌≡◌, Bool, false, List, [], ◌∷◌, ◌++◌, refl, ap, ◌∙◌, arith, length, length-append, replicate, None}
+use Rattle.std.proofs.Common.{◌≡◌, Bool, false, List, [], ◌∷◌, ◌++◌, refl, ap, ◌∙◌, sym, subst, ◌<◌, arith, length, length-append, replicate, find, None}
 use Rattle.std.specs.List.{range_with_len}
+use Rattle.std.specs.Option.{option_map}
 use Rattle.std.proofs.lemmas.List.{length-map}
 use Rattle.std.proofs.lemmas.List.Elements.{All-map}
 use Rattle.std.proofs.lemmas.List.FromFn.{length-map-range_with_len}
 use Rattle.regatta_terms.specs.Entries.{EntryParts}
 use Rattle.regatta_terms.specs.Rules.{RulesParts}
 use Rattle.regatta_terms.specs.declared.sail.Sail.{Sail}
+use Rattle.regatta_terms.specs.declared.command.Command.{Command}
+use Rattle.regatta_scores.specs.declared.table.Row.{Row}
 use Rattle.regatta_scores.specs.Sheet.{Sheet, boats, empty_sheet}
-use Rattle.regatta_scores.specs.Journal.{Journal, entered, held, is_scored}
+use Rattle.regatta_scores.specs.Journal.{Journal, same_sail, entered, held, is_scored}
+use Rattle.regatta_scores.specs.declared.table.Standing.{Standing}
 use Rattle.regatta_scores.specs.Standing.{standing}
-use Rattle.regatta_board.specs.Refusals.{refusal}
-use Rattle.regatta_board.specs.Step.{step, NamesRace}
+use Rattle.regatta_board.specs.Refusals.{limits, refusal, command_refusal}
+use Rattle.regatta_board.specs.Answers.{touched_by, rank_of}
+use Rattle.regatta_board.specs.Step.{step, NamesRace, MayStep, Fits}
 use Rattle.regatta_board.proofs.Lawful.{lawful_more, no_command_refusal, may_step, has_room, not_full}
+use Rattle.regatta_board.proofs.KeptFacts.{fits}
 use Rattle.regatta_board.proofs.Orderly.{orderly_more}
 use Rattle.regatta_board.proofs.StepOf.{step_is}
 use Rattle.regatta_board.specs.Table.{Kept, IsKept, table}
@@ -28,15 +34,6 @@ kept_of_is journal orderly = record {
   same = All-map (λ sheet. boats sheet ≡ length (entered journal)) (sheet_of journal) (range_with_len 1 40) (λ k d h. length-map (entered journal) (held journal _));
 }
 
-module _ (entries : Journal) (sails : List Sail) (sheets : List Sheet) (counts : List Bool) (is : IsBoard entries sails sheets counts) where
-  pub board_kept : IsKept (record { sails = sails; sheets = sheets; counts = counts })
-  board_kept = rw is.kept (kept_of_is entries is.orderly)
-
-  pub board_standing : (rules : RulesParts) → table rules (record { sails = sails; sheets = sheets; counts = counts }) ≡ standing rules entries
-  board_standing rules = ap (table rules) is.kept ∙ table_is rules entries is.orderly
-
-pub ruleset board_facts = (board_kept, board_standing)
-
 empty_orderly : IsOrderly []
 empty_orderly = record {
   few = omega arith;
@@ -45,17 +42,47 @@ empty_orderly = record {
   nothing = λ race boat h. refl;
 }
 
-pub empty_board : IsBoard [] [] (replicate 40 (empty_sheet 0)) (replicate 40 false)
-empty_board = record { few = omega arith; lawful = refl; orderly = empty_orderly; kept = refl }
+abbrev pub no_standing : Standing
+no_standing = record { races = []; rows = [] }
 
--- the board after an accepted entry: what is kept takes one step
-pub board_more : (entries : Journal) (sails : List Sail) (sheets : List Sheet) (counts : List Bool) → IsBoard entries sails sheets counts → (e : EntryParts) → NamesRace e.command → refusal entries e ≡ None → (new : Kept) → new ≡ step (record { sails = sails; sheets = sheets; counts = counts }) e.command → IsBoard (entries ++ e ∷ []) new.sails new.sheets new.counts
-board_more entries sails sheets counts is e race none new made =
-    let accepted = no_command_refusal entries e none in
-    let may = may_step entries e.role e.command race accepted in
-    record {
-      few = omega (arith, not_full entries e none, length-append entries (e ∷ []));
-      lawful = lawful_more entries e is.lawful none;
-      orderly = orderly_more entries is.orderly e e.command refl may (has_room entries e.role e.command accepted);
-      kept = made ∙ ap (λ k. step k e.command) is.kept ∙ step_is entries is.orderly e e.command refl may;
+pub empty_board : (rules : RulesParts) → IsBoard rules [] (record { sails = []; sheets = replicate 40 (empty_sheet 0); counts = replicate 40 false }) no_standing
+empty_board rules = record { few = omega arith; lawful = refl; orderly = empty_orderly; keeps = refl; stands = refl }
+
+module _ (rules : RulesParts) (entries : Journal) (kept : Kept) (made : Standing) (is : IsBoard rules entries kept made) where
+  pub board_kept : IsKept kept
+  board_kept = subst IsKept (sym is.keeps) (kept_of_is entries is.orderly)
+
+  pub board_standing : table rules kept ≡ standing rules entries
+  board_standing = ap (table rules) is.keeps ∙ table_is rules entries is.orderly
+
+  pub board_rank : (boat : Sail) (rows : List Row) → rows ≡ made.rows → option_map touched_by (find (λ row. same_sail boat row.sail) rows) ≡ rank_of rules entries boat
+  board_rank boat rows e = ap (λ rs. option_map touched_by (find (λ (row : Row). same_sail boat row.sail) rs)) (e ∙ ap (λ s. s.rows) is.stands)
+
+  module _ (e : EntryParts) (c : Command) (named : c ≡ e.command) (race : NamesRace c) (none : refusal limits rules entries e ≡ None) where
+    accepted : command_refusal limits rules entries e.role c ≡ None
+    accepted = ap (λ d. command_refusal limits rules entries e.role d) named ∙ no_command_refusal rules entries e none
+
+    may : MayStep entries c
+    may = may_step rules entries e.role c race accepted
+
+    pub board_fits : Fits kept c
+    board_fits = fits entries is.orderly kept is.keeps rules e.role c race accepted
+
+    orderly : IsOrderly (entries ++ e ∷ [])
+    orderly = orderly_more entries is.orderly e c (sym named) may (has_room rules entries e.role c accepted)
+
+    next_is : (new : Kept) → new ≡ step kept c → new ≡ kept_of (entries ++ e ∷ [])
+    next_is new now = now ∙ ap (λ k. step k c) is.keeps ∙ step_is entries is.orderly e c (sym named) may
+
+    pub next_kept : (new : Kept) → new ≡ step kept c → IsKept new
+    next_kept new now = subst IsKept (sym (next_is new now)) (kept_of_is (entries ++ e ∷ []) orderly)
+
+    -- the board after an accepted entry: what is kept takes one step
+    pub board_more : (new : Kept) (found : Standing) → new ≡ step kept c → found ≡ table rules new → IsBoard rules (entries ++ e ∷ []) new found
+    board_more new found now is_table = record {
+      few = (let room : length entries < 4096 = not_full rules entries e none in omega (arith, length-append entries (e ∷ [])));
+      lawful = lawful_more rules entries e is.lawful none;
+      orderly = orderly;
+      keeps = next_is new now;
+      stands = is_table ∙ ap (table rules) (next_is new now) ∙ table_is rules (entries ++ e ∷ []) orderly;
     }

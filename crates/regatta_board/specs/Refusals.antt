@@ -1,7 +1,8 @@
 -- Which command is refused, and why: by the first reason that applies.
-use Rattle.std.specs.Prelude.{◌≡◌, ℕ, Bool, true, false, not, ◌&&◌, ◌||◌, nat_eq, nat_le, List, [], ◌∷◌, ◌++◌, length, filter, map, unwrap_or, Option, Some, None, is_some, is_none, if◌then◌else◌}
+use Rattle.std.specs.Prelude.{◌≡◌, ℕ, ◌+◌, min, Bool, true, false, not, ◌&&◌, ◌||◌, nat_eq, nat_le, List, [], ◌∷◌, ◌++◌, length, filter, map, unwrap_or, Option, Some, None, is_some, is_none, if◌then◌else◌}
 use Rattle.std.specs.List.{list_any}
 use Rattle.regatta_terms.specs.Entries.{EntryParts}
+use Rattle.regatta_terms.specs.Rules.{RulesParts}
 use Rattle.regatta_terms.specs.Roles.{may_send, is_jury_code}
 use Rattle.regatta_terms.specs.declared.sail.Sail.{Sail}
 use Rattle.regatta_terms.specs.declared.command.Code.{Code}
@@ -12,16 +13,34 @@ use Rattle.regatta_terms.specs.declared.command.Role.TheVariants as role
 use Rattle.regatta_terms.specs.declared.command.Command.{Command}
 use Rattle.regatta_terms.specs.declared.command.Command.TheVariants.{Enter, Finish, Tie, Before, Strike, Mark, Penalise, Redress, Clear, Score, Unscore}
 use Rattle.regatta_terms.specs.declared.reply.Refusal.{Refusal}
-use Rattle.regatta_terms.specs.declared.reply.Refusal.TheVariants.{JournalFull, OldNumber, NotYours, EntryFull, AlreadyEntered, NotEntered, AlreadyPlaced, NotPlaced, Decided, PenaltyLimit, NothingToClear, AlreadyScored, NotScored, NoFinisher}
+use Rattle.regatta_terms.specs.declared.reply.Refusal.TheVariants.{NoMemory, JournalFull, OldNumber, NotYours, EntryFull, AlreadyEntered, NotEntered, AlreadyPlaced, NotPlaced, Decided, PenaltyLimit, NothingToClear, AlreadyScored, NotScored, NoFinisher}
 use Rattle.regatta_scores.specs.declared.sheet.Held.{Held}
 use Rattle.regatta_scores.specs.Journal.{Journal, same_sail, entered, order, held, is_scored, last_item}
 use Rattle.regatta_scores.specs.Order.{stands_in, is_empty}
+use Rattle.regatta_board.specs.declared.limits.TheConstants.{MAX_BOATS, MAX_ENTRIES}
+
+-- how many boats may be entered, and how many entries a journal may hold
+pub record Limits : Type 0 where
+  pub boats : ℕ
+  pub entries : ℕ
+
+-- those of this board
+abbrev pub limits : Limits
+limits = record { boats = MAX_BOATS; entries = MAX_ENTRIES }
 
 -- ---- what a refusal asks of the journal
 
 -- the last number of the seat, or 0
 abbrev pub last_number : Journal → ℕ → ℕ
 last_number journal seat = unwrap_or (last_item (map (λ entry. entry.nth) (filter (λ entry. nat_eq entry.seat seat) journal))) 0
+
+-- the number after one: a number at the end of its range stays
+abbrev pub number_after : ℕ → ℕ
+number_after last = min (last + 1) 4294967295
+
+-- the next number of the seat
+abbrev pub next_number : Journal → ℕ → ℕ
+next_number journal seat = number_after (last_number journal seat)
 
 abbrev pub is_entered : Journal → Sail → Bool
 is_entered journal boat = list_any (same_sail boat) (entered journal)
@@ -72,52 +91,76 @@ decision_refusal journal race boat =
     else if is_decided (held journal race boat) then Some Decided
     else None
 
-abbrev pub command_refusal : Journal → Role → Command → Option Refusal
-command_refusal journal role (Enter sail) =
-    if is_entered journal sail then Some AlreadyEntered
-    else if nat_le 200 (length (entered journal)) then Some EntryFull
+abbrev pub enter_refusal : Limits → Journal → Sail → Option Refusal
+enter_refusal most journal boat =
+    if is_entered journal boat then Some AlreadyEntered
+    else if nat_le most.boats (length (entered journal)) then Some EntryFull
     else None
-command_refusal journal role (Finish race sail) = place_refusal journal race sail
-command_refusal journal role (Tie race sail other) = place_by_refusal journal race sail other
-command_refusal journal role (Before race sail other) = place_by_refusal journal race sail other
-command_refusal journal role (Strike race sail) =
-    if not (is_entered journal sail) then Some NotEntered
-    else if not (is_placed journal race sail) then Some NotPlaced
+
+abbrev pub strike_refusal : Journal → ℕ → Sail → Option Refusal
+strike_refusal journal race boat =
+    if not (is_entered journal boat) then Some NotEntered
+    else if not (is_placed journal race boat) then Some NotPlaced
     else None
-command_refusal journal role (Mark race sail code) = decision_refusal journal race sail
-command_refusal journal role (Penalise race sail kind) =
-    if not (is_entered journal sail) then Some NotEntered
-    else if is_decided (held journal race sail) then Some Decided
-    else if nat_le 9 (penalties kind (held journal race sail)) then Some PenaltyLimit
+
+abbrev pub penalty_refusal : Journal → ℕ → Sail → PenaltyKind → Option Refusal
+penalty_refusal journal race boat kind =
+    if not (is_entered journal boat) then Some NotEntered
+    else if is_decided (held journal race boat) then Some Decided
+    else if nat_le 9 (penalties kind (held journal race boat)) then Some PenaltyLimit
     else None
-command_refusal journal role (Redress race sail redress) = decision_refusal journal race sail
-command_refusal journal role (Clear race sail) =
-    if not (is_entered journal sail) then Some NotEntered
-    else if is_decided (held journal race sail) && not (is_jury role) then Some Decided
-    else if holds_nothing (held journal race sail) then Some NothingToClear
+
+abbrev pub clear_refusal : Journal → Role → ℕ → Sail → Option Refusal
+clear_refusal journal role race boat =
+    if not (is_entered journal boat) then Some NotEntered
+    else if is_decided (held journal race boat) && not (is_jury role) then Some Decided
+    else if holds_nothing (held journal race boat) then Some NothingToClear
     else None
-command_refusal journal role (Score race) =
+
+abbrev pub score_refusal : Journal → ℕ → Option Refusal
+score_refusal journal race =
     if is_scored journal race then Some AlreadyScored
     else if is_empty (order journal race) then Some NoFinisher
     else None
-command_refusal journal role (Unscore race) = if is_scored journal race then None else Some NotScored
+
+abbrev pub unscore_refusal : Journal → ℕ → Option Refusal
+unscore_refusal journal race = if is_scored journal race then None else Some NotScored
+
+abbrev pub command_refusal : Limits → RulesParts → Journal → Role → Command → Option Refusal
+command_refusal most rules journal role (Enter sail) = enter_refusal most journal sail
+command_refusal most rules journal role (Finish race sail) = place_refusal journal race sail
+command_refusal most rules journal role (Tie race sail other) = place_by_refusal journal race sail other
+command_refusal most rules journal role (Before race sail other) = place_by_refusal journal race sail other
+command_refusal most rules journal role (Strike race sail) = strike_refusal journal race sail
+command_refusal most rules journal role (Mark race sail code) = decision_refusal journal race sail
+command_refusal most rules journal role (Penalise race sail kind) = penalty_refusal journal race sail kind
+command_refusal most rules journal role (Redress race sail redress) = decision_refusal journal race sail
+command_refusal most rules journal role (Clear race sail) = clear_refusal journal role race sail
+command_refusal most rules journal role (Score race) = score_refusal journal race
+command_refusal most rules journal role (Unscore race) = unscore_refusal journal race
 
 -- why the entry is refused by the journal, or nothing
-abbrev pub refusal : Journal → EntryParts → Option Refusal
-refusal journal entry =
-    if nat_le 4096 (length journal) then Some JournalFull
+abbrev pub refusal : Limits → RulesParts → Journal → EntryParts → Option Refusal
+refusal most rules journal entry =
+    if nat_le most.entries (length journal) then Some JournalFull
     else if nat_le entry.nth (last_number journal entry.seat) then Some (OldNumber (last_number journal entry.seat))
     else if not (may_send entry.role entry.command) then Some NotYours
-    else command_refusal journal entry.role entry.command
+    else command_refusal most rules journal entry.role entry.command
+
+-- what a call may answer: the refusal that is due, or want of memory where none is due
+abbrev pub IsRefusal : Option Refusal → Refusal → Type 0
+IsRefusal (Some due) why = why ≡ due
+IsRefusal None why = why ≡ NoMemory
 
 -- each entry is accepted by those before it
-abbrev pub accepts_all : Journal → List EntryParts → Bool
-accepts_all before [] = true
-accepts_all before (entry ∷ entries) = is_none (refusal before entry) && accepts_all (before ++ entry ∷ []) entries
+abbrev pub accepts_all : Limits → RulesParts → Journal → List EntryParts → Bool
+accepts_all most rules before [] = true
+accepts_all most rules before (entry ∷ entries) =
+    is_none (refusal most rules before entry) && accepts_all most rules (before ++ entry ∷ []) entries
 
-abbrev pub is_lawful : Journal → Bool
-is_lawful journal = accepts_all [] journal
+abbrev pub is_lawful : Limits → RulesParts → Journal → Bool
+is_lawful most rules journal = accepts_all most rules [] journal
 
 -- the same without order of reading: whatever stands before an entry accepts it
-pub record IsLawful (journal : Journal) : Type 0 where
-  pub accepted : (before after : Journal) (entry : EntryParts) → journal ≡ before ++ entry ∷ after → refusal before entry ≡ None
+pub record IsLawful (limits : Limits) (rules : RulesParts) (journal : Journal) : Type 0 where
+  pub accepted : (before after : Journal) (entry : EntryParts) → journal ≡ before ++ entry ∷ after → refusal limits rules before entry ≡ None

@@ -18,7 +18,7 @@ use Rattle.regatta_scores.specs.declared.table.Row.{Row}
 use Rattle.regatta_scores.specs.declared.table.Abbrev.{Abbrev}
 use Rattle.regatta_scores.specs.declared.table.Abbrev.TheVariants as abbreviation
 use Rattle.regatta_scores.specs.Standing.{standing}
-use Rattle.regatta_board.specs.Replies.{replies, journal_after}
+use Rattle.regatta_board.specs.Runs.{replies, journal_after}
 
 abbrev pub rules_with : List ℕ → RulesParts
 rules_with thresholds = record { absent = A52; scp = None; thresholds = thresholds }
@@ -77,5 +77,5 @@ row30_commands =
 pub row30_replies : replies (rules_with (2 ∷ [])) [] row30_commands ≡ ok 1 1 false 0 ∷ Err AlreadyEntered ∷ Err NotEntered ∷ Err NotPlaced ∷ Err NotPlaced ∷ Err NoFinisher ∷ Err NotScored ∷ Err NothingToClear ∷ ok 2 1 false 0 ∷ Err AlreadyPlaced ∷ Err AlreadyPlaced ∷ ok_alone 3 ∷ Err AlreadyScored ∷ Err NotYours ∷ ok 4 1 false 20 ∷ Err Decided ∷ Err Decided ∷ Err Decided ∷ ok 5 1 false 10 ∷ ok 6 1 false 25 ∷ Err Decided ∷ []
 row30_replies = refl
 
-pub row30_table : standing (rules_with (2 ∷ [])) (journal_after [] row30_commands) ≡ record { races = 1 ∷ []; rows = row A 1 false 25 (cell 25 (Some abbreviation.Rdg) false ∷ []) ∷ [] }
+pub row30_table : standing (rules_with (2 ∷ [])) (journal_after (rules_with (2 ∷ [])) [] row30_commands) ≡ record { races = 1 ∷ []; rows = row A 1 false 25 (cell 25 (Some abbreviation.Rdg) false ∷ []) ∷ [] }
 row30_table = refl

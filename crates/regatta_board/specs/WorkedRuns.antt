@@ -17,8 +17,8 @@ use Rattle.regatta_scores.specs.declared.table.Row.{Row}
 use Rattle.regatta_scores.specs.declared.table.Abbrev.{Abbrev}
 use Rattle.regatta_scores.specs.declared.table.Abbrev.TheVariants as abbreviation
 use Rattle.regatta_scores.specs.Standing.{standing}
-use Rattle.regatta_board.specs.Refusals.{is_lawful}
-use Rattle.regatta_board.specs.Replies.{replies, journal_after}
+use Rattle.regatta_board.specs.Refusals.{limits, is_lawful}
+use Rattle.regatta_board.specs.Runs.{replies, journal_after}
 
 abbrev pub rules_with : List ℕ → RulesParts
 rules_with thresholds = record { absent = A52; scp = None; thresholds = thresholds }
@@ -63,7 +63,7 @@ row3_commands =
 pub row3_replies : replies (rules_with (2 ∷ [])) [] row3_commands ≡ ok 1 1 false 0 ∷ ok 2 1 true 0 ∷ ok 3 1 true 0 ∷ ok 4 1 true 0 ∷ ok 5 1 true 0 ∷ ok 6 1 true 0 ∷ ok_alone 7 ∷ []
 row3_replies = refl
 
-pub row3_table : standing (rules_with (2 ∷ [])) (journal_after [] row3_commands) ≡ record { races = 1 ∷ []; rows = row A 1 true 15 (cell 15 None false ∷ []) ∷ row B 1 true 15 (cell 15 None false ∷ []) ∷ row C 3 false 30 (cell 30 None false ∷ []) ∷ [] }
+pub row3_table : standing (rules_with (2 ∷ [])) (journal_after (rules_with (2 ∷ [])) [] row3_commands) ≡ record { races = 1 ∷ []; rows = row A 1 true 15 (cell 15 None false ∷ []) ∷ row B 1 true 15 (cell 15 None false ∷ []) ∷ row C 3 false 30 (cell 30 None false ∷ []) ∷ [] }
 row3_table = refl
 
 abbrev pub row4_commands : List (Role × Command)
@@ -81,7 +81,7 @@ row4_commands =
 pub row4_replies : replies (rules_with (2 ∷ [])) [] row4_commands ≡ ok 1 1 false 0 ∷ ok 2 1 true 0 ∷ ok 3 1 true 0 ∷ ok 4 1 true 0 ∷ ok 5 1 true 0 ∷ ok 6 1 true 0 ∷ ok_alone 7 ∷ ok 8 3 false 40 ∷ []
 row4_replies = refl
 
-pub row4_table : standing (rules_with (2 ∷ [])) (journal_after [] row4_commands) ≡ record { races = 1 ∷ []; rows = row B 1 false 10 (cell 10 None false ∷ []) ∷ row C 2 false 20 (cell 20 None false ∷ []) ∷ row A 3 false 40 (cell 40 (Some abbreviation.Dsq) false ∷ []) ∷ [] }
+pub row4_table : standing (rules_with (2 ∷ [])) (journal_after (rules_with (2 ∷ [])) [] row4_commands) ≡ record { races = 1 ∷ []; rows = row B 1 false 10 (cell 10 None false ∷ []) ∷ row C 2 false 20 (cell 20 None false ∷ []) ∷ row A 3 false 40 (cell 40 (Some abbreviation.Dsq) false ∷ []) ∷ [] }
 row4_table = refl
 
 abbrev pub row15_commands : List (Role × Command)
@@ -113,7 +113,7 @@ row6_commands =
     ∷ (role.Scorer, Enter D)
     ∷ []
 
-pub row6_table : standing (rules_with (2 ∷ [])) (journal_after [] row6_commands) ≡ record { races = 1 ∷ []; rows = row A 1 false 10 (cell 10 None false ∷ []) ∷ row B 2 false 20 (cell 20 None false ∷ []) ∷ row C 3 true 50 (cell 50 (Some abbreviation.Dnf) false ∷ []) ∷ row D 3 true 50 (cell 50 (Some abbreviation.Dnc) false ∷ []) ∷ [] }
+pub row6_table : standing (rules_with (2 ∷ [])) (journal_after (rules_with (2 ∷ [])) [] row6_commands) ≡ record { races = 1 ∷ []; rows = row A 1 false 10 (cell 10 None false ∷ []) ∷ row B 2 false 20 (cell 20 None false ∷ []) ∷ row C 3 true 50 (cell 50 (Some abbreviation.Dnf) false ∷ []) ∷ row D 3 true 50 (cell 50 (Some abbreviation.Dnc) false ∷ []) ∷ [] }
 row6_table = refl
 
 abbrev pub row19_commands : List (Role × Command)
@@ -133,7 +133,7 @@ row19_commands =
 pub row19_replies : replies (rules_with ([])) [] row19_commands ≡ ok 1 1 false 0 ∷ ok 2 1 true 0 ∷ ok 3 1 true 0 ∷ ok 4 1 true 0 ∷ ok 5 1 true 0 ∷ ok_alone 6 ∷ ok_alone 7 ∷ ok 8 1 false 20 ∷ ok 9 2 false 60 ∷ ok 10 1 false 20 ∷ []
 row19_replies = refl
 
-pub row19_table : standing (rules_with ([])) (journal_after [] row19_commands) ≡ record { races = 1 ∷ 2 ∷ []; rows = row A 1 false 20 (cell 10 None false ∷ cell 10 (Some abbreviation.Rdg) false ∷ []) ∷ row B 2 false 30 (cell 20 None false ∷ cell 10 None false ∷ []) ∷ [] }
+pub row19_table : standing (rules_with ([])) (journal_after (rules_with ([])) [] row19_commands) ≡ record { races = 1 ∷ 2 ∷ []; rows = row A 1 false 20 (cell 10 None false ∷ cell 10 (Some abbreviation.Rdg) false ∷ []) ∷ row B 2 false 30 (cell 20 None false ∷ cell 10 None false ∷ []) ∷ [] }
 row19_table = refl
 
 abbrev pub row21_commands : List (Role × Command)
@@ -150,7 +150,7 @@ row21_commands =
     ∷ (role.Scorer, Before 1 A B)
     ∷ []
 
-pub row21_table : standing (rules_with (2 ∷ [])) (journal_after [] row21_commands) ≡ record { races = 1 ∷ 2 ∷ []; rows = row A 1 false 10 (cell 10 None true ∷ cell 10 (Some abbreviation.Rdg) false ∷ []) ∷ row B 2 false 10 (cell 20 None true ∷ cell 10 None false ∷ []) ∷ [] }
+pub row21_table : standing (rules_with (2 ∷ [])) (journal_after (rules_with (2 ∷ [])) [] row21_commands) ≡ record { races = 1 ∷ 2 ∷ []; rows = row A 1 false 10 (cell 10 None true ∷ cell 10 (Some abbreviation.Rdg) false ∷ []) ∷ row B 2 false 10 (cell 20 None true ∷ cell 10 None false ∷ []) ∷ [] }
 row21_table = refl
 
 abbrev pub row91_commands : List (Role × Command)
@@ -169,9 +169,9 @@ row91_commands =
 pub row91_replies : replies (rules_with ([])) [] row91_commands ≡ ok 1 1 false 0 ∷ ok 2 1 true 0 ∷ ok 3 1 true 0 ∷ ok 4 1 true 0 ∷ ok 5 1 true 0 ∷ ok_alone 6 ∷ ok_alone 7 ∷ ok 8 2 false 60 ∷ ok 9 2 true 80 ∷ []
 row91_replies = refl
 
-pub row91_table : standing (rules_with ([])) (journal_after [] row91_commands) ≡ record { races = 1 ∷ 2 ∷ []; rows = row B 1 false 30 (cell 20 None false ∷ cell 10 None false ∷ []) ∷ row A 2 true 80 (cell 40 (Some abbreviation.Rdg) false ∷ cell 40 (Some abbreviation.Dnc) false ∷ []) ∷ row C 2 true 80 (cell 40 (Some abbreviation.Dnc) false ∷ cell 40 (Some abbreviation.Dnc) false ∷ []) ∷ [] }
+pub row91_table : standing (rules_with ([])) (journal_after (rules_with ([])) [] row91_commands) ≡ record { races = 1 ∷ 2 ∷ []; rows = row B 1 false 30 (cell 20 None false ∷ cell 10 None false ∷ []) ∷ row A 2 true 80 (cell 40 (Some abbreviation.Rdg) false ∷ cell 40 (Some abbreviation.Dnc) false ∷ []) ∷ row C 2 true 80 (cell 40 (Some abbreviation.Dnc) false ∷ cell 40 (Some abbreviation.Dnc) false ∷ []) ∷ [] }
 row91_table = refl
 
 -- the journal of a run is lawful
-pub row19_lawful : is_lawful (journal_after [] row19_commands) ≡ true
+pub row19_lawful : is_lawful limits (rules_with []) (journal_after (rules_with []) [] row19_commands) ≡ true
 row19_lawful = refl

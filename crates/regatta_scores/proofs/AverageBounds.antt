@@ -1,10 +1,10 @@
 -- Where an average lies.
-use Rattle.std.proofs.Common.{◌≡◌, ℕ, zero, suc, Bool, true, false, ◌+◌, ◌*◌, ◌/◌, ◌<◌, ◌≤◌, List, [], ◌∷◌, refl, ap, ◌∙◌, arith, length, All, cond, nat_eq}
+use Rattle.std.proofs.Common.{◌≡◌, ℕ, zero, suc, Bool, true, false, ◌+◌, ◌*◌, ◌/◌, ◌<◌, ◌≤◌, List, [], ◌∷◌, refl, arith, length, All, cond, nat_eq}
 use Rattle.std.proofs.lemmas.List.Sums.{sum_by-cons}
-use Rattle.std.proofs.Math.Nat.{le-div_iff_mul-le, div-lt_iff_lt-mul, mul_left_comm, mul_comm, mul-suc, mul-div-le, lt-mul-div-succ}
+use Rattle.std.proofs.Math.Nat.{le-div_iff_mul-le, div-lt_iff_lt-mul, mul_left_comm, mul-suc, mul-div-le, lt-mul-div-succ}
 use borrow.Author.Tests.{eqb-true}
 use Rattle.regatta_scores.specs.declared.boats.RowItem.{RowItem}
-use Rattle.regatta_scores.specs.Averages.{own_points, average, average_or, counted, total, average_over}
+use Rattle.regatta_scores.specs.Averages.{own_points, average, average_or, counted, total}
 use Rattle.regatta_scores.specs.RedressLaws.{IsWithin, AveragesLieBetween, AveragesAreNearest}
 
 -- points from low to high have a sum from n times low to n times high

@@ -1,5 +1,5 @@
 -- Redress of one boat changes no score of another.
-use Rattle.std.proofs.Common.{◌≡◌, ◌≢◌, ℕ, ◌+◌, ◌*◌, Bool, true, false, cond, ◌&&◌, List, [], ◌∷◌, ◌++◌, refl, ap, ◌∙◌, sym, arith, length, map, filter, filter_map, count_by, zip, nat_eq, Option, Some, None}
+use Rattle.std.proofs.Common.{◌≡◌, ◌≢◌, ℕ, Bool, true, false, cond, ◌&&◌, List, [], ◌∷◌, ◌++◌, refl, ap, ◌∙◌, sym, arith, length, map, filter, filter_map, count_by, zip, nat_eq, Option}
 use Rattle.std.specs.List.{after_last, range_with_len}
 use Rattle.std.proofs.lemmas.List.{append-nil}
 use Rattle.std.proofs.lemmas.List.Elements.{filter-append, filter_map-append}
@@ -8,18 +8,11 @@ use Rattle.std.specs.Cmp.Lexicographic.{bytes_decides}
 use Rattle.regatta_terms.specs.Entries.{EntryParts}
 use Rattle.regatta_terms.specs.Rules.{RulesParts, exclusions_of}
 use Rattle.regatta_terms.specs.declared.sail.Sail.{Sail}
-use Rattle.regatta_terms.specs.declared.rules.Absent.{Absent}
-use Rattle.regatta_terms.specs.declared.rules.Absent.TheVariants.{A52, A53}
-use Rattle.regatta_terms.specs.declared.command.Code.{Code}
-use Rattle.regatta_terms.specs.declared.command.Code.TheVariants as code
 use Rattle.regatta_terms.specs.declared.command.Redress as redress_type
 use Rattle.regatta_terms.specs.declared.command.Command.{Command}
 use Rattle.regatta_terms.specs.declared.command.Command.TheVariants.{Redress}
-use Rattle.regatta_scores.specs.declared.sheet.Held.{Held}
-use Rattle.regatta_scores.specs.declared.sheet.Status.{Status}
-use Rattle.regatta_scores.specs.declared.sheet.Status.TheVariants.{Finished, Coded}
 use Rattle.regatta_scores.specs.Journal.{Journal, same_sail, sail_entered, race_commands, entered, order, order_by, order_after, held, held_by, standing_decisions, decides, is_clear, code_marked, is_zfp, is_scp, counting, last_item, is_some_true, is_scored, scored}
-use Rattle.regatta_scores.specs.RacePoints.{Race, journal_race, status, dnf, dnf_by, base_by, plain, penalised, penalty_points}
+use Rattle.regatta_scores.specs.RacePoints.{Race, journal_race, plain}
 use Rattle.regatta_scores.specs.Averages as averages
 use Rattle.regatta_scores.specs.Exclusions as exclusion
 use Rattle.regatta_scores.specs.Standing.{row_items, points, excluded, is_dne}
@@ -33,24 +26,8 @@ abbrev with_redress : Race Sail → (Sail → Option redress_type.Redress) → R
 with_redress race redress = record { entered = race.entered; order = race.order; held = λ boat. record { code = (race.held boat).code; zfp = (race.held boat).zfp; scp = (race.held boat).scp; redress = redress boat } }
 
 module _ (race : Race Sail) (redress : Sail → Option redress_type.Redress) where
-  dnf_reads_none : (absent : Absent) → dnf_by same_sail absent (with_redress race redress) ≡ dnf_by same_sail absent race
-  dnf_reads_none A52 = refl
-  dnf_reads_none A53 = refl
-
-  base_reads_none : (rules : RulesParts) (boat : Sail) (s : Status) → base_by same_sail s rules (with_redress race redress) boat ≡ base_by same_sail s rules race boat
-  base_reads_none rules boat Finished = refl
-  base_reads_none rules boat (Coded code.Dnc) = refl
-  base_reads_none rules boat (Coded code.Dns) = ap (λ n. 10 * n) (dnf_reads_none rules.absent)
-  base_reads_none rules boat (Coded code.Ocs) = ap (λ n. 10 * n) (dnf_reads_none rules.absent)
-  base_reads_none rules boat (Coded code.Ufd) = ap (λ n. 10 * n) (dnf_reads_none rules.absent)
-  base_reads_none rules boat (Coded code.Bfd) = ap (λ n. 10 * n) (dnf_reads_none rules.absent)
-  base_reads_none rules boat (Coded code.Dnf) = ap (λ n. 10 * n) (dnf_reads_none rules.absent)
-  base_reads_none rules boat (Coded code.Ret) = ap (λ n. 10 * n) (dnf_reads_none rules.absent)
-  base_reads_none rules boat (Coded code.Dsq) = ap (λ n. 10 * n) (dnf_reads_none rules.absent)
-  base_reads_none rules boat (Coded code.Dne) = ap (λ n. 10 * n) (dnf_reads_none rules.absent)
-
   plain_reads_none : (rules : RulesParts) (boat : Sail) → plain same_sail rules (with_redress race redress) boat ≡ plain same_sail rules race boat
-  plain_reads_none rules boat i = penalised (base_reads_none rules boat (status same_sail race boat) i) (penalty_points rules (dnf_reads_none rules.absent i) (race.held boat)) (dnf_reads_none rules.absent i)
+  plain_reads_none rules boat = refl
 
 -- ---- the journal after the redress
 

@@ -1,17 +1,12 @@
 -- Scores do not depend on what boats are called.
-use Rattle.std.proofs.Common.{◌≡◌, ℕ, zero, suc, ◌+◌, ◌*◌, Bool, true, false, cond, not, ◌||◌, List, [], ◌∷◌, refl, ap, ◌∙◌, sym, map, take, length, count_by, sum_by, find, unwrap_or, Some, is_none}
+use Rattle.std.proofs.Common.{◌≡◌, ℕ, zero, suc, ◌+◌, Bool, true, false, cond, not, ◌||◌, List, [], ◌∷◌, refl, ap, ◌∙◌, sym, map, take, length, count_by, sum_by, find, unwrap_or, Some, is_none}
 use Rattle.std.specs.List.{list_any, before_first, prefix_len, position_or_len, AllByRecursion}
 use Rattle.std.proofs.lemmas.List.{length-map}
 use Rattle.std.proofs.lemmas.List.Sums.{sum_by-cons}
 use Rattle.regatta_terms.specs.Rules.{RulesParts}
-use Rattle.regatta_terms.specs.declared.rules.Absent.{Absent}
-use Rattle.regatta_terms.specs.declared.rules.Absent.TheVariants.{A52, A53}
-use Rattle.regatta_terms.specs.declared.command.Code.TheVariants as code
 use Rattle.regatta_scores.specs.declared.sheet.Held.{Held}
-use Rattle.regatta_scores.specs.declared.sheet.Status.{Status}
-use Rattle.regatta_scores.specs.declared.sheet.Status.TheVariants.{Finished, Coded}
 use Rattle.regatta_scores.specs.Order.{in_group, stands_in}
-use Rattle.regatta_scores.specs.RacePoints.{Race, status, status_by, came, finishers, groups_ahead, her_group, place, sharing, dnf, dnf_by, base, base_by, plain, penalised, penalty_points, shared_points}
+use Rattle.regatta_scores.specs.RacePoints.{Race, status, status_by, came, finishers, groups_ahead, her_group, finishing_place, sharing, number_came, dnf, dnf_by, base, base_by, plain, penalised, penalty_points, shared_points}
 use Rattle.regatta_scores.specs.Renaming.{IsRenamed}
 use Rattle.regatta_scores.proofs.Counts.{count_cons}
 
@@ -64,7 +59,7 @@ module _ {B C : Type 0} (same_b : B → B → Bool) (same_c : C → C → Bool) 
   finishers_same : (group : List B) → finishers renamed (map name group) ≡ finishers race group
   finishers_same group = count_map name (λ c. is_none (renamed.held c).code) (λ b. is_none (race.held b).code) (λ x. ap (λ (h : Held). is_none h.code) (r.holds x)) group
 
-  place_same : (boat : B) → Known boat → place same_c renamed (name boat) ≡ place same_b race boat
+  place_same : (boat : B) → Known boat → finishing_place same_c renamed (name boat) ≡ finishing_place same_b race boat
   place_same boat known =
       let ahead : groups_ahead same_c renamed (name boat) ≡ map (map name) (groups_ahead same_b race boat) = ap (before_first (in_group same_c (name boat))) r.finish ∙ before_map (map name) (in_group same_c (name boat)) (in_group same_b boat) (group_same boat known) race.order in
       ap (λ n. 1 + n) (ap (sum_by (finishers renamed)) ahead ∙ sum_map (map name) (finishers renamed) (finishers race) finishers_same (groups_ahead same_b race boat))
@@ -77,20 +72,14 @@ module _ {B C : Type 0} (same_b : B → B → Bool) (same_c : C → C → Bool) 
   entered_same : length renamed.entered ≡ length race.entered
   entered_same = ap length r.entry_list ∙ length-map race.entered name
 
+  came_same : number_came same_c renamed ≡ number_came same_b race
+  came_same = ap (count_by (λ c. came (status same_c renamed c))) r.entry_list ∙ count_map_known Known name (λ c. came (status same_c renamed c)) (λ b. came (status same_b race b)) (λ x known. ap came (status_same x known)) race.entered r.all_known
+
   dnf_same : (rules : RulesParts) → dnf same_c rules renamed ≡ dnf same_b rules race
-  dnf_same rules = by rules.absent
-    where
-      by : (a : Absent) → dnf_by same_c a renamed ≡ dnf_by same_b a race
-      by A52 = ap (λ n. n + 1) entered_same
-      by A53 = ap (λ n. n + 1) (ap (count_by (λ c. came (status same_c renamed c))) r.entry_list ∙ count_map_known Known name (λ c. came (status same_c renamed c)) (λ b. came (status same_b race b)) (λ x known. ap came (status_same x known)) race.entered r.all_known)
+  dnf_same rules i = dnf_by rules.absent (entered_same i) (came_same i)
 
   base_same : (rules : RulesParts) (boat : B) → Known boat → base same_c rules renamed (name boat) ≡ base same_b rules race boat
-  base_same rules boat known = ap (λ s. base_by same_c s rules renamed (name boat)) (status_same boat known) ∙ by (status same_b race boat)
-    where
-      by : (s : Status) → base_by same_c s rules renamed (name boat) ≡ base_by same_b s rules race boat
-      by Finished = λ i. shared_points (place_same boat known i) (sharing_same boat known i)
-      by (Coded code.Dnc) = ap (λ n. 10 * (n + 1)) entered_same
-      by (Coded code) = ap (λ n. 10 * n) (dnf_same rules)
+  base_same rules boat known i = base_by (status_same boat known i) (shared_points (place_same boat known i) (sharing_same boat known i)) (entered_same i) (dnf_same rules i)
 
   -- a boat scores the same under her other name
   pub plain_same : (rules : RulesParts) (boat : B) → Known boat → plain same_c rules renamed (name boat) ≡ plain same_b rules race boat

@@ -1,4 +1,5 @@
--- The points of one race before redress (RRS A4, A5, A6, A7, 30.2, 44.3). Points are tenths, but for what is said to be whole points.
+-- The points of one race before redress (RRS A4, A5, A6, A7, 30.2, 44.3).
+-- Points are tenths, but for what is said to be whole points.
 use Rattle.std.specs.Prelude.{ℕ, ◌+◌, ◌-◌, ◌*◌, ◌/◌, min, max, Bool, true, false, List, [], length, map, sum_by, count_by, find, unwrap_or, Option, Some, None, is_none, nat_eq, slice_index_or}
 use Rattle.std.specs.List.{range_with_len, before_first}
 use Rattle.regatta_terms.specs.Rules.{RulesParts}
@@ -41,7 +42,8 @@ twenty_percent dnf = (2 * dnf + 5) / 10
 
 -- what the penalties of a boat add, in whole points (30.2, 44.3(c))
 abbrev pub penalty_points : RulesParts → ℕ → Held → ℕ
-penalty_points rules dnf held = held.zfp * twenty_percent dnf + held.scp * unwrap_or rules.scp (twenty_percent dnf)
+penalty_points rules dnf held =
+    held.zfp * twenty_percent dnf + held.scp * unwrap_or rules.scp (twenty_percent dnf)
 
 -- a score made worse by penalties, to the DNF score at most; a score at or above that stays (44.3(c))
 abbrev pub penalised : ℕ → ℕ → ℕ → ℕ
@@ -50,6 +52,19 @@ penalised base penalty dnf = max base (min (base + 10 * penalty) (10 * dnf))
 -- how many boats of a group of the order finished: a boat with a code is taken out of the finishing order (A6.1)
 abbrev pub finishers : {B : Type 0} → Race B → List B → ℕ
 finishers race group = count_by (λ boat. is_none (race.held boat).code) group
+
+-- the race's DNF score in whole points: one more than the number of boats entered (A5.2),
+-- or than the number of those that came to the starting area (A5.3)
+abbrev pub dnf_by : Absent → ℕ → ℕ → ℕ
+dnf_by A52 entered came = entered + 1
+dnf_by A53 entered came = came + 1
+
+-- the score of a boat of this status: for her place if she finished (A4, A7), one more than the boats entered
+-- where she did not come to the starting area, the DNF score for every other code (A5.2, A5.3)
+abbrev pub base_by : Status → ℕ → ℕ → ℕ → ℕ
+base_by Finished place_points entered dnf = place_points
+base_by (Coded Dnc) place_points entered dnf = 10 * (entered + 1)
+base_by (Coded code) place_points entered dnf = 10 * dnf
 
 module _ {B : Type 0} (same : B → B → Bool) where
   abbrev pub status : Race B → B → Status
@@ -62,45 +77,50 @@ module _ {B : Type 0} (same : B → B → Bool) where
   abbrev pub her_group : Race B → B → List B
   her_group race boat = unwrap_or (find (in_group same boat) race.order) []
 
-  -- her place: one more than the number of boats that finished in the groups ahead of hers (A4, A6.1)
-  abbrev pub place : Race B → B → ℕ
-  place race boat = 1 + sum_by (finishers race) (groups_ahead race boat)
+  -- her finishing place: one more than the number of boats that finished in the groups ahead of hers (A4, A6.1)
+  abbrev pub finishing_place : Race B → B → ℕ
+  finishing_place race boat = 1 + sum_by (finishers race) (groups_ahead race boat)
 
   -- the number of boats that finished in her group, which share her place (A7)
   abbrev pub sharing : Race B → B → ℕ
   sharing race boat = finishers race (her_group race boat)
 
-  -- the race's DNF score in whole points: one more than the boats entered (A5.2), or than those that came to the starting area (A5.3)
-  abbrev pub dnf_by : Absent → Race B → ℕ
-  dnf_by A52 race = length race.entered + 1
-  dnf_by A53 race = count_by (λ boat. came (status race boat)) race.entered + 1
+  -- the points for her finishing place, shared with the boats tied with her (A4, A7)
+  abbrev pub place_points : Race B → B → ℕ
+  place_points race boat = shared_points (finishing_place race boat) (sharing race boat)
 
+  -- how many boats entered came to the starting area (A5.3)
+  abbrev pub number_came : Race B → ℕ
+  number_came race = count_by (λ boat. came (status race boat)) race.entered
+
+  -- the race's DNF score in whole points (A5.2, A5.3)
   abbrev pub dnf : RulesParts → Race B → ℕ
-  dnf rules race = dnf_by rules.absent race
+  dnf rules race = dnf_by rules.absent (length race.entered) (number_came race)
 
   -- the score for her place or her code (A4, A5, A7)
-  abbrev pub base_by : Status → RulesParts → Race B → B → ℕ
-  base_by Finished rules race boat = shared_points (place race boat) (sharing race boat)
-  base_by (Coded Dnc) rules race boat = 10 * (length race.entered + 1)
-  base_by (Coded code) rules race boat = 10 * dnf rules race
-
   abbrev pub base : RulesParts → Race B → B → ℕ
-  base rules race boat = base_by (status race boat) rules race boat
+  base rules race boat =
+      base_by (status race boat) (place_points race boat) (length race.entered) (dnf rules race)
 
   -- her score before redress
   abbrev pub plain : RulesParts → Race B → B → ℕ
-  plain rules race boat = penalised (base rules race boat) (penalty_points rules (dnf rules race) (race.held boat)) (dnf rules race)
+  plain rules race boat =
+      let dnf = dnf rules race in
+      penalised (base rules race boat) (penalty_points rules dnf (race.held boat)) dnf
 
 -- ---- the race on a sheet, and in the journal
 
 -- on a sheet the boats are numbers, their places in the entry list
 abbrev pub race_of : List (List ℕ) → List Held → Race ℕ
-race_of order held = record { entered = range_with_len 0 (length held); order = order; held = λ boat. slice_index_or held boat nothing_held }
+race_of order held =
+    record { entered = range_with_len 0 (length held); order = order; held = λ boat. slice_index_or held boat nothing_held }
 
 -- the points of each boat on the sheet, before redress
 abbrev pub race_points : RulesParts → Sheet → List ℕ
-race_points rules sheet = map (plain nat_eq rules (race_of sheet.order sheet.held)) (range_with_len 0 (boats sheet))
+race_points rules sheet =
+    map (plain nat_eq rules (race_of sheet.order sheet.held)) (range_with_len 0 (boats sheet))
 
 -- the race in the journal
 abbrev pub journal_race : Journal → ℕ → Race Sail
-journal_race journal race = record { entered = entered journal; order = order journal race; held = held journal race }
+journal_race journal race =
+    record { entered = entered journal; order = order journal race; held = held journal race }

@@ -7,7 +7,7 @@ use Rattle.regatta_terms.specs.declared.command.Redress as redress_type
 use Rattle.regatta_terms.specs.declared.command.Command.TheVariants.{Redress}
 use Rattle.regatta_scores.specs.declared.boats.RowItem.{RowItem}
 use Rattle.regatta_scores.specs.Journal.{Journal}
-use Rattle.regatta_scores.specs.Averages.{own_points, average, counted, total, average_over}
+use Rattle.regatta_scores.specs.Averages.{own_points, average, counted, average_over}
 use Rattle.regatta_scores.specs.Standing.{points, excluded}
 
 -- Redress of one boat changes no other boat's points in any race (A6.2), nor which of them are excluded.

@@ -1,61 +1,12 @@
 -- Worked examples, by computation.
 use Rattle.std.specs.Prelude.{◌≡◌, refl, ℕ, Bool, true, false, List, [], ◌∷◌, Option, Some, None, length, map}
-use Rattle.regatta_terms.specs.Rules.{RulesParts, exclusions_of}
-use Rattle.regatta_terms.specs.declared.rules.Absent.TheVariants.{A52, A53}
-use Rattle.regatta_terms.specs.declared.command.Code.TheVariants as code
+use Rattle.regatta_terms.specs.Rules.{exclusions_of}
 use Rattle.regatta_terms.specs.declared.command.Redress.TheVariants.{Points, AllRaces, RacesBefore}
-use Rattle.regatta_scores.specs.declared.sheet.Held.{Held}
 use Rattle.regatta_scores.specs.declared.boats.RowItem.{RowItem}
 use Rattle.regatta_scores.specs.declared.boats.Scored.{Scored}
-use Rattle.regatta_scores.specs.Sheet.{Sheet, nothing_held, empty_sheet}
-use Rattle.regatta_scores.specs.Changes.{after}
-use Rattle.regatta_scores.specs.declared.sheet.Change.TheVariants.{Last, Join, Ahead, Out, Hold}
-use Rattle.regatta_scores.specs.RacePoints.{race_points}
 use Rattle.regatta_scores.specs.Averages.{points}
 use Rattle.regatta_scores.specs.Exclusions as exclusion
 use Rattle.regatta_scores.specs.Ranking.{Line, beats, places}
-
--- what a boat holds
-abbrev pub penalties : ℕ → ℕ → Held
-penalties zfp scp = record { code = None; zfp = zfp; scp = scp; redress = None }
-
--- ten boats in order; the first holds SCP, the second ZFP and SCP, the last three ZFP each; a stated SCP of 3 points
-abbrev pub ten_in_order : Sheet
-ten_in_order = record {
-  order = (0 ∷ []) ∷ (1 ∷ []) ∷ (2 ∷ []) ∷ (3 ∷ []) ∷ (4 ∷ []) ∷ (5 ∷ []) ∷ (6 ∷ []) ∷ (7 ∷ []) ∷ (8 ∷ []) ∷ (9 ∷ []) ∷ [];
-  held = penalties 0 1 ∷ penalties 1 1 ∷ nothing_held ∷ nothing_held ∷ nothing_held ∷ nothing_held ∷ nothing_held ∷ penalties 1 0 ∷ penalties 1 0 ∷ penalties 1 0 ∷ [];
-}
-
-abbrev pub rules_with : Option ℕ → List ℕ → RulesParts
-rules_with scp thresholds = record { absent = A52; scp = scp; thresholds = thresholds }
-
-pub ten_in_order_points : race_points (rules_with (Some 3) (2 ∷ [])) ten_in_order ≡ 40 ∷ 70 ∷ 30 ∷ 40 ∷ 50 ∷ 60 ∷ 70 ∷ 100 ∷ 110 ∷ 110 ∷ []
-ten_in_order_points = refl
-
-abbrev pub five_of_ten : Sheet
-five_of_ten = record {
-  order = (0 ∷ []) ∷ (1 ∷ []) ∷ (2 ∷ []) ∷ (3 ∷ []) ∷ (4 ∷ []) ∷ [];
-  held = nothing_held ∷ nothing_held ∷ penalties 1 0 ∷ nothing_held ∷ penalties 3 0 ∷ record { code = Some code.Dnf; zfp = 0; scp = 0; redress = None } ∷ nothing_held ∷ nothing_held ∷ nothing_held ∷ penalties 1 0 ∷ [];
-}
-
-pub five_of_ten_points : race_points (record { absent = A53; scp = None; thresholds = 2 ∷ [] }) five_of_ten ≡ 10 ∷ 20 ∷ 40 ∷ 40 ∷ 70 ∷ 70 ∷ 110 ∷ 110 ∷ 110 ∷ 110 ∷ []
-five_of_ten_points = refl
-
--- ties, a boat put ahead, a disqualification, and a boat struck out (A5.2, A6.1, A7)
-abbrev pub tied_sheet : Sheet
-tied_sheet = after (after (after (after (empty_sheet 4) (Last 0)) (Join 1 0)) (Ahead 2 1)) (Last 3)
-
-abbrev pub disqualified_sheet : Sheet
-disqualified_sheet = after tied_sheet (Hold 0 (record { code = Some code.Dsq; zfp = 0; scp = 0; redress = None }))
-
-pub tied_points : race_points (rules_with None (2 ∷ [])) tied_sheet ≡ 25 ∷ 25 ∷ 10 ∷ 40 ∷ []
-tied_points = refl
-
-pub disqualified_points : race_points (rules_with None (2 ∷ [])) disqualified_sheet ≡ 50 ∷ 20 ∷ 10 ∷ 30 ∷ []
-disqualified_points = refl
-
-pub struck_points : race_points (rules_with None (2 ∷ [])) (after disqualified_sheet (Out 2)) ≡ 50 ∷ 10 ∷ 50 ∷ 20 ∷ []
-struck_points = refl
 
 -- ---- exclusions
 

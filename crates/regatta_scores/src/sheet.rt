@@ -2,7 +2,7 @@
 ghost use Rattle.std.specs.Prelude.{◌≡◌, ◌<◌, ◌≤◌, ◌↔◌, [], nat_eq, slice_get, Some, IsTrue, IfOk};
 ghost use Rattle.regatta_scores.specs.Sheet.{boats, empty_sheet};
 ghost use Rattle.regatta_scores.specs.Order.{stands_in};
-ghost use Rattle.regatta_scores.specs.SheetFacts.{IsSheet, IsPlaced, IsUnplaced, Allows};
+ghost use Rattle.regatta_scores.specs.SheetFacts.{IsSheet, Allows};
 ghost use Rattle.regatta_scores.specs.Changes.{after};
 ghost use Rattle.regatta_scores.specs.declared.sheet.Change.TheVariants.{AddBoat, Last, Join, Ahead, Out, Hold as Holds};
 
@@ -15,9 +15,13 @@ use std::marker::Model;
 /// What a boat holds in one race.
 #[derive(Clone, Copy, Debug, PartialEq, Eq)]
 pub struct Held {
+    /// The code by which she is scored in place of a finishing place, if any (RRS A10).
     pub code: Option<Code>,
+    /// How many 20% penalties for breaking rule 30.2 she holds, at most nine.
     pub zfp: u8,
+    /// How many Scoring Penalties (RRS 44.3) she holds, at most nine.
     pub scp: u8,
+    /// The redress that replaces her score, if any (RRS A9).
     pub redress: Option<Redress>,
 }
 
@@ -36,7 +40,8 @@ pub enum Status {
     Coded(Code),
 }
 
-/// One race. Boats are numbers, their places in the entry list.
+/// One race: the finishing order, in groups of tied boats (RRS A3, A7), and what each boat holds. Boats are numbers from
+/// 0, their places in the entry list, and at most 200.
 #[derive(Drop)]
 pub struct RaceSheet {
     order: Vec<Items<u16>>,
@@ -68,7 +73,7 @@ impl RaceSheet {
         })
     }
 
-    /// Whether the boat stands in the order.
+    /// Whether the boat stands in the finishing order, with a code or without.
     pub fn placed(&self, boat: u16) -> bool
         requires { boat < boats self.now }
         ensures { result ≡ stands_in nat_eq boat self.now.order }
@@ -87,7 +92,7 @@ impl RaceSheet {
         self.held[boat as usize]
     }
 
-    /// Whether nobody is in the order.
+    /// Whether nobody is in the finishing order.
     pub fn is_empty(&self) -> bool
         ensures { IsTrue result ↔ (self.now.order ≡ []) }
     {
@@ -95,25 +100,26 @@ impl RaceSheet {
     }
 
     /// The sheet after a change.
-    pub fn after(&self, alloc: Global, change: Change) -> Result<RaceSheet, AllocError>
+    pub fn after(&self, change: Change) -> Result<RaceSheet, AllocError>
         requires { Allows self.now change }
         ensures { IfOk result (λ sheet. sheet ≡ after self.now change) }
     {
         match change {
-            Change::AddBoat => self.with_boat(alloc),
-            Change::Last { boat } => self.with_last(alloc, boat),
-            Change::Join { boat, other } => self.joined(alloc, boat, other),
-            Change::Ahead { boat, other } => self.with_ahead(alloc, boat, other),
-            Change::Out { boat } => self.without(alloc, boat),
-            Change::Hold { boat, held } => self.with_held(alloc, boat, held),
+            Change::AddBoat => self.with_boat(),
+            Change::Last { boat } => self.with_last(boat),
+            Change::Join { boat, other } => self.joined(boat, other),
+            Change::Ahead { boat, other } => self.with_ahead(boat, other),
+            Change::Out { boat } => self.without(boat),
+            Change::Hold { boat, held } => self.with_held(boat, held),
         }
     }
 
     /// A copy of the sheet.
     #[tactic(auto, using(crate::proofs::Sheets::copied_sheet))]
-    pub fn copied(&self, alloc: Global) -> Result<RaceSheet, AllocError>
+    pub fn copied(&self) -> Result<RaceSheet, AllocError>
         ensures { IfOk result (λ sheet. sheet ≡ self.now) }
     {
+        let alloc = self.allocator();
         let order = orders::copied_order(alloc, &self.order)?;
         let held = Vec::from_slice(alloc, &self.held)?;
         Ok(RaceSheet { order, held })
@@ -121,10 +127,11 @@ impl RaceSheet {
 
     /// The sheet with one more boat.
     #[tactic(auto, using(crate::proofs::Sheets::more_sheet))]
-    fn with_boat(&self, alloc: Global) -> Result<RaceSheet, AllocError>
+    fn with_boat(&self) -> Result<RaceSheet, AllocError>
         requires { Allows self.now AddBoat }
         ensures { IfOk result (λ sheet. sheet ≡ after self.now AddBoat) }
     {
+        let alloc = self.allocator();
         let order = orders::copied_order(alloc, &self.order)?;
         let mut held = Vec::from_slice(alloc, &self.held)?;
         held.push(NOTHING)?;
@@ -133,10 +140,11 @@ impl RaceSheet {
 
     /// The sheet with the boat in a group of her own, last.
     #[tactic(auto, using(crate::proofs::Sheets::last_sheet))]
-    fn with_last(&self, alloc: Global, boat: u16) -> Result<RaceSheet, AllocError>
+    fn with_last(&self, boat: u16) -> Result<RaceSheet, AllocError>
         requires { Allows self.now (Last boat) }
         ensures { IfOk result (λ sheet. sheet ≡ after self.now (Last boat)) }
     {
+        let alloc = self.allocator();
         let order = orders::with_last(alloc, &self.order, boat)?;
         let held = Vec::from_slice(alloc, &self.held)?;
         Ok(RaceSheet { order, held })
@@ -144,10 +152,11 @@ impl RaceSheet {
 
     /// The sheet with the boat in the group of the other.
     #[tactic(auto, using(crate::proofs::Sheets::joined_sheet))]
-    fn joined(&self, alloc: Global, boat: u16, other: u16) -> Result<RaceSheet, AllocError>
+    fn joined(&self, boat: u16, other: u16) -> Result<RaceSheet, AllocError>
         requires { Allows self.now (Join boat other) }
         ensures { IfOk result (λ sheet. sheet ≡ after self.now (Join boat other)) }
     {
+        let alloc = self.allocator();
         let order = orders::joined(alloc, &self.order, boat, other)?;
         let held = Vec::from_slice(alloc, &self.held)?;
         Ok(RaceSheet { order, held })
@@ -155,10 +164,11 @@ impl RaceSheet {
 
     /// The sheet with the boat directly ahead of the other's group.
     #[tactic(auto, using(crate::proofs::Sheets::ahead_sheet))]
-    fn with_ahead(&self, alloc: Global, boat: u16, other: u16) -> Result<RaceSheet, AllocError>
+    fn with_ahead(&self, boat: u16, other: u16) -> Result<RaceSheet, AllocError>
         requires { Allows self.now (Ahead boat other) }
         ensures { IfOk result (λ sheet. sheet ≡ after self.now (Ahead boat other)) }
     {
+        let alloc = self.allocator();
         let order = orders::with_ahead(alloc, &self.order, boat, other)?;
         let held = Vec::from_slice(alloc, &self.held)?;
         Ok(RaceSheet { order, held })
@@ -166,10 +176,11 @@ impl RaceSheet {
 
     /// The sheet without the boat in the order.
     #[tactic(auto, using(crate::proofs::Sheets::without_sheet))]
-    fn without(&self, alloc: Global, boat: u16) -> Result<RaceSheet, AllocError>
+    fn without(&self, boat: u16) -> Result<RaceSheet, AllocError>
         requires { Allows self.now (Out boat) }
         ensures { IfOk result (λ sheet. sheet ≡ after self.now (Out boat)) }
     {
+        let alloc = self.allocator();
         let order = orders::without(alloc, &self.order, boat)?;
         let held = Vec::from_slice(alloc, &self.held)?;
         Ok(RaceSheet { order, held })
@@ -177,14 +188,20 @@ impl RaceSheet {
 
     /// The sheet on which the boat holds this.
     #[tactic(auto, using(crate::proofs::Sheets::held_sheet))]
-    fn with_held(&self, alloc: Global, boat: u16, now: Held) -> Result<RaceSheet, AllocError>
+    fn with_held(&self, boat: u16, now: Held) -> Result<RaceSheet, AllocError>
         requires { Allows self.now (Holds boat now) }
         ensures { IfOk result (λ sheet. sheet ≡ after self.now (Holds boat now)) }
     {
+        let alloc = self.allocator();
         let order = orders::copied_order(alloc, &self.order)?;
         let mut held = Vec::from_slice(alloc, &self.held)?;
         held[boat as usize] = now;
         Ok(RaceSheet { order, held })
+    }
+
+    /// The allocator of the sheet's lists, which takes the memory of changed copies.
+    fn allocator(&self) -> Global {
+        *self.held.allocator()
     }
 
     /// The finishing order.
@@ -206,10 +223,16 @@ impl RaceSheet {
 /// One change of a sheet.
 #[derive(Clone, Copy, Debug, PartialEq, Eq)]
 pub enum Change {
+    /// One more boat, with the next number: unplaced, and holding nothing.
     AddBoat,
+    /// The boat, unplaced so far, in a group of her own, last.
     Last { boat: u16 },
+    /// The boat, unplaced so far, in the group of the other (RRS A7).
     Join { boat: u16, other: u16 },
+    /// The boat, unplaced so far, in a group of her own directly ahead of the other's group.
     Ahead { boat: u16, other: u16 },
+    /// The boat out of the order; a group that this leaves empty goes.
     Out { boat: u16 },
+    /// What the boat holds from now on, in place of what she held: at most nine penalties of each kind.
     Hold { boat: u16, held: Held },
 }

@@ -1,0 +1,37 @@
+-- The replies to commands of one seat, one after another: the plain, slow meaning of a run.
+use Rattle.std.specs.Prelude.{List, [], ◌∷◌, ◌++◌, Option, Some, None, Result, Ok, Err}
+use Rattle.regatta_terms.specs.Entries.{EntryParts}
+use Rattle.regatta_terms.specs.Rules.{RulesParts}
+use Rattle.regatta_terms.specs.declared.command.Role.{Role}
+use Rattle.regatta_terms.specs.declared.command.Command.{Command}
+use Rattle.regatta_terms.specs.declared.reply.Answer.{Answer}
+use Rattle.regatta_terms.specs.declared.reply.Refusal.{Refusal}
+use Rattle.regatta_scores.specs.Journal.{Journal}
+use Rattle.regatta_board.specs.Refusals.{limits, refusal, next_number}
+use Rattle.regatta_board.specs.Answers.{answer}
+
+-- the next entry of seat 1
+abbrev pub next_entry : Journal → Role → Command → EntryParts
+next_entry journal role command = record { seat = 1; nth = next_number journal 1; role = role; command = command }
+
+-- the reply to an entry, and the journal after it
+abbrev pub reply_by : RulesParts → Journal → EntryParts → Option Refusal → Result Answer Refusal
+reply_by rules journal entry None = Ok (answer rules journal entry)
+reply_by rules journal entry (Some why) = Err why
+
+abbrev pub journal_by : Journal → EntryParts → Option Refusal → Journal
+journal_by journal entry None = journal ++ entry ∷ []
+journal_by journal entry (Some why) = journal
+
+abbrev pub replies : RulesParts → Journal → List (Role × Command) → List (Result Answer Refusal)
+replies rules journal [] = []
+replies rules journal (c ∷ cs) =
+    let entry = next_entry journal c.0 c.1 in
+    let why = refusal limits rules journal entry in
+    reply_by rules journal entry why ∷ replies rules (journal_by journal entry why) cs
+
+abbrev pub journal_after : RulesParts → Journal → List (Role × Command) → Journal
+journal_after rules journal [] = journal
+journal_after rules journal (c ∷ cs) =
+    let entry = next_entry journal c.0 c.1 in
+    journal_after rules (journal_by journal entry (refusal limits rules journal entry)) cs

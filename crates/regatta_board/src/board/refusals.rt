@@ -1,0 +1,242 @@
+//! Which command is refused, and why.
+ghost use Rattle.std.specs.Prelude.{◌≡◌, length, nat_le, true};
+ghost use Rattle.regatta_scores.specs.Journal.{entered, is_scored as is_scored_in, held as held_in, order};
+ghost use Rattle.regatta_scores.specs.Order.{is_empty};
+ghost use Rattle.regatta_board.specs.Refusals as refusals;
+ghost use Rattle.regatta_board.specs.Refusals.{limits};
+
+use crate::board::Board;
+use crate::limits::{MAX_BOATS, MAX_ENTRIES};
+use regatta_scores::Held;
+use regatta_terms::{Code, Command, Entry, PenaltyKind, RaceNo, Refusal, Role, Sail, may};
+
+/// Whether she holds a decision of the protest committee.
+fn is_decided(held: &Held) -> bool
+    ensures { result ≡ refusals.is_decided held.now }
+{
+    matches!(held.code, Some(Code::Dsq | Code::Dne)) || held.redress.is_some()
+}
+
+/// How many penalties of this kind she holds.
+fn penalties(kind: PenaltyKind, held: &Held) -> u8
+    ensures { result ≡ refusals.penalties kind held.now }
+{
+    match kind {
+        PenaltyKind::Zfp => held.zfp,
+        PenaltyKind::Scp => held.scp,
+    }
+}
+
+/// Whether she holds no code, penalty or redress.
+fn holds_nothing(held: &Held) -> bool
+    ensures { result ≡ refusals.holds_nothing held.now }
+{
+    held.code.is_none() && held.zfp == 0 && held.scp == 0 && held.redress.is_none()
+}
+
+impl Board {
+    /// Whether the boat is entered.
+    fn is_entered(&self, boat: Sail) -> bool
+        ensures { result ≡ refusals.is_entered self.now.entries boat }
+    {
+        self.kept.is_entered(boat)
+    }
+
+    /// Whether the list of boats is full.
+    fn is_full(&self) -> bool
+        ensures { result ≡ nat_le limits.boats (length (entered self.now.entries)) }
+    {
+        self.kept.boats() >= MAX_BOATS
+    }
+
+    /// Whether an entered boat stands in the race's finishing order.
+    fn is_placed(&self, race: RaceNo, boat: Sail) -> bool
+        requires { refusals.is_entered self.now.entries boat ≡ true }
+        ensures { result ≡ refusals.is_placed self.now.entries race boat }
+    {
+        self.kept.is_placed(race, boat)
+    }
+
+    /// What an entered boat holds in the race.
+    fn held(&self, race: RaceNo, boat: Sail) -> Held
+        requires { refusals.is_entered self.now.entries boat ≡ true }
+        ensures { result ≡ held_in self.now.entries race boat }
+    {
+        self.kept.held(race, boat)
+    }
+
+    /// Whether the race counts.
+    fn is_scored(&self, race: RaceNo) -> bool
+        ensures { result ≡ is_scored_in self.now.entries race }
+    {
+        self.kept.is_scored(race)
+    }
+
+    /// Whether nobody stands in the race's finishing order.
+    fn has_no_finisher(&self, race: RaceNo) -> bool
+        ensures { result ≡ is_empty (order self.now.entries race) }
+    {
+        self.kept.has_no_finisher(race)
+    }
+
+    /// Of Enter.
+    fn enter_refusal(&self, boat: Sail) -> Option<Refusal>
+        ensures { result ≡ refusals.enter_refusal limits self.now.entries boat }
+    {
+        if self.is_entered(boat) {
+            Some(Refusal::AlreadyEntered)
+        } else if self.is_full() {
+            Some(Refusal::EntryFull)
+        } else {
+            None
+        }
+    }
+
+    /// Of Finish.
+    fn place_refusal(&self, race: RaceNo, boat: Sail) -> Option<Refusal>
+        ensures { result ≡ refusals.place_refusal self.now.entries race boat }
+    {
+        if !self.is_entered(boat) {
+            Some(Refusal::NotEntered)
+        } else if self.is_placed(race, boat) {
+            Some(Refusal::AlreadyPlaced)
+        } else {
+            None
+        }
+    }
+
+    /// Of Tie and Before.
+    fn place_by_refusal(&self, race: RaceNo, boat: Sail, other: Sail) -> Option<Refusal>
+        ensures { result ≡ refusals.place_by_refusal self.now.entries race boat other }
+    {
+        if !(self.is_entered(boat) && self.is_entered(other)) {
+            Some(Refusal::NotEntered)
+        } else if self.is_placed(race, boat) {
+            Some(Refusal::AlreadyPlaced)
+        } else if !self.is_placed(race, other) {
+            Some(Refusal::NotPlaced)
+        } else {
+            None
+        }
+    }
+
+    /// Of Strike.
+    fn strike_refusal(&self, race: RaceNo, boat: Sail) -> Option<Refusal>
+        ensures { result ≡ refusals.strike_refusal self.now.entries race boat }
+    {
+        if !self.is_entered(boat) {
+            Some(Refusal::NotEntered)
+        } else if !self.is_placed(race, boat) {
+            Some(Refusal::NotPlaced)
+        } else {
+            None
+        }
+    }
+
+    /// Of Mark and Redress.
+    fn decision_refusal(&self, race: RaceNo, boat: Sail) -> Option<Refusal>
+        ensures { result ≡ refusals.decision_refusal self.now.entries race boat }
+    {
+        if !self.is_entered(boat) {
+            Some(Refusal::NotEntered)
+        } else if is_decided(&self.held(race, boat)) {
+            Some(Refusal::Decided)
+        } else {
+            None
+        }
+    }
+
+    /// Of Penalise.
+    fn penalty_refusal(&self, race: RaceNo, boat: Sail, kind: PenaltyKind) -> Option<Refusal>
+        ensures { result ≡ refusals.penalty_refusal self.now.entries race boat kind }
+    {
+        if !self.is_entered(boat) {
+            return Some(Refusal::NotEntered);
+        }
+        let held = self.held(race, boat);
+        if is_decided(&held) {
+            Some(Refusal::Decided)
+        } else if penalties(kind, &held) >= 9 {
+            Some(Refusal::PenaltyLimit)
+        } else {
+            None
+        }
+    }
+
+    /// Of Clear.
+    fn clear_refusal(&self, role: Role, race: RaceNo, boat: Sail) -> Option<Refusal>
+        ensures { result ≡ refusals.clear_refusal self.now.entries role race boat }
+    {
+        if !self.is_entered(boat) {
+            return Some(Refusal::NotEntered);
+        }
+        let held = self.held(race, boat);
+        if is_decided(&held) && role != Role::Jury {
+            Some(Refusal::Decided)
+        } else if holds_nothing(&held) {
+            Some(Refusal::NothingToClear)
+        } else {
+            None
+        }
+    }
+
+    /// Of Score.
+    fn score_refusal(&self, race: RaceNo) -> Option<Refusal>
+        ensures { result ≡ refusals.score_refusal self.now.entries race }
+    {
+        if self.is_scored(race) {
+            Some(Refusal::AlreadyScored)
+        } else if self.has_no_finisher(race) {
+            Some(Refusal::NoFinisher)
+        } else {
+            None
+        }
+    }
+
+    /// Of Unscore.
+    fn unscore_refusal(&self, race: RaceNo) -> Option<Refusal>
+        ensures { result ≡ refusals.unscore_refusal self.now.entries race }
+    {
+        if self.is_scored(race) {
+            None
+        } else {
+            Some(Refusal::NotScored)
+        }
+    }
+
+    /// Why a command that the role may give is refused, or nothing.
+    fn command_refusal(&self, role: Role, command: Command) -> Option<Refusal>
+        ensures { result ≡ refusals.command_refusal limits self.now.rules self.now.entries role command }
+    {
+        match command {
+            Command::Enter { sail } => self.enter_refusal(sail),
+            Command::Finish { race, sail } => self.place_refusal(race, sail),
+            Command::Tie { race, sail, other } => self.place_by_refusal(race, sail, other),
+            Command::Before { race, sail, other } => self.place_by_refusal(race, sail, other),
+            Command::Strike { race, sail } => self.strike_refusal(race, sail),
+            Command::Mark { race, sail, .. } => self.decision_refusal(race, sail),
+            Command::Redress { race, sail, .. } => self.decision_refusal(race, sail),
+            Command::Penalise { race, sail, kind } => self.penalty_refusal(race, sail, kind),
+            Command::Clear { race, sail } => self.clear_refusal(role, race, sail),
+            Command::Score { race } => self.score_refusal(race),
+            Command::Unscore { race } => self.unscore_refusal(race),
+        }
+    }
+
+    /// Why the entry is refused, or nothing.
+    pub(super) fn refusal(&self, entry: &Entry) -> Option<Refusal>
+        ensures { result ≡ refusals.refusal limits self.now.rules self.now.entries entry.now }
+    {
+        if self.len() >= MAX_ENTRIES {
+            return Some(Refusal::JournalFull);
+        }
+        let last = self.last_of(entry.seat());
+        if entry.nth() <= last {
+            return Some(Refusal::OldNumber { last });
+        }
+        if !may(entry.role(), &entry.command()) {
+            return Some(Refusal::NotYours);
+        }
+        self.command_refusal(entry.role(), entry.command())
+    }
+}

@@ -1,0 +1,14 @@
+//! The race office: it answers the lines of a scorer over any streams.
+#![tactic(auto)]
+
+mod answers;
+mod lines;
+mod run;
+mod words;
+
+pub use regatta_streams::{Device, Foreign, Sink, Source, StreamFault, Tape};
+pub use run::{INPUT_LIMIT, RunFault, replay};
+pub use words::program;
+
+#[cfg(test)]
+mod tests;

@@ -1,0 +1,117 @@
+use super::*;
+use std::alloc::Global;
+use std::test::Fail;
+
+/// A run of the program with the word `replay`: its status, what it wrote, and what it said.
+fn run(alloc: Global, input: &mut Tape, take: usize) -> Result<(u8, Tape, Tape), Fail> {
+    let mut output = Tape::new(alloc, b"", 1, 0, take)?;
+    let mut errors = Tape::new(alloc, b"", 1, 0, 100)?;
+    let status = program(alloc, &["replay"], input, &mut output, &mut errors);
+    Ok((status, output, errors))
+}
+
+#[test]
+fn answers_lines_and_prints_the_table(rt: HostRuntime) -> Result<(), Fail> {
+    let cases: [(&str, &str); 3] = [
+        (
+            "ENTER C\nENTER A\nENTER B\n",
+            "OK 1 1 0.0\nOK 2 1= 0.0\nOK 3 1= 0.0\nTABLE 3 RACES\n1= A 0.0\n1= B 0.0\n1= C 0.0\n",
+        ),
+        (
+            "ENTER A\nENTER B\nFINISH 1 B\nFINISH 1 A\nSCORE 1\n",
+            "OK 1 1 0.0\nOK 2 1= 0.0\nOK 3 1= 0.0\nOK 4 1= 0.0\nOK 5\nTABLE 2 RACES 1\n1 B 1.0 1.0\n2 A 2.0 2.0\n",
+        ),
+        (
+            "ENTER A\nENTER B\nFINISH 1 A\nSCORE 1",
+            "OK 1 1 0.0\nOK 2 1= 0.0\nOK 3 1= 0.0\nOK 4\nTABLE 2 RACES 1\n1 A 1.0 1.0\n2 B 3.0 3.0/DNC\n",
+        ),
+    ];
+    for (input, text) in cases {
+        for piece in [1, 7, 1000] {
+            let mut tape = Tape::new(rt.alloc(), input.as_bytes(), piece, 1000, 0)?;
+            let (status, output, errors) = run(rt.alloc(), &mut tape, 1000)?;
+            assert_eq!(rt; output.written(), text.as_bytes());
+            assert_eq!(rt; errors.written(), b"".as_slice());
+            assert_eq!(rt; status, 0);
+        }
+    }
+    Ok(())
+}
+
+#[test]
+fn answers_what_is_not_done_yet(rt: HostRuntime) -> Result<(), Fail> {
+    let cases: [(&str, &str); 13] = [
+        ("FINISH 2 A", "NO 24\n"),
+        ("FINISH 2 X", "NO 24\n"),
+        ("SCORE 40", "NO 24\n"),
+        ("MARK 1 A DSQ", "NO 21\n"),
+        ("MARK 1 A ZFP", "NO 26\n"),
+        ("ROLE JURY", "NO 21\n"),
+        ("ROLE KING", "NO 27\n"),
+        ("QUIT", "NO 21\n"),
+        ("SHOW", "NO 21\n"),
+        ("ENTER A_B", "NO 23\n"),
+        ("FINISH 0 A_B", "NO 24\n"),
+        ("ENTER", "NO 22\n"),
+        ("FINISH 1 A", "NO 7\n"),
+    ];
+    for (line, reply) in cases {
+        let mut tape = Tape::new(rt.alloc(), line.as_bytes(), 1000, 1000, 0)?;
+        let (status, output, _) = run(rt.alloc(), &mut tape, 1000)?;
+        let written = output.written();
+        assert_eq!(rt;
+            written.strip_suffix(b"TABLE 0 RACES\n"),
+            Some(reply.as_bytes()),
+            "at {line}"
+        );
+        assert_eq!(rt; status, 0);
+    }
+    Ok(())
+}
+
+#[test]
+fn devices_fail(rt: HostRuntime) -> Result<(), Fail> {
+    let mut broken = Tape::new(rt.alloc(), b"ENTER A\nENTER B", 4, 15, 0)?;
+    let (status, output, errors) = run(rt.alloc(), &mut broken, 1000)?;
+    assert_eq!(rt; status, 3);
+    assert_eq!(rt; output.written(), b"".as_slice());
+    assert_eq!(rt; errors.written(), b"regatta: device fault\n".as_slice());
+    let mut whole = Tape::new(rt.alloc(), b"ENTER A\nENTER B", 4, 100, 0)?;
+    let (status, output, errors) = run(rt.alloc(), &mut whole, 10)?;
+    assert_eq!(rt; status, 3);
+    assert_eq!(rt; output.written(), b"OK 1 1 0.0".as_slice());
+    assert_eq!(rt; errors.written(), b"regatta: device fault\n".as_slice());
+    Ok(())
+}
+
+#[test]
+fn other_words_are_refused(rt: HostRuntime) -> Result<(), Fail> {
+    let cases: [&[&str]; 4] = [&[], &["serve"], &["Replay"], &["replay", "replay"]];
+    for words in cases {
+        let mut input = Tape::new(rt.alloc(), b"ENTER A\n", 1, 100, 0)?;
+        let mut output = Tape::new(rt.alloc(), b"", 1, 0, 100)?;
+        let mut errors = Tape::new(rt.alloc(), b"", 1, 0, 100)?;
+        let status = program(rt.alloc(), words, &mut input, &mut output, &mut errors);
+        assert_eq!(rt; status, 2);
+        assert_eq!(rt; output.written(), b"".as_slice());
+        assert_eq!(rt; errors.written(), b"".as_slice());
+    }
+    Ok(())
+}
+
+#[test]
+fn input_at_the_limit(rt: HostRuntime) -> Result<(), Fail> {
+    let limit = INPUT_LIMIT as usize;
+    let mut text = vec![in rt.alloc(); b'X'; limit]?;
+    let mut tape = Tape::new(rt.alloc(), &text, 4096, 2 * limit, 0)?;
+    let (status, output, _) = run(rt.alloc(), &mut tape, 1000)?;
+    assert_eq!(rt; status, 0);
+    assert_eq!(rt; output.written(), b"NO 20\nTABLE 0 RACES\n".as_slice());
+    text.push(b'X')?;
+    let mut tape = Tape::new(rt.alloc(), &text, 4096, 2 * limit, 0)?;
+    let (status, output, errors) = run(rt.alloc(), &mut tape, 1000)?;
+    assert_eq!(rt; status, 1);
+    assert_eq!(rt; output.written(), b"".as_slice());
+    assert_eq!(rt; errors.written(), b"regatta: input too long\n".as_slice());
+    Ok(())
+}

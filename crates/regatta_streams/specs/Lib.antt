@@ -1,0 +1,3 @@
+pub mod Foreigns
+pub mod Tapes
+pub mod Texts

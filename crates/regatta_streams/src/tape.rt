@@ -1,0 +1,153 @@
+//! Streams over memory.
+ghost use Rattle.std.specs.Prelude.{◌≡◌, ◌+◌, ◌<◌, ◌≤◌, ◌↔◌, [], Some, length, take, IfOk, OnOk, OnErr, IsErr};
+ghost use Rattle.std.specs.Io.KnownBytes.{ReadConsumes, WriteAppends};
+
+use crate::failures::Failures;
+use crate::stream::{Device, Sink, Source, StreamFault};
+use std::alloc::{AllocError, Global};
+use std::marker::Model;
+
+/// A stream over memory: it gives an input in pieces, keeps what it takes, and fails where it is
+/// told to. So a test sees what a run reads and writes, and what it does when a device fails.
+#[derive(Drop)]
+pub struct Tape {
+    input: Vec<u8>,
+    at: usize,
+    piece: usize,
+    gives: usize,
+    output: Vec<u8>,
+    takes: usize,
+    failures: Failures,
+}
+
+impl Model for Tape {
+    ghost use Rattle.std.specs.Prelude.{◌+◌, ◌<◌, ◌≤◌, drop, vec_len, vec_capacity};
+    ghost use Rattle.regatta_streams.specs.Tapes.{TapeParts};
+
+    ghost Value = { TapeParts };
+
+    ghost view = { λ t. record {
+      rest = drop t.at t.input.items;
+      written = t.output.items;
+      piece = t.piece;
+      gives = t.gives;
+      takes = t.takes;
+      failures = t.failures.count;
+    } };
+
+    ghost invariant = { λ t. (t.at ≤ vec_len t.input) × (0 < t.piece)
+        × (vec_len t.output + t.takes ≤ vec_capacity t.output) };
+}
+
+impl Tape {
+    ghost use Rattle.regatta_streams.specs.Tapes.{piece_len};
+
+    /// A tape that gives `input` in pieces of `piece` bytes. A read fails once `give` bytes were
+    /// given, also where the input ends just there, and a write fails once `take` bytes were taken.
+    /// Room for these is made here: the tape takes no memory afterwards.
+    pub fn new(
+        alloc: Global,
+        input: &[u8],
+        piece: usize,
+        give: usize,
+        take: usize,
+    ) -> Result<Tape, AllocError>
+        requires { 0 < piece }
+        ensures { IfOk result (λ tape. tape ≡ record {
+          rest = input.now;
+          written = [];
+          piece = piece;
+          gives = give;
+          takes = take;
+          failures = 0;
+        }) }
+    {
+        Ok(Tape {
+            input: Vec::from_slice(alloc, input)?,
+            at: 0,
+            piece,
+            gives: give,
+            output: Vec::with_capacity(alloc, take)?,
+            takes: take,
+            failures: Failures::none(),
+        })
+    }
+
+    /// How many bytes the next read gives where there is this room.
+    fn next_len(&self, room: usize) -> usize
+        ensures { result ≡ piece_len self.now room }
+    {
+        let left = self.input.len() - self.at;
+        self.piece.min(self.gives.min(left.min(room)))
+    }
+
+    /// What was written so far.
+    pub fn written(&self) -> &[u8]
+        ensures { result.now ≡ self.now.written }
+    {
+        self.output.as_slice()
+    }
+}
+
+impl Device for Tape {
+    ghost failures = { λ tape. tape.failures };
+}
+
+impl Source for Tape {
+    ghost use Rattle.regatta_streams.specs.Tapes.{piece_len, after_read, after_fault};
+
+    ghost remaining = { λ tape. Some tape.rest };
+
+    fn read(&mut self, buf: &mut [u8]) -> Result<usize, StreamFault>
+        ensures bound { IfOk result (λ n. n ≤ length buf.new) }
+        ensures bytes { ReadConsumes (Some self.old.rest) (Some self.new.rest) result buf.new }
+        ensures well { OnOk result (self.new.failures ≡ self.old.failures) }
+        ensures failed { OnErr result (self.new.failures ≡ self.old.failures + 1) }
+
+        // It fails exactly where nothing is left to give, and else gives all that it may.
+        ensures fails { IsErr result ↔ (self.old.gives ≡ 0) }
+        ensures given { IfOk result (λ n. n ≡ piece_len self.old (length buf.old)) }
+        ensures buffer { IfOk result (λ n. take n buf.new ≡ take n self.old.rest) }
+        ensures ok { IfOk result (λ n. self.new ≡ after_read self.old n) }
+        ensures err { OnErr result (self.new ≡ after_fault self.old) }
+    {
+        if self.gives == 0 {
+            self.failures = self.failures.one_more();
+            return Err(StreamFault);
+        }
+        let n = self.next_len(buf.len());
+        buf[..n].copy_from_slice(&self.input.as_slice()[self.at..self.at + n]);
+        self.at += n;
+        self.gives -= n;
+        Ok(n)
+    }
+}
+
+impl Sink for Tape {
+    ghost use Rattle.regatta_streams.specs.Tapes.{taken_len, after_write, after_fault};
+
+    ghost contents = { λ tape. Some tape.written };
+
+    fn write(&mut self, buf: &[u8]) -> Result<usize, StreamFault>
+        ensures bound { IfOk result (λ n. n ≤ length buf.now) }
+        ensures some { IfOk result (λ n. 0 < length buf.now → 0 < n) }
+        ensures bytes { WriteAppends (Some self.old.written) (Some self.new.written) result buf.now }
+        ensures well { OnOk result (self.new.failures ≡ self.old.failures) }
+        ensures failed { OnErr result (self.new.failures ≡ self.old.failures + 1) }
+
+        // It fails exactly where there are bytes and no room is left, and else takes all that it may.
+        ensures fails { IsErr result ↔ ((self.old.takes ≡ 0) × (0 < length buf.now)) }
+        ensures taken { IfOk result (λ n. n ≡ taken_len self.old buf.now) }
+        ensures ok { IfOk result (λ n. self.new ≡ after_write self.old (take n buf.now)) }
+        ensures err { OnErr result (self.new ≡ after_fault self.old) }
+    {
+        let n = buf.len().min(self.takes);
+        if n == 0 && !buf.is_empty() {
+            self.failures = self.failures.one_more();
+            return Err(StreamFault);
+        }
+        self.output.extend_from_slice(&buf[..n]).unwrap();
+        self.takes -= n;
+        Ok(n)
+    }
+}

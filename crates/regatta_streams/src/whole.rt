@@ -1,0 +1,68 @@
+//! Whole texts read from a stream or written to one.
+ghost use Rattle.std.specs.Prelude.{◌≡◌, ◌+◌, ◌<◌, ◌≤◌, List, ℕ, length, take, IfOk, IfSome, OnOk, OnErr, IsErrOf};
+ghost use Rattle.std.specs.Io.KnownBytes.{Appends, IsAtEnd};
+ghost use Rattle.regatta_streams.specs.Texts.{GaveAtMost, AppendsPrefix};
+
+use crate::stream::{Sink, Source, StreamFault};
+use std::alloc::Global;
+use thiserror::Error;
+
+/// Why a text wasn't read.
+#[derive(Clone, Copy, Debug, PartialEq, Eq, Error)]
+pub enum ReadFault {
+    #[error("a read failed")]
+    Stream,
+    #[error("the text is too long")]
+    TooLong,
+    #[error("no memory")]
+    NoMemory,
+}
+
+/// The bytes that one read asks for at most.
+const PIECE: usize = 4096;
+
+/// Reads all that the stream gives, `limit` bytes at most. A longer text is refused once a byte
+/// past the limit came; no further byte is taken.
+pub fn read_text<R: Source>(alloc: Global, input: &mut R, limit: u32) -> Result<Vec<u8>, ReadFault>
+    ensures text { IfOk result (λ text. IfSome (R.remaining input.old) (λ given. text.items ≡ given)) }
+    ensures short { IfOk result (λ text. length text.items ≤ limit) }
+    ensures end { OnOk result (IsAtEnd (R.remaining input.new)) }
+    ensures long { IsErrOf result ReadFault.TooLong → IfSome (R.remaining input.old) (λ given. limit < length given) }
+    ensures taken { GaveAtMost (limit + 1) (R.remaining input.old) (R.remaining input.new) }
+    ensures well { OnOk result (R.failures input.new ≡ R.failures input.old) }
+    ensures failed { IsErrOf result ReadFault.Stream → R.failures input.old < R.failures input.new }
+{
+    let most = limit as usize;
+    let mut buffer = [0; PIECE];
+    let mut text = Vec::new(alloc);
+    while text.len() <= most {
+        let room = PIECE.min(most + 1 - text.len());
+        let Ok(count) = input.read(&mut buffer[..room]) else {
+            return Err(ReadFault::Stream);
+        };
+        if count == 0 {
+            return Ok(text);
+        }
+        if text.extend_from_slice(&buffer[..count]).is_err() {
+            return Err(ReadFault::NoMemory);
+        }
+    }
+    Err(ReadFault::TooLong)
+}
+
+/// Writes all of the bytes, or the first of them where the stream fails.
+pub fn write_all<W: Sink>(output: &mut W, bytes: &[u8]) -> Result<(), StreamFault>
+    ensures ok { OnOk result (Appends (W.contents output.old) (W.contents output.new) bytes.now) }
+    ensures cut { OnErr result (AppendsPrefix (W.contents output.old) (W.contents output.new) bytes.now) }
+    ensures well { OnOk result (W.failures output.new ≡ W.failures output.old) }
+    ensures failed { OnErr result (W.failures output.old < W.failures output.new) }
+{
+    let mut rest = bytes;
+    while !rest.is_empty() {
+        let Ok(taken) = output.write(rest) else {
+            return Err(StreamFault);
+        };
+        rest = &rest[taken..];
+    }
+    Ok(())
+}

@@ -1,0 +1,11 @@
+use Rattle.std.proofs.Common.{◌≡◌, ◌≤◌, ◌++◌, map, take, vec_capacity}
+use Rattle.regatta_tables.specs.Lines.{spaced}
+use Rattle.regatta_tables.specs.TableTexts.{cell_text}
+use Rattle.regatta_tables.proofs.tables.push_cells.Given as goal
+
+-- the cells so far stand in the text
+abbrev pub invariant-loop-cell : goal.invariant-loop-cell
+invariant-loop-cell l = record {
+  text : l.out.items ≡ l.fn.out.items ++ spaced (map cell_text (take l.cell-index l.cells));
+  room : vec_capacity l.fn.out ≤ vec_capacity l.out;
+}

@@ -1,0 +1,10 @@
+use Rattle.std.proofs.Common.{◌≡◌, ◌≤◌, ◌++◌, map, take, decimal, vec_capacity}
+use Rattle.regatta_tables.specs.Lines.{spaced}
+use Rattle.regatta_tables.proofs.tables.push_races.Given as goal
+
+-- the races so far stand in the text
+abbrev pub invariant-loop-race : goal.invariant-loop-race
+invariant-loop-race l = record {
+  text : l.out.items ≡ l.fn.out.items ++ spaced (map decimal (take l.race-index l.races));
+  room : vec_capacity l.fn.out ≤ vec_capacity l.out;
+}

@@ -1,0 +1,4 @@
+pub mod Lines
+pub mod ReplyTexts
+pub mod TableTexts
+pub mod Worked

@@ -1,0 +1,55 @@
+-- The text of a table: the standing of a series.
+use Rattle.std.specs.Prelude.{ℕ, Bool, true, false, List, [], ◌∷◌, ◌++◌, length, map, flat_map, Option, Some, None, codes, decimal}
+use Rattle.regatta_terms.specs.Entries.{points_text}
+use Rattle.regatta_scores.specs.declared.table.Abbrev.{Abbrev}
+use Rattle.regatta_scores.specs.declared.table.Abbrev.TheVariants.{Dnc, Dns, Ocs, Ufd, Bfd, Dnf, Ret, Dsq, Dne, Zfp, Scp, Rdg}
+use Rattle.regatta_scores.specs.declared.table.Cell.{Cell}
+use Rattle.regatta_scores.specs.declared.table.Row.{Row}
+use Rattle.regatta_scores.specs.declared.table.Standing.{Standing}
+use Rattle.regatta_tables.specs.Lines.{line}
+
+-- ranks of boats that A8 leaves tied have a sign of equality
+abbrev pub tie_sign : Bool → List ℕ
+tie_sign true = codes "="
+tie_sign false = []
+
+abbrev pub rank_text : ℕ → Bool → List ℕ
+rank_text rank tied = decimal rank ++ tie_sign tied
+
+-- the abbreviations of A10, and SCP for a scoring penalty
+abbrev pub abbrev_text : Abbrev → List ℕ
+abbrev_text Dnc = codes "DNC"
+abbrev_text Dns = codes "DNS"
+abbrev_text Ocs = codes "OCS"
+abbrev_text Ufd = codes "UFD"
+abbrev_text Bfd = codes "BFD"
+abbrev_text Dnf = codes "DNF"
+abbrev_text Ret = codes "RET"
+abbrev_text Dsq = codes "DSQ"
+abbrev_text Dne = codes "DNE"
+abbrev_text Zfp = codes "ZFP"
+abbrev_text Scp = codes "SCP"
+abbrev_text Rdg = codes "RDG"
+
+abbrev pub mark_text : Option Abbrev → List ℕ
+mark_text None = []
+mark_text (Some mark) = codes "/" ++ abbrev_text mark
+
+-- an excluded score (A2.1) stands in parentheses
+abbrev pub shown : Bool → List ℕ → List ℕ
+shown true score = codes "(" ++ score ++ codes ")"
+shown false score = score
+
+abbrev pub cell_text : Cell → List ℕ
+cell_text cell = shown cell.dropped (points_text cell.points ++ mark_text cell.mark)
+
+-- a boat's rank, sail, net and score in each race that counts
+abbrev pub row_words : Row → List (List ℕ)
+row_words row = rank_text row.rank row.tied ∷ row.sail ∷ points_text row.net ∷ map cell_text row.cells
+
+-- how many boats there are, and which races count
+abbrev pub head_words : Standing → List (List ℕ)
+head_words standing = codes "TABLE" ∷ decimal (length standing.rows) ∷ codes "RACES" ∷ map decimal standing.races
+
+abbrev pub table_text : Standing → List ℕ
+table_text standing = line (head_words standing) ++ flat_map (λ row. line (row_words row)) standing.rows

@@ -1,0 +1,128 @@
+use super::*;
+use regatta_scores::{Abbrev, Cell, Items, Row, Standing};
+use regatta_terms::{Answer, LineFault, RaceNo, Refusal, Reply, Role, Sail, Tenths, Touched};
+use std::alloc::Global;
+use std::test::Fail;
+
+/// A boat's score, of which `kept` says whether it counts.
+fn cell(points: u32, mark: Option<Abbrev>, kept: bool) -> Result<Cell, Fail> {
+    Ok(Cell {
+        points: Tenths::new(points).ok_or("points")?,
+        mark,
+        dropped: !kept,
+    })
+}
+
+fn row(alloc: Global, sail: &[u8], rank: u16, net: u32, cells: &[Cell]) -> Result<Row, Fail> {
+    Ok(Row {
+        sail: Sail::read(sail).ok_or("a sail")?,
+        rank,
+        tied: false,
+        net,
+        cells: Items::new(Vec::from_slice(alloc, cells)?),
+    })
+}
+
+fn races(alloc: Global, numbers: &[u8]) -> Result<Items<RaceNo>, Fail> {
+    let mut races = Vec::new(alloc);
+    for number in numbers {
+        races.push(RaceNo::new(*number).ok_or("a race")?)?;
+    }
+    Ok(Items::new(races))
+}
+
+/// Three boats, of which the first at the finish was disqualified.
+fn one_disqualified(alloc: Global) -> Result<Standing, Fail> {
+    let mut rows = Vec::new(alloc);
+    rows.push(row(alloc, b"B", 1, 10, &[cell(10, None, true)?])?)?;
+    rows.push(row(alloc, b"C", 2, 20, &[cell(20, None, true)?])?)?;
+    let disqualified = cell(40, Some(Abbrev::Dsq), true)?;
+    rows.push(row(alloc, b"A", 3, 40, &[disqualified])?)?;
+    Ok(Standing {
+        races: races(alloc, &[1])?,
+        rows: Items::new(rows),
+    })
+}
+
+/// Two boats with an excluded score each.
+fn one_excluded(alloc: Global) -> Result<Standing, Fail> {
+    let mut rows = Vec::new(alloc);
+    let redress = cell(10, Some(Abbrev::Rdg), true)?;
+    rows.push(row(alloc, b"A", 1, 10, &[cell(10, None, false)?, redress])?)?;
+    let cells = [cell(20, None, false)?, cell(10, None, true)?];
+    rows.push(row(alloc, b"B", 2, 10, &cells)?)?;
+    Ok(Standing {
+        races: races(alloc, &[1, 2])?,
+        rows: Items::new(rows),
+    })
+}
+
+#[test]
+fn writes_tables(rt: HostRuntime) -> Result<(), Fail> {
+    let alloc = rt.alloc();
+    let mut out = Vec::from_slice(alloc, b"T ")?;
+    write_table(&one_disqualified(alloc)?, &mut out)?;
+    let table = b"T TABLE 3 RACES 1\n1 B 1.0 1.0\n2 C 2.0 2.0\n3 A 4.0 4.0/DSQ\n";
+    assert_eq!(rt; out.as_slice(), table.as_slice());
+    let mut out = Vec::new(alloc);
+    write_table(&one_excluded(alloc)?, &mut out)?;
+    let table = b"TABLE 2 RACES 1 2\n1 A 1.0 (1.0) 1.0/RDG\n2 B 1.0 (2.0) 1.0\n";
+    assert_eq!(rt; out.as_slice(), table.as_slice());
+    Ok(())
+}
+
+#[test]
+fn writes_replies(rt: HostRuntime) -> Result<(), Fail> {
+    let mut out = Vec::new(rt.alloc());
+    let touched = Touched {
+        rank: 1,
+        tied: true,
+        net: 15,
+    };
+    let named = Answer {
+        place: 6,
+        touched: Some(touched),
+    };
+    let none_named = Answer {
+        place: 7,
+        touched: None,
+    };
+    let replies = [
+        Reply::Done(named),
+        Reply::Done(none_named),
+        Reply::Refused(Refusal::OldNumber { last: 8 }),
+        Reply::Fault(LineFault::BadNumber),
+        Reply::RoleSet(Role::Jury),
+        Reply::Ranked(touched),
+        Reply::Bye,
+        Reply::Busy,
+        Reply::Closed,
+    ];
+    for reply in &replies {
+        write_reply(reply, &mut out)?;
+    }
+    let text = b"OK 6 1= 1.5\nOK 7\nNO 3\nNO 28\nROLE JURY\nRANK 1= 1.5\nBYE\nBUSY\nCLOSED\n";
+    assert_eq!(rt; out.as_slice(), text.as_slice());
+    Ok(())
+}
+
+/// The longest reply that the types allow stands in 64 bytes.
+#[test]
+fn writes_long_replies_into_64_bytes(rt: HostRuntime) -> Result<(), Fail> {
+    let mut out = Vec::with_capacity(rt.alloc(), 64)?;
+    let touched = Touched {
+        rank: 65535,
+        tied: true,
+        net: 4_294_967_295,
+    };
+    let answer = Answer {
+        place: 4_294_967_295,
+        touched: Some(touched),
+    };
+    write_reply(&Reply::Done(answer), &mut out)?;
+    assert_eq!(rt;
+        out.as_slice(),
+        b"OK 4294967295 65535= 429496729.5\n".as_slice()
+    );
+    Ok(())
+}
