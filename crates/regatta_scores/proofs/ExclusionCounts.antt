@@ -167,9 +167,9 @@ behind_kept : (d : ℕ) (x : Scored) (ys : List Scored) → d ≤ count_by (wors
 behind_kept d x ys many j y at =
     let ahead = ahead_behind x ys j y.points in
     let same : nat_lt (excluded_ahead (x ∷ ys) (j + 1) y.points) d ≡ nat_lt (excluded_ahead ys j y.points) d =
-        lt_same (excluded_ahead (x ∷ ys) (j + 1) y.points) d (excluded_ahead ys j y.points) d
-        (λ h. omega (arith, h, ahead))
-        (λ h. let more = kept_by d x ys j y (nat_le y.points x.points) refl many at h in omega (arith, ahead, more)) in
+    lt_same (excluded_ahead (x ∷ ys) (j + 1) y.points) d (excluded_ahead ys j y.points) d
+    (λ h. omega (arith, h, ahead))
+    (λ h. let more = kept_by d x ys j y (nat_le y.points x.points) refl many at h in omega (arith, ahead, more)) in
     ap (λ b. not y.dne && b) same
 
 -- behind a score at the front that is excluded, one fewer is
@@ -186,8 +186,8 @@ behind_excluded e x ys front few j y at =
     let ahead = ahead_behind x ys j y.points in
     same_unless y.dne (nat_lt (excluded_ahead (x ∷ ys) (j + 1) y.points) (suc e)) (nat_lt (excluded_ahead ys j y.points) e)
     (λ excludable. lt_same (excluded_ahead (x ∷ ys) (j + 1) y.points) (suc e) (excluded_ahead ys j y.points) e
-      (λ h. excluded_by e x ys j y (nat_le y.points x.points) refl front excludable few at (omega (arith, h, ahead)))
-      (λ h. omega (arith, h, ahead, one_at_most (as_bad y.points x))))
+    (λ h. excluded_by e x ys j y (nat_le y.points x.points) refl front excludable few at (omega (arith, h, ahead)))
+    (λ h. omega (arith, h, ahead, one_at_most (as_bad y.points x))))
 
 worse_are_excludable : (mine : ℕ) (ys : List Scored) → count_by (worse mine) ys ≤ count_by (λ s. not s.dne) ys
 worse_are_excludable mine ys = count_le (worse mine) (λ s. not s.dne) (λ s e. first_so (not s.dne) (nat_lt mine s.points) e) ys
@@ -273,9 +273,9 @@ worst_are_excluded d scores =
       as_many = count ∙ flagged_is scores d;
       no_dne = λ i s at dne. let off : is_excluded d scores i s ≡ false = rw dne refl in flag_at d scores i s at ∙ ap Some off;
       worst = λ i j s t at_i at_j flag_i flag_j free.
-        let on : is_excluded d scores i s ≡ true = read (is_excluded d scores i s) true true (sym (flag_at d scores i s at_i) ∙ flag_i) in
-        let off : is_excluded d scores j t ≡ false = read (is_excluded d scores j t) false true (sym (flag_at d scores j t at_j) ∙ flag_j) in
-        let below = ltb-true (excluded_ahead scores i s.points) d (second_so (not s.dne) (nat_lt (excluded_ahead scores i s.points) d) on) in
-        let above = ltb-false (excluded_ahead scores j t.points) d (kept_flag t.dne (nat_lt (excluded_ahead scores j t.points) d) free off) in
-        worst_by scores i j s t at_i at_j free (omega (arith, below, above)) (nat_lt t.points s.points) (nat_lt i j) refl refl;
+          let on : is_excluded d scores i s ≡ true = read (is_excluded d scores i s) true true (sym (flag_at d scores i s at_i) ∙ flag_i) in
+          let off : is_excluded d scores j t ≡ false = read (is_excluded d scores j t) false true (sym (flag_at d scores j t at_j) ∙ flag_j) in
+          let below = ltb-true (excluded_ahead scores i s.points) d (second_so (not s.dne) (nat_lt (excluded_ahead scores i s.points) d) on) in
+          let above = ltb-false (excluded_ahead scores j t.points) d (kept_flag t.dne (nat_lt (excluded_ahead scores j t.points) d) free off) in
+          worst_by scores i j s t at_i at_j free (omega (arith, below, above)) (nat_lt t.points s.points) (nat_lt i j) refl refl;
     }

@@ -3,7 +3,9 @@ use Rattle.std.specs.Prelude.{◌≡◌, ◌⊎◌, ℕ, ◌<◌, min, Bool, tru
 use Rattle.regatta_scores.specs.declared.boats.Scored.{Scored}
 use Rattle.regatta_scores.specs.Exclusions.{excluded}
 
--- of d exclusions: as many scores are excluded as may be, none is a DNE, and a score that is excluded is worse than each that is kept and might have been excluded, or equal and of a race sailed earlier
+-- of d exclusions: as many scores are excluded as may be, none is a DNE, and a score that is
+-- excluded is worse than each that is kept and might have been excluded, or equal and of a race
+-- sailed earlier
 pub record ExcludesTheWorst (d : ℕ) (scores : List Scored) : Type 0 where
   pub one_for_each : length (excluded d scores) ≡ length scores
   pub as_many : count_by (λ flag. flag) (excluded d scores) ≡ min d (count_by (λ s. not s.dne) scores)

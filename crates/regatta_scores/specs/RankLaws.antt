@@ -14,11 +14,13 @@ use Rattle.regatta_scores.specs.Standing.{line, lines, row, comes_first, standin
 
 -- ---- the comparison of boats
 
--- It is a total order: it answers the other way round when the boats change places, it chains, and boats that it doesn't tell apart compare alike with each other boat.
+-- It is a total order: it answers the other way round when the boats change places, it chains, and
+-- boats that it doesn't tell apart compare alike with each other boat.
 abbrev pub ComparisonIsTotal : Type 0
 ComparisonIsTotal = IsTotalOrder comparison
 
--- What that says of beating: no boat beats herself, no two beat each other, and who beats one that beats another beats that one too; so do ties chain.
+-- What that says of beating: no boat beats herself, no two beat each other, and who beats one that
+-- beats another beats that one too; so do ties chain.
 pub record BeatingIsAnOrder : Type 0 where
   pub itself : (a : Line) → comparison a a ≡ Equal
   pub one_way : (a b : Line) → beats a b ≡ true → beats b a ≡ false
@@ -28,15 +30,20 @@ pub record BeatingIsAnOrder : Type 0 where
 
 -- The kept scores from best to worst rise, and are the kept scores in another order.
 abbrev pub KeptScoresRise : Type 0
-KeptScoresRise = (line : Line) → IsNonDecreasing (best_to_worst line) × IsPermutation (kept line.points line.excluded) (best_to_worst line)
+KeptScoresRise = (line : Line) →
+    IsNonDecreasing (best_to_worst line) × IsPermutation (kept line.points line.excluded) (best_to_worst line)
 
 -- ---- ties
 
--- Two boats share a rank exactly where their series scores, their kept scores from best to worst and their points in each race are equal (A8).
+-- Two boats share a rank exactly where their series scores, their kept scores from best to worst
+-- and their points in each race are equal (A8).
 abbrev pub TiesAreComplete : Type 0
-TiesAreComplete = (rules : RulesParts) (journal : Journal) (a b : Sail) → Contains (entered journal) a → Contains (entered journal) b →
+TiesAreComplete = (rules : RulesParts) (journal : Journal) (a b : Sail) →
+    Contains (entered journal) a → Contains (entered journal) b →
     (rank (lines rules journal) (line rules journal a) ≡ rank (lines rules journal) (line rules journal b))
-    ↔ ((net (line rules journal a) ≡ net (line rules journal b)) × (best_to_worst (line rules journal a) ≡ best_to_worst (line rules journal b)) × ((line rules journal a).points ≡ (line rules journal b).points))
+    ↔ ((net (line rules journal a) ≡ net (line rules journal b))
+    × (best_to_worst (line rules journal a) ≡ best_to_worst (line rules journal b))
+    × ((line rules journal a).points ≡ (line rules journal b).points))
 
 -- the points in the cells of a row, and those that are not excluded
 abbrev pub cell_points : List Cell → List ℕ
@@ -47,9 +54,12 @@ kept_points cells = cell_points (filter (λ cell. not cell.dropped) cells)
 
 -- The same, read off the rows of the standing.
 abbrev pub RowsTieCompletely : Type 0
-RowsTieCompletely = (rules : RulesParts) (journal : Journal) (a b : Row) → Contains (standing rules journal).rows a → Contains (standing rules journal).rows b →
+RowsTieCompletely = (rules : RulesParts) (journal : Journal) (a b : Row) →
+    Contains (standing rules journal).rows a → Contains (standing rules journal).rows b →
     (a.rank ≡ b.rank)
-    ↔ ((a.net ≡ b.net) × (rising (kept_points a.cells) ≡ rising (kept_points b.cells)) × (cell_points a.cells ≡ cell_points b.cells))
+    ↔ ((a.net ≡ b.net)
+    × (rising (kept_points a.cells) ≡ rising (kept_points b.cells))
+    × (cell_points a.cells ≡ cell_points b.cells))
 
 -- ---- the rows of the standing
 
@@ -68,12 +78,16 @@ StandingHasTheEntered = (rules : RulesParts) (journal : Journal) → RowsAreTheE
 abbrev pub sharers : List Line → Line → ℕ
 sharers lines line = count_by (λ other. nat_eq (rank lines other) (rank lines line)) lines
 
--- ranks begin at 1, a boat has as many boats ranked above her as her rank says, and after k boats that share rank r the next rank is r + k
+-- ranks begin at 1, a boat has as many boats ranked above her as her rank says, and after k boats
+-- that share rank r the next rank is r + k
 pub record RanksFollow (lines : List Line) : Type 0 where
-  pub above : (a : Line) → Contains lines a → rank lines a ≡ 1 + count_by (λ other. nat_lt (rank lines other) (rank lines a)) lines
+  pub above : (a : Line) → Contains lines a →
+      rank lines a ≡ 1 + count_by (λ other. nat_lt (rank lines other) (rank lines a)) lines
   pub first : 0 < length lines → Any (λ a. rank lines a ≡ 1) lines
-  pub no_lower : (a b : Line) → Contains lines a → Contains lines b → rank lines a < rank lines b → rank lines a + sharers lines a ≤ rank lines b
-  pub next : (a : Line) → Contains lines a → rank lines a + sharers lines a ≤ length lines → Any (λ b. rank lines b ≡ rank lines a + sharers lines a) lines
+  pub no_lower : (a b : Line) → Contains lines a → Contains lines b →
+      rank lines a < rank lines b → rank lines a + sharers lines a ≤ rank lines b
+  pub next : (a : Line) → Contains lines a → rank lines a + sharers lines a ≤ length lines →
+      Any (λ b. rank lines b ≡ rank lines a + sharers lines a) lines
 
 abbrev pub RanksFollowEachOther : Type 0
 RanksFollowEachOther = (lines : List Line) → RanksFollow lines
@@ -88,14 +102,19 @@ pub record IsLowerAtFirst (xs ys : List ℕ) : Type 0 where
   pub same : take at xs ≡ take at ys
   pub lower : slice_index xs at < slice_index ys at
 
--- a boat is better by her series score; or, where those are equal, by the first difference of the kept scores from best to worst (A8.1); or, where those are equal too, by the first difference from the last race back, excluded scores included (A8.2)
+-- a boat is better by her series score; or, where those are equal, by the first difference of the
+-- kept scores from best to worst (A8.1); or, where those are equal too, by the first difference
+-- from the last race back, excluded scores included (A8.2)
 abbrev pub IsBetter : Line → Line → Type 0
 IsBetter a b =
     (net a < net b)
     ⊎ ((net a ≡ net b) × IsLowerAtFirst (best_to_worst a) (best_to_worst b))
-    ⊎ ((net a ≡ net b) × (best_to_worst a ≡ best_to_worst b) × IsLowerAtFirst (last_to_first a) (last_to_first b))
+    ⊎ ((net a ≡ net b) × (best_to_worst a ≡ best_to_worst b)
+    × IsLowerAtFirst (last_to_first a) (last_to_first b))
 
--- Boats with equally many races and no score below 1.0 beat each other in these three cases and no other.
+-- Boats with equally many races and no score below 1.0 beat each other in these three cases and no
+-- other.
 abbrev pub BeatsInThreeCases : Type 0
-BeatsInThreeCases = (a b : Line) → All (λ p. 10 ≤ p) a.points → All (λ p. 10 ≤ p) b.points → length a.points ≡ length b.points →
+BeatsInThreeCases = (a b : Line) →
+    All (λ p. 10 ≤ p) a.points → All (λ p. 10 ≤ p) b.points → length a.points ≡ length b.points →
     (beats a b ≡ true) ↔ IsBetter a b

@@ -10,9 +10,11 @@ use Rattle.regatta_scores.specs.Journal.{Journal}
 use Rattle.regatta_scores.specs.Averages.{own_points, average, counted, average_over}
 use Rattle.regatta_scores.specs.Standing.{points, excluded}
 
--- Redress of one boat changes no other boat's points in any race (A6.2), nor which of them are excluded.
+-- Redress of one boat changes no other boat's points in any race (A6.2), nor which of them are
+-- excluded.
 abbrev pub RedressLeavesOthers : Type 0
-RedressLeavesOthers = (rules : RulesParts) (journal : Journal) (entry : EntryParts) (race : ℕ) (boat other : Sail) (redress : redress_type.Redress) →
+RedressLeavesOthers = (rules : RulesParts) (journal : Journal) (entry : EntryParts)
+    (race : ℕ) (boat other : Sail) (redress : redress_type.Redress) →
     entry.command ≡ Redress race boat redress → other ≢ boat →
     (points rules (journal ++ entry ∷ []) other ≡ points rules journal other)
     × (excluded rules (journal ++ entry ∷ []) other ≡ excluded rules journal other)
@@ -23,9 +25,12 @@ IsWithin low high item = (low ≤ own_points item item.redress) × (own_points i
 
 -- An average is no less than the least and no more than the greatest of the points that it counts.
 abbrev pub AveragesLieBetween : Type 0
-AveragesLieBetween = (races : List RowItem) (plain low high : ℕ) → 0 < length (counted races) → All (IsWithin low high) (counted races) →
+AveragesLieBetween = (races : List RowItem) (plain low high : ℕ) →
+    0 < length (counted races) → All (IsWithin low high) (counted races) →
     (low ≤ average_over races plain) × (average_over races plain ≤ high)
 
--- An average is the nearest tenth: it is at most half a tenth above the true average, and less than half a tenth below.
+-- An average is the nearest tenth: it is at most half a tenth above the true average, and less than
+-- half a tenth below.
 abbrev pub AveragesAreNearest : Type 0
-AveragesAreNearest = (n s : ℕ) → 0 < n → (2 * n * average n s ≤ 2 * s + n) × (2 * s < 2 * n * average n s + n)
+AveragesAreNearest = (n s : ℕ) → 0 < n →
+    (2 * n * average n s ≤ 2 * s + n) × (2 * s < 2 * n * average n s + n)

@@ -1,14 +1,15 @@
--- Worked examples, by computation.
-use Rattle.std.specs.Prelude.{◌≡◌, refl, ℕ, Bool, true, false, List, [], ◌∷◌, Option, Some, None, length, map}
+-- Worked examples of exclusions, ties and redress, by computation. Points are tenths.
+use Rattle.std.specs.Prelude.{◌≡◌, refl, ℕ, Bool, true, false, List, [], ◌∷◌, Some, None, length, map}
+use Rattle.std.specs.declared.cmp.Ordering.TheVariants.{Less, Greater}
 use Rattle.regatta_terms.specs.Rules.{exclusions_of}
 use Rattle.regatta_terms.specs.declared.command.Redress.TheVariants.{Points, AllRaces, RacesBefore}
 use Rattle.regatta_scores.specs.declared.boats.RowItem.{RowItem}
 use Rattle.regatta_scores.specs.declared.boats.Scored.{Scored}
 use Rattle.regatta_scores.specs.Averages.{points}
 use Rattle.regatta_scores.specs.Exclusions as exclusion
-use Rattle.regatta_scores.specs.Ranking.{Line, beats, places}
+use Rattle.regatta_scores.specs.Ranking.{Line, better, places}
 
--- ---- exclusions
+-- ---- exclusions (A2.1, 90.3(b))
 
 abbrev pub score : ℕ → Scored
 score points = record { points = points; dne = false }
@@ -16,57 +17,74 @@ score points = record { points = points; dne = false }
 abbrev pub dne : ℕ → Scored
 dne points = record { points = points; dne = true }
 
+-- which scores are excluded, where one is from so many races on
 abbrev pub flags : ℕ → List Scored → List Bool
 flags threshold scores = exclusion.excluded (exclusions_of (threshold ∷ []) (length scores)) scores
 
-pub earliest_of_equals : flags 3 (score 40 ∷ score 20 ∷ score 40 ∷ []) ≡ true ∷ false ∷ false ∷ []
-earliest_of_equals = refl
+-- the series score under these exclusions
+abbrev pub series_score : ℕ → List Scored → ℕ
+series_score threshold scores = exclusion.net (map (λ s. s.points) scores) (flags threshold scores)
 
-pub earliest_of_equals_net : exclusion.net (40 ∷ 20 ∷ 40 ∷ []) (true ∷ false ∷ false ∷ []) ≡ 60
-earliest_of_equals_net = refl
+pub earliest_of_equal_worst_scores : flags 3 (score 40 ∷ score 20 ∷ score 40 ∷ []) ≡ true ∷ false ∷ false ∷ []
+earliest_of_equal_worst_scores = refl
 
-pub next_to_dne : flags 3 (dne 40 ∷ score 30 ∷ score 20 ∷ []) ≡ false ∷ true ∷ false ∷ []
-next_to_dne = refl
+pub earliest_of_equal_worst_scores_net : series_score 3 (score 40 ∷ score 20 ∷ score 40 ∷ []) ≡ 60
+earliest_of_equal_worst_scores_net = refl
 
-pub only_dne : flags 2 (dne 40 ∷ dne 50 ∷ []) ≡ false ∷ false ∷ []
-only_dne = refl
+pub next_worst_in_place_of_dne : flags 3 (dne 40 ∷ score 30 ∷ score 20 ∷ []) ≡ false ∷ true ∷ false ∷ []
+next_worst_in_place_of_dne = refl
 
-pub no_race : flags 2 [] ≡ []
-no_race = refl
+pub next_worst_in_place_of_dne_net : series_score 3 (dne 40 ∷ score 30 ∷ score 20 ∷ []) ≡ 60
+next_worst_in_place_of_dne_net = refl
 
--- ---- A8
+pub nothing_where_all_are_dne : flags 2 (dne 40 ∷ dne 50 ∷ []) ≡ false ∷ false ∷ []
+nothing_where_all_are_dne = refl
 
+pub nothing_where_all_are_dne_net : series_score 2 (dne 40 ∷ dne 50 ∷ []) ≡ 90
+nothing_where_all_are_dne_net = refl
+
+pub nothing_of_no_race : flags 2 [] ≡ []
+nothing_of_no_race = refl
+
+-- ---- ties (A8)
+
+-- a boat's scores, where nothing is excluded
 abbrev pub all_kept : List ℕ → Line
 all_kept points = record { points = points; excluded = map (λ _. false) points }
 
-abbrev pub line : List ℕ → List Bool → Line
-line points excluded = record { points = points; excluded = excluded }
+-- a boat's scores, where one is excluded from three races on
+abbrev pub one_excluded : List ℕ → Line
+one_excluded points = record { points = points; excluded = flags 3 (map score points) }
 
-pub best_first : beats (all_kept (10 ∷ 40 ∷ [])) (all_kept (20 ∷ 30 ∷ [])) ≡ true
-best_first = refl
+pub best_score_decides : better (all_kept (10 ∷ 40 ∷ [])) (all_kept (20 ∷ 30 ∷ [])) ≡ Less
+best_score_decides = refl
 
-pub last_race : beats (all_kept (20 ∷ 10 ∷ [])) (all_kept (10 ∷ 20 ∷ [])) ≡ true
-last_race = refl
+pub last_race_decides : better (all_kept (20 ∷ 10 ∷ [])) (all_kept (10 ∷ 20 ∷ [])) ≡ Less
+last_race_decides = refl
 
-pub excluded_last_race : beats (line (10 ∷ 20 ∷ 40 ∷ []) (false ∷ false ∷ true ∷ [])) (line (20 ∷ 10 ∷ 50 ∷ []) (false ∷ false ∷ true ∷ [])) ≡ true
-excluded_last_race = refl
+pub excluded_last_race_decides : better (one_excluded (20 ∷ 10 ∷ 50 ∷ [])) (one_excluded (10 ∷ 20 ∷ 40 ∷ [])) ≡ Greater
+excluded_last_race_decides = refl
 
-pub excluded_first_race : beats (line (50 ∷ 20 ∷ 10 ∷ []) (true ∷ false ∷ false ∷ [])) (line (40 ∷ 10 ∷ 20 ∷ []) (true ∷ false ∷ false ∷ [])) ≡ true
-excluded_first_race = refl
+pub no_excluded_score_is_listed : better (one_excluded (50 ∷ 20 ∷ 10 ∷ [])) (one_excluded (40 ∷ 10 ∷ 20 ∷ [])) ≡ Less
+no_excluded_score_is_listed = refl
 
-pub complete_tie : places (all_kept (15 ∷ 15 ∷ []) ∷ all_kept (15 ∷ 15 ∷ []) ∷ all_kept (30 ∷ 30 ∷ []) ∷ []) ≡ record { rank = 1; tied = true } ∷ record { rank = 1; tied = true } ∷ record { rank = 3; tied = false } ∷ []
-complete_tie = refl
+pub complete_tie_shares_a_rank : places (all_kept (15 ∷ 15 ∷ []) ∷ all_kept (15 ∷ 15 ∷ []) ∷ all_kept (30 ∷ 30 ∷ []) ∷ [])
+    ≡ record { rank = 1; tied = true } ∷ record { rank = 1; tied = true } ∷ record { rank = 3; tied = false } ∷ []
+complete_tie_shares_a_rank = refl
 
-pub no_boat : places [] ≡ []
-no_boat = refl
+pub nobody_has_no_rank : places [] ≡ []
+nobody_has_no_rank = refl
 
-pub no_race_tie : places (all_kept [] ∷ all_kept [] ∷ []) ≡ record { rank = 1; tied = true } ∷ record { rank = 1; tied = true } ∷ []
-no_race_tie = refl
+pub first_rank_is_shared_without_a_race : places (all_kept [] ∷ all_kept [] ∷ []) ≡ record { rank = 1; tied = true } ∷ record { rank = 1; tied = true } ∷ []
+first_rank_is_shared_without_a_race = refl
 
--- ---- redress
+-- ---- redress (A9)
 
 abbrev pub item : ℕ → RowItem
 item plain = record { plain = plain; redress = None }
+
+abbrev pub handed_in : ℕ → ℕ → RowItem
+handed_in plain award = record { plain = plain; redress = Some (Points award) }
 
 abbrev pub average_of_all : ℕ → RowItem
 average_of_all plain = record { plain = plain; redress = Some AllRaces }
@@ -74,23 +92,23 @@ average_of_all plain = record { plain = plain; redress = Some AllRaces }
 abbrev pub average_of_before : ℕ → RowItem
 average_of_before plain = record { plain = plain; redress = Some RacesBefore }
 
-pub handed_in : points (record { plain = 50; redress = Some (Points 75) } ∷ item 20 ∷ average_of_all 50 ∷ []) ≡ 75 ∷ 20 ∷ 48 ∷ []
-handed_in = refl
+pub points_handed_in_are_averaged_elsewhere : points (handed_in 50 75 ∷ item 20 ∷ average_of_all 50 ∷ []) ≡ 75 ∷ 20 ∷ 48 ∷ []
+points_handed_in_are_averaged_elsewhere = refl
 
-pub average_rounds_up : points (item 10 ∷ item 15 ∷ average_of_all 40 ∷ []) ≡ 10 ∷ 15 ∷ 13 ∷ []
-average_rounds_up = refl
+pub half_a_tenth_goes_upward : points (item 10 ∷ item 15 ∷ average_of_all 40 ∷ []) ≡ 10 ∷ 15 ∷ 13 ∷ []
+half_a_tenth_goes_upward = refl
 
-pub average_of_three : points (item 10 ∷ item 20 ∷ item 20 ∷ average_of_all 50 ∷ []) ≡ 10 ∷ 20 ∷ 20 ∷ 17 ∷ []
-average_of_three = refl
+pub average_of_three_races : points (item 10 ∷ item 20 ∷ item 20 ∷ average_of_all 50 ∷ []) ≡ 10 ∷ 20 ∷ 20 ∷ 17 ∷ []
+average_of_three_races = refl
 
-pub average_before : points (item 10 ∷ average_of_before 50 ∷ item 30 ∷ []) ≡ 10 ∷ 10 ∷ 30 ∷ []
-average_before = refl
+pub average_of_races_before : points (item 10 ∷ average_of_before 50 ∷ item 30 ∷ []) ≡ 10 ∷ 10 ∷ 30 ∷ []
+average_of_races_before = refl
 
-pub averages_left_out : points (item 30 ∷ average_of_all 50 ∷ average_of_all 60 ∷ []) ≡ 30 ∷ 30 ∷ 30 ∷ []
-averages_left_out = refl
+pub averages_are_left_out : points (item 30 ∷ average_of_all 50 ∷ average_of_all 60 ∷ []) ≡ 30 ∷ 30 ∷ 30 ∷ []
+averages_are_left_out = refl
 
-pub no_race_left : points (average_of_all 40 ∷ []) ≡ 40 ∷ []
-no_race_left = refl
+pub her_score_where_no_race_is_left : points (average_of_all 40 ∷ []) ≡ 40 ∷ []
+her_score_where_no_race_is_left = refl
 
-pub no_race_before : points (average_of_before 40 ∷ item 20 ∷ []) ≡ 40 ∷ 20 ∷ []
-no_race_before = refl
+pub her_score_where_no_race_is_before : points (average_of_before 40 ∷ item 20 ∷ []) ≡ 40 ∷ 20 ∷ []
+her_score_where_no_race_is_before = refl

@@ -27,7 +27,7 @@ fn own_points(item: &RowItem) -> Tenths
     ensures { result ≡ own_points item.now item.now.redress }
 {
     match item.redress {
-        Some(Redress::Points(award)) => in_tenths(award.get()),
+        Some(Redress::Points(points)) => in_tenths(points.get()),
         _ => item.plain,
     }
 }
@@ -131,3 +131,6 @@ pub fn averages(alloc: Global, row: &[RowItem]) -> Result<Points, AllocError>
     }
     Ok(Items::new(found))
 }
+
+#[cfg(test)]
+mod tests;

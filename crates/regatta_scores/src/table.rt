@@ -95,3 +95,6 @@ pub struct Standing {
     pub races: Races,
     pub rows: Rows,
 }
+
+#[cfg(test)]
+mod tests;
