@@ -1,10 +1,10 @@
 -- The three cases in which one boat beats another.
-use Rattle.std.proofs.Common.{◌≡◌, ◌↔◌, ℕ, zero, suc, ◌+◌, ◌<◌, ◌≤◌, Bool, true, false, cond, ◌⊎◌, List, [], ◌∷◌, refl, ap, ◌∙◌, sym, arith, length, take, reverse, sum, sum_by, slice_index, nat_lt, nat_cmp, ◌==◌, All, IsPermutation}
+use Rattle.std.proofs.Common.{◌≡◌, ℕ, zero, suc, ◌<◌, ◌≤◌, Bool, true, false, cond, List, [], ◌∷◌, refl, ap, ◌∙◌, sym, arith, length, take, sum_by, slice_index, nat_lt, nat_cmp, ◌==◌, All}
 use mathlib.Core.Logic.{inl, inr}
 use Rattle.std.specs.Ordering.{ordering_then, is_lt}
 use Rattle.std.specs.declared.cmp.Ordering.{Ordering}
 use Rattle.std.specs.declared.cmp.Ordering.TheVariants.{Less, Equal, Greater}
-use Rattle.std.specs.Cmp.{IsTotalOrder, tied_itself, nat_cmp_total}
+use Rattle.std.specs.Cmp.{tied_itself, nat_cmp_total}
 use Rattle.std.specs.Cmp.Lexicographic.{slice_cmp, nat_list_cmp_total}
 use Rattle.std.specs.FinMap.{nat_cmp-IsAntisymmetric, slice_cmp-IsAntisymmetric}
 use Rattle.std.proofs.lemmas.List.{length-reverse}
@@ -12,7 +12,7 @@ use Rattle.std.proofs.lemmas.List.Sums.{sum_by-cons}
 use Rattle.std.proofs.lemmas.List.Sorted.{sum_by-IsPermutation, All-permutation}
 use borrow.Author.Tests.{ltb-true, lt-ltb}
 use Rattle.regatta_scores.specs.Exclusions.{kept}
-use Rattle.regatta_scores.specs.Ranking.{Line, net, best_to_worst, last_to_first, comparison, beats}
+use Rattle.regatta_scores.specs.Ranking.{Line, net, best_to_worst, last_to_first, beats}
 use Rattle.regatta_scores.specs.RankLaws.{IsLowerAtFirst, IsBetter, BeatsInThreeCases}
 use Rattle.regatta_scores.proofs.Sorting.{all_cons, all_rest, rising_permutes}
 use Rattle.regatta_scores.proofs.Ties.{Less-is}

@@ -1,17 +1,16 @@
 -- How many scores are excluded, and which.
-use Rattle.std.proofs.Common.{◌≡◌, ℕ, zero, suc, ◌+◌, ◌<◌, ◌≤◌, min, Bool, true, false, cond, not, ◌&&◌, ◌⊎◌, List, [], ◌∷◌, refl, ap, ◌∙◌, sym, arith, length, map, take, drop, count_by, nat_lt, nat_le, Option, Some, None, slice_get}
+use Rattle.std.proofs.Common.{◌≡◌, ℕ, zero, suc, ◌+◌, ◌<◌, ◌≤◌, min, Bool, true, false, cond, not, ◌&&◌, ◌⊎◌, List, [], ◌∷◌, refl, ap, ◌∙◌, sym, arith, length, take, drop, count_by, nat_lt, nat_le, Some, slice_get}
 use mathlib.Core.Logic.{inl, inr}
 use Rattle.std.specs.List.{enumerate_from}
 use Rattle.std.specs.Option.{option_map, unwrap_or}
 use Rattle.std.proofs.lemmas.List.{length-map}
 use Rattle.std.proofs.lemmas.List.FromFn.{length-enumerate_from}
 use Rattle.std.proofs.lemmas.Option.{slice_get-map}
-use Rattle.std.proofs.lemmas.List.Sums.{count_by-le-length}
 use Rattle.std.specs.Cmp.{first_so, second_so}
 use borrow.Author.Tests.{ltb-true, ltb-false, leb-true, leb-false, lt-ltb, le-leb}
 use Rattle.regatta_scores.specs.declared.boats.Scored.{Scored}
 use Rattle.regatta_scores.specs.Exclusions.{excluded_ahead, is_excluded, excluded}
-use Rattle.regatta_scores.specs.ExclusionLaws.{ExcludesTheWorst, WorstAreExcluded}
+use Rattle.regatta_scores.specs.ExclusionLaws.{WorstAreExcluded}
 use Rattle.regatta_scores.proofs.Counts.{count_cons}
 use Rattle.regatta_scores.proofs.RankLemmas.{count_by-map}
 use Rattle.regatta_scores.proofs.Members.{lt_false, lt_same, le_by, count_le}

@@ -1,10 +1,10 @@
 -- Counts and searches over the members of a list.
-use Rattle.std.proofs.Common.{◌≡◌, ℕ, zero, suc, ◌+◌, ◌<◌, ◌≤◌, Bool, true, false, cond, not, ◌&&◌, ◌⊎◌, List, [], ◌∷◌, refl, ap, ◌∙◌, sym, arith, length, get_or, map, count_by, nat_lt, nat_le, All, Contains}
+use Rattle.std.proofs.Common.{◌≡◌, ℕ, zero, suc, ◌<◌, ◌≤◌, Bool, true, false, cond, ◌&&◌, ◌⊎◌, List, [], ◌∷◌, refl, ap, ◌∙◌, sym, arith, length, get_or, map, count_by, nat_lt, All, Contains}
 use mathlib.Core.Logic.{inl, inr}
 use Rattle.std.specs.Cmp.{both_ways}
 use Rattle.std.proofs.Math.Path.{subst}
 use Rattle.std.proofs.lemmas.List.{get_or-map, length-map}
-use borrow.Author.Tests.{ltb-true, ltb-false, leb-true, leb-false, lt-ltb}
+use borrow.Author.Tests.{ltb-true, lt-ltb}
 use Rattle.regatta_scores.proofs.Counts.{count_cons}
 
 -- ---- tests of numbers

@@ -1,5 +1,5 @@
 -- Laws of exclusions (RRS A2.1, 90.3(b)).
-use Rattle.std.specs.Prelude.{◌≡◌, ◌⊎◌, ℕ, ◌<◌, min, Bool, true, false, not, List, length, slice_get, count_by, Some}
+use Rattle.std.specs.Prelude.{◌≡◌, ◌⊎◌, ℕ, ◌<◌, min, true, false, not, List, length, slice_get, count_by, Some}
 use Rattle.regatta_scores.specs.declared.boats.Scored.{Scored}
 use Rattle.regatta_scores.specs.Exclusions.{excluded}
 
