@@ -224,7 +224,7 @@ impl Board {
     }
 
     /// Why the entry is refused, or nothing.
-    pub(super) fn refusal(&self, entry: &Entry) -> Option<Refusal>
+    pub(crate) fn refusal(&self, entry: &Entry) -> Option<Refusal>
         ensures { result ≡ refusals.refusal limits self.now.rules self.now.entries entry.now }
     {
         if self.len() >= MAX_ENTRIES {
