@@ -1,9 +1,10 @@
 //! The program: it hands its words and its standard streams to the library.
 #![tactic(auto)]
 
-use regatta_office::{Foreign, Sink, program};
+use regatta_office::{Foreign, Sink, program, write_all};
 use std::alloc::{AllocError, Global};
 use std::env;
+use std::io::ErrorKind;
 use std::process::ExitCode;
 
 /// The status where the words aren't text.
@@ -21,19 +22,25 @@ fn texts_of(alloc: Global, words: &[String]) -> Result<Vec<&str>, AllocError> {
     Ok(texts)
 }
 
+/// The status where memory is wanting, which is said on standard error.
+fn no_memory<E: Sink>(errors: &mut E) -> ExitCode {
+    let _ = write_all(errors, b"regatta: no memory\n");
+    ExitCode::from(NO_MEMORY)
+}
+
 fn main(rt: HostRuntime) -> ExitCode {
     let mut errors = Foreign::new(rt.stderr());
-    let Ok(args) = env::args(&rt) else {
-        return ExitCode::from(BAD_WORDS);
+    let args = match env::args(&rt) {
+        Ok(args) => args,
+        Err(error) if error.kind() == ErrorKind::OutOfMemory => return no_memory(&mut errors),
+        Err(_) => return ExitCode::from(BAD_WORDS),
     };
     let collected: Result<Vec<String>, AllocError> = args.skip(1).collect(rt.alloc());
     let Ok(words) = collected else {
-        let _ = errors.write(b"regatta: no memory\n");
-        return ExitCode::from(NO_MEMORY);
+        return no_memory(&mut errors);
     };
     let Ok(texts) = texts_of(rt.alloc(), &words) else {
-        let _ = errors.write(b"regatta: no memory\n");
-        return ExitCode::from(NO_MEMORY);
+        return no_memory(&mut errors);
     };
     let mut input = Foreign::new(rt.stdin());
     let mut output = Foreign::new(rt.stdout());

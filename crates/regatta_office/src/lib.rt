@@ -6,7 +6,7 @@ mod lines;
 mod run;
 mod words;
 
-pub use regatta_streams::{Device, Foreign, Sink, Source, StreamFault, Tape};
+pub use regatta_streams::{Device, Foreign, Sink, Source, StreamFault, Tape, write_all};
 pub use run::{INPUT_LIMIT, RunFault, replay};
 pub use words::program;
 

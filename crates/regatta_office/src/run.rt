@@ -1,6 +1,6 @@
 //! A run over two streams.
 ghost use Rattle.std.specs.Prelude.{◌≡◌, ◌+◌, ◌<◌, ◌≤◌, ℕ, List, length, take, OnOk, IfSome, IsErrOf};
-ghost use Rattle.std.specs.Io.KnownBytes.{Appends, IsAtEnd, Keeps};
+ghost use Rattle.std.specs.Io.KnownBytes.{Appends, IsAtEnd};
 ghost use Rattle.regatta_streams.specs.Texts.{GaveAtMost, AppendsPrefix};
 ghost use Rattle.regatta_office.specs.declared.run.TheConstants.{INPUT_LIMIT};
 ghost use Rattle.regatta_office.specs.Transcript.{run_text};
@@ -16,12 +16,16 @@ pub const INPUT_LIMIT: u32 = 1_048_576;
 /// Why a run stopped.
 #[derive(Clone, Copy, Debug, PartialEq, Eq, Error)]
 pub enum RunFault {
+    /// A read of the input failed.
     #[error("a read failed")]
     Read,
+    /// A write to the output failed.
     #[error("a write failed")]
     Write,
+    /// A byte past the limit came.
     #[error("the input is longer than 1,048,576 bytes")]
     InputTooLong,
+    /// Memory was wanting.
     #[error("no memory")]
     NoMemory,
 }
@@ -41,25 +45,39 @@ pub fn replay<R: Source, W: Sink>(
     input: &mut R,
     output: &mut W,
 ) -> Result<(), RunFault>
-    // The text that the reader gave is answered, however its bytes were cut, and nothing else is written.
+    // The text that the reader gave is answered, however its bytes were cut, and nothing else is
+    // written.
     ensures answered { OnOk result (IfSome (R.remaining input.old)
         (λ text. Appends (W.contents output.old) (W.contents output.new) (run_text text))) }
     ensures whole { OnOk result (IsAtEnd (R.remaining input.new)) }
-    ensures short { OnOk result (IfSome (R.remaining input.old) (λ text. length text ≤ INPUT_LIMIT)) }
+    ensures short { OnOk result
+        (IfSome (R.remaining input.old) (λ text. length text ≤ INPUT_LIMIT)) }
     ensures taken { GaveAtMost (INPUT_LIMIT + 1) (R.remaining input.old) (R.remaining input.new) }
 
-    // Each fault, and what stands after it.
-    ensures read { IsErrOf result RunFault.Read → R.failures input.old < R.failures input.new }
-    ensures write { IsErrOf result RunFault.Write → W.failures output.old < W.failures output.new }
-    ensures long { IsErrOf result RunFault.InputTooLong → IfSome (R.remaining input.old)
-        (λ text. INPUT_LIMIT < length text) }
+    // When each fault comes.
+    ensures read { IsErrOf result RunFault.Read →
+        R.failures input.new ≡ R.failures input.old + 1 }
+    ensures write { IsErrOf result RunFault.Write →
+        W.failures output.new ≡ W.failures output.old + 1 }
+    ensures long { IsErrOf result RunFault.InputTooLong →
+        IfSome (R.remaining input.old) (λ text. INPUT_LIMIT < length text) }
+
+    // What is written then: nothing, or the first bytes of the whole text.
+    ensures silent_read { IsErrOf result RunFault.Read → output.new ≡ output.old }
+    ensures silent_long { IsErrOf result RunFault.InputTooLong → output.new ≡ output.old }
+    ensures silent_memory { IsErrOf result RunFault.NoMemory → output.new ≡ output.old }
     ensures cut { IsErrOf result RunFault.Write → IfSome (R.remaining input.old)
         (λ text. AppendsPrefix (W.contents output.old) (W.contents output.new) (run_text text)) }
-    ensures silent_read { IsErrOf result RunFault.Read → Keeps (W.contents output.old) (W.contents output.new) }
-    ensures silent_long { IsErrOf result RunFault.InputTooLong → Keeps (W.contents output.old) (W.contents output.new) }
-    ensures silent_memory { IsErrOf result RunFault.NoMemory → Keeps (W.contents output.old) (W.contents output.new) }
+
+    // A device that failed is told by its own fault, and by no other.
     ensures well_read { OnOk result (R.failures input.new ≡ R.failures input.old) }
     ensures well_written { OnOk result (W.failures output.new ≡ W.failures output.old) }
+    ensures well_write { IsErrOf result RunFault.Write →
+        R.failures input.new ≡ R.failures input.old }
+    ensures well_long { IsErrOf result RunFault.InputTooLong →
+        R.failures input.new ≡ R.failures input.old }
+    ensures well_memory { IsErrOf result RunFault.NoMemory →
+        R.failures input.new ≡ R.failures input.old }
 {
     let text = match read_text(alloc, input, INPUT_LIMIT) {
         Ok(text) => text,

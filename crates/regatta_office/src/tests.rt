@@ -15,15 +15,18 @@ fn answers_lines_and_prints_the_table(rt: HostRuntime) -> Result<(), Fail> {
     let cases: [(&str, &str); 3] = [
         (
             "ENTER C\nENTER A\nENTER B\n",
-            "OK 1 1 0.0\nOK 2 1= 0.0\nOK 3 1= 0.0\nTABLE 3 RACES\n1= A 0.0\n1= B 0.0\n1= C 0.0\n",
+            "OK 1 1 0.0\nOK 2 1= 0.0\nOK 3 1= 0.0\n\
+             TABLE 3 RACES\n1= A 0.0\n1= B 0.0\n1= C 0.0\n",
         ),
         (
             "ENTER A\nENTER B\nFINISH 1 B\nFINISH 1 A\nSCORE 1\n",
-            "OK 1 1 0.0\nOK 2 1= 0.0\nOK 3 1= 0.0\nOK 4 1= 0.0\nOK 5\nTABLE 2 RACES 1\n1 B 1.0 1.0\n2 A 2.0 2.0\n",
+            "OK 1 1 0.0\nOK 2 1= 0.0\nOK 3 1= 0.0\nOK 4 1= 0.0\nOK 5\n\
+             TABLE 2 RACES 1\n1 B 1.0 1.0\n2 A 2.0 2.0\n",
         ),
         (
             "ENTER A\nENTER B\nFINISH 1 A\nSCORE 1",
-            "OK 1 1 0.0\nOK 2 1= 0.0\nOK 3 1= 0.0\nOK 4\nTABLE 2 RACES 1\n1 A 1.0 1.0\n2 B 3.0 3.0/DNC\n",
+            "OK 1 1 0.0\nOK 2 1= 0.0\nOK 3 1= 0.0\nOK 4\n\
+             TABLE 2 RACES 1\n1 A 1.0 1.0\n2 B 3.0 3.0/DNC\n",
         ),
     ];
     for (input, text) in cases {
@@ -61,6 +64,42 @@ fn answers_what_is_not_done_yet(rt: HostRuntime) -> Result<(), Fail> {
         assert_eq!(rt; output.written(), text.as_bytes(), "at {line}");
         assert_eq!(rt; status, 0);
     }
+    Ok(())
+}
+
+#[test]
+fn refuses_by_number(rt: HostRuntime) -> Result<(), Fail> {
+    let text = "SCORE 1\nENTER A\nENTER A\nFINISH 1 B\nFINISH 1 A\nFINISH 1 A\nSCORE 1\nSCORE 1\n";
+    let mut tape = Tape::new(rt.alloc(), text.as_bytes(), 1000, 1000, 0)?;
+    let (status, output, _) = run(rt.alloc(), &mut tape, 1000)?;
+    let replies = "NO 15\nOK 1 1 0.0\nNO 6\nNO 7\nOK 2 1 0.0\nNO 8\nOK 3\nNO 13\n\
+        TABLE 1 RACES 1\n1 A 1.0 1.0\n";
+    assert_eq!(rt; output.written(), replies.as_bytes());
+    assert_eq!(rt; status, 0);
+    Ok(())
+}
+
+#[test]
+fn replays_over_any_streams(rt: HostRuntime) -> Result<(), Fail> {
+    let text = b"ENTER A\nENTER B\nFINISH 1 A\nSCORE 1\n";
+    let table = "OK 1 1 0.0\nOK 2 1= 0.0\nOK 3 1= 0.0\nOK 4\n\
+        TABLE 2 RACES 1\n1 A 1.0 1.0\n2 B 3.0 3.0/DNC\n";
+    let mut input = Tape::new(rt.alloc(), text, 3, 1000, 0)?;
+    let mut output = Tape::new(rt.alloc(), b"", 1, 0, 1000)?;
+    assert_eq!(rt; replay(rt.alloc(), &mut input, &mut output), Ok(()));
+    assert_eq!(rt; output.written(), table.as_bytes());
+    let mut broken = Tape::new(rt.alloc(), text, 3, 10, 0)?;
+    assert_eq!(rt;
+        replay(rt.alloc(), &mut broken, &mut output),
+        Err(RunFault::Read)
+    );
+    let mut input = Tape::new(rt.alloc(), text, 3, 1000, 0)?;
+    let mut full = Tape::new(rt.alloc(), b"", 1, 0, 5)?;
+    assert_eq!(rt;
+        replay(rt.alloc(), &mut input, &mut full),
+        Err(RunFault::Write)
+    );
+    assert_eq!(rt; full.written(), b"OK 1 ".as_slice());
     Ok(())
 }
 

@@ -51,11 +51,30 @@ impl<X: Write> Sink for Foreign<X> {
     ghost contents = { λ _. None };
 
     fn write(&mut self, buf: &[u8]) -> Result<usize, StreamFault> {
-        let taken = self.inner.write(buf).unwrap_or(0);
-        if taken == 0 && !buf.is_empty() {
-            self.failures = self.failures.one_more();
-            return Err(StreamFault);
+        match self.inner.write(buf) {
+            Ok(taken) if taken > 0 || buf.is_empty() => Ok(taken),
+            _ => {
+                self.failures = self.failures.one_more();
+                Err(StreamFault)
+            }
         }
-        Ok(taken)
+    }
+}
+
+#[cfg(test)]
+mod tests {
+    use super::*;
+    use std::test::Fail;
+
+    #[test]
+    fn hands_its_bytes_on(rt: HostRuntime) -> Result<(), Fail> {
+        let mut output = Foreign::new(Vec::new(rt.alloc()));
+        assert_eq!(rt; output.write(b"to std"), Ok(6));
+        assert_eq!(rt; output.inner.as_slice(), b"to std".as_slice());
+        let mut input = Foreign::new(b"from std".as_slice());
+        let mut buffer = [0; 4];
+        assert_eq!(rt; input.read(&mut buffer), Ok(4));
+        assert_eq!(rt; buffer.as_slice(), b"from".as_slice());
+        Ok(())
     }
 }

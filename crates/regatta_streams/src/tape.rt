@@ -43,8 +43,12 @@ impl Tape {
     ghost use Rattle.regatta_streams.specs.Tapes.{piece_len};
 
     /// A tape that gives `input` in pieces of `piece` bytes. A read fails once `give` bytes were
-    /// given, also where the input ends just there, and a write fails once `take` bytes were taken.
-    /// Room for these is made here: the tape takes no memory afterwards.
+    /// given, also where the input ends just there, and a write of some bytes fails once `take`
+    /// bytes were taken. Room for these is made here: the tape takes no memory afterwards.
+    ///
+    /// # Errors
+    ///
+    /// Where the memory for the input and for that room is wanting.
     pub fn new(
         alloc: Global,
         input: &[u8],
@@ -131,11 +135,12 @@ impl Sink for Tape {
     fn write(&mut self, buf: &[u8]) -> Result<usize, StreamFault>
         ensures bound { IfOk result (λ n. n ≤ length buf.now) }
         ensures some { IfOk result (λ n. 0 < length buf.now → 0 < n) }
-        ensures bytes { WriteAppends (Some self.old.written) (Some self.new.written) result buf.now }
+        ensures bytes { WriteAppends (Some self.old.written) (Some self.new.written)
+            result buf.now }
         ensures well { OnOk result (self.new.failures ≡ self.old.failures) }
         ensures failed { OnErr result (self.new.failures ≡ self.old.failures + 1) }
 
-        // It fails exactly where there are bytes and no room is left, and else takes all that it may.
+        // It fails exactly where there are bytes and no room, and else takes all that it may.
         ensures fails { IsErr result ↔ ((self.old.takes ≡ 0) × (0 < length buf.now)) }
         ensures taken { IfOk result (λ n. n ≡ taken_len self.old buf.now) }
         ensures ok { IfOk result (λ n. self.new ≡ after_write self.old (take n buf.now)) }

@@ -1,6 +1,5 @@
 use super::*;
 use std::alloc::Global;
-use std::io::Cursor;
 use std::test::Fail;
 
 /// The text that a reader gives, through its bound.
@@ -42,10 +41,8 @@ fn writes_until_the_tape_is_full(rt: HostRuntime) -> Result<(), Fail> {
 #[test]
 fn reads_and_writes_over_std(rt: HostRuntime) -> Result<(), Fail> {
     let mut input = Foreign::new(b"from std".as_slice());
-    assert_eq!(rt;
-        text_of(rt.alloc(), &mut input, 100)?.as_slice(),
-        b"from std".as_slice()
-    );
+    let text = text_of(rt.alloc(), &mut input, 100)?;
+    assert_eq!(rt; text.as_slice(), b"from std".as_slice());
     let mut output = Foreign::new(Vec::new(rt.alloc()));
     assert_eq!(rt; put(&mut output, b"to std"), Ok(()));
     Ok(())

@@ -10,10 +10,13 @@ use thiserror::Error;
 /// Why a text wasn't read.
 #[derive(Clone, Copy, Debug, PartialEq, Eq, Error)]
 pub enum ReadFault {
+    /// A read of the stream failed.
     #[error("a read failed")]
     Stream,
+    /// The stream gave a byte past the limit.
     #[error("the text is too long")]
     TooLong,
+    /// The memory for the text was wanting.
     #[error("no memory")]
     NoMemory,
 }
@@ -21,16 +24,29 @@ pub enum ReadFault {
 /// The bytes that one read asks for at most.
 const PIECE: usize = 4096;
 
-/// Reads all that the stream gives, `limit` bytes at most. A longer text is refused once a byte
-/// past the limit came; no further byte is taken.
+/// Reads all that the stream gives, `limit` bytes at most.
+///
+/// # Errors
+///
+/// `Stream` where a read fails, `TooLong` once a byte past the limit came (no further byte is
+/// taken), `NoMemory` where the memory for the text is wanting.
 pub fn read_text<R: Source>(alloc: Global, input: &mut R, limit: u32) -> Result<Vec<u8>, ReadFault>
-    ensures text { IfOk result (λ text. IfSome (R.remaining input.old) (λ given. text.items ≡ given)) }
+    ensures text { IfOk result (λ text.
+        IfSome (R.remaining input.old) (λ given. text.items ≡ given)) }
     ensures short { IfOk result (λ text. length text.items ≤ limit) }
     ensures end { OnOk result (IsAtEnd (R.remaining input.new)) }
-    ensures long { IsErrOf result ReadFault.TooLong → IfSome (R.remaining input.old) (λ given. limit < length given) }
+    ensures long { IsErrOf result ReadFault.TooLong →
+        IfSome (R.remaining input.old) (λ given. limit < length given) }
     ensures taken { GaveAtMost (limit + 1) (R.remaining input.old) (R.remaining input.new) }
+
+    // A failed read is told by its own fault, and by no other.
+    ensures failed { IsErrOf result ReadFault.Stream →
+        R.failures input.new ≡ R.failures input.old + 1 }
     ensures well { OnOk result (R.failures input.new ≡ R.failures input.old) }
-    ensures failed { IsErrOf result ReadFault.Stream → R.failures input.old < R.failures input.new }
+    ensures well_long { IsErrOf result ReadFault.TooLong →
+        R.failures input.new ≡ R.failures input.old }
+    ensures well_memory { IsErrOf result ReadFault.NoMemory →
+        R.failures input.new ≡ R.failures input.old }
 {
     let most = limit as usize;
     let mut buffer = [0; PIECE];
@@ -50,12 +66,18 @@ pub fn read_text<R: Source>(alloc: Global, input: &mut R, limit: u32) -> Result<
     Err(ReadFault::TooLong)
 }
 
-/// Writes all of the bytes, or the first of them where the stream fails.
+/// Writes all of the bytes.
+///
+/// # Errors
+///
+/// Where a write fails: the first bytes are written then, as many as the stream took.
 pub fn write_all<W: Sink>(output: &mut W, bytes: &[u8]) -> Result<(), StreamFault>
-    ensures ok { OnOk result (Appends (W.contents output.old) (W.contents output.new) bytes.now) }
-    ensures cut { OnErr result (AppendsPrefix (W.contents output.old) (W.contents output.new) bytes.now) }
+    ensures ok { OnOk result
+        (Appends (W.contents output.old) (W.contents output.new) bytes.now) }
+    ensures cut { OnErr result
+        (AppendsPrefix (W.contents output.old) (W.contents output.new) bytes.now) }
     ensures well { OnOk result (W.failures output.new ≡ W.failures output.old) }
-    ensures failed { OnErr result (W.failures output.old < W.failures output.new) }
+    ensures failed { OnErr result (W.failures output.new ≡ W.failures output.old + 1) }
 {
     let mut rest = bytes;
     while !rest.is_empty() {
