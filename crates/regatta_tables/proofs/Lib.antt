@@ -1,2 +1,3 @@
 pub mod JournalFacts
 pub mod LineFacts
+pub mod WrittenFacts

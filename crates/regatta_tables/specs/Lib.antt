@@ -1,3 +1,4 @@
+pub mod CsvTexts
 pub mod JournalFiles
 pub mod JournalTexts
 pub mod Lines
@@ -5,3 +6,4 @@ pub mod ReplyTexts
 pub mod SheetTexts
 pub mod TableTexts
 pub mod Worked
+pub mod WorkedFiles

@@ -4,11 +4,13 @@
 mod journals;
 mod pieces;
 mod replies;
+mod results;
 mod sheets;
 mod tables;
 
 pub use journals::{Journal, JournalFault, read_journal, write_journal};
 pub use replies::write_reply;
+pub use results::write_csv;
 pub use sheets::write_sheet;
 pub use tables::write_table;
 

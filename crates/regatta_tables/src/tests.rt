@@ -1,6 +1,8 @@
 use super::*;
 use regatta_scores::{Abbrev, Cell, Items, Row, Standing};
-use regatta_terms::{Answer, LineFault, RaceNo, Refusal, Reply, Role, Sail, Tenths, Touched};
+use regatta_terms::{
+    Answer, Entry, LineFault, RaceNo, Refusal, Reply, Role, Sail, Tenths, Touched, read_entry,
+};
 use std::alloc::Global;
 use std::test::Fail;
 
@@ -124,5 +126,82 @@ fn writes_long_replies_into_64_bytes(rt: HostRuntime) -> Result<(), Fail> {
         out.as_slice(),
         b"OK 4294967295 65535= 429496729.5\n".as_slice()
     );
+    Ok(())
+}
+
+fn entry(text: &[u8]) -> Result<Entry, Fail> {
+    match read_entry(text) {
+        Ok(entry) => Ok(entry),
+        Err(_) => Err("an entry".into()),
+    }
+}
+
+#[test]
+fn reads_and_writes_journals(rt: HostRuntime) -> Result<(), Fail> {
+    let alloc = rt.alloc();
+    let text = b"1 1 SCORER ENTER A\n2 1 JURY REDRESS 1 A 7.5\n";
+    let journal = read_journal(alloc, text).map_err(|_| "a journal")?;
+    let entries = [
+        entry(b"01 1 scorer  enter a")?,
+        entry(b"2 1 JURY REDRESS 1 A 7.5")?,
+    ];
+    assert_eq!(rt; journal.as_slice(), entries.as_slice());
+    let mut out = Vec::new(alloc);
+    write_journal(&entries, &mut out)?;
+    assert_eq!(rt; out.as_slice(), text.as_slice());
+    Ok(())
+}
+
+#[test]
+fn finds_the_bad_line_of_a_journal(rt: HostRuntime) -> Result<(), Fail> {
+    let alloc = rt.alloc();
+    let fault = JournalFault::BadLine {
+        line: 2,
+        fault: LineFault::WrongCount,
+    };
+    assert_eq!(rt;
+        read_journal(alloc, b"1 1 SCORER ENTER A\nX").err(),
+        Some(fault)
+    );
+    assert_eq!(rt; fault.number(), 1);
+    Ok(())
+}
+
+#[test]
+fn writes_sheets(rt: HostRuntime) -> Result<(), Fail> {
+    let alloc = rt.alloc();
+    let mut out = Vec::new(alloc);
+    let nobody = Standing {
+        races: races(alloc, &[])?,
+        rows: Items::new(Vec::new(alloc)),
+    };
+    write_sheet(&[], &nobody, &mut out)?;
+    assert_eq!(rt;
+        out.as_slice(),
+        b"JOURNAL 0\nTABLE 0 RACES\nEND\n".as_slice()
+    );
+    let mut out = Vec::new(alloc);
+    write_sheet(
+        &[entry(b"1 1 SCORER ENTER B")?],
+        &one_disqualified(alloc)?,
+        &mut out,
+    )?;
+    let sheet =
+        b"JOURNAL 1\n1 1 SCORER ENTER B\nTABLE 3 RACES 1\n1 B 1.0 1.0\n2 C 2.0 2.0\n3 A 4.0 4.0/DSQ\nEND\n";
+    assert_eq!(rt; out.as_slice(), sheet.as_slice());
+    Ok(())
+}
+
+#[test]
+fn writes_results(rt: HostRuntime) -> Result<(), Fail> {
+    let alloc = rt.alloc();
+    let mut out = Vec::from_slice(alloc, b"#")?;
+    write_csv(alloc, &one_disqualified(alloc)?, &mut out)?;
+    let text = b"#rank,sail,net,R1\n1,B,1.0,1.0\n2,C,2.0,2.0\n3,A,4.0,4.0/DSQ\n";
+    assert_eq!(rt; out.as_slice(), text.as_slice());
+    let mut out = Vec::new(alloc);
+    write_csv(alloc, &one_excluded(alloc)?, &mut out)?;
+    let text = b"rank,sail,net,R1,R2\n1,A,1.0,(1.0),1.0/RDG\n2,B,1.0,(2.0),1.0\n";
+    assert_eq!(rt; out.as_slice(), text.as_slice());
     Ok(())
 }

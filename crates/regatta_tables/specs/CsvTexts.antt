@@ -1,0 +1,21 @@
+-- The text of results as CSV.
+use Rattle.std.specs.Prelude.{ℕ, List, [], ◌∷◌, ◌++◌, map, flat_map, codes, decimal}
+use Rattle.csv.specs.Writing.{default_writer, row_text}
+use Rattle.regatta_scores.specs.declared.table.Standing.{Standing}
+use Rattle.regatta_tables.specs.TableTexts.{row_words}
+
+-- the name of a race's column
+abbrev pub race_name : ℕ → List ℕ
+race_name race = codes "R" ++ decimal race
+
+-- the header: a column for each word of a boat's line in the table
+abbrev pub header_fields : List ℕ → List (List ℕ)
+header_fields races = codes "rank" ∷ codes "sail" ∷ codes "net" ∷ map race_name races
+
+-- the header, and a record with the words of each boat's line
+abbrev pub csv_records : Standing → List (List (List ℕ))
+csv_records standing = header_fields standing.races ∷ map row_words standing.rows
+
+-- the records as `csv` writes them by default: commas, a line feed behind each, quotes where needed
+abbrev pub csv_text : Standing → List ℕ
+csv_text standing = flat_map (λ fields. row_text default_writer fields) (csv_records standing)

@@ -1,0 +1,170 @@
+//! The standing as CSV.
+
+ghost use Rattle.std.specs.Prelude.{◌≡◌, ◌≢◌, ◌≤◌, ◌++◌, Some, true, false, IfOk, OnOk, OnErr, map, flat_map, vec_capacity};
+ghost use Rattle.std.specs.Io.KnownBytes.{Appends};
+ghost use Rattle.csv.specs.Writing as written;
+ghost use Rattle.csv.specs.Writing.{default_writer, row_text};
+ghost use Rattle.regatta_tables.specs.CsvTexts.{csv_text, header_fields, race_name};
+ghost use Rattle.regatta_tables.specs.TableTexts.{row_words, cell_text};
+
+use crate::pieces::{points_word, rank_word};
+use crate::tables::push_cell;
+use csv::{Error, Writer, WriterBuilder};
+use itoa::Buffer;
+use regatta_scores::{Cell, Row, Standing};
+use regatta_terms::RaceNo;
+use std::alloc::{AllocError, Global};
+
+/// Appends the standing as CSV: a header, and a record for each boat.
+pub fn write_csv(alloc: Global, standing: &Standing, out: &mut Vec<u8>) -> Result<(), AllocError>
+    ensures ok { OnOk result (out.new.items ≡ out.old.items ++ csv_text standing.now) }
+    ensures err { OnErr result (out.new.items ≡ out.old.items) }
+    ensures room { vec_capacity out.old ≤ vec_capacity out.new }
+{
+    let Ok(text) = results(alloc, standing) else {
+        return Err(AllocError);
+    };
+    out.extend_from_slice(text.as_slice())
+}
+
+/// The text of the results, as `csv` writes it.
+fn results(alloc: Global, standing: &Standing) -> Result<Vec<u8>, Error>
+    ensures { IfOk result (λ text. text.items ≡ csv_text standing.now) }
+{
+    let mut writer = WriterBuilder::new().from_writer(Vec::new(alloc));
+    let Ok(header) = header_record(alloc, standing.races.as_slice()) else {
+        return Err(Error::out_of_memory());
+    };
+    write_record(alloc, &mut writer, header.as_slice())?;
+    write_rows(alloc, &mut writer, standing.rows.as_slice())?;
+    match writer.into_inner() {
+        Ok(text) => Ok(text),
+        Err(error) => Err(error.into_error()),
+    }
+}
+
+/// Writes a record for each boat.
+fn write_rows(alloc: Global, writer: &mut Writer<Vec<u8>>, rows: &[Row]) -> Result<(), Error>
+    requires fields { written.fields_written writer.old ≡ 0 }
+    requires wrote { written.has_written writer.old ≡ false }
+    requires setup { written.writer_setup writer.old ≡ default_writer }
+    ensures text { OnOk result (Appends
+        (written.text_written (λ v. Some v.items) writer.old)
+        (written.text_written (λ v. Some v.items) writer.new)
+        (flat_map (λ row. row_text default_writer (row_words row)) rows.now)) }
+{
+    for row in rows {
+        let Ok(record) = row_record(alloc, row) else {
+            return Err(Error::out_of_memory());
+        };
+        write_record(alloc, writer, record.as_slice())?;
+    }
+    Ok(())
+}
+
+/// Writes one record.
+fn write_record(alloc: Global, writer: &mut Writer<Vec<u8>>, texts: &[Vec<u8>]) -> Result<(), Error>
+    requires fields { written.fields_written writer.old ≡ 0 }
+    requires wrote { written.has_written writer.old ≡ false }
+    requires setup { written.writer_setup writer.old ≡ default_writer }
+    ensures text { OnOk result (Appends
+        (written.text_written (λ v. Some v.items) writer.old)
+        (written.text_written (λ v. Some v.items) writer.new)
+        (row_text default_writer (map (λ field. field.items) texts.now))) }
+    ensures fields { OnOk result (written.fields_written writer.new ≡ 0) }
+    ensures wrote { OnOk result (written.has_written writer.new ≡ false) }
+    ensures setup { OnOk result (written.writer_setup writer.new ≡ default_writer) }
+{
+    let Ok(fields) = slices_of(alloc, texts) else {
+        return Err(Error::out_of_memory());
+    };
+    writer.write_fields(fields.as_slice())?;
+    Ok(())
+}
+
+fn slices_of(alloc: Global, texts: &[Vec<u8>]) -> Result<Vec<&[u8]>, AllocError>
+    ensures { IfOk result (λ slices.
+        map (λ slice. slice.now) slices.items ≡ map (λ field. field.items) texts.now) }
+{
+    let mut slices = Vec::new(alloc);
+    for field in texts {
+        slices.push(field.as_slice())?;
+    }
+    Ok(slices)
+}
+
+/// The header: a column for the rank, the sail, the net, and each race.
+fn header_record(alloc: Global, races: &[RaceNo]) -> Result<Vec<Vec<u8>>, AllocError>
+    ensures { IfOk result (λ fields.
+        map (λ field. field.items) fields.items ≡ header_fields races.now) }
+{
+    let mut record = Vec::new(alloc);
+    record.push(Vec::from_slice(alloc, b"rank")?)?;
+    record.push(Vec::from_slice(alloc, b"sail")?)?;
+    record.push(Vec::from_slice(alloc, b"net")?)?;
+    push_race_fields(alloc, races, &mut record)?;
+    Ok(record)
+}
+
+/// Appends the names of the races' columns.
+fn push_race_fields(
+    alloc: Global,
+    races: &[RaceNo],
+    fields: &mut Vec<Vec<u8>>,
+) -> Result<(), AllocError>
+    ensures { OnOk result (map (λ field. field.items) fields.new.items
+        ≡ map (λ field. field.items) fields.old.items ++ map race_name races.now) }
+{
+    for race in races {
+        fields.push(race_field(alloc, *race)?)?;
+    }
+    Ok(())
+}
+
+/// The name of a race's column.
+fn race_field(alloc: Global, race: RaceNo) -> Result<Vec<u8>, AllocError>
+    ensures { IfOk result (λ field. field.items ≡ race_name race) }
+{
+    let mut number = Buffer::new();
+    let mut field = Vec::from_slice(alloc, b"R")?;
+    field.extend_from_slice(number.format(race.get()).as_bytes())?;
+    Ok(field)
+}
+
+/// The record of a boat: the words of her line in the table.
+fn row_record(alloc: Global, row: &Row) -> Result<Vec<Vec<u8>>, AllocError>
+    ensures { IfOk result (λ fields.
+        map (λ field. field.items) fields.items ≡ row_words row.now) }
+{
+    let (mut rank, mut net) = ([0; 6], [0; 11]);
+    let mut record = Vec::new(alloc);
+    record.push(Vec::from_slice(alloc, rank_word(&mut rank, row.rank, row.tied))?)?;
+    record.push(Vec::from_slice(alloc, row.sail.text().as_bytes())?)?;
+    record.push(Vec::from_slice(alloc, points_word(&mut net, row.net))?)?;
+    push_cell_fields(alloc, row.cells.as_slice(), &mut record)?;
+    Ok(record)
+}
+
+/// Appends the scores of a boat, each as a field.
+fn push_cell_fields(
+    alloc: Global,
+    cells: &[Cell],
+    fields: &mut Vec<Vec<u8>>,
+) -> Result<(), AllocError>
+    ensures { OnOk result (map (λ field. field.items) fields.new.items
+        ≡ map (λ field. field.items) fields.old.items ++ map cell_text cells.now) }
+{
+    for cell in cells {
+        fields.push(cell_field(alloc, cell)?)?;
+    }
+    Ok(())
+}
+
+/// A boat's score in one race.
+fn cell_field(alloc: Global, cell: &Cell) -> Result<Vec<u8>, AllocError>
+    ensures { IfOk result (λ field. field.items ≡ cell_text cell.now) }
+{
+    let mut field = Vec::new(alloc);
+    push_cell(cell, &mut field)?;
+    Ok(field)
+}
