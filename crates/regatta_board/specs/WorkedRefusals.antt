@@ -42,31 +42,33 @@ each_refusal_commands =
 pub each_refusal_replies :
     replies (rules_with (2 ∷ [])) [] each_refusal_commands
     ≡ ok 1 1 false 0
-      ∷ Err AlreadyEntered
-      ∷ Err NotEntered
-      ∷ Err NotPlaced
-      ∷ Err NotPlaced
-      ∷ Err NoFinisher
-      ∷ Err NotScored
-      ∷ Err NothingToClear
-      ∷ ok 2 1 false 0
-      ∷ Err AlreadyPlaced
-      ∷ Err AlreadyPlaced
-      ∷ ok_alone 3
-      ∷ Err AlreadyScored
-      ∷ Err NotYours
-      ∷ ok 4 1 false 20
-      ∷ Err Decided
-      ∷ Err Decided
-      ∷ Err Decided
-      ∷ ok 5 1 false 10
-      ∷ ok 6 1 false 25
-      ∷ Err Decided
-      ∷ []
+    ∷ Err AlreadyEntered
+    ∷ Err NotEntered
+    ∷ Err NotPlaced
+    ∷ Err NotPlaced
+    ∷ Err NoFinisher
+    ∷ Err NotScored
+    ∷ Err NothingToClear
+    ∷ ok 2 1 false 0
+    ∷ Err AlreadyPlaced
+    ∷ Err AlreadyPlaced
+    ∷ ok_alone 3
+    ∷ Err AlreadyScored
+    ∷ Err NotYours
+    ∷ ok 4 1 false 20
+    ∷ Err Decided
+    ∷ Err Decided
+    ∷ Err Decided
+    ∷ ok 5 1 false 10
+    ∷ ok 6 1 false 25
+    ∷ Err Decided
+    ∷ []
 each_refusal_replies = refl
 
 pub each_refusal_table :
     standing (rules_with (2 ∷ [])) (journal_after (rules_with (2 ∷ [])) [] each_refusal_commands)
-    ≡ record { races = 1 ∷ [];
-      rows = row A 1 false 25 (cell 25 (Some abbreviation.Rdg) false ∷ []) ∷ [] }
+    ≡ record {
+      races = 1 ∷ [];
+      rows = row A 1 false 25 (cell 25 (Some abbreviation.Rdg) false ∷ []) ∷ [];
+    }
 each_refusal_table = refl

@@ -28,21 +28,23 @@ shared_place_commands =
 pub shared_place_replies :
     replies (rules_with (2 ∷ [])) [] shared_place_commands
     ≡ ok 1 1 false 0
-      ∷ ok 2 1 true 0
-      ∷ ok 3 1 true 0
-      ∷ ok 4 1 true 0
-      ∷ ok 5 1 true 0
-      ∷ ok 6 1 true 0
-      ∷ ok_alone 7
-      ∷ []
+    ∷ ok 2 1 true 0
+    ∷ ok 3 1 true 0
+    ∷ ok 4 1 true 0
+    ∷ ok 5 1 true 0
+    ∷ ok 6 1 true 0
+    ∷ ok_alone 7
+    ∷ []
 shared_place_replies = refl
 
 pub shared_place_table :
     standing (rules_with (2 ∷ [])) (journal_after (rules_with (2 ∷ [])) [] shared_place_commands)
-    ≡ record { races = 1 ∷ [];
+    ≡ record {
+      races = 1 ∷ [];
       rows = row A 1 true 15 (cell 15 None false ∷ [])
-        ∷ row B 1 true 15 (cell 15 None false ∷ [])
-        ∷ row C 3 false 30 (cell 30 None false ∷ []) ∷ [] }
+          ∷ row B 1 true 15 (cell 15 None false ∷ [])
+          ∷ row C 3 false 30 (cell 30 None false ∷ []) ∷ [];
+    }
 shared_place_table = refl
 
 -- one of them is disqualified: the others move up (A6.1)
@@ -61,22 +63,24 @@ disqualified_from_a_tie_commands =
 pub disqualified_from_a_tie_replies :
     replies (rules_with (2 ∷ [])) [] disqualified_from_a_tie_commands
     ≡ ok 1 1 false 0
-      ∷ ok 2 1 true 0
-      ∷ ok 3 1 true 0
-      ∷ ok 4 1 true 0
-      ∷ ok 5 1 true 0
-      ∷ ok 6 1 true 0
-      ∷ ok_alone 7
-      ∷ ok 8 3 false 40
-      ∷ []
+    ∷ ok 2 1 true 0
+    ∷ ok 3 1 true 0
+    ∷ ok 4 1 true 0
+    ∷ ok 5 1 true 0
+    ∷ ok 6 1 true 0
+    ∷ ok_alone 7
+    ∷ ok 8 3 false 40
+    ∷ []
 disqualified_from_a_tie_replies = refl
 
 pub disqualified_from_a_tie_table :
     standing (rules_with (2 ∷ [])) (journal_after (rules_with (2 ∷ [])) [] disqualified_from_a_tie_commands)
-    ≡ record { races = 1 ∷ [];
+    ≡ record {
+      races = 1 ∷ [];
       rows = row B 1 false 10 (cell 10 None false ∷ [])
-        ∷ row C 2 false 20 (cell 20 None false ∷ [])
-        ∷ row A 3 false 40 (cell 40 (Some abbreviation.Dsq) false ∷ []) ∷ [] }
+          ∷ row C 2 false 20 (cell 20 None false ∷ [])
+          ∷ row A 3 false 40 (cell 40 (Some abbreviation.Dsq) false ∷ []) ∷ [];
+    }
 disqualified_from_a_tie_table = refl
 
 -- a role without the command, and a decision that stands
@@ -97,16 +101,16 @@ decided_commands =
 pub decided_replies :
     replies (rules_with (2 ∷ [])) [] decided_commands
     ≡ ok 1 1 false 0
-      ∷ ok 2 1 true 0
-      ∷ ok 3 1 true 0
-      ∷ ok 4 1 true 0
-      ∷ ok 5 1 true 0
-      ∷ ok 6 1 true 0
-      ∷ ok_alone 7
-      ∷ ok 8 3 false 40
-      ∷ Err NotYours
-      ∷ Err Decided
-      ∷ []
+    ∷ ok 2 1 true 0
+    ∷ ok 3 1 true 0
+    ∷ ok 4 1 true 0
+    ∷ ok 5 1 true 0
+    ∷ ok 6 1 true 0
+    ∷ ok_alone 7
+    ∷ ok 8 3 false 40
+    ∷ Err NotYours
+    ∷ Err Decided
+    ∷ []
 decided_replies = refl
 
 -- a late entry changes the DNF scores of earlier races (A5.2)
@@ -124,11 +128,13 @@ late_entry_commands =
 
 pub late_entry_table :
     standing (rules_with (2 ∷ [])) (journal_after (rules_with (2 ∷ [])) [] late_entry_commands)
-    ≡ record { races = 1 ∷ [];
+    ≡ record {
+      races = 1 ∷ [];
       rows = row A 1 false 10 (cell 10 None false ∷ [])
-        ∷ row B 2 false 20 (cell 20 None false ∷ [])
-        ∷ row C 3 true 50 (cell 50 (Some abbreviation.Dnf) false ∷ [])
-        ∷ row D 3 true 50 (cell 50 (Some abbreviation.Dnc) false ∷ []) ∷ [] }
+          ∷ row B 2 false 20 (cell 20 None false ∷ [])
+          ∷ row C 3 true 50 (cell 50 (Some abbreviation.Dnf) false ∷ [])
+          ∷ row D 3 true 50 (cell 50 (Some abbreviation.Dnc) false ∷ []) ∷ [];
+    }
 late_entry_table = refl
 
 -- an average as redress follows her other races (A9)
@@ -149,23 +155,25 @@ average_follows_commands =
 pub average_follows_replies :
     replies (rules_with ([])) [] average_follows_commands
     ≡ ok 1 1 false 0
-      ∷ ok 2 1 true 0
-      ∷ ok 3 1 true 0
-      ∷ ok 4 1 true 0
-      ∷ ok 5 1 true 0
-      ∷ ok_alone 6
-      ∷ ok_alone 7
-      ∷ ok 8 1 false 20
-      ∷ ok 9 2 false 60
-      ∷ ok 10 1 false 20
-      ∷ []
+    ∷ ok 2 1 true 0
+    ∷ ok 3 1 true 0
+    ∷ ok 4 1 true 0
+    ∷ ok 5 1 true 0
+    ∷ ok_alone 6
+    ∷ ok_alone 7
+    ∷ ok 8 1 false 20
+    ∷ ok 9 2 false 60
+    ∷ ok 10 1 false 20
+    ∷ []
 average_follows_replies = refl
 
 pub average_follows_table :
     standing (rules_with ([])) (journal_after (rules_with ([])) [] average_follows_commands)
-    ≡ record { races = 1 ∷ 2 ∷ [];
+    ≡ record {
+      races = 1 ∷ 2 ∷ [];
       rows = row A 1 false 20 (cell 10 None false ∷ cell 10 (Some abbreviation.Rdg) false ∷ [])
-        ∷ row B 2 false 30 (cell 20 None false ∷ cell 10 None false ∷ []) ∷ [] }
+          ∷ row B 2 false 30 (cell 20 None false ∷ cell 10 None false ∷ []) ∷ [];
+    }
 average_follows_table = refl
 
 -- the same with one exclusion (A2.1)
@@ -185,9 +193,11 @@ average_with_exclusion_commands =
 
 pub average_with_exclusion_table :
     standing (rules_with (2 ∷ [])) (journal_after (rules_with (2 ∷ [])) [] average_with_exclusion_commands)
-    ≡ record { races = 1 ∷ 2 ∷ [];
+    ≡ record {
+      races = 1 ∷ 2 ∷ [];
       rows = row A 1 false 10 (cell 10 None true ∷ cell 10 (Some abbreviation.Rdg) false ∷ [])
-        ∷ row B 2 false 10 (cell 20 None true ∷ cell 10 None false ∷ []) ∷ [] }
+          ∷ row B 2 false 10 (cell 20 None true ∷ cell 10 None false ∷ []) ∷ [];
+    }
 average_with_exclusion_table = refl
 
 -- a late entry beside an average as redress
@@ -207,23 +217,25 @@ late_entry_with_average_commands =
 pub late_entry_with_average_replies :
     replies (rules_with ([])) [] late_entry_with_average_commands
     ≡ ok 1 1 false 0
-      ∷ ok 2 1 true 0
-      ∷ ok 3 1 true 0
-      ∷ ok 4 1 true 0
-      ∷ ok 5 1 true 0
-      ∷ ok_alone 6
-      ∷ ok_alone 7
-      ∷ ok 8 2 false 60
-      ∷ ok 9 2 true 80
-      ∷ []
+    ∷ ok 2 1 true 0
+    ∷ ok 3 1 true 0
+    ∷ ok 4 1 true 0
+    ∷ ok 5 1 true 0
+    ∷ ok_alone 6
+    ∷ ok_alone 7
+    ∷ ok 8 2 false 60
+    ∷ ok 9 2 true 80
+    ∷ []
 late_entry_with_average_replies = refl
 
 pub late_entry_with_average_table :
     standing (rules_with ([])) (journal_after (rules_with ([])) [] late_entry_with_average_commands)
-    ≡ record { races = 1 ∷ 2 ∷ [];
+    ≡ record {
+      races = 1 ∷ 2 ∷ [];
       rows = row B 1 false 30 (cell 20 None false ∷ cell 10 None false ∷ [])
-        ∷ row A 2 true 80 (cell 40 (Some abbreviation.Rdg) false ∷ cell 40 (Some abbreviation.Dnc) false ∷ [])
-        ∷ row C 2 true 80 (cell 40 (Some abbreviation.Dnc) false ∷ cell 40 (Some abbreviation.Dnc) false ∷ []) ∷ [] }
+          ∷ row A 2 true 80 (cell 40 (Some abbreviation.Rdg) false ∷ cell 40 (Some abbreviation.Dnc) false ∷ [])
+          ∷ row C 2 true 80 (cell 40 (Some abbreviation.Dnc) false ∷ cell 40 (Some abbreviation.Dnc) false ∷ []) ∷ [];
+    }
 late_entry_with_average_table = refl
 
 -- the journal of a run is lawful
