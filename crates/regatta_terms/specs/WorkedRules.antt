@@ -87,6 +87,9 @@ none_of_one_race = refl
 pub one_of_two_races : exclusions_of (2 ∷ 5 ∷ []) 2 ≡ 1
 one_of_two_races = refl
 
+pub one_of_three_races : exclusions_of (2 ∷ 5 ∷ []) 3 ≡ 1
+one_of_three_races = refl
+
 pub one_of_four_races : exclusions_of (2 ∷ 5 ∷ []) 4 ≡ 1
 one_of_four_races = refl
 
