@@ -127,7 +127,7 @@ fn is_sail_heading(alloc: Global, field: &[u8]) -> Result<bool, AllocError>
 }
 
 /// The sails of the records behind the header, from the field at that place.
-#[tactic(auto, using(crate::proofs::EntryListFacts::all_sound, crate::proofs::EntryListFacts::faulty_row))]
+#[tactic(auto, using(crate::proofs::ListFacts::all_sound, crate::proofs::ListFacts::faulty_row))]
 fn read_sails(alloc: Global, column: usize, records: &[ByteRecord]) -> Result<Sails, EntriesFault>
     ensures ok { IfOk result (λ sails.
         entries_under (Some column) (map fields_of records.now) ≡ Ok sails) }
@@ -153,7 +153,8 @@ fn add_sail(
     boat: &ByteRecord,
     sails: &mut Vec<Sail>,
 ) -> Result<(), EntriesFault>
-    ensures sound { OnOk result (fault_in column row sails.old.items (fields_of boat.now) ≡ None) }
+    ensures sound { OnOk result (
+        fault_in column row sails.old.items (fields_of boat.now) ≡ None) }
     ensures added { OnOk result (sails.new.items
         ≡ sails.old.items ++ sails_in column (fields_of boat.now ∷ [])) }
     ensures fault { IfErr result (λ fault. (fault ≡ EntriesFault.NoMemory)

@@ -28,7 +28,7 @@ pub(crate) fn records_of(alloc: Global, text: &[u8]) -> Result<Vec<ByteRecord>, 
 }
 
 /// The fields of a record, in order.
-#[tactic(auto, using(crate::proofs::EntryListFacts::field_more, crate::proofs::EntryListFacts::field_none))]
+#[tactic(auto, using(crate::proofs::ListFacts::field_more, crate::proofs::ListFacts::field_none))]
 pub(crate) fn fields_in(alloc: Global, row: &ByteRecord) -> Result<Vec<&[u8]>, AllocError>
     ensures { IfOk result (λ fields.
         map (λ field. field.now) fields.items ≡ fields_of row.now) }

@@ -3,7 +3,7 @@ use Rattle.std.specs.List.{list_all}
 use Rattle.std.proofs.lemmas.List.{take_all}
 use Rattle.std.proofs.lemmas.List.Folds.{list_all_at}
 use Rattle.regatta_terms.specs.Words.{is_space}
-use Rattle.regatta_tables.proofs.EntryListFacts.{blank_fields}
+use Rattle.regatta_tables.proofs.ListFacts.{blank_fields}
 use Rattle.regatta_tables.proofs.entries.is_blank.Goals as goal
 
 pub returns-then-not-are_spaces : goal.returns-then-not-are_spaces

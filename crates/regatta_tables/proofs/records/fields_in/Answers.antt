@@ -2,7 +2,7 @@ use Rattle.std.proofs.Common.{Bor, rules, ◌≡◌, ◌∙◌, ◌∷◌, ◌++
 use Rattle.std.specs.Result.{is_ok}
 use Rattle.std.proofs.lemmas.List.{map-append}
 use Rattle.csv.specs.Records.{field_at, fields_of}
-use Rattle.regatta_tables.proofs.EntryListFacts.{field_more}
+use Rattle.regatta_tables.proofs.ListFacts.{field_more}
 use Rattle.regatta_tables.proofs.records.fields_in.Goals as goal
 
 pub loop-field-preserved : goal.loop-field-preserved
