@@ -1,27 +1,33 @@
 //! The records of a text of comma-separated values.
 
-ghost use Rattle.std.specs.Prelude.{◌≡◌, IfOk, map, filter};
-ghost use Rattle.csv.specs.Reading.{default_config, records, strip_bom};
+ghost use Rattle.std.specs.Prelude.{◌≡◌, true, IfOk, IfErr, map};
+ghost use Rattle.csv.specs.Reading.{default_config, records, stops_reader, strip_bom};
 ghost use Rattle.csv.specs.Records.{fields_of};
 ghost use Rattle.regatta_tables.specs.EntryLists.{without_spaces};
 
-use csv::{ByteRecord, Error, ReaderBuilder};
+use csv::{ByteRecord, ErrorKind, ReaderBuilder};
 use std::alloc::{AllocError, Global};
 
 /// Every record of a text, of any lengths and with no header set apart. A byte order mark at the
-/// very start is dropped. Reading a slice fails by want of memory alone.
-pub(crate) fn records_of(alloc: Global, text: &[u8]) -> Result<Vec<ByteRecord>, Error>
-    ensures { IfOk result (λ read.
-        map fields_of read.items ≡ records default_config (strip_bom text.now)) }
+/// very start is dropped. An error is of the device or of memory: neither the lengths of records nor
+/// bytes that are no text are one.
+pub(crate) fn records_of(alloc: Global, text: &[u8]) -> Result<Vec<ByteRecord>, ErrorKind>
+    ensures ok { IfOk result (λ rows.
+        map fields_of rows.items ≡ records default_config (strip_bom text.now)) }
+    ensures error { IfErr result (λ kind. stops_reader kind ≡ true) }
 {
     let reader = ReaderBuilder::new()
         .has_headers(false)
         .flexible(true)
         .from_reader(alloc, text);
     let mut records = Vec::new(alloc);
-    for record in reader.into_byte_records() {
-        if records.push(record?).is_err() {
-            return Err(Error::out_of_memory());
+    for read in reader.into_byte_records() {
+        let row = match read {
+            Ok(row) => row,
+            Err(error) => return Err(error.into_kind()),
+        };
+        if records.push(row).is_err() {
+            return Err(ErrorKind::OutOfMemory);
         }
     }
     Ok(records)
