@@ -1,7 +1,7 @@
 -- Entry lists, record by record.
-use Rattle.std.proofs.Common.{◌≡◌, ℕ, zero, suc, ◌+◌, ◌<◌, ◌≤◌, Bool, true, false, not, cond, List, [], ◌∷◌, ◌++◌, length, take, drop, map, filter, filter_map, get_or, Option, Some, None, option_map, inl, inr, ◌⊎◌, refl, ap, ◌∙◌, sym, subst, arith}
+use Rattle.std.proofs.Common.{◌≡◌, ℕ, zero, suc, ◌+◌, ◌<◌, ◌≤◌, Bool, true, false, not, cond, List, [], ◌∷◌, ◌++◌, length, take, drop, map, filter, filter_map, get_or, Option, Some, None, option_map, inl, inr, ◌⊎◌, refl, ap, ◌∙◌, sym, arith}
 use Rattle.std.specs.List.{list_all, position, slice_get, position_or_len}
-use Rattle.std.specs.Prelude.{Result, Ok, Err}
+use Rattle.std.specs.Prelude.{Ok, Err}
 use Rattle.std.proofs.lemmas.List.{take_more, take_all, get_or-map, drop_all, length-map, length-take}
 use Rattle.std.proofs.lemmas.List.Elements.{filter-append, filter_map-append}
 use Rattle.std.proofs.lemmas.List.Folds.{list_all-map}

@@ -1,4 +1,4 @@
-use Rattle.std.proofs.Common.{◌≡◌, true, map, take}
+use Rattle.std.proofs.Common.{◌≡◌, true, take}
 use Rattle.std.specs.List.{list_all}
 use Rattle.regatta_terms.specs.Words.{is_space}
 use Rattle.regatta_tables.proofs.entries.is_blank.Given as goal

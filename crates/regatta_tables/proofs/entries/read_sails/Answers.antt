@@ -1,5 +1,5 @@
-use Rattle.std.proofs.Common.{rules, ◌≡◌, ◌∙◌, ◌+◌, refl, Ok, Err, inl, inr}
-use Rattle.regatta_tables.proofs.ListFacts.{faulty_row, sound_more, sails_more}
+use Rattle.std.proofs.Common.{◌∙◌, ◌+◌, refl}
+use Rattle.regatta_tables.proofs.ListFacts.{sound_more, sails_more}
 use Rattle.regatta_tables.proofs.entries.read_sails.Goals as goal
 
 pub loop-place-preserved : goal.loop-place-preserved

@@ -1,4 +1,4 @@
-use Rattle.std.proofs.Common.{rules, ◌≡◌, ◌∙◌, ap, sym, map}
+use Rattle.std.proofs.Common.{◌∙◌, ap, sym, map}
 use Rattle.regatta_tables.proofs.ListFacts.{heading_seen, other_seen, no_heading_seen}
 use Rattle.regatta_tables.proofs.entries.sail_column.Goals as goal
 
