@@ -2,13 +2,17 @@
 #![tactic(auto)]
 
 mod answers;
-mod lines;
+mod cutter;
+mod form;
+mod opening;
 mod run;
-mod words;
+mod scribe;
+mod start;
 
+pub use form::Form;
 pub use regatta_streams::{Device, Foreign, Sink, Source, StreamFault, Tape, write_all};
 pub use run::{INPUT_LIMIT, RunFault, replay};
-pub use words::program;
+pub use start::start_of;
 
 #[cfg(test)]
 mod tests;
