@@ -1,7 +1,8 @@
 -- The abbreviations of a cell as letters (RRS A10).
 use Rattle.std.specs.Prelude.{ℕ, List, codes}
 use Rattle.regatta_scores.specs.declared.table.Abbrev.{Abbrev}
-use Rattle.regatta_scores.specs.declared.table.Abbrev.TheVariants.{Dnc, Dns, Ocs, Ufd, Bfd, Dnf, Ret, Dsq, Dne, Zfp, Scp, Rdg}
+use Rattle.regatta_scores.specs.declared.table.Abbrev.TheVariants.{Dnc, Dns, Ocs, Ufd, Bfd, Dnf}
+use Rattle.regatta_scores.specs.declared.table.Abbrev.TheVariants.{Ret, Dsq, Dne, Zfp, Scp, Rdg}
 
 -- the three letters that stand for each
 abbrev pub abbrev_text : Abbrev → List ℕ

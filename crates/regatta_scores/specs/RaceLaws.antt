@@ -1,5 +1,6 @@
 -- Laws of single races.
-use Rattle.std.specs.Prelude.{◌≡◌, ◌≢◌, ℕ, ◌+◌, ◌*◌, ◌≤◌, Bool, true, false, [], ◌∷◌, ◌++◌, count_by, sum_by, if◌then◌else◌}
+use Rattle.std.specs.Prelude.{◌≡◌, ◌≢◌, ℕ, ◌+◌, ◌*◌, ◌≤◌, Bool, true, false, [], ◌∷◌, ◌++◌}
+use Rattle.std.specs.Prelude.{count_by, sum_by, if◌then◌else◌}
 use Rattle.std.specs.List.{range_with_len}
 use Rattle.regatta_terms.specs.Entries.{EntryParts}
 use Rattle.regatta_terms.specs.Rules.{RulesParts}
@@ -8,7 +9,9 @@ use Rattle.regatta_terms.specs.declared.command.Code.{Code}
 use Rattle.regatta_terms.specs.declared.command.Command.TheVariants.{Enter, Mark}
 use Rattle.regatta_scores.specs.Order.{in_group, stands_in, times_placed}
 use Rattle.regatta_scores.specs.Journal.{Journal, same_sail, names_race, order, held}
-use Rattle.regatta_scores.specs.RacePoints.{Race, Status, Finished, Coded, journal_race, status, shared_points, groups_ahead, her_group, finishing_place, sharing, dnf, plain}
+use Rattle.regatta_scores.specs.RacePoints.{Race, Status, Finished, Coded, journal_race, status}
+use Rattle.regatta_scores.specs.RacePoints.{shared_points, groups_ahead, her_group, finishing_place}
+use Rattle.regatta_scores.specs.RacePoints.{sharing, dnf, plain}
 
 -- two journals say the same of a race
 pub record SaysTheSame (old new : Journal) (race : ℕ) : Type 0 where
@@ -19,7 +22,8 @@ pub record SaysTheSame (old new : Journal) (race : ℕ) : Type 0 where
   pub same_dnf : (rules : RulesParts) →
       dnf same_sail rules (journal_race new race) ≡ dnf same_sail rules (journal_race old race)
   pub same_plain : (rules : RulesParts) (boat : Sail) →
-      plain same_sail rules (journal_race new race) boat ≡ plain same_sail rules (journal_race old race) boat
+      plain same_sail rules (journal_race new race) boat
+      ≡ plain same_sail rules (journal_race old race) boat
 
 -- A command of one race changes no other race.
 abbrev pub RacesAreApart : Type 0
@@ -29,20 +33,21 @@ RacesAreApart = (journal : Journal) (entry : EntryParts) (race other : ℕ) →
 
 -- Enter changes no finishing order and nothing that is held.
 abbrev pub EnterKeepsRaces : Type 0
-EnterKeepsRaces = (journal : Journal) (entry : EntryParts) (sail : Sail) → entry.command ≡ Enter sail →
-    (race : ℕ) →
+EnterKeepsRaces = (journal : Journal) (entry : EntryParts) (sail : Sail) →
+    entry.command ≡ Enter sail → (race : ℕ) →
     (order (journal ++ entry ∷ []) race ≡ order journal race)
     × ((boat : Sail) → held (journal ++ entry ∷ []) race boat ≡ held journal race boat)
 
--- no boat stands twice in the race's order
+-- no boat stands twice in the race's order (A3)
 abbrev pub NobodyTwice : Race Sail → Type 0
 NobodyTwice race = (boat : Sail) → times_placed same_sail race.order boat ≤ 1
 
--- When a boat that finished is given a code (A6.1), she is scored by it and every other boat's status stays; each boat in
--- a later group moves up one place, each in her group shares with one less, and every other place and number of sharers
--- stays.
+-- When a boat that finished is given a code (A6.1), she is scored by it and every other boat's
+-- status stays; each boat in a later group moves up one place, each in her group shares with one
+-- less, and every other place and number of sharers stays.
 abbrev pub CodedBoatsLeaveTheOrder : Type 0
-CodedBoatsLeaveTheOrder = (journal : Journal) (entry : EntryParts) (race : ℕ) (coded : Sail) (code : Code) →
+CodedBoatsLeaveTheOrder =
+    (journal : Journal) (entry : EntryParts) (race : ℕ) (coded : Sail) (code : Code) →
     entry.command ≡ Mark race coded code →
     NobodyTwice (journal_race journal race) →
     status same_sail (journal_race journal race) coded ≡ Finished →
@@ -51,31 +56,36 @@ CodedBoatsLeaveTheOrder = (journal : Journal) (entry : EntryParts) (race : ℕ) 
     let new = journal_race (journal ++ entry ∷ []) race in
     let is_behind = stands_in same_sail coded (groups_ahead same_sail old boat) in
     let is_tied = in_group same_sail coded (her_group same_sail old boat) in
-    (status same_sail new boat ≡ (if same_sail boat coded then Coded code else status same_sail old boat))
-    × (finishing_place same_sail old boat ≡ finishing_place same_sail new boat + (if is_behind then 1 else 0))
+    (status same_sail new boat
+    ≡ (if same_sail boat coded then Coded code else status same_sail old boat))
+    × (finishing_place same_sail old boat
+    ≡ finishing_place same_sail new boat + (if is_behind then 1 else 0))
     × (sharing same_sail old boat ≡ sharing same_sail new boat + (if is_tied then 1 else 0))
 
--- The points of as many places, from one on: 1 point for first, 2 for second, and so on (A4); tenths.
+-- The points of so many places from one place on, in tenths: 1 point for first, 2 for second, and
+-- so on (A4).
 abbrev pub points_of_places : ℕ → ℕ → ℕ
 points_of_places first number = sum_by (λ place. 10 * place) (range_with_len first number)
 
--- Boats tied for a place share equally the points for that place and for the places immediately below (A7).
+-- Boats tied for a place share equally the points for that place and for the places immediately
+-- below (A7).
 abbrev pub TiesShareEqually : Type 0
 TiesShareEqually = (place tied : ℕ) → tied * shared_points place tied ≡ points_of_places place tied
 
--- whether a boat of this status finished
+-- whether a boat of this status finished: she has a place and no code (A4)
 abbrev pub is_finished : Status → Bool
 is_finished Finished = true
 is_finished _ = false
 
--- what a boat has for finishing: the points for her place if she finished
+-- what a boat has for finishing: the points for her place if she finished (A4, A7)
 abbrev pub finish_points : Race Sail → Sail → ℕ
 finish_points race boat =
     if is_finished (status same_sail race boat)
     then shared_points (finishing_place same_sail race boat) (sharing same_sail race boat)
     else 0
 
--- The points for the places of the boats that finished, ties shared, are those of places 1 to their number (A4, A7).
+-- The points for the places of the boats that finished, ties shared, are those of places 1 to their
+-- number (A4, A7).
 abbrev pub PlacesAreSharedOut : Type 0
 PlacesAreSharedOut = (race : Race Sail) → NobodyTwice race →
     let number = sum_by (count_by (λ boat. is_finished (status same_sail race boat))) race.order in

@@ -1,6 +1,8 @@
 -- The points of one race before redress (RRS A4, A5, A6, A7, 30.2, 44.3).
 -- Points are tenths, but for what is said to be whole points.
-use Rattle.std.specs.Prelude.{ℕ, ◌+◌, ◌-◌, ◌*◌, ◌/◌, min, max, Bool, true, false, List, [], length, map, sum_by, count_by, find, unwrap_or, Option, Some, None, is_none, nat_eq, slice_index_or}
+use Rattle.std.specs.Prelude.{ℕ, ◌+◌, ◌-◌, ◌*◌, ◌/◌, min, max, Bool, true, false, List, [], length}
+use Rattle.std.specs.Prelude.{map, sum_by, count_by, find, unwrap_or, Option, Some, None, is_none}
+use Rattle.std.specs.Prelude.{nat_eq, slice_index_or}
 use Rattle.std.specs.List.{range_with_len, before_first}
 use Rattle.regatta_terms.specs.Rules.{RulesParts}
 use Rattle.regatta_terms.specs.declared.rules.Absent.{Absent}
@@ -48,11 +50,13 @@ abbrev pub penalty_points : RulesParts → ℕ → Held → ℕ
 penalty_points rules dnf held =
     held.zfp * twenty_percent dnf + held.scp * unwrap_or rules.scp (twenty_percent dnf)
 
--- a score made worse by penalties, to the DNF score at most; a score at or above that stays (44.3(c))
+-- a score made worse by penalties, to the DNF score at most; a score at or above that stays
+-- (44.3(c))
 abbrev pub penalised : ℕ → ℕ → ℕ → ℕ
 penalised base penalty dnf = max base (min (base + 10 * penalty) (10 * dnf))
 
--- how many boats of a group of the order finished: a boat with a code is taken out of the finishing order (A6.1)
+-- how many boats of a group of the order finished: a boat with a code is taken out of the finishing
+-- order (A6.1)
 abbrev pub finishers : {B : Type 0} → Race B → List B → ℕ
 finishers race group = count_by (λ boat. is_none (race.held boat).code) group
 
@@ -62,25 +66,29 @@ abbrev pub dnf_by : Absent → ℕ → ℕ → ℕ
 dnf_by A52 entered came = entered + 1
 dnf_by A53 entered came = came + 1
 
--- the score of a boat of this status: for her place if she finished (A4, A7), one more than the boats entered
--- where she did not come to the starting area, the DNF score for every other code (A5.2, A5.3)
+-- the score of a boat of this status: for her place if she finished (A4, A7), one more than the
+-- boats entered where she did not come to the starting area, the DNF score for every other code
+-- (A5.2, A5.3)
 abbrev pub base_by : Status → ℕ → ℕ → ℕ → ℕ
 base_by Finished place_points entered dnf = place_points
 base_by (Coded Dnc) place_points entered dnf = 10 * (entered + 1)
 base_by (Coded code) place_points entered dnf = 10 * dnf
 
 module _ {B : Type 0} (same : B → B → Bool) where
+  -- how this boat is scored in the race: by her code, by her place, or as DNC (A5)
   abbrev pub status : Race B → B → Status
   status race boat = status_by (race.held boat).code (stands_in same boat race.order)
 
-  -- the groups ahead of hers, and hers
+  -- the groups of boats ahead of hers (A3)
   abbrev pub groups_ahead : Race B → B → List (List B)
   groups_ahead race boat = before_first (in_group same boat) race.order
 
+  -- her group: she and the boats tied with her (A7)
   abbrev pub her_group : Race B → B → List B
   her_group race boat = unwrap_or (find (in_group same boat) race.order) []
 
-  -- her finishing place: one more than the number of boats that finished in the groups ahead of hers (A4, A6.1)
+  -- her finishing place: one more than the number of boats that finished in the groups ahead of
+  -- hers (A4, A6.1)
   abbrev pub finishing_place : Race B → B → ℕ
   finishing_place race boat = 1 + sum_by (finishers race) (groups_ahead race boat)
 
@@ -105,7 +113,7 @@ module _ {B : Type 0} (same : B → B → Bool) where
   base rules race boat =
       base_by (status race boat) (place_points race boat) (length race.entered) (dnf rules race)
 
-  -- her score before redress
+  -- her score before redress: for her place or her code, made worse by penalties (30.2, 44.3(c))
   abbrev pub plain : RulesParts → Race B → B → ℕ
   plain rules race boat =
       let dnf = dnf rules race in
@@ -116,7 +124,11 @@ module _ {B : Type 0} (same : B → B → Bool) where
 -- on a sheet the boats are numbers, their places in the entry list
 abbrev pub race_of : List (List ℕ) → List Held → Race ℕ
 race_of order held =
-    record { entered = range_with_len 0 (length held); order = order; held = λ boat. slice_index_or held boat nothing_held }
+    record {
+      entered = range_with_len 0 (length held);
+      order = order;
+      held = λ boat. slice_index_or held boat nothing_held;
+    }
 
 -- the points of each boat on the sheet, before redress
 abbrev pub race_points : RulesParts → Sheet → List ℕ

@@ -1,5 +1,7 @@
 -- Laws of ranks and of the standing (RRS A2.1, A8).
-use Rattle.std.specs.Prelude.{◌≡◌, ◌↔◌, ◌⊎◌, ℕ, ◌+◌, ◌<◌, ◌≤◌, true, false, not, nat_eq, nat_lt, List, length, map, filter, take, slice_index, count_by, All, Any, AllPairs, Contains, IsPermutation}
+use Rattle.std.specs.Prelude.{◌≡◌, ◌↔◌, ◌⊎◌, ℕ, ◌+◌, ◌<◌, ◌≤◌, true, false, not, nat_eq, nat_lt}
+use Rattle.std.specs.Prelude.{List, length, map, filter, take, slice_index, count_by, All, Any}
+use Rattle.std.specs.Prelude.{AllPairs, Contains, IsPermutation}
 use Rattle.std.specs.List.Sorted.{IsNonDecreasing}
 use Rattle.std.specs.Cmp.{IsTotalOrder}
 use Rattle.std.specs.declared.cmp.Ordering.TheVariants.{Equal}
@@ -9,29 +11,32 @@ use Rattle.regatta_scores.specs.declared.table.Cell.{Cell}
 use Rattle.regatta_scores.specs.declared.table.Row.{Row}
 use Rattle.regatta_scores.specs.Exclusions.{kept}
 use Rattle.regatta_scores.specs.Journal.{Journal, entered}
-use Rattle.regatta_scores.specs.Ranking.{Line, net, rising, best_to_worst, last_to_first, comparison, beats, rank}
+use Rattle.regatta_scores.specs.Ranking.{Line, net, rising, best_to_worst, last_to_first}
+use Rattle.regatta_scores.specs.Ranking.{comparison, beats, rank}
 use Rattle.regatta_scores.specs.Standing.{line, lines, row, comes_first, standing}
 
 -- ---- the comparison of boats
 
--- It is a total order: it answers the other way round when the boats change places, it chains, and
--- boats that it doesn't tell apart compare alike with each other boat.
+-- The comparison (A2.1, A8) is a total order: it answers the other way round when the boats change
+-- places, it chains, and boats that it doesn't tell apart compare alike with each other boat.
 abbrev pub ComparisonIsTotal : Type 0
 ComparisonIsTotal = IsTotalOrder comparison
 
--- What that says of beating: no boat beats herself, no two beat each other, and who beats one that
--- beats another beats that one too; so do ties chain.
+-- What that says of beating (A8): no boat beats herself, no two beat each other, and who beats one
+-- that beats another beats that one too; so do ties chain.
 pub record BeatingIsAnOrder : Type 0 where
   pub itself : (a : Line) → comparison a a ≡ Equal
   pub one_way : (a b : Line) → beats a b ≡ true → beats b a ≡ false
   pub chains : (a b c : Line) → beats a b ≡ true → beats b c ≡ true → beats a c ≡ true
-  pub ties_chain : (a b c : Line) → comparison a b ≡ Equal → comparison b c ≡ Equal → comparison a c ≡ Equal
+  pub ties_chain : (a b c : Line) →
+      comparison a b ≡ Equal → comparison b c ≡ Equal → comparison a c ≡ Equal
   pub tied : (a b : Line) → beats a b ≡ false → beats b a ≡ false → comparison a b ≡ Equal
 
--- The kept scores from best to worst rise, and are the kept scores in another order.
+-- The kept scores from best to worst rise, and are the kept scores in another order (A8.1).
 abbrev pub KeptScoresRise : Type 0
 KeptScoresRise = (line : Line) →
-    IsNonDecreasing (best_to_worst line) × IsPermutation (kept line.points line.excluded) (best_to_worst line)
+    IsNonDecreasing (best_to_worst line)
+    × IsPermutation (kept line.points line.excluded) (best_to_worst line)
 
 -- ---- ties
 
@@ -40,19 +45,21 @@ KeptScoresRise = (line : Line) →
 abbrev pub TiesAreComplete : Type 0
 TiesAreComplete = (rules : RulesParts) (journal : Journal) (a b : Sail) →
     Contains (entered journal) a → Contains (entered journal) b →
-    (rank (lines rules journal) (line rules journal a) ≡ rank (lines rules journal) (line rules journal b))
+    (rank (lines rules journal) (line rules journal a)
+    ≡ rank (lines rules journal) (line rules journal b))
     ↔ ((net (line rules journal a) ≡ net (line rules journal b))
     × (best_to_worst (line rules journal a) ≡ best_to_worst (line rules journal b))
     × ((line rules journal a).points ≡ (line rules journal b).points))
 
--- the points in the cells of a row, and those that are not excluded
+-- the points in the cells of a row, in order of races (A8.2)
 abbrev pub cell_points : List Cell → List ℕ
 cell_points cells = map (λ cell. cell.points) cells
 
+-- those of them that are not excluded (A8.1)
 abbrev pub kept_points : List Cell → List ℕ
 kept_points cells = cell_points (filter (λ cell. not cell.dropped) cells)
 
--- The same, read off the rows of the standing.
+-- The same, read off the rows of the standing (A8).
 abbrev pub RowsTieCompletely : Type 0
 RowsTieCompletely = (rules : RulesParts) (journal : Journal) (a b : Row) →
     Contains (standing rules journal).rows a → Contains (standing rules journal).rows b →
@@ -64,22 +71,25 @@ RowsTieCompletely = (rules : RulesParts) (journal : Journal) (a b : Row) →
 -- ---- the rows of the standing
 
 -- each boat entered has one row, which is hers, and the rows stand in order of rank and then sail
+-- (A2.2)
 pub record RowsAreTheEntered (rules : RulesParts) (journal : Journal) : Type 0 where
   pub each_once : IsPermutation (entered journal) (map (λ r. r.sail) (standing rules journal).rows)
-  pub hers : All (λ r. r ≡ row rules journal (lines rules journal) r.sail) (standing rules journal).rows
+  pub hers :
+      All (λ r. r ≡ row rules journal (lines rules journal) r.sail) (standing rules journal).rows
   pub in_order : AllPairs (λ a b. comes_first a b ≡ true) (standing rules journal).rows
 
+-- So it is under whatever rules and for whatever journal (A2.2).
 abbrev pub StandingHasTheEntered : Type 0
 StandingHasTheEntered = (rules : RulesParts) (journal : Journal) → RowsAreTheEntered rules journal
 
 -- ---- ranks
 
--- how many boats share a boat's rank, herself included
+-- how many boats share a boat's rank, herself included: those tied with her after A8
 abbrev pub sharers : List Line → Line → ℕ
 sharers lines line = count_by (λ other. nat_eq (rank lines other) (rank lines line)) lines
 
 -- ranks begin at 1, a boat has as many boats ranked above her as her rank says, and after k boats
--- that share rank r the next rank is r + k
+-- that share rank r the next rank is r + k (A8)
 pub record RanksFollow (lines : List Line) : Type 0 where
   pub above : (a : Line) → Contains lines a →
       rank lines a ≡ 1 + count_by (λ other. nat_lt (rank lines other) (rank lines a)) lines
@@ -89,12 +99,14 @@ pub record RanksFollow (lines : List Line) : Type 0 where
   pub next : (a : Line) → Contains lines a → rank lines a + sharers lines a ≤ length lines →
       Any (λ b. rank lines b ≡ rank lines a + sharers lines a) lines
 
+-- So it is of any boats (A2.1, A8).
 abbrev pub RanksFollowEachOther : Type 0
 RanksFollowEachOther = (lines : List Line) → RanksFollow lines
 
 -- ---- the three cases of A8
 
--- two lists are equal up to a place, where both go on and the first has the lower number
+-- two lists are equal up to a place, where both go on and the first has the lower number: the first
+-- difference of A8.1 and A8.2
 pub record IsLowerAtFirst (xs ys : List ℕ) : Type 0 where
   pub at : ℕ
   pub in_first : at < length xs
@@ -113,7 +125,7 @@ IsBetter a b =
     × IsLowerAtFirst (last_to_first a) (last_to_first b))
 
 -- Boats with equally many races and no score below 1.0 beat each other in these three cases and no
--- other.
+-- other (A2.1, A8.1, A8.2).
 abbrev pub BeatsInThreeCases : Type 0
 BeatsInThreeCases = (a b : Line) →
     All (λ p. 10 ≤ p) a.points → All (λ p. 10 ≤ p) b.points → length a.points ≡ length b.points →

@@ -1,5 +1,6 @@
 -- Worked examples of exclusions, ties and redress, by computation. Points are tenths.
-use Rattle.std.specs.Prelude.{◌≡◌, refl, ℕ, Bool, true, false, List, [], ◌∷◌, Some, None, length, map}
+use Rattle.std.specs.Prelude.{◌≡◌, refl, ℕ, Bool, true, false, List, [], ◌∷◌, Some, None, length}
+use Rattle.std.specs.Prelude.{map}
 use Rattle.std.specs.declared.cmp.Ordering.TheVariants.{Less, Greater}
 use Rattle.regatta_terms.specs.Rules.{exclusions_of}
 use Rattle.regatta_terms.specs.declared.command.Redress.TheVariants.{Points, AllRaces, RacesBefore}
@@ -25,13 +26,17 @@ flags threshold scores = exclusion.excluded (exclusions_of (threshold ∷ []) (l
 abbrev pub series_score : ℕ → List Scored → ℕ
 series_score threshold scores = exclusion.net (map (λ s. s.points) scores) (flags threshold scores)
 
-pub earliest_of_equal_worst_scores : flags 3 (score 40 ∷ score 20 ∷ score 40 ∷ []) ≡ true ∷ false ∷ false ∷ []
+pub earliest_of_equal_worst_scores :
+    flags 3 (score 40 ∷ score 20 ∷ score 40 ∷ [])
+    ≡ true ∷ false ∷ false ∷ []
 earliest_of_equal_worst_scores = refl
 
 pub earliest_of_equal_worst_scores_net : series_score 3 (score 40 ∷ score 20 ∷ score 40 ∷ []) ≡ 60
 earliest_of_equal_worst_scores_net = refl
 
-pub next_worst_in_place_of_dne : flags 3 (dne 40 ∷ score 30 ∷ score 20 ∷ []) ≡ false ∷ true ∷ false ∷ []
+pub next_worst_in_place_of_dne :
+    flags 3 (dne 40 ∷ score 30 ∷ score 20 ∷ [])
+    ≡ false ∷ true ∷ false ∷ []
 next_worst_in_place_of_dne = refl
 
 pub next_worst_in_place_of_dne_net : series_score 3 (dne 40 ∷ score 30 ∷ score 20 ∷ []) ≡ 60
@@ -62,20 +67,28 @@ best_score_decides = refl
 pub last_race_decides : better (all_kept (20 ∷ 10 ∷ [])) (all_kept (10 ∷ 20 ∷ [])) ≡ Less
 last_race_decides = refl
 
-pub excluded_last_race_decides : better (one_excluded (20 ∷ 10 ∷ 50 ∷ [])) (one_excluded (10 ∷ 20 ∷ 40 ∷ [])) ≡ Greater
+pub excluded_last_race_decides :
+    better (one_excluded (20 ∷ 10 ∷ 50 ∷ [])) (one_excluded (10 ∷ 20 ∷ 40 ∷ []))
+    ≡ Greater
 excluded_last_race_decides = refl
 
-pub no_excluded_score_is_listed : better (one_excluded (50 ∷ 20 ∷ 10 ∷ [])) (one_excluded (40 ∷ 10 ∷ 20 ∷ [])) ≡ Less
+pub no_excluded_score_is_listed :
+    better (one_excluded (50 ∷ 20 ∷ 10 ∷ [])) (one_excluded (40 ∷ 10 ∷ 20 ∷ []))
+    ≡ Less
 no_excluded_score_is_listed = refl
 
-pub complete_tie_shares_a_rank : places (all_kept (15 ∷ 15 ∷ []) ∷ all_kept (15 ∷ 15 ∷ []) ∷ all_kept (30 ∷ 30 ∷ []) ∷ [])
-    ≡ record { rank = 1; tied = true } ∷ record { rank = 1; tied = true } ∷ record { rank = 3; tied = false } ∷ []
+pub complete_tie_shares_a_rank :
+    places (all_kept (15 ∷ 15 ∷ []) ∷ all_kept (15 ∷ 15 ∷ []) ∷ all_kept (30 ∷ 30 ∷ []) ∷ [])
+    ≡ record { rank = 1; tied = true } ∷ record { rank = 1; tied = true }
+    ∷ record { rank = 3; tied = false } ∷ []
 complete_tie_shares_a_rank = refl
 
 pub nobody_has_no_rank : places [] ≡ []
 nobody_has_no_rank = refl
 
-pub first_rank_is_shared_without_a_race : places (all_kept [] ∷ all_kept [] ∷ []) ≡ record { rank = 1; tied = true } ∷ record { rank = 1; tied = true } ∷ []
+pub first_rank_is_shared_without_a_race :
+    places (all_kept [] ∷ all_kept [] ∷ [])
+    ≡ record { rank = 1; tied = true } ∷ record { rank = 1; tied = true } ∷ []
 first_rank_is_shared_without_a_race = refl
 
 -- ---- redress (A9)
@@ -92,19 +105,29 @@ average_of_all plain = record { plain = plain; redress = Some AllRaces }
 abbrev pub average_of_before : ℕ → RowItem
 average_of_before plain = record { plain = plain; redress = Some RacesBefore }
 
-pub points_handed_in_are_averaged_elsewhere : points (handed_in 50 75 ∷ item 20 ∷ average_of_all 50 ∷ []) ≡ 75 ∷ 20 ∷ 48 ∷ []
+pub points_handed_in_are_averaged_elsewhere :
+    points (handed_in 50 75 ∷ item 20 ∷ average_of_all 50 ∷ [])
+    ≡ 75 ∷ 20 ∷ 48 ∷ []
 points_handed_in_are_averaged_elsewhere = refl
 
-pub half_a_tenth_goes_upward : points (item 10 ∷ item 15 ∷ average_of_all 40 ∷ []) ≡ 10 ∷ 15 ∷ 13 ∷ []
+pub half_a_tenth_goes_upward :
+    points (item 10 ∷ item 15 ∷ average_of_all 40 ∷ [])
+    ≡ 10 ∷ 15 ∷ 13 ∷ []
 half_a_tenth_goes_upward = refl
 
-pub average_of_three_races : points (item 10 ∷ item 20 ∷ item 20 ∷ average_of_all 50 ∷ []) ≡ 10 ∷ 20 ∷ 20 ∷ 17 ∷ []
+pub average_of_three_races :
+    points (item 10 ∷ item 20 ∷ item 20 ∷ average_of_all 50 ∷ [])
+    ≡ 10 ∷ 20 ∷ 20 ∷ 17 ∷ []
 average_of_three_races = refl
 
-pub average_of_races_before : points (item 10 ∷ average_of_before 50 ∷ item 30 ∷ []) ≡ 10 ∷ 10 ∷ 30 ∷ []
+pub average_of_races_before :
+    points (item 10 ∷ average_of_before 50 ∷ item 30 ∷ [])
+    ≡ 10 ∷ 10 ∷ 30 ∷ []
 average_of_races_before = refl
 
-pub averages_are_left_out : points (item 30 ∷ average_of_all 50 ∷ average_of_all 60 ∷ []) ≡ 30 ∷ 30 ∷ 30 ∷ []
+pub averages_are_left_out :
+    points (item 30 ∷ average_of_all 50 ∷ average_of_all 60 ∷ [])
+    ≡ 30 ∷ 30 ∷ 30 ∷ []
 averages_are_left_out = refl
 
 pub her_score_where_no_race_is_left : points (average_of_all 40 ∷ []) ≡ 40 ∷ []

@@ -27,17 +27,20 @@ by_who_came = record { absent = A53; scp = None; thresholds = 2 ∷ [] }
 -- ten boats in order; the first holds SCP, the second ZFP and SCP, the last three ZFP each
 abbrev pub ten_in_order : Sheet
 ten_in_order = record {
-  order = (0 ∷ []) ∷ (1 ∷ []) ∷ (2 ∷ []) ∷ (3 ∷ []) ∷ (4 ∷ []) ∷ (5 ∷ []) ∷ (6 ∷ []) ∷ (7 ∷ []) ∷ (8 ∷ []) ∷ (9 ∷ []) ∷ [];
+  order = (0 ∷ []) ∷ (1 ∷ []) ∷ (2 ∷ []) ∷ (3 ∷ []) ∷ (4 ∷ [])
+      ∷ (5 ∷ []) ∷ (6 ∷ []) ∷ (7 ∷ []) ∷ (8 ∷ []) ∷ (9 ∷ []) ∷ [];
   held = penalties 0 1 ∷ penalties 1 1 ∷ nothing_held ∷ nothing_held ∷ nothing_held
       ∷ nothing_held ∷ nothing_held ∷ penalties 1 0 ∷ penalties 1 0 ∷ penalties 1 0 ∷ [];
 }
 
--- The DNF score is 11, so ZFP costs 2 points; SCP costs the stated 3. The last two are held at the DNF score.
+-- The DNF score is 11, so ZFP costs 2 points; SCP costs the stated 3. The last two are held at the
+-- DNF score.
 pub penalties_add_up_to_the_cap : race_points (by_entries (Some 3)) ten_in_order
     ≡ 40 ∷ 70 ∷ 30 ∷ 40 ∷ 50 ∷ 60 ∷ 70 ∷ 100 ∷ 110 ∷ 110 ∷ []
 penalties_add_up_to_the_cap = refl
 
--- of ten boats five finish, the sixth didn't finish and four did nothing; the third and the tenth hold ZFP, the fifth three
+-- of ten boats five finish, the sixth didn't finish and four did nothing; the third and the tenth
+-- hold ZFP, the fifth three
 abbrev pub five_of_ten : Sheet
 five_of_ten = record {
   order = (0 ∷ []) ∷ (1 ∷ []) ∷ (2 ∷ []) ∷ (3 ∷ []) ∷ (4 ∷ []) ∷ [];
@@ -45,7 +48,8 @@ five_of_ten = record {
       ∷ coded code.Dnf ∷ nothing_held ∷ nothing_held ∷ nothing_held ∷ penalties 1 0 ∷ [];
 }
 
--- Six came, so the DNF score is 7, ZFP costs 1 point and the fifth is held at 7; boats that did not come have 11.
+-- Six came, so the DNF score is 7, ZFP costs 1 point and the fifth is held at 7; boats that did not
+-- come have 11.
 pub who_came_makes_the_cap : race_points by_who_came five_of_ten
     ≡ 10 ∷ 20 ∷ 40 ∷ 40 ∷ 70 ∷ 70 ∷ 110 ∷ 110 ∷ 110 ∷ 110 ∷ []
 who_came_makes_the_cap = refl
@@ -57,13 +61,18 @@ tied_sheet = after (after (after (after (empty_sheet 4) (Last 0)) (Join 1 0)) (A
 pub ties_share_their_places : race_points (by_entries None) tied_sheet ≡ 25 ∷ 25 ∷ 10 ∷ 40 ∷ []
 ties_share_their_places = refl
 
--- then boat 0 is disqualified: who was tied with her has the place alone, and boat 3 moves up (A6.1)
+-- then boat 0 is disqualified: who was tied with her has the place alone, and boat 3 moves up
+-- (A6.1)
 abbrev pub disqualified_sheet : Sheet
 disqualified_sheet = after tied_sheet (Hold 0 (coded code.Dsq))
 
-pub disqualified_boats_leave_their_place : race_points (by_entries None) disqualified_sheet ≡ 50 ∷ 20 ∷ 10 ∷ 30 ∷ []
+pub disqualified_boats_leave_their_place :
+    race_points (by_entries None) disqualified_sheet
+    ≡ 50 ∷ 20 ∷ 10 ∷ 30 ∷ []
 disqualified_boats_leave_their_place = refl
 
 -- then boat 2 is taken out of the order, and counts as DNC
-pub struck_boats_count_as_absent : race_points (by_entries None) (after disqualified_sheet (Out 2)) ≡ 50 ∷ 10 ∷ 50 ∷ 20 ∷ []
+pub struck_boats_count_as_absent :
+    race_points (by_entries None) (after disqualified_sheet (Out 2))
+    ≡ 50 ∷ 10 ∷ 50 ∷ 20 ∷ []
 struck_boats_count_as_absent = refl

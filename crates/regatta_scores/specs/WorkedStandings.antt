@@ -1,5 +1,6 @@
 -- Worked examples of standings, each computed from its journal.
-use Rattle.std.specs.Prelude.{◌≡◌, refl, ℕ, ◌+◌, Bool, true, false, List, [], ◌∷◌, ◌++◌, Option, Some, None}
+use Rattle.std.specs.Prelude.{◌≡◌, refl, ℕ, ◌+◌, Bool, true, false, List, [], ◌∷◌, ◌++◌, Option}
+use Rattle.std.specs.Prelude.{Some, None}
 use Rattle.regatta_terms.specs.Entries.{EntryParts}
 use Rattle.regatta_terms.specs.Rules.{RulesParts}
 use Rattle.regatta_terms.specs.declared.rules.Absent.TheVariants.{A52}
@@ -9,7 +10,8 @@ use Rattle.regatta_terms.specs.declared.command.Redress.TheVariants.{AllRaces}
 use Rattle.regatta_terms.specs.declared.command.Role.{Role}
 use Rattle.regatta_terms.specs.declared.command.Role.TheVariants.{Scorer, Jury}
 use Rattle.regatta_terms.specs.declared.command.Command.{Command}
-use Rattle.regatta_terms.specs.declared.command.Command.TheVariants.{Enter, Finish, Tie, Before, Strike, Mark, Redress, Score}
+use Rattle.regatta_terms.specs.declared.command.Command.TheVariants.{Enter, Finish, Tie, Before}
+use Rattle.regatta_terms.specs.declared.command.Command.TheVariants.{Strike, Mark, Redress, Score}
 use Rattle.regatta_scores.specs.declared.table.Abbrev.{Abbrev}
 use Rattle.regatta_scores.specs.declared.table.Abbrev.TheVariants as abbreviation
 use Rattle.regatta_scores.specs.declared.table.Cell.{Cell}
@@ -41,7 +43,9 @@ jury command = (Jury, command)
 -- the commands as one seat's entries, numbered on from a number
 abbrev pub entries_from : ℕ → List (Role × Command) → Journal
 entries_from nth [] = []
-entries_from nth (given ∷ rest) = record { seat = 1; nth = nth; role = given.0; command = given.1 } ∷ entries_from (nth + 1) rest
+entries_from nth (given ∷ rest) =
+    record { seat = 1; nth = nth; role = given.0; command = given.1 }
+    ∷ entries_from (nth + 1) rest
 
 abbrev pub journal : List (Role × Command) → Journal
 journal given = entries_from 1 given
@@ -64,7 +68,8 @@ abbrev pub excluded : ℕ → Cell
 excluded points = record { points = points; mark = None; dropped = true }
 
 abbrev pub row : Sail → ℕ → Bool → ℕ → List Cell → Row
-row sail rank tied net cells = record { sail = sail; rank = rank; tied = tied; net = net; cells = cells }
+row sail rank tied net cells =
+    record { sail = sail; rank = rank; tied = tied; net = net; cells = cells }
 
 abbrev pub table : List ℕ → List Row → Standing
 table races rows = record { races = races; rows = rows }
@@ -78,12 +83,15 @@ tie_for_first =
     ∷ scorer (Finish 1 a) ∷ scorer (Tie 1 b a) ∷ scorer (Finish 1 c) ∷ scorer (Score 1) ∷ []
 
 pub tied_boats_share_a_rank : standing default_rules (journal tie_for_first)
-    ≡ table (1 ∷ []) (row a 1 true 15 (scored 15 ∷ []) ∷ row b 1 true 15 (scored 15 ∷ []) ∷ row c 3 false 30 (scored 30 ∷ []) ∷ [])
+    ≡ table (1 ∷ []) (row a 1 true 15 (scored 15 ∷ []) ∷ row b 1 true 15 (scored 15 ∷ [])
+    ∷ row c 3 false 30 (scored 30 ∷ []) ∷ [])
 tied_boats_share_a_rank = refl
 
 -- then A is disqualified (A5.2, A6.1)
-pub disqualified_boats_fall_behind : standing default_rules (journal (tie_for_first ++ jury (Mark 1 a code.Dsq) ∷ []))
-    ≡ table (1 ∷ []) (row b 1 false 10 (scored 10 ∷ []) ∷ row c 2 false 20 (scored 20 ∷ []) ∷ row a 3 false 40 (marked 40 abbreviation.Dsq ∷ []) ∷ [])
+pub disqualified_boats_fall_behind :
+    standing default_rules (journal (tie_for_first ++ jury (Mark 1 a code.Dsq) ∷ []))
+    ≡ table (1 ∷ []) (row b 1 false 10 (scored 10 ∷ []) ∷ row c 2 false 20 (scored 20 ∷ [])
+    ∷ row a 3 false 40 (marked 40 abbreviation.Dsq ∷ []) ∷ [])
 disqualified_boats_fall_behind = refl
 
 -- two boats finish and the third doesn't
@@ -93,13 +101,16 @@ two_of_three =
     ∷ scorer (Finish 1 a) ∷ scorer (Finish 1 b) ∷ scorer (Mark 1 c code.Dnf) ∷ scorer (Score 1) ∷ []
 
 pub boats_that_did_not_finish : standing default_rules (journal two_of_three)
-    ≡ table (1 ∷ []) (row a 1 false 10 (scored 10 ∷ []) ∷ row b 2 false 20 (scored 20 ∷ []) ∷ row c 3 false 40 (marked 40 abbreviation.Dnf ∷ []) ∷ [])
+    ≡ table (1 ∷ []) (row a 1 false 10 (scored 10 ∷ []) ∷ row b 2 false 20 (scored 20 ∷ [])
+    ∷ row c 3 false 40 (marked 40 abbreviation.Dnf ∷ []) ∷ [])
 boats_that_did_not_finish = refl
 
 -- a late entry counts as absent from the race, and every code scores one more (A2.2, A5.2)
-pub late_entries_change_earlier_races : standing default_rules (journal (two_of_three ++ scorer (Enter d) ∷ []))
+pub late_entries_change_earlier_races :
+    standing default_rules (journal (two_of_three ++ scorer (Enter d) ∷ []))
     ≡ table (1 ∷ []) (row a 1 false 10 (scored 10 ∷ []) ∷ row b 2 false 20 (scored 20 ∷ [])
-    ∷ row c 3 true 50 (marked 50 abbreviation.Dnf ∷ []) ∷ row d 3 true 50 (marked 50 abbreviation.Dnc ∷ []) ∷ [])
+    ∷ row c 3 true 50 (marked 50 abbreviation.Dnf ∷ [])
+    ∷ row d 3 true 50 (marked 50 abbreviation.Dnc ∷ []) ∷ [])
 late_entries_change_earlier_races = refl
 
 -- ---- two races, and redress as an average (A9)
@@ -107,24 +118,30 @@ late_entries_change_earlier_races = refl
 -- A wins race 1, and B race 2, in which A doesn't sail
 abbrev pub two_races : List (Role × Command)
 two_races =
-    scorer (Enter a) ∷ scorer (Enter b) ∷ scorer (Finish 1 a) ∷ scorer (Finish 1 b) ∷ scorer (Finish 2 b)
-    ∷ scorer (Score 1) ∷ scorer (Score 2) ∷ []
+    scorer (Enter a) ∷ scorer (Enter b) ∷ scorer (Finish 1 a) ∷ scorer (Finish 1 b)
+    ∷ scorer (Finish 2 b) ∷ scorer (Score 1) ∷ scorer (Score 2) ∷ []
 
 -- A has her average in race 2; in race 1 she is taken out of the order and put back ahead of B
 abbrev pub average_in_the_second : List (Role × Command)
-average_in_the_second = two_races ++ jury (Redress 2 a AllRaces) ∷ scorer (Strike 1 a) ∷ scorer (Before 1 a b) ∷ []
+average_in_the_second =
+    two_races
+    ++ jury (Redress 2 a AllRaces) ∷ scorer (Strike 1 a) ∷ scorer (Before 1 a b) ∷ []
 
 pub averages_follow_the_other_race : standing no_exclusions (journal average_in_the_second)
-    ≡ table (1 ∷ 2 ∷ []) (row a 1 false 20 (scored 10 ∷ marked 10 abbreviation.Rdg ∷ []) ∷ row b 2 false 30 (scored 20 ∷ scored 10 ∷ []) ∷ [])
+    ≡ table (1 ∷ 2 ∷ []) (row a 1 false 20 (scored 10 ∷ marked 10 abbreviation.Rdg ∷ [])
+    ∷ row b 2 false 30 (scored 20 ∷ scored 10 ∷ []) ∷ [])
 averages_follow_the_other_race = refl
 
 -- the same with one exclusion: of A's equal scores the earlier is excluded (A2.1)
 pub earlier_of_equal_scores_excluded : standing default_rules (journal average_in_the_second)
-    ≡ table (1 ∷ 2 ∷ []) (row a 1 false 10 (excluded 10 ∷ marked 10 abbreviation.Rdg ∷ []) ∷ row b 2 false 10 (excluded 20 ∷ scored 10 ∷ []) ∷ [])
+    ≡ table (1 ∷ 2 ∷ []) (row a 1 false 10 (excluded 10 ∷ marked 10 abbreviation.Rdg ∷ [])
+    ∷ row b 2 false 10 (excluded 20 ∷ scored 10 ∷ []) ∷ [])
 earlier_of_equal_scores_excluded = refl
 
 -- A has her average in race 1, made of race 2 alone, where a late entry costs her a point more
-pub late_entries_change_averages : standing no_exclusions (journal (two_races ++ jury (Redress 1 a AllRaces) ∷ scorer (Enter c) ∷ []))
+pub late_entries_change_averages :
+    standing no_exclusions
+    (journal (two_races ++ jury (Redress 1 a AllRaces) ∷ scorer (Enter c) ∷ []))
     ≡ table (1 ∷ 2 ∷ []) (row b 1 false 30 (scored 20 ∷ scored 10 ∷ [])
     ∷ row a 2 true 80 (marked 40 abbreviation.Rdg ∷ marked 40 abbreviation.Dnc ∷ [])
     ∷ row c 2 true 80 (marked 40 abbreviation.Dnc ∷ marked 40 abbreviation.Dnc ∷ []) ∷ [])

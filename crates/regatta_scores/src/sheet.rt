@@ -4,7 +4,8 @@ ghost use Rattle.regatta_scores.specs.Sheet.{boats, empty_sheet};
 ghost use Rattle.regatta_scores.specs.Order.{stands_in};
 ghost use Rattle.regatta_scores.specs.SheetFacts.{IsSheet, Allows};
 ghost use Rattle.regatta_scores.specs.Changes.{after};
-ghost use Rattle.regatta_scores.specs.declared.sheet.Change.TheVariants.{AddBoat, Last, Join, Ahead, Out, Hold as Holds};
+ghost use Rattle.regatta_scores.specs.declared.sheet.Change.TheVariants.{AddBoat, Last, Join};
+ghost use Rattle.regatta_scores.specs.declared.sheet.Change.TheVariants.{Ahead, Out, Hold as Holds};
 
 use crate::items::Items;
 use crate::orders;
@@ -33,8 +34,8 @@ pub const NOTHING: Held = Held {
     redress: None,
 };
 
-/// One race: the finishing order, in groups of tied boats (RRS A3, A7), and what each boat holds. Boats are numbers from
-/// 0, their places in the entry list, and at most 200.
+/// One race: the finishing order, in groups of tied boats (RRS A3, A7), and what each boat holds.
+/// Boats are numbers from 0, their places in the entry list, and at most 200.
 #[derive(Drop)]
 pub struct RaceSheet {
     order: Vec<Items<u16>>,
@@ -226,6 +227,7 @@ pub enum Change {
     Ahead { boat: u16, other: u16 },
     /// The boat out of the order; a group that this leaves empty goes.
     Out { boat: u16 },
-    /// What the boat holds from now on, in place of what she held: at most nine penalties of each kind.
+    /// What the boat holds from now on, in place of what she held: at most nine penalties of each
+    /// kind.
     Hold { boat: u16, held: Held },
 }

@@ -1,6 +1,9 @@
 //! Laws of exclusions, of the comparison of boats, and of ranks.
 ghost use Rattle.regatta_scores.specs.ExclusionLaws.{WorstAreExcluded};
-ghost use Rattle.regatta_scores.specs.RankLaws.{ComparisonIsTotal, BeatingIsAnOrder, KeptScoresRise, TiesAreComplete, RowsTieCompletely, StandingHasTheEntered, RanksFollowEachOther, BeatsInThreeCases};
+ghost use Rattle.regatta_scores.specs.RankLaws.{ComparisonIsTotal, BeatingIsAnOrder};
+ghost use Rattle.regatta_scores.specs.RankLaws.{KeptScoresRise, TiesAreComplete, RowsTieCompletely};
+ghost use Rattle.regatta_scores.specs.RankLaws.{StandingHasTheEntered, RanksFollowEachOther};
+ghost use Rattle.regatta_scores.specs.RankLaws.{BeatsInThreeCases};
 
 /// The excluded scores are as many as the rules say or all that may be excluded, and none that is
 /// kept and may be excluded is worse than one that is excluded (RRS A2.1, 90.3(b)).

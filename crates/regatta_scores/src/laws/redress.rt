@@ -1,5 +1,6 @@
 //! Laws of redress.
-ghost use Rattle.regatta_scores.specs.RedressLaws.{RedressLeavesOthers, AveragesLieBetween, AveragesAreNearest};
+ghost use Rattle.regatta_scores.specs.RedressLaws.{RedressLeavesOthers, AveragesLieBetween};
+ghost use Rattle.regatta_scores.specs.RedressLaws.{AveragesAreNearest};
 
 /// Redress of one boat changes no other boat's points in any race, nor which of them are excluded
 /// (RRS A6.2).

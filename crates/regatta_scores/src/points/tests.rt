@@ -49,6 +49,15 @@ fn points(alloc: Global, sheet: &RaceSheet, rules: &Rules) -> Result<Vec<u32>, A
         .collect(alloc)
 }
 
+/// What the boat holds, if she is one of the sheet's.
+fn held(sheet: &RaceSheet, boat: u16) -> Option<Held> {
+    if usize::from(boat) < sheet.all_held().len() {
+        Some(sheet.held(boat))
+    } else {
+        None
+    }
+}
+
 fn penalties(zfp: u8, scp: u8) -> Held {
     Held {
         zfp,
@@ -135,6 +144,37 @@ fn ties_codes_and_strikes_move_places(rt: HostRuntime) -> Result<(), Fail> {
         points(rt.alloc(), &sheet, &rules)?.as_slice(),
         struck.as_slice()
     );
+    Ok(())
+}
+
+#[test]
+fn a_copy_holds_the_same(rt: HostRuntime) -> Result<(), Fail> {
+    let rules = Rules::new(Absent::A52, None, &[2])?;
+    let mut sheet = RaceSheet::new(rt.alloc(), 3)?;
+    for change in [
+        Change::Last { boat: 2 },
+        Change::Last { boat: 0 },
+        Change::Hold {
+            boat: 0,
+            held: penalties(1, 2),
+        },
+        Change::Hold {
+            boat: 1,
+            held: coded(Code::Ocs),
+        },
+    ] {
+        sheet = changed(&sheet, change)?;
+    }
+    let copy = sheet.copied()?;
+    let wanted: [u32; 3] = [40, 40, 10];
+    for either in [&sheet, &copy] {
+        let found = points(rt.alloc(), either, &rules)?;
+        assert_eq!(rt; found.as_slice(), wanted.as_slice());
+    }
+    for (boat, placed) in [(0, true), (1, false), (2, true)] {
+        assert!(rt; is_placed(&copy, boat, placed));
+        assert_eq!(rt; held(&copy, boat), held(&sheet, boat));
+    }
     Ok(())
 }
 
