@@ -1,3 +1,5 @@
+pub mod CsvFacts
 pub mod JournalFacts
 pub mod LineFacts
+pub mod ListFacts
 pub mod WrittenFacts

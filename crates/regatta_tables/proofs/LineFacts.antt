@@ -1,10 +1,11 @@
 -- Texts put together piece by piece.
-use Rattle.std.proofs.Common.{◌≡◌, ℕ, ◌+◌, ◌<◌, ◌≤◌, List, [], ◌∷◌, ◌++◌, length, take, map, get_or, refl, ap, ◌∙◌, sym, append_assoc, append-nil, length-append, arith, codes}
+use Rattle.std.proofs.Common.{◌≡◌, ℕ, ◌+◌, ◌<◌, ◌≤◌, List, [], ◌∷◌, ◌++◌, length, take, map, get_or, ap, ◌∙◌, sym, append_assoc, append-nil, length-append, arith, codes}
 use Rattle.std.specs.List.{join_with_byte, flat_map}
 use Rattle.std.proofs.Math.Seq.{take-append_seam}
 use Rattle.std.proofs.lemmas.List.{map_more, flat_map_more, take-take}
 use Rattle.std.proofs.lemmas.List.Folds.{length-flat_map-take}
-use Rattle.regatta_tables.specs.Lines.{spaced, line}
+use Rattle.regatta_terms.specs.Words.{spaced}
+use Rattle.regatta_tables.specs.Lines.{line}
 use denote.Ref.{Bor}
 
 -- joined words are the first, and each other behind a space

@@ -1,5 +1,5 @@
 -- What a writer of CSV has written.
-use Rattle.std.proofs.Common.{◌≡◌, ℕ, List, [], ◌∷◌, ◌++◌, Option, Some, None, refl, ap, ◌∙◌}
+use Rattle.std.proofs.Common.{◌≡◌, ℕ, List, [], ◌++◌, Option, Some, None, ap, ◌∙◌}
 use Rattle.std.specs.Io.KnownBytes.{Appends, Keeps}
 
 -- a header and rows, one behind the other

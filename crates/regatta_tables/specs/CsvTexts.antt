@@ -1,5 +1,5 @@
 -- The text of results as CSV.
-use Rattle.std.specs.Prelude.{ℕ, List, [], ◌∷◌, ◌++◌, map, flat_map, codes, decimal}
+use Rattle.std.specs.Prelude.{ℕ, List, ◌∷◌, ◌++◌, map, flat_map, codes, decimal}
 use Rattle.csv.specs.Writing.{default_writer, row_text}
 use Rattle.regatta_scores.specs.declared.table.Standing.{Standing}
 use Rattle.regatta_tables.specs.TableTexts.{row_words}

@@ -1,4 +1,5 @@
 pub mod CsvTexts
+pub mod EntryLists
 pub mod JournalFiles
 pub mod JournalTexts
 pub mod Lines
@@ -7,3 +8,4 @@ pub mod SheetTexts
 pub mod TableTexts
 pub mod Worked
 pub mod WorkedFiles
+pub mod WorkedLists

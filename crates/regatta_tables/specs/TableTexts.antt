@@ -2,7 +2,7 @@
 use Rattle.std.specs.Prelude.{ℕ, Bool, true, false, List, [], ◌∷◌, ◌++◌, length, map, flat_map, Option, Some, None, codes, decimal}
 use Rattle.regatta_terms.specs.Entries.{points_text}
 use Rattle.regatta_scores.specs.declared.table.Abbrev.{Abbrev}
-use Rattle.regatta_scores.specs.declared.table.Abbrev.TheVariants.{Dnc, Dns, Ocs, Ufd, Bfd, Dnf, Ret, Dsq, Dne, Zfp, Scp, Rdg}
+use Rattle.regatta_scores.specs.Abbreviations.{abbrev_text}
 use Rattle.regatta_scores.specs.declared.table.Cell.{Cell}
 use Rattle.regatta_scores.specs.declared.table.Row.{Row}
 use Rattle.regatta_scores.specs.declared.table.Standing.{Standing}
@@ -16,21 +16,7 @@ tie_sign false = []
 abbrev pub rank_text : ℕ → Bool → List ℕ
 rank_text rank tied = decimal rank ++ tie_sign tied
 
--- the abbreviations of A10, and SCP for a scoring penalty
-abbrev pub abbrev_text : Abbrev → List ℕ
-abbrev_text Dnc = codes "DNC"
-abbrev_text Dns = codes "DNS"
-abbrev_text Ocs = codes "OCS"
-abbrev_text Ufd = codes "UFD"
-abbrev_text Bfd = codes "BFD"
-abbrev_text Dnf = codes "DNF"
-abbrev_text Ret = codes "RET"
-abbrev_text Dsq = codes "DSQ"
-abbrev_text Dne = codes "DNE"
-abbrev_text Zfp = codes "ZFP"
-abbrev_text Scp = codes "SCP"
-abbrev_text Rdg = codes "RDG"
-
+-- an abbreviation behind a slash
 abbrev pub mark_text : Option Abbrev → List ℕ
 mark_text None = []
 mark_text (Some mark) = codes "/" ++ abbrev_text mark

@@ -1,8 +1,6 @@
 -- Worked examples of replies and tables.
-use Rattle.std.specs.Prelude.{◌≡◌, refl, ℕ, Bool, true, false, List, [], ◌∷◌, ◌++◌, flat_map, Option, Some, None, codes}
+use Rattle.std.specs.Prelude.{◌≡◌, refl, ℕ, Bool, true, false, List, [], ◌∷◌, ◌++◌, flat_map, Some, None, codes}
 use Rattle.std.specs.Fmt.{digits}
-use Rattle.regatta_terms.specs.declared.reply.Touched.{Touched}
-use Rattle.regatta_terms.specs.declared.reply.Answer.{Answer}
 use Rattle.regatta_terms.specs.declared.reply.Reply.{Reply}
 use Rattle.regatta_terms.specs.declared.reply.Reply.TheVariants.{Done, Refused, Fault, RoleSet, Ranked, Bye, Busy, Closed}
 use Rattle.regatta_terms.specs.declared.reply.Refusal.TheVariants.{OldNumber, NotEntered}

@@ -1,13 +1,16 @@
 //! A race office's texts: replies, tables, sheets, journals and entry lists.
 #![tactic(auto)]
 
+mod entries;
 mod journals;
 mod pieces;
+mod records;
 mod replies;
 mod results;
 mod sheets;
 mod tables;
 
+pub use entries::{EntriesFault, Sails, read_entries};
 pub use journals::{Journal, JournalFault, read_journal, write_journal};
 pub use replies::write_reply;
 pub use results::write_csv;

@@ -205,3 +205,123 @@ fn writes_results(rt: HostRuntime) -> Result<(), Fail> {
     assert_eq!(rt; out.as_slice(), text.as_slice());
     Ok(())
 }
+
+/// The texts of the sails that an entry list names.
+fn sails_of(alloc: Global, text: &[u8]) -> Result<String, Fail> {
+    let sails = read_entries(alloc, text).map_err(|_| "an entry list")?;
+    let mut texts = String::new(alloc);
+    for sail in sails.as_slice() {
+        texts.push_str(sail.text())?;
+        texts.push_str(" ")?;
+    }
+    Ok(texts)
+}
+
+#[test]
+fn reads_entry_lists(rt: HostRuntime) -> Result<(), Fail> {
+    let alloc = rt.alloc();
+    let list = b"Boat,Sail,Club\nWind,gbr 12,X\n\"A, B\",NED7\n";
+    assert_eq!(rt; sails_of(alloc, list)?.as_str(), "GBR12 NED7 ");
+    assert_eq!(rt; sails_of(alloc, b"Sail")?.as_str(), "");
+    assert_eq!(rt; sails_of(alloc, b"Sail No")?.as_str(), "");
+    Ok(())
+}
+
+#[test]
+fn reads_the_first_column_of_sails(rt: HostRuntime) -> Result<(), Fail> {
+    let alloc = rt.alloc();
+    let list = b"Boat, sail number ,SailNo\nX,A,B\n";
+    assert_eq!(rt; sails_of(alloc, list)?.as_str(), "A ");
+    Ok(())
+}
+
+#[test]
+fn drops_one_byte_order_mark(rt: HostRuntime) -> Result<(), Fail> {
+    let alloc = rt.alloc();
+    assert_eq!(rt; sails_of(alloc, b"\xEF\xBB\xBFSail\nA\n")?.as_str(), "A ");
+    let two = b"\xEF\xBB\xBF\xEF\xBB\xBFSail\nA\n";
+    assert_eq!(rt;
+        read_entries(alloc, two).err(),
+        Some(EntriesFault::NoColumn)
+    );
+    Ok(())
+}
+
+#[test]
+fn reads_entry_lists_of_any_bytes(rt: HostRuntime) -> Result<(), Fail> {
+    let alloc = rt.alloc();
+    assert_eq!(rt; sails_of(alloc, b"Boat,Sail\n\xFF,A\n")?.as_str(), "A ");
+    Ok(())
+}
+
+#[test]
+fn passes_over_blank_records(rt: HostRuntime) -> Result<(), Fail> {
+    let alloc = rt.alloc();
+    let list = b"Boat,Sail\n\n  \n\"\"\n , \nX,A\n";
+    assert_eq!(rt; sails_of(alloc, list)?.as_str(), "A ");
+    let list = b"Sail,Club\n,\nA_B,X\n";
+    assert_eq!(rt;
+        read_entries(alloc, list).err(),
+        Some(EntriesFault::BadSail { row: 3 })
+    );
+    Ok(())
+}
+
+#[test]
+fn finds_the_fault_of_an_entry_list(rt: HostRuntime) -> Result<(), Fail> {
+    let alloc = rt.alloc();
+    assert_eq!(rt;
+        read_entries(alloc, b"").err(),
+        Some(EntriesFault::NoColumn)
+    );
+    assert_eq!(rt;
+        read_entries(alloc, b"Boat\nX").err(),
+        Some(EntriesFault::NoColumn)
+    );
+    assert_eq!(rt;
+        read_entries(alloc, b"Boat,Sail\nWind").err(),
+        Some(EntriesFault::BadRow { row: 2 })
+    );
+    assert_eq!(rt;
+        read_entries(alloc, b"Sail\nA_B").err(),
+        Some(EntriesFault::BadSail { row: 2 })
+    );
+    assert_eq!(rt;
+        read_entries(alloc, b"Sail\nA\na").err(),
+        Some(EntriesFault::Twice { row: 3 })
+    );
+    Ok(())
+}
+
+/// An entry list of the sails 1, 2, 3 and so on.
+fn numbered_list(alloc: Global, count: u32) -> Result<String, Fail> {
+    let mut list = String::new(alloc);
+    list.push_str("Sail\n")?;
+    for number in 0..count {
+        list.push_str(format!(in alloc; "{}\n", number + 1)?.as_str())?;
+    }
+    Ok(list)
+}
+
+#[test]
+fn reads_200_sails_and_no_more(rt: HostRuntime) -> Result<(), Fail> {
+    let alloc = rt.alloc();
+    let list = numbered_list(alloc, 200)?;
+    let sails = read_entries(alloc, list.as_bytes()).map_err(|_| "an entry list")?;
+    assert_eq!(rt; sails.as_slice().len(), 200);
+    let list = numbered_list(alloc, 201)?;
+    assert_eq!(rt;
+        read_entries(alloc, list.as_bytes()).err(),
+        Some(EntriesFault::TooMany { row: 202 })
+    );
+    Ok(())
+}
+
+#[test]
+fn tells_faults_of_entry_lists_by_number_and_row(rt: HostRuntime) -> Result<(), Fail> {
+    let fault = EntriesFault::Twice { row: 3 };
+    assert_eq!(rt; fault.number(), 4);
+    assert_eq!(rt; fault.row(), Some(3));
+    assert_eq!(rt; EntriesFault::NoColumn.row(), Some(1));
+    Ok(())
+}

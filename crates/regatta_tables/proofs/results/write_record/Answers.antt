@@ -1,4 +1,4 @@
-use Rattle.std.proofs.Common.{rules, ◌≢◌, ◌≡◌}
+use Rattle.std.proofs.Common.{◌≢◌}
 use Rattle.csv.specs.declared.writer.QuoteStyle.TheVariants as style
 use Rattle.regatta_tables.proofs.results.write_record.Goals as goal
 

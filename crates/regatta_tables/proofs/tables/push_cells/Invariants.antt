@@ -1,5 +1,5 @@
 use Rattle.std.proofs.Common.{◌≡◌, ◌≤◌, ◌++◌, map, take, vec_capacity}
-use Rattle.regatta_tables.specs.Lines.{spaced}
+use Rattle.regatta_terms.specs.Words.{spaced}
 use Rattle.regatta_tables.specs.TableTexts.{cell_text}
 use Rattle.regatta_tables.proofs.tables.push_cells.Given as goal
 

@@ -1,5 +1,5 @@
 use Rattle.std.proofs.Common.{◌≡◌, ◌≤◌, ◌++◌, map, take, decimal, vec_capacity}
-use Rattle.regatta_tables.specs.Lines.{spaced}
+use Rattle.regatta_terms.specs.Words.{spaced}
 use Rattle.regatta_tables.proofs.tables.push_races.Given as goal
 
 -- the races so far stand in the text

@@ -1,0 +1,217 @@
+//! Entry lists, as race offices keep them: comma-separated values with a column of sails.
+
+ghost use Rattle.std.specs.Prelude.{◌≡◌, ◌⊎◌, ◌++◌, ◌∷◌, [], Ok, Err, None, Some, map, position, IfOk, IfErr, OnOk};
+ghost use Rattle.std.specs.List.{list_all};
+ghost use Rattle.csv.specs.Records.{fields_of};
+ghost use Rattle.regatta_terms.specs.Sails.{sail_of};
+ghost use Rattle.regatta_terms.specs.Words.{is_space};
+ghost use Rattle.regatta_tables.specs.EntryLists.{entries_of_text, entries_under, fault_in, fault_of_field, is_blank, is_sail_heading, number_of_entries_fault, row_of_entries_fault, sails_in, without_spaces};
+
+use crate::records::{fields_in, records_of, without_spaces};
+use csv::ByteRecord;
+use regatta_scores::Items;
+use regatta_terms::Sail;
+use std::alloc::{AllocError, Global};
+use thiserror::Error;
+
+/// The sails of an entry list, in the order of its rows.
+pub type Sails = Items<Sail>;
+
+/// The boats that an entry list names at most.
+const MOST_BOATS: usize = 200;
+
+/// Why an entry list can't be read: the first that applies. Rows count the records of the list from
+/// 1, which is the header.
+#[derive(Clone, Copy, Debug, PartialEq, Eq, Error)]
+pub enum EntriesFault {
+    /// The header has no column of sails, or there is no header.
+    #[error("entries fault 1: no column of sails in row 1")]
+    NoColumn,
+    /// A record has no field in the column of sails.
+    #[error("entries fault 2: no sail in row {row}")]
+    BadRow { row: usize },
+    /// The field in the column of sails isn't a sail number.
+    #[error("entries fault 3: bad sail in row {row}")]
+    BadSail { row: usize },
+    /// The sail stood in an earlier row.
+    #[error("entries fault 4: sail in row {row} for the second time")]
+    Twice { row: usize },
+    /// 200 sails stood in earlier rows.
+    #[error("entries fault 5: more than 200 sails, from row {row}")]
+    TooMany { row: usize },
+    /// Memory was refused.
+    #[error("entries fault 6: no memory")]
+    NoMemory,
+}
+
+impl EntriesFault {
+    /// The number by which the program tells the fault.
+    pub fn number(self) -> u8
+        ensures { result ≡ number_of_entries_fault self }
+    {
+        match self {
+            EntriesFault::NoColumn => 1,
+            EntriesFault::BadRow { .. } => 2,
+            EntriesFault::BadSail { .. } => 3,
+            EntriesFault::Twice { .. } => 4,
+            EntriesFault::TooMany { .. } => 5,
+            EntriesFault::NoMemory => 6,
+        }
+    }
+
+    /// The row where the fault stands, the header's where no column was found; `None` where memory
+    /// was refused.
+    pub fn row(self) -> Option<usize>
+        ensures { result ≡ row_of_entries_fault self }
+    {
+        match self {
+            EntriesFault::NoColumn => Some(1),
+            EntriesFault::BadRow { row }
+            | EntriesFault::BadSail { row }
+            | EntriesFault::Twice { row }
+            | EntriesFault::TooMany { row } => Some(row),
+            EntriesFault::NoMemory => None,
+        }
+    }
+}
+
+/// The sails that an entry list names, 200 at most: those in the first column that is headed
+/// `Sail`, `SailNo` or `SailNumber`, in letters of either case. Spaces don't matter, and blank
+/// records are passed over. The records are those that `csv` reads by default, so any bytes do.
+pub fn read_entries(alloc: Global, text: &[u8]) -> Result<Sails, EntriesFault>
+    ensures ok { IfOk result (λ sails. entries_of_text text.now ≡ Ok sails) }
+    ensures fault { IfErr result (λ fault.
+        (fault ≡ EntriesFault.NoMemory) ⊎ (entries_of_text text.now ≡ Err fault)) }
+{
+    let Ok(records) = records_of(alloc, text) else {
+        return Err(EntriesFault::NoMemory);
+    };
+    let Some((header, records)) = records.as_slice().split_first() else {
+        return Err(EntriesFault::NoColumn);
+    };
+    let Ok(column) = sail_column(alloc, header) else {
+        return Err(EntriesFault::NoMemory);
+    };
+    let Some(column) = column else {
+        return Err(EntriesFault::NoColumn);
+    };
+    read_sails(alloc, column, records)
+}
+
+/// The place of the first field that heads a column of sails.
+fn sail_column(alloc: Global, header: &ByteRecord) -> Result<Option<usize>, AllocError>
+    ensures { IfOk result (λ column.
+        column ≡ position is_sail_heading (fields_of header.now)) }
+{
+    let fields = fields_in(alloc, header)?;
+    for (place, field) in fields.iter().enumerate() {
+        if is_sail_heading(alloc, field)? {
+            return Ok(Some(place));
+        }
+    }
+    Ok(None)
+}
+
+/// Whether a field of the header is the heading of a column of sails.
+fn is_sail_heading(alloc: Global, field: &[u8]) -> Result<bool, AllocError>
+    ensures { IfOk result (λ heads. heads ≡ is_sail_heading field.now) }
+{
+    let mut name = without_spaces(alloc, field)?;
+    name.make_ascii_uppercase();
+    let name = name.as_slice();
+    Ok(
+        name == b"SAIL".as_slice()
+            || name == b"SAILNO".as_slice()
+            || name == b"SAILNUMBER".as_slice(),
+    )
+}
+
+/// The sails of the records behind the header, from the field at that place.
+#[tactic(auto, using(crate::proofs::ListFacts::all_sound, crate::proofs::ListFacts::faulty_row))]
+fn read_sails(alloc: Global, column: usize, records: &[ByteRecord]) -> Result<Sails, EntriesFault>
+    ensures ok { IfOk result (λ sails.
+        entries_under (Some column) (map fields_of records.now) ≡ Ok sails) }
+    ensures fault { IfErr result (λ fault. (fault ≡ EntriesFault.NoMemory)
+        ⊎ (entries_under (Some column) (map fields_of records.now) ≡ Err fault)) }
+{
+    let mut sails = Vec::new(alloc);
+    for (place, boat) in records.iter().enumerate() {
+        match add_sail(alloc, column, place + 2, boat, &mut sails) {
+            Ok(()) => {}
+            Err(fault) => return Err(fault),
+        }
+    }
+    Ok(Items::new(sails))
+}
+
+/// Adds the sail of the boat in that row, or none where the record is blank. `sails` are
+/// those of the rows before it; they may be more after an `Err`.
+fn add_sail(
+    alloc: Global,
+    column: usize,
+    row: usize,
+    boat: &ByteRecord,
+    sails: &mut Vec<Sail>,
+) -> Result<(), EntriesFault>
+    ensures sound { OnOk result (
+        fault_in column row sails.old.items (fields_of boat.now) ≡ None) }
+    ensures added { OnOk result (sails.new.items
+        ≡ sails.old.items ++ sails_in column (fields_of boat.now ∷ [])) }
+    ensures fault { IfErr result (λ fault. (fault ≡ EntriesFault.NoMemory)
+        ⊎ (fault_in column row sails.old.items (fields_of boat.now) ≡ Some fault)) }
+{
+    let Ok(fields) = fields_in(alloc, boat) else {
+        return Err(EntriesFault::NoMemory);
+    };
+    if is_blank(&fields) {
+        return Ok(());
+    }
+    let Some(field) = fields.get(column) else {
+        return Err(EntriesFault::BadRow { row });
+    };
+    let sail = read_sail(alloc, row, field, sails)?;
+    if sails.push(sail).is_err() {
+        return Err(EntriesFault::NoMemory);
+    }
+    Ok(())
+}
+
+/// Whether all fields are empty, but for spaces.
+fn is_blank(fields: &[&[u8]]) -> bool
+    ensures { result ≡ is_blank (map (λ field. field.now) fields.now) }
+{
+    for field in fields {
+        if !are_spaces(field) {
+            return false;
+        }
+    }
+    true
+}
+
+fn are_spaces(text: &[u8]) -> bool
+    ensures { result ≡ list_all is_space text.now }
+{
+    text.iter().all(|byte| *byte == b' ')
+}
+
+/// The sail in a field of that row, given the sails of the rows before it.
+fn read_sail(alloc: Global, row: usize, field: &[u8], sails: &[Sail]) -> Result<Sail, EntriesFault>
+    ensures ok { IfOk result (λ sail. sail_of (without_spaces field.now) ≡ Some sail) }
+    ensures sound { OnOk result (fault_of_field row sails.now (Some field.now) ≡ None) }
+    ensures fault { IfErr result (λ fault. (fault ≡ EntriesFault.NoMemory)
+        ⊎ (fault_of_field row sails.now (Some field.now) ≡ Some fault)) }
+{
+    let Ok(name) = without_spaces(alloc, field) else {
+        return Err(EntriesFault::NoMemory);
+    };
+    let Some(sail) = Sail::read(&name) else {
+        return Err(EntriesFault::BadSail { row });
+    };
+    if sails.contains(&sail) {
+        return Err(EntriesFault::Twice { row });
+    }
+    if sails.len() >= MOST_BOATS {
+        return Err(EntriesFault::TooMany { row });
+    }
+    Ok(sail)
+}

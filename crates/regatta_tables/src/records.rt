@@ -1,0 +1,56 @@
+//! The records of a text of comma-separated values.
+
+ghost use Rattle.std.specs.Prelude.{◌≡◌, true, IfOk, IfErr, map};
+ghost use Rattle.csv.specs.Reading.{default_config, records, stops_reader, strip_bom};
+ghost use Rattle.csv.specs.Records.{fields_of};
+ghost use Rattle.regatta_tables.specs.EntryLists.{without_spaces};
+
+use csv::{ByteRecord, ErrorKind, ReaderBuilder};
+use std::alloc::{AllocError, Global};
+
+/// Every record of a text, of any lengths and with no header set apart. A byte order mark at the
+/// very start is dropped. An error is of the device or of memory: neither the lengths of records nor
+/// bytes that are no text are one.
+pub(crate) fn records_of(alloc: Global, text: &[u8]) -> Result<Vec<ByteRecord>, ErrorKind>
+    ensures ok { IfOk result (λ rows.
+        map fields_of rows.items ≡ records default_config (strip_bom text.now)) }
+    ensures error { IfErr result (λ kind. stops_reader kind ≡ true) }
+{
+    let reader = ReaderBuilder::new()
+        .has_headers(false)
+        .flexible(true)
+        .from_reader(alloc, text);
+    let mut records = Vec::new(alloc);
+    for read in reader.into_byte_records() {
+        let row = match read {
+            Ok(row) => row,
+            Err(error) => return Err(error.into_kind()),
+        };
+        if records.push(row).is_err() {
+            return Err(ErrorKind::OutOfMemory);
+        }
+    }
+    Ok(records)
+}
+
+/// The fields of a record, in order.
+#[tactic(auto, using(crate::proofs::ListFacts::field_more, crate::proofs::ListFacts::field_none))]
+pub(crate) fn fields_in(alloc: Global, row: &ByteRecord) -> Result<Vec<&[u8]>, AllocError>
+    ensures { IfOk result (λ fields.
+        map (λ field. field.now) fields.items ≡ fields_of row.now) }
+{
+    let mut fields = Vec::new(alloc);
+    for field in row {
+        fields.push(field)?;
+    }
+    Ok(fields)
+}
+
+/// A field without its spaces, wherever they stand.
+pub(crate) fn without_spaces(alloc: Global, field: &[u8]) -> Result<Vec<u8>, AllocError>
+    ensures { IfOk result (λ kept. kept.items ≡ without_spaces field.now) }
+{
+    let mut kept = Vec::from_slice(alloc, field)?;
+    kept.retain(|byte| *byte != b' ');
+    Ok(kept)
+}
