@@ -110,9 +110,9 @@ kept_from counts line (byte ∷ text) = by (is_line_end byte) refl (kept_from co
         kept_end counts (take 82 line) byte text is
         ∙ ap (λ (ls : List (List ℕ)). take 82 line ∷ ls) (next ∙ ap (λ (ps : List (List ℕ)). map (take 82) (lines_of_pieces counts ps)) (onto-none pieces (some_piece text)))
         ∙ sym (ap (map (take 82)) (
-          ap (λ (ps : List (List ℕ)). lines_of_pieces counts (onto line ps)) (slice_split-cons_yes is_line_end byte text is)
-          ∙ ap (λ (l : List ℕ). lines_of_pieces counts (l ∷ pieces)) (append-nil line)
-          ∙ lines-cons counts line pieces (some_piece text)))
+        ap (λ (ps : List (List ℕ)). lines_of_pieces counts (onto line ps)) (slice_split-cons_yes is_line_end byte text is)
+        ∙ ap (λ (l : List ℕ). lines_of_pieces counts (l ∷ pieces)) (append-nil line)
+        ∙ lines-cons counts line pieces (some_piece text)))
     by false is next more =
         let pieces = slice_split is_line_end text in
         kept_byte counts (take 82 line) byte text is

@@ -35,7 +35,7 @@ said-kept rules talk (line ∷ rest) =
     said-cons rules talk (take 82 line) (map (take 82) rest)
     ∙ ap (λ (asked : Result Line LineFault). next_said rules talk asked (map (take 82) rest)) (kept_reads line)
     ∙ ap (λ (s : Said). ahead (text_after rules talk (line_of line)) (cond (is_quit (line_of line)) (record { text = []; journal = (talk_after rules talk (line_of line)).journal; quit = true }) s))
-      (said-kept rules (talk_after rules talk (line_of line)) rest)
+    (said-kept rules (talk_after rules talk (line_of line)) rest)
     ∙ sym (said-cons rules talk line rest)
 
 -- what is to come at the beginning of a text is what is said to its lines
@@ -46,8 +46,8 @@ coming-whole counts rules talk text = ap (said rules talk) (kept_of_text counts 
 -- the end of a line
 pub line_ends : (counts : Bool) (point : Point) (byte : ℕ) (rest : List ℕ) → is_line_end byte ≡ true
     → coming counts point (byte ∷ rest)
-      ≡ ahead (text_after point.rules point.talk (line_of point.line))
-        (unless (is_quit (line_of point.line)) counts (record { rules = point.rules; talk = talk_after point.rules point.talk (line_of point.line); line = [] }) rest)
+    ≡ ahead (text_after point.rules point.talk (line_of point.line))
+    (unless (is_quit (line_of point.line)) counts (record { rules = point.rules; talk = talk_after point.rules point.talk (line_of point.line); line = [] }) rest)
 line_ends counts point byte rest is =
     ap (said point.rules point.talk) (kept_end counts point.line byte rest is) ∙ said-cons point.rules point.talk point.line (kept_lines counts [] rest)
 
@@ -64,14 +64,14 @@ last_kept (byte ∷ line) some = refl
 
 last_said : (quit : Bool) (rules : RulesParts) (talk : Talk) (text : List ℕ)
     → ahead text (cond quit (record { text = []; journal = talk.journal; quit = true }) (said rules talk []))
-      ≡ ahead text (record { text = []; journal = talk.journal; quit = quit })
+    ≡ ahead text (record { text = []; journal = talk.journal; quit = quit })
 last_said true rules talk text = refl
 last_said false rules talk text = ap (ahead text) (said-none rules talk)
 
 pub line_last : (point : Point) → 0 < length point.line
     → coming true point []
-      ≡ ahead (text_after point.rules point.talk (line_of point.line))
-        (ended (is_quit (line_of point.line)) (record { rules = point.rules; talk = talk_after point.rules point.talk (line_of point.line); line = [] }))
+    ≡ ahead (text_after point.rules point.talk (line_of point.line))
+    (ended (is_quit (line_of point.line)) (record { rules = point.rules; talk = talk_after point.rules point.talk (line_of point.line); line = [] }))
 line_last point some =
     ap (said point.rules point.talk) (last_kept point.line some) ∙ said-cons point.rules point.talk point.line []
     ∙ last_said (is_quit (line_of point.line)) point.rules (talk_after point.rules point.talk (line_of point.line)) (text_after point.rules point.talk (line_of point.line))

@@ -154,7 +154,7 @@ talked_long (Some text) (Some rest) c d p q most given bytes left cut full more 
     let split : text ≡ bytes ++ (left ++ rest) = took ∙ ap (λ (t : List ℕ). t ++ rest) cut ∙ append_assoc bytes left rest in
     let front : take most text ≡ bytes = rw (split, sym full) (take-append_seam bytes (left ++ rest)) in
     let said_is : coming false p (take most text) ≡ ahead u.written (ended false q) =
-        ap (coming false p) (front ∙ sym (append-nil bytes)) ∙ u.goes false [] ∙ ap (ahead u.written) (nothing_comes q)
+    ap (coming false p) (front ∙ sym (append-nil bytes)) ∙ u.goes false [] ∙ ap (ahead u.written) (nothing_comes q)
     in
     record {
       long = rw split (omega (arith, full, more, length-append bytes (left ++ rest), length-append left rest));
@@ -194,16 +194,17 @@ module _ (a b c d e f : Option (List ℕ)) (p q r : Point) (n : ℕ) (u : Talked
     wrote = appends-then d e f u.written v.written u.wrote v.wrote;
     rules = v.rules ∙ u.rules;
     goes = λ k is. (
-        length-append u.given v.given ∙ (λ i. u_count i + (v.goes m refl).0 i) ∙ some_same is,
-        λ counts rest.
+      length-append u.given v.given ∙ (λ i. u_count i + (v.goes m refl).0 i) ∙ some_same is,
+      λ counts rest.
           ap (coming counts p) (append_assoc u.given v.given rest) ∙ u_goes counts (v.given ++ rest)
           ∙ ap (ahead u.written) ((v.goes m refl).1 counts rest) ∙ sym (ahead-ahead u.written v.written (coming counts r rest)),
-      );
+    );
     ends = λ is. absurd (some_not is);
   }
     where
       some_not : {k : ℕ} → Some k ≡ None → ⊥
       some_not is = cc
+
       some_same : {k l : ℕ} → Some k ≡ Some l → k ≡ l
       some_same is = cc
 
@@ -219,7 +220,7 @@ module _ (a b c d e f : Option (List ℕ)) (p q r : Point) (n : ℕ) (u : Talked
       whole (Some text) (Some mid) None h k w = absurd k
       whole (Some text) (Some mid) (Some rest) h k (quit, says) =
           let is : coming true p text ≡ ahead u.written (ahead v.written (ended quit r)) =
-              ap (coming true p) h ∙ u_goes true mid ∙ ap (λ (t : List ℕ). ahead u.written (coming true q t)) k ∙ ap (ahead u.written) says
+          ap (coming true p) h ∙ u_goes true mid ∙ ap (λ (t : List ℕ). ahead u.written (coming true q t)) k ∙ ap (ahead u.written) says
           in
           subst (Appends d f)
           (sym (ap (λ (s : Said). s.text) is ∙ ap (λ (t : List ℕ). u.written ++ t) (append-nil v.written)))
@@ -236,7 +237,7 @@ module _ (a b c d e f : Option (List ℕ)) (p q r : Point) (n : ℕ) (u : Talked
       whole (Some text) (Some mid) None h k w = absurd k
       whole (Some text) (Some mid) (Some rest) h k (quit, says) =
           sym (ap (λ (s : Said). s.journal)
-            (ap (coming true p) h ∙ u_goes true mid ∙ ap (λ (t : List ℕ). ahead u.written (coming true q t)) k ∙ ap (ahead u.written) says))
+          (ap (coming true p) h ∙ u_goes true mid ∙ ap (λ (t : List ℕ). ahead u.written (coming true q t)) k ∙ ap (ahead u.written) says))
 
   -- the reader gave so many bytes, and then at most so many more
   pub gave_more : (most limit : ℕ) → n + most ≤ limit → GaveAtMost most b c → GaveAtMost limit a c
@@ -252,8 +253,8 @@ module _ (a b c d e f : Option (List ℕ)) (p q r : Point) (n : ℕ) (u : Talked
     u.given,
     consumes-kept a b c u.given u.took kept,
     subst (Appends d e)
-      (sym (ap (λ (s : Said). s.text) (ap (coming false p) (sym (append-nil u.given)) ∙ u_goes false [] ∙ ap (ahead u.written) (nothing_comes q)) ∙ append-nil u.written))
-      u.wrote,
+        (sym (ap (λ (s : Said). s.text) (ap (coming false p) (sym (append-nil u.given)) ∙ u_goes false [] ∙ ap (ahead u.written) (nothing_comes q)) ∙ append-nil u.written))
+        u.wrote,
   )
 
   -- the text is too long

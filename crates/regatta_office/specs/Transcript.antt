@@ -1,5 +1,6 @@
 -- What a replay writes: a reply to each line of a text, and then the table, CSV or journal.
-use Rattle.std.specs.Prelude.{ℕ, Bool, true, false, List, [], ◌∷◌, ◌++◌, Option, Some, None, Result, Ok, Err, if◌then◌else◌}
+use Rattle.std.specs.Prelude.{◌≡◌, IfSome, ℕ, Bool, true, false, List, [], ◌∷◌, ◌++◌, Option, Some, None, Result, Ok, Err, if◌then◌else◌}
+use Rattle.std.specs.Io.KnownBytes.{Appends}
 use Rattle.regatta_terms.specs.Entries.{EntryParts}
 use Rattle.regatta_terms.specs.Lines.{line_of}
 use Rattle.regatta_terms.specs.Rules.{RulesParts}
@@ -17,7 +18,7 @@ use Rattle.regatta_terms.specs.declared.reply.Reply.TheVariants.{Done, Refused, 
 use Rattle.regatta_scores.specs.Journal.{Journal}
 use Rattle.regatta_scores.specs.Standing.{standing}
 use Rattle.regatta_board.specs.Answers.{answer, rank_of}
-use Rattle.regatta_board.specs.Refusals.{limits, refusal, next_number}
+use Rattle.regatta_board.specs.Refusals.{limits, is_lawful, refusal, next_number}
 use Rattle.regatta_tables.specs.CsvTexts.{csv_text}
 use Rattle.regatta_tables.specs.JournalTexts.{journal_text}
 use Rattle.regatta_tables.specs.ReplyTexts.{reply_text}
@@ -154,3 +155,11 @@ final_text rules form.Journal journal = journal_text journal
 abbrev pub run_text : RulesParts → Journal → Form → List ℕ → List ℕ
 run_text rules start form text =
     transcript rules start text ++ final_text rules form (final_journal rules start text)
+
+-- a whole run was written, under some rules, from some lawful start and in some form
+pub record IsWholeRun (given old new : Option (List ℕ)) : Type 0 where
+  pub rules : RulesParts
+  pub start : Journal
+  pub form : Form
+  pub lawful : is_lawful limits rules start ≡ true
+  pub wrote : IfSome given (λ text. Appends old new (run_text rules start form text))

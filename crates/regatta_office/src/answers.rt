@@ -29,8 +29,10 @@ pub(crate) fn is_want_of_memory(why: Refusal) -> bool
 fn do_command(board: &mut Board, role: Role, command: Command) -> Result<Reply, AllocError>
     ensures reply { IfOk result (λ reply. reply ≡ reply_to board.old.rules
         (record { role = role; journal = board.old.entries }) command) }
-    ensures journal { OnOk result (board.new ≡ record board.old { entries = journal_after
-        board.old.rules (record { role = role; journal = board.old.entries }) command }) }
+    ensures journal { OnOk result (board.new ≡ record board.old {
+      entries = journal_after
+          board.old.rules (record { role = role; journal = board.old.entries }) command;
+    }) }
 {
     match board.apply(next_entry(board, role, command)) {
         Ok(answer) => Ok(Reply::Done(answer)),
@@ -73,7 +75,7 @@ fn answer_line(
         (record { role = role.old; journal = board.old.entries }) line) }
     ensures talk { OnOk result ((record { role = role.new; journal = board.new.entries })
         ≡ talk_for board.old.rules
-            (record { role = role.old; journal = board.old.entries }) line) }
+        (record { role = role.old; journal = board.old.entries }) line) }
     ensures rules { OnOk result (board.new.rules ≡ board.old.rules) }
 {
     let reply = match line {
@@ -100,7 +102,7 @@ pub(crate) fn answer(
         (record { role = role.old; journal = board.old.entries }) asked) }
     ensures talk { OnOk result ((record { role = role.new; journal = board.new.entries })
         ≡ talk_after board.old.rules
-            (record { role = role.old; journal = board.old.entries }) asked) }
+        (record { role = role.old; journal = board.old.entries }) asked) }
     ensures rules { OnOk result (board.new.rules ≡ board.old.rules) }
 {
     match asked {

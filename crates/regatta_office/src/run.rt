@@ -91,7 +91,7 @@ fn turn<R: Source, W: Sink>(
         Keeps (R.remaining input.old) (R.remaining input.new) }
     ensures long { IsErrOf result RunFault.InputTooLong → IfSome (R.remaining input.old)
         (λ text. IsTooLong (W.contents output.old) (W.contents output.new) (point scribe.old)
-            most text) }
+        most text) }
 {
     let mut buffer = [0; PIECE];
     let piece = &mut buffer[..PIECE.min(most + 1)];
@@ -138,7 +138,7 @@ fn answer_all<R: Source, W: Sink>(
         (λ given. (coming false (point scribe.old) given).text) }
     ensures long { IsErrOf result RunFault.InputTooLong → IfSome (R.remaining input.old)
         (λ text. IsTooLong (W.contents output.old) (W.contents output.new) (point scribe.old)
-            INPUT_LIMIT text) }
+        INPUT_LIMIT text) }
 {
     let mut most = INPUT_LIMIT as usize;
     loop {
@@ -215,9 +215,9 @@ pub fn replay<R: Source, W: Sink>(
         (transcript_so_far rules.now start.now) }
     ensures long { IsErrOf result RunFault.InputTooLong → IfSome (R.remaining input.old)
         (λ text. (INPUT_LIMIT < length text)
-            × (has_quit (ended_lines (take INPUT_LIMIT text)) ≡ false)
-            × Appends (W.contents output.old) (W.contents output.new)
-                (transcript_so_far rules.now start.now (take INPUT_LIMIT text))) }
+        × (has_quit (ended_lines (take INPUT_LIMIT text)) ≡ false)
+        × Appends (W.contents output.old) (W.contents output.new)
+        (transcript_so_far rules.now start.now (take INPUT_LIMIT text))) }
 {
     let board = match opened(alloc, rules, start) {
         Ok(board) => board,

@@ -36,8 +36,11 @@ pub(crate) struct Scribe {
 impl Scribe {
     /// The first line is taken in the role of the scorer.
     pub(crate) fn new(alloc: Global, board: Board) -> Scribe
-        ensures { point result ≡ record { rules = board.rules;
-            talk = record { role = Scorer; journal = board.entries }; line = [] } }
+        ensures { point result ≡ record {
+          rules = board.rules;
+          talk = record { role = Scorer; journal = board.entries };
+          line = [];
+        } }
     {
         Scribe {
             board,
@@ -61,10 +64,13 @@ impl Scribe {
         ensures quit { IfOk result (λ quit. quit ≡ is_quit_of (line_of (point self.old).line)) }
         ensures wrote { OnOk result (Appends (W.contents output.old) (W.contents output.new)
             (text_after (point self.old).rules (point self.old).talk
-                (line_of (point self.old).line))) }
-        ensures after { OnOk result (point self.new ≡ record { rules = (point self.old).rules;
-            talk = talk_after (point self.old).rules (point self.old).talk
-                (line_of (point self.old).line); line = [] }) }
+            (line_of (point self.old).line))) }
+        ensures after { OnOk result (point self.new ≡ record {
+          rules = (point self.old).rules;
+          talk = talk_after (point self.old).rules (point self.old).talk
+              (line_of (point self.old).line);
+          line = [];
+        }) }
         ensures well { OnOk result (W.failures output.new ≡ W.failures output.old) }
         ensures write { IsErrOf result ScribeFault.Write →
             W.failures output.new ≡ W.failures output.old + 1 }

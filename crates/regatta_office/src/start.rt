@@ -17,7 +17,11 @@ const SEAT: u8 = 1;
 fn number_with(entry: &Entry, last: u32) -> u32
     ensures { result ≡ (if nat_eq entry.now.seat 1 then entry.now.nth else last) }
 {
-    if entry.seat() == SEAT { entry.nth() } else { last }
+    if entry.seat() == SEAT {
+        entry.nth()
+    } else {
+        last
+    }
 }
 
 /// The last number of the seat, or 0.

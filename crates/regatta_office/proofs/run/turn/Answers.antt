@@ -15,7 +15,7 @@ returns-then-most-count-clause-long g c = λ e.
     let few : c.min-2.result ≤ c.in-Ok.count = omega (arith, c.min-2.ensures) in
     let full : length (take c.min-2.result buf) ≡ c.args.most = omega (arith, c.if-most-count.true, c.min-2.ensures, c.in-Ok.ensures.bound, length-take c.min-2.result buf) in
     let more : 0 < length (drop c.min-2.result (take c.in-Ok.count buf)) =
-        omega (arith, c.if-most-count.true, c.min-2.ensures, c.in-Ok.ensures.bound, length-take c.in-Ok.count buf, length-drop c.min-2.result (take c.in-Ok.count buf))
+    omega (arith, c.if-most-count.true, c.min-2.ensures, c.in-Ok.ensures.bound, length-take c.in-Ok.count buf, length-drop c.min-2.result (take c.in-Ok.count buf))
     in
     talked_long _ _ _ _ _ _ _ _ _ _ (take_front c.min-2.result c.in-Ok.count buf few) full more
     c.in-Ok.ensures.bytes.0 (rw c.in-Ok-false.field-0-test at c.in-Ok-false.ensures.went)

@@ -25,4 +25,4 @@ returns-then-branch-clause-went g c =
     subst (λ (bytes : List ℕ). Went (g.W.Sink.contents c.args.output.now) (g.W.Sink.contents c.take.new.output) bytes (point c.args.self.now) (point c.take.new.self) true)
     (ap (λ (bytes : List ℕ). bytes ++ drop (i + 1) piece) (sym (take_more piece i 0 (omega arith))) ∙ take-append-drop (i + 1) piece)
     (went-quit _ _ _ (drop (i + 1) piece) _ _
-      (went-then _ _ _ (take i piece) _ _ _ _ true c.loop-byte.invariant.went (rw c.if-branch.true at c.in_ok-take.ensures.went)))
+    (went-then _ _ _ (take i piece) _ _ _ _ true c.loop-byte.invariant.went (rw c.if-branch.true at c.in_ok-take.ensures.went)))
