@@ -23,16 +23,14 @@ column_long rules sheet = length-map-range_with_len (outcome_on rules sheet) 0 (
 
 pub ruleset columns = (points_long, points_at, column_more, column_long)
 
-races_step : (counts : List Bool) (i : ℕ) → filter (λ race. get_or counts (race - 1) false) (range_with_len 1 (i + 1)) ≡ filter (λ race. get_or counts (race - 1) false) (range_with_len 1 i) ++ cond (get_or counts i false) ((i + 1) ∷ []) []
+races_step : (counts : List Bool) (i : ℕ) → filter (λ race. get_or counts (race - 1) false) (range_with_len 1 (i + 1)) ≡ filter (λ race. get_or counts (race - 1) false) (range_with_len 1 i) ++ cond (get_or counts ((i + 1) - 1) false) ((i + 1) ∷ []) []
 races_step counts i =
     let same : (1 + i) ≡ i + 1 = omega arith in
-    let back : (i + 1) - 1 ≡ i = omega arith in
     let test = λ (race : ℕ). get_or counts (race - 1) false in
     ap (filter test) (range_more 1 i) ∙ filter-append test (range_with_len 1 i) ((1 + i) ∷ []) ∙ ap (λ k. filter test (range_with_len 1 i) ++ filter test (k ∷ [])) same
-    ∙ ap (λ k. filter test (range_with_len 1 i) ++ cond (get_or counts k false) ((i + 1) ∷ []) []) back
 
-pub races_more : (counts : List Bool) (i : ℕ) (found new : List ℕ) → found ≡ filter (λ race. get_or counts (race - 1) false) (range_with_len 1 i) → new ≡ found ++ cond (get_or counts i false) ((i + 1) ∷ []) [] → new ≡ filter (λ race. get_or counts (race - 1) false) (range_with_len 1 (i + 1))
-races_more counts i found new e f = f ∙ ap (λ xs. xs ++ cond (get_or counts i false) ((i + 1) ∷ []) []) e ∙ sym (races_step counts i)
+pub races_more : (counts : List Bool) (i : ℕ) (found new : List ℕ) → found ≡ filter (λ race. get_or counts (race - 1) false) (range_with_len 1 i) → new ≡ found ++ cond (get_or counts ((i + 1) - 1) false) ((i + 1) ∷ []) [] → new ≡ filter (λ race. get_or counts (race - 1) false) (range_with_len 1 (i + 1))
+races_more counts i found new e f = f ∙ ap (λ xs. xs ++ cond (get_or counts ((i + 1) - 1) false) ((i + 1) ∷ []) []) e ∙ sym (races_step counts i)
 
 one_long : (b : Bool) (xs : List ℕ) (r : ℕ) → length (xs ++ cond b (r ∷ []) []) ≤ length xs + 1
 one_long true xs r = omega (arith, length-append xs (r ∷ []))
