@@ -1,3 +1,5 @@
+ghost use Rattle.std.specs.Prelude.{◌<◌};
+
 use super::*;
 use regatta_terms::{Absent, Entry, Rules};
 use std::alloc::Global;
@@ -6,6 +8,7 @@ use std::test::Fail;
 mod faults;
 mod programs;
 mod replays;
+mod weekend;
 
 /// The rules where none are stated.
 fn default_rules() -> Rules {
