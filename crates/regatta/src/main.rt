@@ -44,6 +44,6 @@ fn main(rt: HostRuntime) -> ExitCode {
     };
     let mut input = Foreign::new(rt.stdin());
     let mut output = Foreign::new(rt.stdout());
-    let status = program(rt.alloc(), &texts, &mut input, &mut output, &mut errors);
+    let status = program(&rt, &texts, &mut input, &mut output, &mut errors);
     ExitCode::from(status)
 }

@@ -1,9 +1,9 @@
 -- What is kept on a board.
-use Rattle.std.proofs.Common.{◌≡◌, Bool, false, List, [], ◌∷◌, ◌++◌, refl, ap, ◌∙◌, sym, subst, ◌<◌, arith, length, length-append, replicate, find, None}
+use Rattle.std.proofs.Common.{◌≡◌, Bool, false, List, [], ◌∷◌, ◌++◌, refl, ap, ◌∙◌, sym, subst, ℕ, ◌-◌, ◌<◌, ◌≤◌, arith, length, length-append, replicate, find, None}
 use Rattle.std.specs.List.{range_with_len}
 use Rattle.std.specs.Option.{option_map}
 use Rattle.std.proofs.lemmas.List.{length-map}
-use Rattle.std.proofs.lemmas.List.Elements.{All-map}
+use Rattle.std.proofs.lemmas.List.Elements.{All-get_or, All-map}
 use Rattle.std.proofs.lemmas.List.FromFn.{length-map-range_with_len}
 use Rattle.regatta_terms.specs.Entries.{EntryParts}
 use Rattle.regatta_terms.specs.Rules.{RulesParts}
@@ -16,14 +16,16 @@ use Rattle.regatta_scores.specs.declared.table.Standing.{Standing}
 use Rattle.regatta_scores.specs.Standing.{standing}
 use Rattle.regatta_board.specs.Refusals.{limits, refusal, command_refusal}
 use Rattle.regatta_board.specs.Answers.{touched_by, rank_of}
-use Rattle.regatta_board.specs.Step.{step, NamesRace, MayStep, Fits}
+use Rattle.regatta_board.specs.Step.{sheet_in, step, IsRace, NamesRace, MayStep, Fits}
 use Rattle.regatta_board.proofs.Lawful.{lawful_more, no_command_refusal, may_step, has_room, not_full}
 use Rattle.regatta_board.proofs.KeptFacts.{fits}
 use Rattle.regatta_board.proofs.Orderly.{orderly_more}
 use Rattle.regatta_board.proofs.StepOf.{step_is}
+use Rattle.regatta_board.specs.declared.kept.Revision.{Revision}
+use Rattle.regatta_board.specs.Revisions.{revised}
 use Rattle.regatta_board.specs.Table.{Kept, IsKept, table}
 use Rattle.regatta_board.specs.KeptJournal.{sheet_of, kept_of, IsOrderly}
-use Rattle.regatta_board.specs.BoardFacts.{IsBoard}
+use Rattle.regatta_board.specs.BoardFacts.{BoardValue, IsBoard}
 use Rattle.regatta_board.proofs.TableOf.{table_is}
 
 kept_of_is : (journal : Journal) → IsOrderly journal → IsKept (kept_of journal)
@@ -48,6 +50,12 @@ no_standing = record { races = []; rows = [] }
 pub empty_board : (rules : RulesParts) → IsBoard rules [] (record { sails = []; sheets = replicate 40 (empty_sheet 0); counts = replicate 40 false }) no_standing
 empty_board rules = record { few = omega arith; lawful = refl; orderly = empty_orderly; keeps = refl; stands = refl }
 
+-- each sheet has a line for each boat
+pub sheet_long : (kept : Kept) → IsKept kept → (race : ℕ) → IsRace race → boats (sheet_in kept race) ≡ length kept.sails
+sheet_long kept is race within =
+    let at : race - 1 < length kept.sheets = omega (arith, within.0, within.1, is.sheets) in
+    All-get_or (λ sheet. boats sheet ≡ length kept.sails) kept.sheets (race - 1) (empty_sheet 0) at is.same
+
 module _ (rules : RulesParts) (entries : Journal) (kept : Kept) (made : Standing) (is : IsBoard rules entries kept made) where
   pub board_kept : IsKept kept
   board_kept = subst IsKept (sym is.keeps) (kept_of_is entries is.orderly)
@@ -57,6 +65,18 @@ module _ (rules : RulesParts) (entries : Journal) (kept : Kept) (made : Standing
 
   pub board_rank : (boat : Sail) (rows : List Row) → rows ≡ made.rows → option_map touched_by (find (λ row. same_sail boat row.sail) rows) ≡ rank_of rules entries boat
   board_rank boat rows e = ap (λ rs. option_map touched_by (find (λ (row : Row). same_sail boat row.sail) rs)) (e ∙ ap (λ s. s.rows) is.stands)
+
+  -- a staged entry makes a board of what was kept, and of what is kept by the same value
+  pub staged : (before : BoardValue) → before ≡ record { rules = rules; entries = entries } → (e : EntryParts) (revision : Revision) (found : Standing) → IsBoard rules (entries ++ e ∷ []) (revised kept revision) found → IsBoard before.rules (before.entries ++ e ∷ []) (revised (kept_of before.entries) revision) found
+  staged before b e revision found more =
+      let here : IsBoard rules (entries ++ e ∷ []) (revised (kept_of entries) revision) found = subst (λ k. IsBoard rules (entries ++ e ∷ []) (revised k revision) found) is.keeps more in
+      subst (λ (v : BoardValue). IsBoard v.rules (v.entries ++ e ∷ []) (revised (kept_of v.entries) revision) found) (sym b) here
+
+  pub committed : (before : BoardValue) → before ≡ record { rules = rules; entries = entries } → (e : EntryParts) (revision : Revision) (found : Standing) → IsBoard before.rules (before.entries ++ e ∷ []) (revised (kept_of before.entries) revision) found → (items : Journal) → items ≡ entries ++ e ∷ [] → (new : Kept) → new ≡ revised kept revision → IsBoard rules items new found
+  committed before b e revision found more items i new n =
+      let here : IsBoard rules (entries ++ e ∷ []) (revised (kept_of entries) revision) found = subst (λ (v : BoardValue). IsBoard v.rules (v.entries ++ e ∷ []) (revised (kept_of v.entries) revision) found) b more in
+      let kept_is : revised (kept_of entries) revision ≡ new = ap (λ k. revised k revision) (sym is.keeps) ∙ sym n in
+      subst (λ js. IsBoard rules js new found) (sym i) (subst (λ k. IsBoard rules (entries ++ e ∷ []) k found) kept_is here)
 
   module _ (e : EntryParts) (c : Command) (named : c ≡ e.command) (race : NamesRace c) (none : refusal limits rules entries e ≡ None) where
     accepted : command_refusal limits rules entries e.role c ≡ None

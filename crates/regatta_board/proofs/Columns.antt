@@ -4,7 +4,8 @@ use Rattle.std.specs.List.{range_with_len}
 use Rattle.std.proofs.lemmas.List.FromFn.{length-map-range_with_len, get_or-map-range_with_len, map-range_with_len_more}
 use Rattle.std.proofs.lemmas.List.Elements.{filter-append}
 use Rattle.regatta_terms.specs.Rules.{RulesParts}
-use Rattle.regatta_scores.specs.Sheet.{Sheet, boats}
+use Rattle.regatta_scores.specs.Order.{stands_in}
+use Rattle.regatta_scores.specs.Sheet.{Sheet, boats, all_placed}
 use Rattle.regatta_scores.specs.RacePoints.{plain, race_of, race_points}
 use Rattle.regatta_scores.proofs.Ranges.{range_more}
 use Rattle.regatta_board.specs.Table.{outcome_on}
@@ -21,18 +22,22 @@ column_more rules sheet n = map-range_with_len_more (outcome_on rules sheet) 0 n
 pub column_long : (rules : RulesParts) (sheet : Sheet) → length (map (outcome_on rules sheet) (range_with_len 0 (boats sheet))) ≡ boats sheet
 column_long rules sheet = length-map-range_with_len (outcome_on rules sheet) 0 (boats sheet)
 
-pub ruleset columns = (points_long, points_at, column_more, column_long)
+pub placed_long : (sheet : Sheet) → length (all_placed sheet) ≡ boats sheet
+placed_long sheet = length-map-range_with_len (λ boat. stands_in nat_eq boat sheet.order) 0 (boats sheet)
 
-races_step : (counts : List Bool) (i : ℕ) → filter (λ race. get_or counts (race - 1) false) (range_with_len 1 (i + 1)) ≡ filter (λ race. get_or counts (race - 1) false) (range_with_len 1 i) ++ cond (get_or counts i false) ((i + 1) ∷ []) []
+pub placed_at : (sheet : Sheet) (boat : ℕ) → boat < boats sheet → get_or (all_placed sheet) boat false ≡ stands_in nat_eq boat sheet.order
+placed_at sheet boat h = get_or-map-range_with_len (λ b. stands_in nat_eq b sheet.order) 0 (boats sheet) boat boat false h (omega arith)
+
+pub ruleset columns = (points_long, points_at, placed_long, placed_at, column_more, column_long)
+
+races_step : (counts : List Bool) (i : ℕ) → filter (λ race. get_or counts (race - 1) false) (range_with_len 1 (i + 1)) ≡ filter (λ race. get_or counts (race - 1) false) (range_with_len 1 i) ++ cond (get_or counts ((i + 1) - 1) false) ((i + 1) ∷ []) []
 races_step counts i =
     let same : (1 + i) ≡ i + 1 = omega arith in
-    let back : (i + 1) - 1 ≡ i = omega arith in
     let test = λ (race : ℕ). get_or counts (race - 1) false in
     ap (filter test) (range_more 1 i) ∙ filter-append test (range_with_len 1 i) ((1 + i) ∷ []) ∙ ap (λ k. filter test (range_with_len 1 i) ++ filter test (k ∷ [])) same
-    ∙ ap (λ k. filter test (range_with_len 1 i) ++ cond (get_or counts k false) ((i + 1) ∷ []) []) back
 
-pub races_more : (counts : List Bool) (i : ℕ) (found new : List ℕ) → found ≡ filter (λ race. get_or counts (race - 1) false) (range_with_len 1 i) → new ≡ found ++ cond (get_or counts i false) ((i + 1) ∷ []) [] → new ≡ filter (λ race. get_or counts (race - 1) false) (range_with_len 1 (i + 1))
-races_more counts i found new e f = f ∙ ap (λ xs. xs ++ cond (get_or counts i false) ((i + 1) ∷ []) []) e ∙ sym (races_step counts i)
+pub races_more : (counts : List Bool) (i : ℕ) (found new : List ℕ) → found ≡ filter (λ race. get_or counts (race - 1) false) (range_with_len 1 i) → new ≡ found ++ cond (get_or counts ((i + 1) - 1) false) ((i + 1) ∷ []) [] → new ≡ filter (λ race. get_or counts (race - 1) false) (range_with_len 1 (i + 1))
+races_more counts i found new e f = f ∙ ap (λ xs. xs ++ cond (get_or counts ((i + 1) - 1) false) ((i + 1) ∷ []) []) e ∙ sym (races_step counts i)
 
 one_long : (b : Bool) (xs : List ℕ) (r : ℕ) → length (xs ++ cond b (r ∷ []) []) ≤ length xs + 1
 one_long true xs r = omega (arith, length-append xs (r ∷ []))

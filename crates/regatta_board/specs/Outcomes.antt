@@ -41,9 +41,17 @@ cell o points dropped = record { points = points; mark = mark o; dropped = dropp
 abbrev pub cells_by : List Outcome → List ℕ → List Bool → List Cell
 cells_by outcomes points flags = map (λ o. cell o.0 o.1.0 o.1.1) (zip outcomes (zip points flags))
 
+abbrev pub row_by : Sail → Place → Line → List Outcome → Row
+row_by boat place line outcomes = record {
+  sail = boat;
+  rank = place.rank;
+  tied = place.tied;
+  net = net line;
+  cells = cells_by outcomes line.points line.excluded;
+}
+
 abbrev pub row : RulesParts → Sail → Place → List Outcome → Row
-row rules boat place outcomes =
-    record { sail = boat; rank = place.rank; tied = place.tied; net = net (line rules outcomes); cells = cells_by outcomes (points outcomes) (flags rules outcomes) }
+row rules boat place outcomes = row_by boat place (line rules outcomes) outcomes
 
 -- what the journal says of a boat
 abbrev pub outcome : RulesParts → Journal → ℕ → Sail → Outcome

@@ -3,6 +3,7 @@ use Rattle.std.specs.Prelude.{◌≡◌, ℕ, ◌-◌, ◌≤◌, Bool, false, n
 use Rattle.std.specs.List.{range_with_len}
 use Rattle.regatta_terms.specs.Rules.{RulesParts}
 use Rattle.regatta_terms.specs.declared.sail.Sail.{Sail}
+use Rattle.regatta_scores.specs.declared.boats.Place.{Place}
 use Rattle.regatta_scores.specs.declared.table.Row.{Row}
 use Rattle.regatta_scores.specs.declared.table.Standing.{Standing}
 use Rattle.regatta_scores.specs.Order.{stands_in}
@@ -11,7 +12,7 @@ use Rattle.regatta_scores.specs.RacePoints.{plain, race_of}
 use Rattle.regatta_scores.specs.Ranking.{Line, place}
 use Rattle.regatta_scores.specs.Standing as scores
 use Rattle.regatta_board.specs.declared.outcomes.Outcome.{Outcome}
-use Rattle.regatta_board.specs.Outcomes.{line, row}
+use Rattle.regatta_board.specs.Outcomes.{line, row, row_by}
 
 -- what is kept of a journal: the boats entered, and of each race its sheet and whether it counts
 pub record Kept : Type 0 where
@@ -57,6 +58,22 @@ row_of rules sails columns boat =
 
 abbrev pub rows : RulesParts → List Sail → List (List Outcome) → List Row
 rows rules sails columns = scores.sorted_rows (map (row_of rules sails columns) (range_with_len 0 (length sails)))
+
+-- the same from the lines and places of the boats
+abbrev pub no_line : Line
+no_line = record { points = []; excluded = [] }
+
+abbrev pub no_place : Place
+no_place = record { rank = 0; tied = false }
+
+abbrev pub row_at : List Sail → List (List Outcome) → List Line → List Place → ℕ → Row
+row_at sails columns lines places boat =
+    row_by (slice_index_or sails boat []) (slice_index_or places boat no_place)
+    (slice_index_or lines boat no_line) (outcomes columns boat)
+
+abbrev pub rows_by : List Sail → List (List Outcome) → List Line → List Place → List Row
+rows_by sails columns lines places =
+    scores.sorted_rows (map (row_at sails columns lines places) (range_with_len 0 (length sails)))
 
 abbrev pub table : RulesParts → Kept → Standing
 table rules kept =

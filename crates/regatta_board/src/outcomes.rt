@@ -1,11 +1,11 @@
 //! What came of a boat in each race that counts, and the line of the table that it makes.
 ghost use Rattle.std.specs.Prelude.{◌≡◌, ◌≤◌, length, IfOk};
 ghost use Rattle.regatta_scores.specs.Standing.{is_dne as is_dne_of, code_mark as code_mark_of};
-ghost use Rattle.regatta_board.specs.Outcomes.{items as items_of, points as points_of, scores_by, flags as flags_of, line as line_of, mark as mark_of, cell as cell_of, cells_by, row as row_of};
+ghost use Rattle.regatta_board.specs.Outcomes.{items as items_of, points as points_of, scores_by, flags as flags_of};
+ghost use Rattle.regatta_board.specs.Outcomes.{line as line_of, mark as mark_of, cell as cell_of, cells_by, row_by};
 
 use regatta_scores::{
     Abbrev, BoatLine, Cell, Held, Items, Place, Points, Row, RowItem, Scored, averages, excluded,
-    net,
 };
 use regatta_terms::{Code, Rules, Sail, Tenths};
 use std::alloc::{AllocError, Global};
@@ -80,15 +80,16 @@ fn flags(
     Ok(found)
 }
 
-#[tactic(auto, using(crate::proofs::Lengths::lengths))]
 /// Her line, by which boats are compared.
+#[tactic(auto, using(crate::proofs::Lengths::lengths))]
 pub(crate) fn line(
     alloc: Global,
     outcomes: &[Outcome],
     rules: &Rules,
 ) -> Result<BoatLine, AllocError>
     requires { length outcomes.now ≤ 40 }
-    ensures { IfOk result (λ found. found ≡ line_of rules.now outcomes.now) }
+    ensures value { IfOk result (λ found. found ≡ line_of rules.now outcomes.now) }
+    ensures long { IfOk result (λ found. length found.points ≡ length outcomes.now) }
 {
     let points = points(alloc, outcomes)?;
     let flags = flags(alloc, outcomes, points.as_slice(), rules)?;
@@ -151,33 +152,30 @@ fn cells(
     requires flags { length flags.now ≡ length outcomes.now }
     ensures { IfOk result (λ found. found.items ≡ cells_by outcomes.now points.now flags.now) }
 {
-    let mut found = Vec::new(alloc);
+    let mut found = Vec::with_capacity(alloc, outcomes.len())?;
     for i in 0..outcomes.len() {
         found.push(cell(&outcomes[i], points[i], flags[i]))?;
     }
     Ok(found)
 }
 
-/// Her line of the table.
-#[tactic(auto, using(crate::proofs::Lengths::lengths))]
+/// Her row of the table.
 pub(crate) fn row(
     alloc: Global,
     boat: Sail,
     place: Place,
+    line: &BoatLine,
     outcomes: &[Outcome],
-    rules: &Rules,
 ) -> Result<Row, AllocError>
-    requires { length outcomes.now ≤ 40 }
-    ensures { IfOk result (λ found. found ≡ row_of rules.now boat place outcomes.now) }
+    requires { length line.now.points ≡ length outcomes.now }
+    ensures { IfOk result (λ found. found ≡ row_by boat place line.now outcomes.now) }
 {
-    let points = points(alloc, outcomes)?;
-    let flags = flags(alloc, outcomes, points.as_slice(), rules)?;
-    let cells = cells(alloc, outcomes, points.as_slice(), flags.as_slice())?;
+    let cells = cells(alloc, outcomes, line.points(), line.excluded())?;
     Ok(Row {
         sail: boat,
         rank: place.rank,
         tied: place.tied,
-        net: net(points.as_slice(), flags.as_slice()),
+        net: line.net(),
         cells: Items::new(cells),
     })
 }

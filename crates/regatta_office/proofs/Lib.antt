@@ -1,3 +1,7 @@
-pub mod LineCuts
+pub mod Entering
+pub mod KeptLines
+pub mod Refused
 pub mod Results
-pub mod Turns
+pub mod Saying
+pub mod Streams
+pub mod Whole

@@ -1,3 +1,7 @@
+pub mod Coming
+pub mod Faults
 pub mod Lines
+pub mod Scribes
+pub mod Starts
 pub mod Transcript
 pub mod Worked

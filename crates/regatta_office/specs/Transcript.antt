@@ -1,61 +1,48 @@
--- What a replay writes: a reply to each line of a text, and then the table.
-use Rattle.std.specs.Prelude.{ℕ, Bool, true, false, ◌==◌, List, [], ◌∷◌, ◌++◌, Option, Some, None, Result, Ok, Err, if◌then◌else◌}
+-- What a replay writes: a reply to each line of a text, and then the table, CSV or journal.
+use Rattle.std.specs.Prelude.{◌≡◌, IfSome, ℕ, Bool, true, false, List, [], ◌∷◌, ◌++◌, Option, Some, None, Result, Ok, Err, if◌then◌else◌}
+use Rattle.std.specs.Io.KnownBytes.{Appends}
 use Rattle.regatta_terms.specs.Entries.{EntryParts}
 use Rattle.regatta_terms.specs.Lines.{line_of}
 use Rattle.regatta_terms.specs.Rules.{RulesParts}
-use Rattle.regatta_terms.specs.declared.rules.Absent.TheVariants.{A52}
 use Rattle.regatta_terms.specs.declared.command.Command.{Command}
-use Rattle.regatta_terms.specs.declared.command.Command.TheVariants.{Enter, Finish, Score}
+use Rattle.regatta_terms.specs.declared.command.Role.{Role}
 use Rattle.regatta_terms.specs.declared.command.Role.TheVariants.{Scorer}
 use Rattle.regatta_terms.specs.declared.line.Line.{Line}
-use Rattle.regatta_terms.specs.declared.line.Line.TheVariants.{Do}
+use Rattle.regatta_terms.specs.declared.line.Line.TheVariants.{Do, SetRole, Rank, Show, Quit}
 use Rattle.regatta_terms.specs.declared.line.LineFault.{LineFault}
-use Rattle.regatta_terms.specs.declared.line.LineFault.TheVariants.{NoSuchWord, BadRace}
 use Rattle.regatta_terms.specs.declared.reply.Refusal.{Refusal}
-use Rattle.regatta_terms.specs.declared.reply.Refusal.TheVariants.{NoMemory}
+use Rattle.regatta_terms.specs.declared.reply.Refusal.TheVariants.{NoMemory, NotEntered}
+use Rattle.regatta_terms.specs.declared.reply.Touched.{Touched}
 use Rattle.regatta_terms.specs.declared.reply.Reply.{Reply}
-use Rattle.regatta_terms.specs.declared.reply.Reply.TheVariants.{Done, Refused, Fault}
+use Rattle.regatta_terms.specs.declared.reply.Reply.TheVariants.{Done, Refused, Fault, RoleSet, Ranked, Bye}
 use Rattle.regatta_scores.specs.Journal.{Journal}
 use Rattle.regatta_scores.specs.Standing.{standing}
-use Rattle.regatta_board.specs.Answers.{answer}
-use Rattle.regatta_board.specs.Refusals.{limits, refusal, next_number}
+use Rattle.regatta_board.specs.Answers.{answer, rank_of}
+use Rattle.regatta_board.specs.Refusals.{limits, is_lawful, refusal, next_number}
+use Rattle.regatta_tables.specs.CsvTexts.{csv_text}
+use Rattle.regatta_tables.specs.JournalTexts.{journal_text}
 use Rattle.regatta_tables.specs.ReplyTexts.{reply_text}
+use Rattle.regatta_tables.specs.SheetTexts.{sheet_text}
 use Rattle.regatta_tables.specs.TableTexts.{table_text}
-use Rattle.regatta_office.specs.Lines.{lines}
+use Rattle.regatta_office.specs.declared.form.Form.{Form}
+use Rattle.regatta_office.specs.declared.form.Form.TheVariants as form
+use Rattle.regatta_office.specs.Lines.{lines, ended_lines}
 
--- the series rules where none are stated: A5.2, 20% for a Scoring Penalty, and one score excluded from the second race on
-abbrev pub default_rules : RulesParts
-default_rules = record { absent = A52; scp = None; thresholds = 2 ∷ [] }
+-- where a run stands: the role of the lines to come, and the journal so far
+pub record Talk : Type 0 where
+  pub role : Role
+  pub journal : Journal
+
+-- the first line is taken at this journal, in the role of the scorer
+abbrev pub opening : Journal → Talk
+opening start = record { role = Scorer; journal = start }
 
 -- ---- one line
 
--- What is done yet of what a line may ask for: Enter, and Finish and Score of race 1. Any other race is
--- answered as one that isn't there, and everything else as a word that isn't known.
-abbrev pub in_race_one : ℕ → Command → Result Command LineFault
-in_race_one race command = if race == 1 then Ok command else Err BadRace
-
-abbrev pub command_asked : Line → Result Command LineFault
-command_asked (Do (Enter sail)) = Ok (Enter sail)
-command_asked (Do (Finish race sail)) = in_race_one race (Finish race sail)
-command_asked (Do (Score race)) = in_race_one race (Score race)
-command_asked _ = Err NoSuchWord
-
-abbrev pub asked_by : Result Line LineFault → Result Command LineFault
-asked_by (Ok line) = command_asked line
-asked_by (Err fault) = Err fault
-
--- the command that a line asks for, or the fault that it is answered with
-abbrev pub command_of : List ℕ → Result Command LineFault
-command_of line = asked_by (line_of line)
-
--- the entry that a command makes: of seat 1, as Scorer, with the seat's next number
-abbrev pub next_entry : Journal → Command → EntryParts
-next_entry journal command = record { seat = 1; nth = next_number journal 1; role = Scorer; command = command }
-
--- a run ends where memory is wanting: it isn't answered
-abbrev pub is_want_of_memory : Refusal → Bool
-is_want_of_memory NoMemory = true
-is_want_of_memory _ = false
+-- the entry that a command makes: of seat 1, in the role at hand, with the seat's next number
+abbrev pub next_entry : Talk → Command → EntryParts
+next_entry talk command =
+    record { seat = 1; nth = next_number talk.journal 1; role = talk.role; command = command }
 
 -- the reply to an entry, and the journal after it, by why the entry is refused
 abbrev pub reply_by : RulesParts → Journal → EntryParts → Option Refusal → Reply
@@ -66,40 +53,113 @@ abbrev pub journal_by : Journal → EntryParts → Option Refusal → Journal
 journal_by journal entry None = journal ++ entry ∷ []
 journal_by journal entry (Some why) = journal
 
-abbrev pub refusal_of : RulesParts → Journal → Command → Option Refusal
-refusal_of rules journal command = refusal limits rules journal (next_entry journal command)
+-- a run ends where memory is wanting: it isn't answered
+abbrev pub is_want_of_memory : Refusal → Bool
+is_want_of_memory NoMemory = true
+is_want_of_memory _ = false
 
--- the reply to what a line asks for
-abbrev pub reply_to : RulesParts → Journal → Result Command LineFault → Reply
-reply_to rules journal (Err fault) = Fault fault
-reply_to rules journal (Ok command) = reply_by rules journal (next_entry journal command) (refusal_of rules journal command)
+-- why a command is refused
+abbrev pub refusal_of : RulesParts → Talk → Command → Option Refusal
+refusal_of rules talk command = refusal limits rules talk.journal (next_entry talk command)
 
--- the journal after it
-abbrev pub journal_after : RulesParts → Journal → Result Command LineFault → Journal
-journal_after rules journal (Err fault) = journal
-journal_after rules journal (Ok command) = journal_by journal (next_entry journal command) (refusal_of rules journal command)
+-- the reply to a command
+abbrev pub reply_to : RulesParts → Talk → Command → Reply
+reply_to rules talk command =
+    reply_by rules talk.journal (next_entry talk command) (refusal_of rules talk command)
 
--- ---- all lines, the first of them taken at a journal
+-- the journal after a command
+abbrev pub journal_after : RulesParts → Talk → Command → Journal
+journal_after rules talk command =
+    journal_by talk.journal (next_entry talk command) (refusal_of rules talk command)
 
--- the replies, one after another
-unfoldable pub replies : RulesParts → Journal → List (List ℕ) → List ℕ
-replies rules journal [] = []
-replies rules journal (line ∷ rest) =
-    reply_text (reply_to rules journal (command_of line)) ++ replies rules (journal_after rules journal (command_of line)) rest
+-- the reply to RANK: a boat that has no row isn't entered
+abbrev pub ranked : Option Touched → Reply
+ranked (Some touched) = Ranked touched
+ranked None = Refused NotEntered
 
--- the journal after them
-unfoldable pub journal_at_end : RulesParts → Journal → List (List ℕ) → Journal
-journal_at_end rules journal [] = journal
-journal_at_end rules journal (line ∷ rest) = journal_at_end rules (journal_after rules journal (command_of line)) rest
+-- what is written for what a line reads as
+abbrev pub text_for : RulesParts → Talk → Line → List ℕ
+text_for rules talk (Do command) = reply_text (reply_to rules talk command)
+text_for rules talk (SetRole role) = reply_text (RoleSet role)
+text_for rules talk (Rank sail) = reply_text (ranked (rank_of rules talk.journal sail))
+text_for rules talk Show = sheet_text talk.journal (standing rules talk.journal)
+text_for rules talk Quit = reply_text Bye
 
--- ---- a whole text, taken at the empty journal
+-- where the run stands after it
+abbrev pub talk_for : RulesParts → Talk → Line → Talk
+talk_for rules talk (Do command) = record talk { journal = journal_after rules talk command }
+talk_for rules talk (SetRole role) = record talk { role = role }
+talk_for _ talk _ = talk
 
-abbrev pub transcript : List ℕ → List ℕ
-transcript text = replies default_rules [] (lines text)
+-- the same of a line that may have a fault
+abbrev pub text_after : RulesParts → Talk → Result Line LineFault → List ℕ
+text_after rules talk (Ok line) = text_for rules talk line
+text_after rules talk (Err fault) = reply_text (Fault fault)
 
-abbrev pub final_journal : List ℕ → Journal
-final_journal text = journal_at_end default_rules [] (lines text)
+abbrev pub talk_after : RulesParts → Talk → Result Line LineFault → Talk
+talk_after rules talk (Ok line) = talk_for rules talk line
+talk_after rules talk (Err fault) = talk
 
--- the transcript of the text, and then the table of the final journal
-abbrev pub run_text : List ℕ → List ℕ
-run_text text = transcript text ++ table_text (standing default_rules (final_journal text))
+-- whether a line ends the run
+abbrev pub is_quit : Result Line LineFault → Bool
+is_quit (Ok Quit) = true
+is_quit _ = false
+
+-- ---- all lines
+
+-- the lines up to the first QUIT, which is one of them: those after it don't count
+unfoldable pub up_to_quit : List (List ℕ) → List (List ℕ)
+up_to_quit [] = []
+up_to_quit (line ∷ rest) = line ∷ (if is_quit (line_of line) then [] else up_to_quit rest)
+
+-- whether a QUIT is among these lines
+unfoldable pub has_quit : List (List ℕ) → Bool
+has_quit [] = false
+has_quit (line ∷ rest) = if is_quit (line_of line) then true else has_quit rest
+
+-- what is written for these lines, one after another
+unfoldable pub replies : RulesParts → Talk → List (List ℕ) → List ℕ
+replies rules talk [] = []
+replies rules talk (line ∷ rest) =
+    text_after rules talk (line_of line) ++ replies rules (talk_after rules talk (line_of line)) rest
+
+-- where the run stands after them
+unfoldable pub talk_at_end : RulesParts → Talk → List (List ℕ) → Talk
+talk_at_end rules talk [] = talk
+talk_at_end rules talk (line ∷ rest) =
+    talk_at_end rules (talk_after rules talk (line_of line)) rest
+
+-- ---- a whole text, taken at a journal
+
+-- the replies to the lines of the text
+abbrev pub transcript : RulesParts → Journal → List ℕ → List ℕ
+transcript rules start text = replies rules (opening start) (up_to_quit (lines text))
+
+-- the replies to the lines that have ended, where the text isn't at its end
+abbrev pub transcript_so_far : RulesParts → Journal → List ℕ → List ℕ
+transcript_so_far rules start text =
+    replies rules (opening start) (up_to_quit (ended_lines text))
+
+-- the journal after the text
+abbrev pub final_journal : RulesParts → Journal → List ℕ → Journal
+final_journal rules start text =
+    (talk_at_end rules (opening start) (up_to_quit (lines text))).journal
+
+-- a journal as its table, its results as CSV, or its own text
+abbrev pub final_text : RulesParts → Form → Journal → List ℕ
+final_text rules form.Table journal = table_text (standing rules journal)
+final_text rules form.Csv journal = csv_text (standing rules journal)
+final_text rules form.Journal journal = journal_text journal
+
+-- all that a run writes: the transcript, and then the final journal in the form asked for
+abbrev pub run_text : RulesParts → Journal → Form → List ℕ → List ℕ
+run_text rules start form text =
+    transcript rules start text ++ final_text rules form (final_journal rules start text)
+
+-- a whole run was written, under some rules, from some lawful start and in some form
+pub record IsWholeRun (given old new : Option (List ℕ)) : Type 0 where
+  pub rules : RulesParts
+  pub start : Journal
+  pub form : Form
+  pub lawful : is_lawful limits rules start ≡ true
+  pub wrote : IfSome given (λ text. Appends old new (run_text rules start form text))

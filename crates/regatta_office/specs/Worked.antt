@@ -1,29 +1,57 @@
--- Worked examples, by computation.
-use Rattle.std.specs.Prelude.{◌≡◌, ◌++◌, refl, codes}
+-- Worked examples, by computation: the default rules, no start, and the table at the end.
+use Rattle.std.specs.Prelude.{◌≡◌, ℕ, ◌++◌, List, [], ◌∷◌, None, refl, codes}
 use Rattle.std.specs.Fmt.{digits}
 use Rattle.regatta_terms.specs.Lines.{line_of, line_of_words, command_of_words, command_after}
-use Rattle.regatta_office.specs.Transcript.{replies, journal_at_end, run_text}
+use Rattle.regatta_terms.specs.Rules.{RulesParts}
+use Rattle.regatta_terms.specs.declared.rules.Absent.TheVariants.{A52}
+use Rattle.regatta_office.specs.declared.form.Form.TheVariants.{Table, Journal}
+use Rattle.regatta_office.specs.Transcript.{replies, talk_at_end, up_to_quit, run_text}
+
+-- A5.2, 20% for a Scoring Penalty, one score excluded from the second race on, and none at all
+abbrev default_rules : RulesParts
+default_rules = record { absent = A52; scp = None; thresholds = 2 ∷ [] }
+
+abbrev no_exclusions : RulesParts
+no_exclusions = record { absent = A52; scp = None; thresholds = [] }
+
+abbrev run : List ℕ → List ℕ
+run text = run_text default_rules [] Table text
+
+-- nobody is entered
+pub empty_sheet : run (codes "SHOW") ≡ codes "JOURNAL 0\nTABLE 0 RACES\nEND\nTABLE 0 RACES\n"
+unfolding digits replies talk_at_end up_to_quit line_of line_of_words command_of_words command_after
+empty_sheet = refl
 
 -- three boats entered, and no race scored
-pub entered_boats : run_text (codes "ENTER C\nENTER A\nENTER B\n")
+pub entered_boats : run (codes "ENTER C\nENTER A\nENTER B\n")
     ≡ codes "OK 1 1 0.0\nOK 2 1= 0.0\nOK 3 1= 0.0\nTABLE 3 RACES\n1= A 0.0\n1= B 0.0\n1= C 0.0\n"
-unfolding digits replies journal_at_end line_of line_of_words command_of_words command_after
+unfolding digits replies talk_at_end up_to_quit line_of line_of_words command_of_words command_after
 entered_boats = refl
 
 -- two boats finish a race that counts
-pub one_race : run_text (codes "ENTER A\nENTER B\nFINISH 1 B\nFINISH 1 A\nSCORE 1\n")
+pub one_race : run (codes "ENTER A\nENTER B\nFINISH 1 B\nFINISH 1 A\nSCORE 1\n")
     ≡ codes "OK 1 1 0.0\nOK 2 1= 0.0\nOK 3 1= 0.0\nOK 4 1= 0.0\nOK 5\nTABLE 2 RACES 1\n1 B 1.0 1.0\n2 A 2.0 2.0\n"
-unfolding digits replies journal_at_end line_of line_of_words command_of_words command_after
+unfolding digits replies talk_at_end up_to_quit line_of line_of_words command_of_words command_after
 one_race = refl
 
--- one boat finishes, and one didn't come
-pub one_boat_absent : run_text (codes "ENTER A\nENTER B\nFINISH 1 A\nSCORE 1\n")
-    ≡ codes "OK 1 1 0.0\nOK 2 1= 0.0\nOK 3 1= 0.0\nOK 4\nTABLE 2 RACES 1\n1 A 1.0 1.0\n2 B 3.0 3.0/DNC\n"
-unfolding digits replies journal_at_end line_of line_of_words command_of_words command_after
-one_boat_absent = refl
+-- a boat of a tie is disqualified, and the role at hand decides who may (A6.1, A7, A5.1)
+pub a_tie_and_a_disqualification : run (codes "ENTER A\nENTER B\nENTER C\nFINISH 1 A\nTIE 1 B A\nFINISH 1 C\nSCORE 1\nROLE JURY\nMARK 1 A DSQ\nROLE FINISH\nMARK 1 B DSQ\nROLE SCORER\nMARK 1 A RET\n")
+    ≡ codes "OK 1 1 0.0\nOK 2 1= 0.0\nOK 3 1= 0.0\nOK 4 1= 0.0\nOK 5 1= 0.0\nOK 6 1= 0.0\nOK 7\nROLE JURY\nOK 8 3 4.0\nROLE FINISH\nNO 4\nROLE SCORER\nNO 10\nTABLE 3 RACES 1\n1 B 1.0 1.0\n2 C 2.0 2.0\n3 A 4.0 4.0/DSQ\n"
+unfolding digits replies talk_at_end up_to_quit line_of line_of_words command_of_words command_after
+a_tie_and_a_disqualification = refl
 
--- what isn't done yet, and faults in their order
-pub interim_answers : run_text (codes "FINISH 2 A\nSCORE 40\nMARK 1 A DSQ\nMARK 1 A ZFP\nROLE JURY\nROLE KING\nQUIT\nENTER A_B\nFINISH 0 A_B\nENTER\n")
-    ≡ codes "NO 24\nNO 24\nNO 21\nNO 26\nNO 21\nNO 27\nNO 21\nNO 23\nNO 24\nNO 22\nTABLE 0 RACES\n"
-unfolding digits replies journal_at_end line_of line_of_words command_of_words command_after
-interim_answers = refl
+-- redress as an average follows another race (A9), under other rules
+pub redress : run_text no_exclusions [] Table (codes "ENTER A\nENTER B\nFINISH 1 A\nFINISH 1 B\nFINISH 2 B\nSCORE 1\nSCORE 2\nROLE JURY\nREDRESS 2 A ALL\nROLE SCORER\nSTRIKE 1 A\nBEFORE 1 A B\n")
+    ≡ codes "OK 1 1 0.0\nOK 2 1= 0.0\nOK 3 1= 0.0\nOK 4 1= 0.0\nOK 5 1= 0.0\nOK 6\nOK 7\nROLE JURY\nOK 8 1 2.0\nROLE SCORER\nOK 9 2 6.0\nOK 10 1 2.0\nTABLE 2 RACES 1 2\n1 A 2.0 1.0 1.0/RDG\n2 B 3.0 2.0 1.0\n"
+unfolding digits replies talk_at_end up_to_quit line_of line_of_words command_of_words command_after
+redress = refl
+
+-- lines behind QUIT aren't answered, and the last line needs no LF
+pub the_end_of_a_talk : run_text default_rules [] Journal (codes "ENTER A\nRANK A\nRANK B\nQUIT\nENTER C\n")
+    ≡ codes "OK 1 1 0.0\nRANK 1 0.0\nNO 7\nBYE\n1 1 SCORER ENTER A\n"
+unfolding digits replies talk_at_end up_to_quit line_of line_of_words command_of_words command_after
+the_end_of_a_talk = refl
+
+pub a_last_line : run (codes "ENTER A\nENTER B") ≡ codes "OK 1 1 0.0\nOK 2 1= 0.0\nTABLE 2 RACES\n1= A 0.0\n1= B 0.0\n"
+unfolding digits replies talk_at_end up_to_quit line_of line_of_words command_of_words command_after
+a_last_line = refl

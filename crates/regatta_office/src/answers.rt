@@ -1,82 +1,40 @@
-//! The answers to the lines of a text.
+//! What a line asks for, done and answered.
 ghost use Rattle.std.specs.Prelude.{◌≡◌, ◌++◌, Ok, Err, IfOk, OnOk};
-ghost use Rattle.regatta_office.specs.Lines.{lines};
-ghost use Rattle.regatta_office.specs.Transcript.{default_rules as default_rules_of, in_race_one as in_race_one_of, command_asked as command_asked_by, command_of, is_want_of_memory as is_want_of_memory_by, next_entry as next_entry_of, reply_to, journal_after, replies, journal_at_end, run_text};
+ghost use Rattle.regatta_scores.specs.Standing.{standing};
+ghost use Rattle.regatta_tables.specs.SheetTexts.{sheet_text};
+ghost use Rattle.regatta_office.specs.Transcript.{is_quit as is_quit_of, is_want_of_memory as is_want_of_memory_by, journal_after, next_entry as next_entry_of, ranked as ranked_by, reply_to, talk_after, talk_for, text_after, text_for};
 
-use crate::lines::first_line;
 use regatta_board::Board;
-use regatta_tables::{write_reply, write_table};
-use regatta_terms::{
-    Absent, Command, Entry, Line, LineFault, RaceNo, Refusal, Reply, Role, Rules, Sail, read_line,
-};
-use std::alloc::{AllocError, Global};
+use regatta_tables::{write_reply, write_sheet};
+use regatta_terms::{Command, Entry, Line, LineFault, Refusal, Reply, Role, Touched};
+use std::alloc::AllocError;
 
-/// The series rules where none are stated.
-fn default_rules() -> Rules
-    ensures { result ≡ default_rules_of }
-{
-    Rules::new(Absent::A52, None, &[2]).unwrap()
-}
-
-/// A command of a race, where that race is done yet.
-fn in_race_one(race: RaceNo, command: Command) -> Result<Command, LineFault>
-    ensures { result ≡ in_race_one_of race command }
-{
-    if race.get() == 1 {
-        Ok(command)
-    } else {
-        Err(LineFault::BadRace)
-    }
-}
-
-/// What is done yet of what a line asks for.
-fn command_asked(line: Line) -> Result<Command, LineFault>
-    ensures { result ≡ command_asked_by line }
-{
-    // Rattle wants to see the types that a command is made of.
-    let _parts: (Option<Sail>, Option<RaceNo>) = (None, None);
-    match line {
-        Line::Do(command) => match command {
-            Command::Enter { .. } => Ok(command),
-            Command::Finish { race, .. } | Command::Score { race } => in_race_one(race, command),
-            _ => Err(LineFault::NoSuchWord),
-        },
-        _ => Err(LineFault::NoSuchWord),
-    }
-}
-
-/// The command that a line asks for, or the fault that it is answered with.
-fn read_command(line: &[u8]) -> Result<Command, LineFault>
-    ensures { result ≡ command_of line.now }
-{
-    match read_line(line) {
-        Ok(line) => command_asked(line),
-        Err(fault) => Err(fault),
-    }
-}
-
-/// The entry that a command makes on this board.
-fn next_entry(board: &Board, command: Command) -> Entry
-    ensures { result ≡ next_entry_of board.now.entries command }
+/// The entry that a command makes on this board, in this role: of seat 1, with its next number.
+fn next_entry(board: &Board, role: Role, command: Command) -> Entry
+    ensures { result
+        ≡ next_entry_of (record { role = role; journal = board.now.entries }) command }
 {
     let nth = board.last_of(1).saturating_add(1);
-    Entry::new(1, nth, Role::Scorer, command).unwrap()
+    Entry::new(1, nth, role, command).unwrap()
 }
 
 /// Whether a refusal is want of memory.
-fn is_want_of_memory(why: Refusal) -> bool
+pub(crate) fn is_want_of_memory(why: Refusal) -> bool
     ensures { result ≡ is_want_of_memory_by why }
 {
     matches!(why, Refusal::NoMemory)
 }
 
-/// Does a command, and answers it.
-fn do_command(board: &mut Board, command: Command) -> Result<Reply, AllocError>
-    ensures reply { IfOk result (λ reply. reply ≡ reply_to board.old.rules board.old.entries (Ok command)) }
-    ensures journal { OnOk result (board.new ≡ record board.old
-        { entries = journal_after board.old.rules board.old.entries (Ok command) }) }
+/// Does a command, and gives its reply. Want of memory is no reply: the run ends by it.
+fn do_command(board: &mut Board, role: Role, command: Command) -> Result<Reply, AllocError>
+    ensures reply { IfOk result (λ reply. reply ≡ reply_to board.old.rules
+        (record { role = role; journal = board.old.entries }) command) }
+    ensures journal { OnOk result (board.new ≡ record board.old {
+      entries = journal_after
+          board.old.rules (record { role = role; journal = board.old.entries }) command;
+    }) }
 {
-    match board.apply(next_entry(board, command)) {
+    match board.apply(next_entry(board, role, command)) {
         Ok(answer) => Ok(Reply::Done(answer)),
         Err(why) => {
             if is_want_of_memory(why) {
@@ -87,44 +45,75 @@ fn do_command(board: &mut Board, command: Command) -> Result<Reply, AllocError>
     }
 }
 
-/// Does what a line asks for, and answers it.
-fn do_line(board: &mut Board, line: &[u8]) -> Result<Reply, AllocError>
-    ensures reply { IfOk result (λ reply.
-        reply ≡ reply_to board.old.rules board.old.entries (command_of line.now)) }
-    ensures journal { OnOk result (board.new ≡ record board.old
-        { entries = journal_after board.old.rules board.old.entries (command_of line.now) }) }
+/// The reply to a boat's row of the standing.
+fn ranked(row: Option<Touched>) -> Reply
+    ensures { result ≡ ranked_by row }
 {
-    match read_command(line) {
-        Ok(command) => do_command(board, command),
-        Err(fault) => Ok(Reply::Fault(fault)),
+    match row {
+        Some(touched) => Reply::Ranked(touched),
+        None => Reply::Refused(Refusal::NotEntered),
     }
 }
 
-/// Does what the lines of a text ask for, and appends their replies.
-#[tactic(auto, using(crate::proofs::Turns::turns))]
-fn do_lines(board: &mut Board, text: &[u8], out: &mut Vec<u8>) -> Result<(), AllocError>
-    ensures replies { OnOk result (out.new.items ≡ out.old.items
-        ++ replies board.old.rules board.old.entries (lines text.now)) }
-    ensures journal { OnOk result (board.new ≡ record board.old
-        { entries = journal_at_end board.old.rules board.old.entries (lines text.now) }) }
+/// Appends the sheet of the board: its journal and its standing.
+fn show(board: &Board, out: &mut Vec<u8>) -> Result<(), AllocError>
+    ensures { OnOk result (out.new.items ≡ out.old.items
+        ++ sheet_text board.now.entries (standing board.now.rules board.now.entries)) }
 {
-    let mut rest = text;
-    while !rest.is_empty() {
-        let (line, after) = first_line(rest);
-        let reply = do_line(board, line)?;
-        write_reply(&reply, out)?;
-        rest = after;
-    }
-    Ok(())
+    let standing = board.standing()?;
+    write_sheet(board.entries(), &standing, out)
 }
 
-/// The replies to the lines of a text, and then the table.
-pub(crate) fn answers(alloc: Global, text: &[u8]) -> Result<Vec<u8>, AllocError>
-    ensures { IfOk result (λ out. out.items ≡ run_text text.now) }
+/// Does what a line asks for, and appends what is written for it.
+fn answer_line(
+    board: &mut Board,
+    role: &mut Role,
+    line: Line,
+    out: &mut Vec<u8>,
+) -> Result<(), AllocError>
+    ensures text { OnOk result (out.new.items ≡ out.old.items ++ text_for board.old.rules
+        (record { role = role.old; journal = board.old.entries }) line) }
+    ensures talk { OnOk result ((record { role = role.new; journal = board.new.entries })
+        ≡ talk_for board.old.rules
+        (record { role = role.old; journal = board.old.entries }) line) }
+    ensures rules { OnOk result (board.new.rules ≡ board.old.rules) }
 {
-    let mut board = Board::open(alloc, default_rules())?;
-    let mut out = Vec::new(alloc);
-    do_lines(&mut board, text, &mut out)?;
-    write_table(&board.standing()?, &mut out)?;
-    Ok(out)
+    let reply = match line {
+        Line::Do(command) => do_command(board, *role, command)?,
+        Line::SetRole(next) => {
+            *role = next;
+            Reply::RoleSet(next)
+        }
+        Line::Rank(sail) => ranked(board.rank(sail)),
+        Line::Show => return show(board, out),
+        Line::Quit => Reply::Bye,
+    };
+    write_reply(&reply, out)
+}
+
+/// Does what a line asks for, if it can be read, and appends what is written for it.
+pub(crate) fn answer(
+    board: &mut Board,
+    role: &mut Role,
+    asked: Result<Line, LineFault>,
+    out: &mut Vec<u8>,
+) -> Result<(), AllocError>
+    ensures text { OnOk result (out.new.items ≡ out.old.items ++ text_after board.old.rules
+        (record { role = role.old; journal = board.old.entries }) asked) }
+    ensures talk { OnOk result ((record { role = role.new; journal = board.new.entries })
+        ≡ talk_after board.old.rules
+        (record { role = role.old; journal = board.old.entries }) asked) }
+    ensures rules { OnOk result (board.new.rules ≡ board.old.rules) }
+{
+    match asked {
+        Ok(line) => answer_line(board, role, line, out),
+        Err(fault) => write_reply(&Reply::Fault(fault), out),
+    }
+}
+
+/// Whether a line ends the run.
+pub(crate) fn is_quit(asked: &Result<Line, LineFault>) -> bool
+    ensures { result ≡ is_quit_of asked.now }
+{
+    matches!(asked, Ok(Line::Quit))
 }

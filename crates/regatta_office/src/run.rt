@@ -1,28 +1,46 @@
 //! A run over two streams.
-ghost use Rattle.std.specs.Prelude.{◌≡◌, ◌+◌, ◌<◌, ◌≤◌, ℕ, List, length, take, OnOk, IfSome, IsErrOf};
-ghost use Rattle.std.specs.Io.KnownBytes.{Appends, IsAtEnd};
-ghost use Rattle.regatta_streams.specs.Texts.{GaveAtMost, AppendsPrefix};
+ghost use Rattle.std.specs.Prelude.{◌≡◌, ◌≢◌, ◌+◌, ◌<◌, ◌≤◌, ◌++◌, ℕ, List, length, take, None, OnOk, IfOk, IfErr, IfSome, IsErrOf, false, true};
+ghost use Rattle.std.specs.Io.KnownBytes.{Appends, Keeps};
+ghost use Rattle.regatta_streams.specs.Texts.{GaveAtMost};
+ghost use Rattle.regatta_board.specs.Refusals.{limits, is_lawful};
+ghost use Rattle.regatta_board.specs.Replays.{first_refused};
 ghost use Rattle.regatta_office.specs.declared.run.TheConstants.{INPUT_LIMIT};
-ghost use Rattle.regatta_office.specs.Transcript.{run_text};
+ghost use Rattle.regatta_office.specs.Coming.{IsTooLong, ReadSome, Talked, coming};
+ghost use Rattle.regatta_office.specs.Faults.{IsDeviceFault, IsRunFaultOf, scribe_fault as scribe_fault_of, start_fault as start_fault_of};
+ghost use Rattle.regatta_office.specs.Lines.{ended_lines};
+ghost use Rattle.regatta_office.specs.Scribes.{point};
+ghost use Rattle.regatta_office.specs.Starts.{IsRunFault};
+ghost use Rattle.regatta_office.specs.Transcript.{final_text, has_quit, run_text, transcript_so_far};
 
-use crate::answers::answers;
-use regatta_streams::{ReadFault, Sink, Source, read_text, write_all};
-use std::alloc::Global;
+use crate::form::Form;
+use crate::opening::opened;
+use crate::scribe::{Scribe, ScribeFault};
+use regatta_board::{Board, ReplayFault};
+use regatta_streams::{Sink, Source, write_all};
+use regatta_tables::{write_csv, write_journal, write_table};
+use regatta_terms::{Entry, Refusal, Rules};
+use std::alloc::{AllocError, Global};
 use thiserror::Error;
 
-/// The most bytes that a run reads.
+/// The most bytes of an input whose lines are answered.
 pub const INPUT_LIMIT: u32 = 1_048_576;
+
+/// The bytes that one read asks for at most.
+const PIECE: usize = 4096;
 
 /// Why a run stopped.
 #[derive(Clone, Copy, Debug, PartialEq, Eq, Error)]
 pub enum RunFault {
+    /// The entry of the start at this place, counted from 1, is refused by those before it.
+    #[error("entry {at} of the start: {refusal}")]
+    Start { at: u32, refusal: Refusal },
     /// A read of the input failed.
     #[error("a read failed")]
     Read,
     /// A write to the output failed.
     #[error("a write failed")]
     Write,
-    /// A byte past the limit came.
+    /// A byte past the limit came, and no QUIT before it.
     #[error("the input is longer than 1,048,576 bytes")]
     InputTooLong,
     /// Memory was wanting.
@@ -30,65 +48,190 @@ pub enum RunFault {
     NoMemory,
 }
 
-/// Reads a whole text and answers its lines, as seat 1 in the role of the scorer: the writer gets
-/// one reply for each line, and then the table of the journal that the lines made. The series is
-/// scored under A5.2, with 20% for a Scoring Penalty that has no stated amount (44.3(c)) and one
-/// score excluded from the second race on (A2.1).
+/// The fault of a start.
+fn start_fault(fault: ReplayFault) -> RunFault
+    ensures { result ≡ start_fault_of fault }
+{
+    match fault {
+        ReplayFault::Refused { at, refusal } => RunFault::Start { at, refusal },
+        ReplayFault::NoMemory => RunFault::NoMemory,
+    }
+}
+
+/// The fault of a run that writes no more.
+fn scribe_fault(fault: ScribeFault) -> RunFault
+    ensures { result ≡ scribe_fault_of fault }
+{
+    match fault {
+        ScribeFault::Write => RunFault::Write,
+        ScribeFault::NoMemory => RunFault::NoMemory,
+    }
+}
+
+/// Reads a piece of the input, and writes what is due for the lines that end in it: at most `most`
+/// bytes are answered. How many bytes came, or `None` at the end of the run.
+fn turn<R: Source, W: Sink>(
+    scribe: &mut Scribe,
+    input: &mut R,
+    output: &mut W,
+    most: usize,
+) -> Result<Option<usize>, RunFault>
+    requires { most ≤ INPUT_LIMIT }
+    ensures talked { IfOk result (λ count. Talked (R.remaining input.old) (R.remaining input.new)
+        (W.contents output.old) (W.contents output.new) (point scribe.old) (point scribe.new)
+        count) }
+    ensures count { IfOk result (λ count. IfSome count (λ n. (0 < n) × (n ≤ most))) }
+    ensures taken { GaveAtMost (most + 1) (R.remaining input.old) (R.remaining input.new) }
+    ensures well { OnOk result ((R.failures input.new ≡ R.failures input.old)
+        × (W.failures output.new ≡ W.failures output.old)) }
+    ensures fault { IfErr result (IsDeviceFault (R.failures input.old) (R.failures input.new)
+        (W.failures output.old) (W.failures output.new)) }
+    ensures read { IsErrOf result RunFault.Read → output.new ≡ output.old }
+    ensures kept { IsErrOf result RunFault.Read →
+        Keeps (R.remaining input.old) (R.remaining input.new) }
+    ensures long { IsErrOf result RunFault.InputTooLong → IfSome (R.remaining input.old)
+        (λ text. IsTooLong (W.contents output.old) (W.contents output.new) (point scribe.old)
+        most text) }
+{
+    let mut buffer = [0; PIECE];
+    let piece = &mut buffer[..PIECE.min(most + 1)];
+    let Ok(count) = input.read(piece) else {
+        return Err(RunFault::Read);
+    };
+    if count == 0 {
+        return match scribe.finish(output) {
+            Ok(()) => Ok(None),
+            Err(fault) => Err(scribe_fault(fault)),
+        };
+    }
+    match scribe.take_all(&piece[..count.min(most)], output) {
+        Ok(false) => {}
+        Ok(true) => return Ok(None),
+        Err(fault) => return Err(scribe_fault(fault)),
+    }
+    if most < count {
+        return Err(RunFault::InputTooLong);
+    }
+    Ok(Some(count))
+}
+
+/// Answers the lines of the input, up to QUIT or its end.
+fn answer_all<R: Source, W: Sink>(
+    scribe: &mut Scribe,
+    input: &mut R,
+    output: &mut W,
+) -> Result<(), RunFault>
+    ensures wrote { OnOk result (IfSome (R.remaining input.old) (λ text. Appends
+        (W.contents output.old) (W.contents output.new)
+        (coming true (point scribe.old) text).text)) }
+    ensures after { OnOk result (IfSome (R.remaining input.old) (λ text.
+        (point scribe.new).talk.journal ≡ (coming true (point scribe.old) text).journal)) }
+    ensures rules { OnOk result ((point scribe.new).rules ≡ (point scribe.old).rules) }
+    ensures taken { GaveAtMost (INPUT_LIMIT + 1) (R.remaining input.old)
+        (R.remaining input.new) }
+    ensures well { OnOk result ((R.failures input.new ≡ R.failures input.old)
+        × (W.failures output.new ≡ W.failures output.old)) }
+    ensures fault { IfErr result (IsDeviceFault (R.failures input.old) (R.failures input.new)
+        (W.failures output.old) (W.failures output.new)) }
+    ensures read { IsErrOf result RunFault.Read → ReadSome (R.remaining input.old)
+        (R.remaining input.new) (W.contents output.old) (W.contents output.new)
+        (λ given. (coming false (point scribe.old) given).text) }
+    ensures long { IsErrOf result RunFault.InputTooLong → IfSome (R.remaining input.old)
+        (λ text. IsTooLong (W.contents output.old) (W.contents output.new) (point scribe.old)
+        INPUT_LIMIT text) }
+{
+    let mut most = INPUT_LIMIT as usize;
+    loop {
+        match turn(scribe, input, output, most) {
+            Ok(Some(count)) => most -= count,
+            Ok(None) => return Ok(()),
+            Err(fault) => return Err(fault),
+        }
+    }
+}
+
+/// Appends the final part of a run: the journal of the board in the form asked for.
+fn write_final(
+    alloc: Global,
+    board: &Board,
+    form: Form,
+    out: &mut Vec<u8>,
+) -> Result<(), AllocError>
+    ensures { OnOk result (out.new.items ≡ out.old.items
+        ++ final_text board.now.rules form board.now.entries) }
+{
+    match form {
+        Form::Table => write_table(&board.standing()?, out),
+        Form::Csv => write_csv(alloc, &board.standing()?, out),
+        Form::Journal => write_journal(board.entries(), out),
+    }
+}
+
+/// Answers the lines of a text, as seat 1 and first in the role of the scorer, on a board that
+/// holds the start: the writer gets what is due for each line up to QUIT or the end of the text,
+/// and then the final journal in the form asked for. The series is scored under the rules handed
+/// in.
+///
+/// The text is read in pieces and answered line by line: it is never held whole.
 ///
 /// # Errors
 ///
-/// `Read` and `Write` where the device fails, `InputTooLong` where a byte past `INPUT_LIMIT` comes,
-/// `NoMemory` where memory is wanting. Nothing is written then, but for some first part of the
-/// whole text where a write fails.
+/// `Start` where an entry of the start is refused by those before it: nothing is written then.
+/// `Read` and `Write` where the device fails, `InputTooLong` where a byte past `INPUT_LIMIT` comes
+/// and no QUIT before it, `NoMemory` where memory is wanting. The final part isn't written then;
+/// lines before the fault were answered.
 pub fn replay<R: Source, W: Sink>(
     alloc: Global,
     input: &mut R,
     output: &mut W,
+    rules: &Rules,
+    start: &[Entry],
+    form: Form,
 ) -> Result<(), RunFault>
-    // The text that the reader gave is answered, however its bytes were cut, and nothing else is
-    // written.
-    ensures answered { OnOk result (IfSome (R.remaining input.old)
-        (λ text. Appends (W.contents output.old) (W.contents output.new) (run_text text))) }
-    ensures whole { OnOk result (IsAtEnd (R.remaining input.new)) }
-    ensures short { OnOk result
-        (IfSome (R.remaining input.old) (λ text. length text ≤ INPUT_LIMIT)) }
-    ensures taken { GaveAtMost (INPUT_LIMIT + 1) (R.remaining input.old) (R.remaining input.new) }
+    // The lines of the text that the reader gives are answered, however its bytes are cut, and
+    // then the final journal is written, and nothing else.
+    ensures answered { OnOk result (IfSome (R.remaining input.old) (λ text. Appends
+        (W.contents output.old) (W.contents output.new)
+        (run_text rules.now start.now form text))) }
+    ensures taken { GaveAtMost (INPUT_LIMIT + 1) (R.remaining input.old)
+        (R.remaining input.new) }
 
-    // When each fault comes.
-    ensures read { IsErrOf result RunFault.Read →
-        R.failures input.new ≡ R.failures input.old + 1 }
-    ensures write { IsErrOf result RunFault.Write →
-        W.failures output.new ≡ W.failures output.old + 1 }
-    ensures long { IsErrOf result RunFault.InputTooLong →
-        IfSome (R.remaining input.old) (λ text. INPUT_LIMIT < length text) }
-
-    // What is written then: nothing, or the first bytes of the whole text.
-    ensures silent_read { IsErrOf result RunFault.Read → output.new ≡ output.old }
-    ensures silent_long { IsErrOf result RunFault.InputTooLong → output.new ≡ output.old }
-    ensures silent_memory { IsErrOf result RunFault.NoMemory → output.new ≡ output.old }
-    ensures cut { IsErrOf result RunFault.Write → IfSome (R.remaining input.old)
-        (λ text. AppendsPrefix (W.contents output.old) (W.contents output.new) (run_text text)) }
+    // A start that isn't lawful: the first entry refused, or want of memory, and nothing is read
+    // or written.
+    ensures lawful { OnOk result (is_lawful limits rules.now start.now ≡ true) }
+    ensures start { IfErr result (IsRunFault (first_refused rules.now start.now)) }
+    ensures unread { first_refused rules.now start.now ≢ None → input.new ≡ input.old }
+    ensures silent { first_refused rules.now start.now ≢ None → output.new ≡ output.old }
 
     // A device that failed is told by its own fault, and by no other.
-    ensures well_read { OnOk result (R.failures input.new ≡ R.failures input.old) }
-    ensures well_written { OnOk result (W.failures output.new ≡ W.failures output.old) }
-    ensures well_write { IsErrOf result RunFault.Write →
-        R.failures input.new ≡ R.failures input.old }
-    ensures well_long { IsErrOf result RunFault.InputTooLong →
-        R.failures input.new ≡ R.failures input.old }
-    ensures well_memory { IsErrOf result RunFault.NoMemory →
-        R.failures input.new ≡ R.failures input.old }
+    ensures well { OnOk result ((R.failures input.new ≡ R.failures input.old)
+        × (W.failures output.new ≡ W.failures output.old)) }
+    ensures fault { IfErr result (IsRunFaultOf (R.failures input.old) (R.failures input.new)
+        (W.failures output.old) (W.failures output.new)) }
+
+    // What is written by then: replies to the lines that had ended, as far as they count.
+    ensures read { IsErrOf result RunFault.Read → ReadSome (R.remaining input.old)
+        (R.remaining input.new) (W.contents output.old) (W.contents output.new)
+        (transcript_so_far rules.now start.now) }
+    ensures long { IsErrOf result RunFault.InputTooLong → IfSome (R.remaining input.old)
+        (λ text. (INPUT_LIMIT < length text)
+        × (has_quit (ended_lines (take INPUT_LIMIT text)) ≡ false)
+        × Appends (W.contents output.old) (W.contents output.new)
+        (transcript_so_far rules.now start.now (take INPUT_LIMIT text))) }
 {
-    let text = match read_text(alloc, input, INPUT_LIMIT) {
-        Ok(text) => text,
-        Err(ReadFault::Stream) => return Err(RunFault::Read),
-        Err(ReadFault::TooLong) => return Err(RunFault::InputTooLong),
-        Err(ReadFault::NoMemory) => return Err(RunFault::NoMemory),
+    let board = match opened(alloc, rules, start) {
+        Ok(board) => board,
+        Err(fault) => return Err(start_fault(fault)),
     };
-    let Ok(answers) = answers(alloc, &text) else {
+    let mut scribe = Scribe::new(alloc, board);
+    if let Err(fault) = answer_all(&mut scribe, input, output) {
+        return Err(fault);
+    }
+    let mut text = Vec::new(alloc);
+    if write_final(alloc, scribe.board(), form, &mut text).is_err() {
         return Err(RunFault::NoMemory);
-    };
-    if write_all(output, &answers).is_err() {
+    }
+    if write_all(output, &text).is_err() {
         return Err(RunFault::Write);
     }
     Ok(())

@@ -1,54 +1,119 @@
 //! The program: from its words to its status.
-ghost use Rattle.std.specs.Prelude.{◌≡◌, ◌≢◌, ℕ, List, IfSome};
+ghost use Rattle.std.specs.Prelude.{◌≡◌, ◌≢◌, ◌⊎◌, ℕ, List, IfSome, OnOk};
 ghost use Rattle.std.specs.Io.KnownBytes.{Appends};
-ghost use Rattle.regatta_office.specs.Transcript.{run_text};
+ghost use Rattle.regatta_office.specs.Transcript.{IsWholeRun};
 
-use crate::run::{RunFault, replay};
+use crate::complaint::Complaint;
+use crate::files::{journal_at, sails_at};
+use crate::options::{Options, options_of, regatta};
+use crate::run::replay;
+use crate::start::start_of;
+use clap::error::ErrorKind;
 use regatta_streams::{Sink, Source, write_all};
+use regatta_terms::Rules;
 use std::alloc::Global;
+use std::fs::Files;
 
-/// The status where the words aren't the program's.
+/// The status of words that aren't the program's.
 const BAD_WORDS: u8 = 2;
 
-/// The status where a device fails or memory is wanting.
-const DEVICE_FAULT: u8 = 3;
-
-/// What is said of a fault, and the status that it ends with.
-fn complaint(fault: RunFault) -> (&'static str, u8)
-    ensures { result.1 ≢ 0 }
+/// Says on standard error why the program stops short. The status that it ends with.
+fn complain<E: Sink>(alloc: Global, errors: &mut E, complaint: Complaint) -> u8
+    ensures { result ≢ 0 }
 {
-    match fault {
-        RunFault::InputTooLong => ("regatta: input too long\n", 1),
-        RunFault::Read | RunFault::Write => ("regatta: device fault\n", DEVICE_FAULT),
-        RunFault::NoMemory => ("regatta: no memory\n", DEVICE_FAULT),
+    let Ok(text) = format!(in alloc; "{complaint}\n") else {
+        let _ = write_all(errors, b"regatta: no memory\n");
+        return Complaint::NoMemory.status();
+    };
+    match write_all(errors, text.as_bytes()) {
+        Ok(()) => complaint.status(),
+        Err(_) => Complaint::Device.status(),
     }
 }
 
-/// The whole program, from the words after its name to its status: `replay` answers the lines that
-/// the input gives. The status is 0 once all is written, 1 where the input is too long, 2 for any
-/// other words, and 3 where a device fails or memory is wanting.
-pub fn program<R: Source, W: Sink, E: Sink>(
+/// Says what `clap` says of words that it doesn't take, or the help that they ask for.
+fn answer_words<W: Sink, E: Sink>(
     alloc: Global,
+    error: &clap::Error,
+    output: &mut W,
+    errors: &mut E,
+) -> u8 {
+    if error.kind() == ErrorKind::OutOfMemory {
+        return complain(alloc, errors, Complaint::NoMemory);
+    }
+    let Ok(text) = format!(in alloc; "{error}") else {
+        return complain(alloc, errors, Complaint::NoMemory);
+    };
+    if !error.use_stderr() {
+        return match write_all(output, text.as_bytes()) {
+            Ok(()) => 0,
+            Err(_) => complain(alloc, errors, Complaint::Device),
+        };
+    }
+    match write_all(errors, text.as_bytes()) {
+        Ok(()) => BAD_WORDS,
+        Err(_) => Complaint::Device.status(),
+    }
+}
+
+/// Replays the input as the options ask.
+fn run<H: Files + AllocGlobal, R: Source, W: Sink>(
+    rt: &H,
+    options: &Options<'_>,
+    input: &mut R,
+    output: &mut W,
+) -> Result<(), Complaint>
+    ensures { OnOk result (IsWholeRun (R.remaining input.old) (W.contents output.old)
+        (W.contents output.new)) }
+{
+    let rules = Rules::read(options.absent, options.scp, options.exclude)?;
+    let journal = journal_at(rt, options.journal)?;
+    let sails = sails_at(rt, options.entries)?;
+    let start = start_of(rt.alloc(), journal.as_slice(), sails.as_slice())?;
+    replay(
+        rt.alloc(),
+        input,
+        output,
+        &rules,
+        start.as_slice(),
+        options.form,
+    )?;
+    Ok(())
+}
+
+/// The whole program, from the words after its name to its status.
+///
+/// `replay` answers the lines that the input gives and prints the final table, CSV or journal.
+/// `--absent`, `--scp` and `--exclude` are the series rules (RRS A5.2 and A5.3, 44.3(c), A2.1),
+/// `--journal` and `--entries` name files to start from, `--print` the form of the final part.
+///
+/// The status is 0 once all is written, 1 where a file, the start or the input is at fault, 2 where
+/// the words or the rules are, and 3 where a device fails or memory is wanting. All but 0 say why on
+/// `errors`.
+pub fn program<H: Files + AllocGlobal, R: Source, W: Sink, E: Sink>(
+    rt: &H,
     words: &[&str],
     input: &mut R,
     output: &mut W,
     errors: &mut E,
 ) -> u8
-    ensures done { result ≡ 0 → IfSome (R.remaining input.old)
-        (λ text. Appends (W.contents output.old) (W.contents output.new) (run_text text)) }
+    // All of a run is written, or the input wasn't read: the words asked for help.
+    ensures done { result ≡ 0 → (input.new ≡ input.old) ⊎ IsWholeRun (R.remaining input.old)
+        (W.contents output.old) (W.contents output.new) }
 {
-    let [word] = words else {
-        return BAD_WORDS;
+    let alloc = rt.alloc();
+    let Ok(command) = regatta(alloc) else {
+        return complain(alloc, errors, Complaint::NoMemory);
     };
-    if *word != "replay" {
-        return BAD_WORDS;
-    }
-    let Err(fault) = replay(alloc, input, output) else {
-        return 0;
+    let matches = match command.try_get_matches_from(words) {
+        Ok(matches) => matches,
+        Err(error) => return answer_words(alloc, &error, output, errors),
     };
-    let (text, status) = complaint(fault);
-    match write_all(errors, text.as_bytes()) {
-        Ok(()) => status,
-        Err(_) => DEVICE_FAULT,
+    let Some(options) = options_of(&matches) else {
+        return complain(alloc, errors, Complaint::NoMemory);
+    };
+    match run(rt, &options, input, output) {
+        Ok(()) => 0,
+        Err(complaint) => complain(alloc, errors, complaint),
     }
 }

@@ -36,3 +36,7 @@ module _ (order : List (List ℕ)) (held : List Held) (placed : List (Option ℕ
       let by_place : plain nat_eq rules (race_of order held) boat ≡ plain_with rules hers (placed_points (race_of order held) boat) (length held) (dnf_by rules.absent (length held) (number_came nat_eq (race_of order held)))
       = (λ i. (let entered = length-range_with_len 0 (length held) i in let dnf = dnf_by rules.absent entered (number_came nat_eq (race_of order held)) in penalised (base_by_placed hers.code stands points entered dnf i) (penalty_points rules dnf hers) dnf)) in
       by_place ∙ sym (λ i. plain_with rules hers (is.by_number boat i) (length held) (dnf_by rules.absent (length held) (number_came_is i)))
+
+-- her points for a place tell whether she stands in the order
+pub stands_is : (order : List (List ℕ)) (held : List Held) (placed : List (Option ℕ)) → HasPlacedPoints order held placed → (boat : ℕ) → is_some (get_or placed boat None) ≡ stands_in nat_eq boat order
+stands_is order held placed is boat = ap is_some (is.by_number boat) ∙ is_some_by (stands_in nat_eq boat order) (place_points nat_eq (race_of order held) boat)

@@ -1,0 +1,112 @@
+//! A full season: 200 boats, 40 races, 4,096 entries, each applied to the board. It shows that a
+//! season runs whole, and in a time that a test has.
+use crate::Board;
+use regatta_terms::{
+    Absent, Code, Command, Entry, PenaltyKind, RaceNo, Redress, Refusal, Role, Rules, Sail,
+};
+use std::test::Fail;
+
+/// How many boats finish in each race.
+const FINISHERS: u8 = 94;
+
+/// The sail of a boat, by her number.
+fn sail(boat: u8) -> Result<Sail, Fail> {
+    let text = [
+        b'S',
+        b'0' + boat / 100,
+        b'0' + boat / 10 % 10,
+        b'0' + boat % 10,
+    ];
+    let sail = Sail::read(&text).ok_or("a sail")?;
+    Ok(sail)
+}
+
+/// The next entry of a seat.
+fn next(board: &Board, seat: u8, role: Role, command: Command) -> Result<Entry, Fail> {
+    let nth = board.last_of(seat).saturating_add(1);
+    let entry = Entry::new(seat, nth, role, command).ok_or("an entry")?;
+    Ok(entry)
+}
+
+/// Applies a command as the next of a seat.
+fn apply(board: &mut Board, seat: u8, role: Role, command: Command) -> Result<(), Fail> {
+    let entry = next(board, seat, role, command)?;
+    board.apply(entry).map_err(|_| "an accepted command")?;
+    Ok(())
+}
+
+/// Enters all boats.
+fn enter_all(board: &mut Board) -> Result<(), Fail> {
+    for boat in 0..200u8 {
+        let sail = sail(boat)?;
+        apply(board, 1, Role::Scorer, Command::Enter { sail })?;
+    }
+    Ok(())
+}
+
+/// Some boats finish, others in each race, the fleet turned by ten each time.
+fn finish(board: &mut Board, race: RaceNo) -> Result<(), Fail> {
+    for place in 0..FINISHERS {
+        let boat = (u32::from(race.get()) * 10 + u32::from(place)) % 200;
+        let sail = sail(boat as u8)?;
+        apply(board, 2, Role::Finish, Command::Finish { race, sail })?;
+    }
+    Ok(())
+}
+
+/// One race: the finishers, a penalty, an average as redress, and then it counts.
+fn run(board: &mut Board, race: RaceNo) -> Result<(), Fail> {
+    finish(board, race)?;
+    let kind = PenaltyKind::Zfp;
+    let redress = Redress::AllRaces;
+    let (first, second) = (sail(race.get())?, sail(race.get() + 100)?);
+    let penalise = Command::Penalise {
+        race,
+        sail: first,
+        kind,
+    };
+    apply(board, 2, Role::Finish, penalise)?;
+    let redress = Command::Redress {
+        race,
+        sail: second,
+        redress,
+    };
+    apply(board, 3, Role::Jury, redress)?;
+    apply(board, 1, Role::Scorer, Command::Score { race })
+}
+
+/// The protest committee disqualifies some boats in the first race.
+fn disqualify(board: &mut Board, race: RaceNo) -> Result<(), Fail> {
+    for boat in 180..196u8 {
+        let (sail, code) = (sail(boat)?, Code::Dsq);
+        apply(board, 3, Role::Jury, Command::Mark { race, sail, code })?;
+    }
+    Ok(())
+}
+
+/// All races, and the decisions after them.
+fn sail_all(board: &mut Board) -> Result<(), Fail> {
+    for number in 1..41u8 {
+        let race = RaceNo::new(number).ok_or("a race")?;
+        run(board, race)?;
+    }
+    let first = RaceNo::new(1).ok_or("the first race")?;
+    disqualify(board, first)
+}
+
+#[test]
+fn a_full_season_runs(rt: HostRuntime) -> Result<(), Fail> {
+    let rules = Rules::new(Absent::A52, None, &[4, 8, 16, 30]).map_err(|_| "rules")?;
+    let mut board = Board::open(rt.alloc(), rules)?;
+    enter_all(&mut board)?;
+    sail_all(&mut board)?;
+    assert_eq!(rt; board.len(), 4096);
+    let standing = board.standing()?;
+    assert_eq!(rt; standing.races.as_slice().len(), 40);
+    assert_eq!(rt; standing.rows.as_slice().len(), 200);
+    let race = RaceNo::new(1).ok_or("the first race")?;
+    let entry = next(&board, 1, Role::Scorer, Command::Unscore { race })?;
+    let full = matches!(board.apply(entry), Err(Refusal::JournalFull));
+    assert!(rt; full, "the journal is full");
+    Ok(())
+}

@@ -1,0 +1,274 @@
+-- What a writer took, and a reader gave, over several steps of a run.
+use Rattle.std.proofs.Common.{◌≡◌, ℕ, ◌<◌, length, Bool, true, false, List, [], ◌∷◌, ◌++◌, Option, Some, None, Result, Ok, Err, IfOk, OnOk, IfSome, refl, sym, ap, ◌∙◌, subst, append_assoc, append-nil, arith, take, drop, length-append, ◌+◌, ◌≤◌}
+use Rattle.std.proofs.lemmas.List.{take-append-drop, take-take}
+use Rattle.std.proofs.Math.Seq.{take-append-add}
+use Rattle.regatta_streams.specs.Texts.{GaveAtMost}
+use Rattle.std.proofs.Math.Seq.{take-append_seam}
+use Rattle.std.specs.Io.KnownBytes.{Appends, Consumes, Keeps}
+use Rattle.regatta_terms.specs.Lines.{line_of}
+use Rattle.regatta_streams.proofs.KnownBytes.{appends-none, appends-then, consumes-kept, consumes-none, consumes-then}
+use Rattle.regatta_office.specs.Lines.{is_line_end, last_line}
+use Rattle.regatta_office.specs.Coming.{Finished, IsTooLong, Point, ReadSome, Said, Talked, Went, said, kept_lines, ahead, coming, ended, keep, unless}
+use Rattle.regatta_office.specs.Transcript.{is_quit, talk_after, text_after}
+use Rattle.regatta_office.proofs.Saying.{ahead-ahead, line_ends, line_goes, line_last, line_none, said-none}
+
+-- a byte of a line was kept
+pub byte_kept : (out : Option (List ℕ)) (before after : Point) (byte : ℕ) → is_line_end byte ≡ false
+    → after ≡ record before { line = keep before.line byte } → Went out out (byte ∷ []) before after false
+byte_kept out before after byte is kept = record {
+  written = [];
+  wrote = appends-none out;
+  rules = ap (λ (p : Point). p.rules) kept;
+  goes = λ counts rest. line_goes counts before byte rest is ∙ ap (λ (p : Point). coming counts p rest) (sym kept);
+}
+
+-- a line ended, and was answered
+pub line_ended : (old new : Option (List ℕ)) (before after : Point) (byte : ℕ) (quit : Bool) → is_line_end byte ≡ true
+    → quit ≡ is_quit (line_of before.line)
+    → Appends old new (text_after before.rules before.talk (line_of before.line))
+    → after ≡ record { rules = before.rules; talk = talk_after before.rules before.talk (line_of before.line); line = [] }
+    → Went old new (byte ∷ []) before after quit
+line_ended old new before after byte quit is quits wrote went = record {
+  written = text_after before.rules before.talk (line_of before.line);
+  wrote = wrote;
+  rules = ap (λ (p : Point). p.rules) went;
+  goes = λ counts rest.
+      line_ends counts before byte rest is
+      ∙ (λ i. ahead (text_after before.rules before.talk (line_of before.line)) (unless (sym quits i) counts (sym went i) rest));
+}
+
+-- the same of an answer that may have failed, with what was kept of the line
+pub line_ended_ok : {E : Type 0} (old new : Option (List ℕ)) (before after : Point) (line : List ℕ) (byte : ℕ) (r : Result Bool E)
+    → is_line_end byte ≡ true → line ≡ before.line
+    → IfOk r (λ quit. quit ≡ is_quit (line_of line))
+    → OnOk r (Appends old new (text_after before.rules before.talk (line_of line)))
+    → OnOk r (after ≡ record { rules = before.rules; talk = talk_after before.rules before.talk (line_of line); line = [] })
+    → IfOk r (λ quit. Went old new (byte ∷ []) before after quit)
+line_ended_ok old new before after line byte (Ok quit) is same quits wrote went =
+    line_ended old new before after byte quit is
+    (quits ∙ ap (λ (l : List ℕ). is_quit (line_of l)) same)
+    (subst (λ (l : List ℕ). Appends old new (text_after before.rules before.talk (line_of l))) same wrote)
+    (went ∙ ap (λ (l : List ℕ). record { rules = before.rules; talk = talk_after before.rules before.talk (line_of l); line = [] }) same)
+line_ended_ok old new before after line byte (Err e) is same quits wrote went = tt
+
+-- ---- the end of a text
+
+-- a last line without LF was answered
+pub finished_line : (old new : Option (List ℕ)) (before after : Point) → 0 < length before.line
+    → Appends old new (text_after before.rules before.talk (line_of before.line))
+    → after ≡ record { rules = before.rules; talk = talk_after before.rules before.talk (line_of before.line); line = [] }
+    → Finished old new before after
+finished_line old new before after some wrote went = record {
+  written = text_after before.rules before.talk (line_of before.line);
+  wrote = wrote;
+  rules = ap (λ (p : Point). p.rules) went;
+  quit = is_quit (line_of before.line);
+  says =
+      line_last before some
+      ∙ (λ i. ahead (text_after before.rules before.talk (line_of before.line)) (ended (is_quit (line_of before.line)) (sym went i)));
+}
+
+-- there is none
+pub finished_none : (out : Option (List ℕ)) (before after : Point) → length before.line ≡ 0 → after ≡ before → Finished out out before after
+finished_none out before after none same = record {
+  written = [];
+  wrote = appends-none out;
+  rules = ap (λ (p : Point). p.rules) same;
+  quit = false;
+  says = line_none before none ∙ ap (ended false) (sym same);
+}
+
+-- nothing came yet
+pub went-none : (out : Option (List ℕ)) (point : Point) → Went out out [] point point false
+went-none out point = record {
+  written = [];
+  wrote = appends-none out;
+  rules = refl;
+  goes = λ counts rest. refl;
+}
+
+-- some bytes, and then others
+pub went-then : (a b c : Option (List ℕ)) (xs ys : List ℕ) (p q r : Point) (quit : Bool)
+    → Went a b xs p q false → Went b c ys q r quit → Went a c (xs ++ ys) p r quit
+went-then a b c xs ys p q r quit u v = record {
+  written = u.written ++ v.written;
+  wrote = appends-then a b c u.written v.written u.wrote v.wrote;
+  rules = v.rules ∙ u.rules;
+  goes = λ counts rest.
+      ap (coming counts p) (append_assoc xs ys rest) ∙ u.goes counts (ys ++ rest)
+      ∙ ap (ahead u.written) (v.goes counts rest) ∙ sym (ahead-ahead u.written v.written (unless quit counts r rest));
+}
+
+-- where the run ended within some bytes, those behind them say nothing
+pub went-quit : (a b : Option (List ℕ)) (xs ys : List ℕ) (p q : Point) → Went a b xs p q true → Went a b (xs ++ ys) p q true
+went-quit a b xs ys p q u = record {
+  written = u.written;
+  wrote = u.wrote;
+  rules = u.rules;
+  goes = λ counts rest. ap (coming counts p) (append_assoc xs ys rest) ∙ u.goes counts (ys ++ rest);
+}
+
+-- ---- a reader and a writer
+
+not_some : {n : ℕ} → None ≡ Some n → ⊥
+not_some e = cc
+
+-- a piece of a list stands in a longer one
+pub take_front : (m n : ℕ) (xs : List ℕ) → m ≤ n → take n xs ≡ take m xs ++ drop m (take n xs)
+take_front m n xs few =
+    sym (take-append-drop m (take n xs)) ∙ ap (λ (ys : List ℕ). ys ++ drop m (take n xs)) (take-take m n xs few)
+
+-- a QUIT stood in what the reader gave
+pub talked_quit : (a b c d : Option (List ℕ)) (p q : Point) (given bytes left : List ℕ) → given ≡ bytes ++ left
+    → Consumes a b given → Went c d bytes p q true → Talked a b c d p q None
+talked_quit a b c d p q given bytes left cut took u = record {
+  given = given;
+  took = took;
+  written = u.written;
+  wrote = u.wrote;
+  rules = u.rules;
+  goes = λ n none. absurd (not_some none);
+  ends = λ none. by b;
+}
+  where
+    by : (b : Option (List ℕ)) → IfSome b (λ rest. (quit : Bool) × (coming true p (given ++ rest) ≡ ahead u.written (ended quit q)))
+    by None = tt
+    by (Some rest) =
+        (true, ap (λ (t : List ℕ). coming true p (t ++ rest)) cut ∙ ap (coming true p) (append_assoc bytes left rest) ∙ u.goes true (left ++ rest))
+
+nothing_comes : (q : Point) → coming false q [] ≡ ended false q
+unfolding kept_lines
+nothing_comes q = ap (said q.rules q.talk) (none q.line) ∙ said-none q.rules q.talk
+  where
+    none : (line : List ℕ) → last_line false line ≡ []
+    none [] = refl
+    none (byte ∷ line) = refl
+
+-- the bytes that were answered are as many as may be, and more were given
+pub talked_long : (a b c d : Option (List ℕ)) (p q : Point) (most : ℕ) (given bytes left : List ℕ) → given ≡ bytes ++ left
+    → length bytes ≡ most → 0 < length left
+    → Consumes a b given → Went c d bytes p q false → IfSome a (λ text. IsTooLong c d p most text)
+talked_long None b c d p q most given bytes left cut full more took u = tt
+talked_long (Some text) None c d p q most given bytes left cut full more took u = absurd took
+talked_long (Some text) (Some rest) c d p q most given bytes left cut full more took u =
+    let split : text ≡ bytes ++ (left ++ rest) = took ∙ ap (λ (t : List ℕ). t ++ rest) cut ∙ append_assoc bytes left rest in
+    let front : take most text ≡ bytes = rw (split, sym full) (take-append_seam bytes (left ++ rest)) in
+    let said_is : coming false p (take most text) ≡ ahead u.written (ended false q) =
+    ap (coming false p) (front ∙ sym (append-nil bytes)) ∙ u.goes false [] ∙ ap (ahead u.written) (nothing_comes q)
+    in
+    record {
+      long = rw split (omega (arith, full, more, length-append bytes (left ++ rest), length-append left rest));
+      quit = ap (λ (s : Said). s.quit) said_is;
+      wrote = subst (Appends c d) (sym (ap (λ (s : Said). s.text) said_is ∙ append-nil u.written)) u.wrote;
+    }
+
+-- nothing came yet
+pub talked_none : (a c : Option (List ℕ)) (p : Point) → Talked a a c c p p (Some 0)
+talked_none a c p = record {
+  given = [];
+  took = consumes-none a;
+  written = [];
+  wrote = appends-none c;
+  rules = refl;
+  goes = λ n is. (cc (is), λ counts rest. refl);
+  ends = λ e. absurd (some_not e);
+}
+  where
+    some_not : {n : ℕ} → Some n ≡ None → ⊥
+    some_not e = cc
+
+-- one turn, and then another
+module _ (a b c d e f : Option (List ℕ)) (p q r : Point) (n : ℕ) (u : Talked a b d e p q (Some n)) where
+  u_goes : (counts : Bool) (rest : List ℕ) → coming counts p (u.given ++ rest) ≡ ahead u.written (coming counts q rest)
+  u_goes = (u.goes n refl).1
+
+  u_count : length u.given ≡ n
+  u_count = (u.goes n refl).0
+
+  -- the run goes on
+  pub talked_more : (m : ℕ) → Talked b c e f q r (Some m) → Talked a c d f p r (Some (n + m))
+  talked_more m v = record {
+    given = u.given ++ v.given;
+    took = consumes-then a b c u.given v.given u.took v.took;
+    written = u.written ++ v.written;
+    wrote = appends-then d e f u.written v.written u.wrote v.wrote;
+    rules = v.rules ∙ u.rules;
+    goes = λ k is. (
+      length-append u.given v.given ∙ (λ i. u_count i + (v.goes m refl).0 i) ∙ some_same is,
+      λ counts rest.
+          ap (coming counts p) (append_assoc u.given v.given rest) ∙ u_goes counts (v.given ++ rest)
+          ∙ ap (ahead u.written) ((v.goes m refl).1 counts rest) ∙ sym (ahead-ahead u.written v.written (coming counts r rest)),
+    );
+    ends = λ is. absurd (some_not is);
+  }
+    where
+      some_not : {k : ℕ} → Some k ≡ None → ⊥
+      some_not is = cc
+
+      some_same : {k l : ℕ} → Some k ≡ Some l → k ≡ l
+      some_same is = cc
+
+  -- the run has ended: all of the text was answered
+  pub talked_all : Talked b c e f q r None → IfSome a (λ text. Appends d f (coming true p text).text)
+  talked_all v = whole a b c u.took v.took (v.ends refl)
+    where
+      whole : (a b c : Option (List ℕ)) → Consumes a b u.given → Consumes b c v.given
+          → IfSome c (λ rest. (quit : Bool) × (coming true q (v.given ++ rest) ≡ ahead v.written (ended quit r)))
+          → IfSome a (λ text. Appends d f (coming true p text).text)
+      whole None b c h k w = tt
+      whole (Some text) None c h k w = absurd h
+      whole (Some text) (Some mid) None h k w = absurd k
+      whole (Some text) (Some mid) (Some rest) h k (quit, says) =
+          let is : coming true p text ≡ ahead u.written (ahead v.written (ended quit r)) =
+          ap (coming true p) h ∙ u_goes true mid ∙ ap (λ (t : List ℕ). ahead u.written (coming true q t)) k ∙ ap (ahead u.written) says
+          in
+          subst (Appends d f)
+          (sym (ap (λ (s : Said). s.text) is ∙ ap (λ (t : List ℕ). u.written ++ t) (append-nil v.written)))
+          (appends-then d e f u.written v.written u.wrote v.wrote)
+
+  pub talked_journal : Talked b c e f q r None → IfSome a (λ text. r.talk.journal ≡ (coming true p text).journal)
+  talked_journal v = whole a b c u.took v.took (v.ends refl)
+    where
+      whole : (a b c : Option (List ℕ)) → Consumes a b u.given → Consumes b c v.given
+          → IfSome c (λ rest. (quit : Bool) × (coming true q (v.given ++ rest) ≡ ahead v.written (ended quit r)))
+          → IfSome a (λ text. r.talk.journal ≡ (coming true p text).journal)
+      whole None b c h k w = tt
+      whole (Some text) None c h k w = absurd h
+      whole (Some text) (Some mid) None h k w = absurd k
+      whole (Some text) (Some mid) (Some rest) h k (quit, says) =
+          sym (ap (λ (s : Said). s.journal)
+          (ap (coming true p) h ∙ u_goes true mid ∙ ap (λ (t : List ℕ). ahead u.written (coming true q t)) k ∙ ap (ahead u.written) says))
+
+  -- the reader gave so many bytes, and then at most so many more
+  pub gave_more : (most limit : ℕ) → n + most ≤ limit → GaveAtMost most b c → GaveAtMost limit a c
+  gave_more most limit few (bytes, took, short) = (
+    u.given ++ bytes,
+    consumes-then a b c u.given bytes u.took took,
+    (let bound : length (u.given ++ bytes) ≤ limit = omega (arith, few, short, u_count, length-append u.given bytes) in bound),
+  )
+
+  -- the reader broke off
+  pub broke_off : Keeps b c → ReadSome a c d e (λ given. (coming false p given).text)
+  broke_off kept = (
+    u.given,
+    consumes-kept a b c u.given u.took kept,
+    subst (Appends d e)
+        (sym (ap (λ (s : Said). s.text) (ap (coming false p) (sym (append-nil u.given)) ∙ u_goes false [] ∙ ap (ahead u.written) (nothing_comes q)) ∙ append-nil u.written))
+        u.wrote,
+  )
+
+  -- the text is too long
+  pub too_long_at : (most : ℕ) → IfSome b (λ text. IsTooLong e f q most text) → IfSome a (λ text. IsTooLong d f p (n + most) text)
+  too_long_at most long = by a b u.took long
+    where
+      by : (a b : Option (List ℕ)) → Consumes a b u.given → IfSome b (λ text. IsTooLong e f q most text) → IfSome a (λ text. IsTooLong d f p (n + most) text)
+      by None b h k = tt
+      by (Some text) None h k = absurd h
+      by (Some text) (Some mid) h k =
+          let front : take (n + most) text ≡ u.given ++ take most mid = rw (h, sym u_count) (take-append-add u.given mid most) in
+          let is : coming false p (take (n + most) text) ≡ ahead u.written (coming false q (take most mid)) = ap (coming false p) front ∙ u_goes false (take most mid) in
+          record {
+            long = rw h (let l = k.long in omega (arith, l, u_count, length-append u.given mid));
+            quit = ap (λ (s : Said). s.quit) is ∙ k.quit;
+            wrote = subst (Appends d f) (sym (ap (λ (s : Said). s.text) is)) (appends-then d e f u.written (coming false q (take most mid)).text u.wrote k.wrote);
+          }

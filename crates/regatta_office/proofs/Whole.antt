@@ -1,0 +1,44 @@
+-- A whole run: what is written for all of the text, and for the lines that had ended at a fault.
+use Rattle.std.proofs.Common.{◌≡◌, ℕ, ◌<◌, Bool, true, false, List, [], ◌++◌, Option, Some, None, IfSome, length, take, sym, ap, ◌∙◌, subst}
+use Rattle.std.specs.Io.KnownBytes.{Appends, Consumes}
+use Rattle.regatta_terms.specs.Rules.{RulesParts}
+use Rattle.regatta_scores.specs.Journal.{Journal}
+use Rattle.regatta_board.specs.BoardFacts.{BoardValue}
+use Rattle.regatta_streams.proofs.KnownBytes.{appends-then}
+use Rattle.regatta_office.specs.declared.form.Form.{Form}
+use Rattle.regatta_office.specs.Coming.{IsTooLong, Point, ReadSome, Said, coming, said}
+use Rattle.regatta_office.specs.Lines.{ended_lines, lines, lines_by}
+use Rattle.regatta_office.specs.Transcript.{final_journal, final_text, has_quit, opening, run_text, transcript, transcript_so_far}
+use Rattle.regatta_office.proofs.Saying.{coming-whole}
+
+module _ (rules : RulesParts) (start : Journal) (board : BoardValue) (p : Point) (b : board ≡ record { rules = rules; entries = start })
+    (e : p ≡ record { rules = board.rules; talk = opening board.entries; line = [] }) where
+  at_start : (counts : Bool) (text : List ℕ) → coming counts p text ≡ said rules (opening start) (lines_by counts text)
+  at_start counts text =
+      ap (λ (q : Point). coming counts q text) (e ∙ ap (λ (v : BoardValue). record { rules = v.rules; talk = opening v.entries; line = [] }) b)
+      ∙ coming-whole counts rules (opening start) text
+
+  pub all_written : (a c d f : Option (List ℕ)) (form : Form) (final : List ℕ) (last : BoardValue) (journal : Journal) → last.rules ≡ p.rules → last.entries ≡ journal
+      → IfSome a (λ text. Appends c d (coming true p text).text)
+      → IfSome a (λ text. journal ≡ (coming true p text).journal)
+      → final ≡ final_text last.rules form last.entries
+      → Appends d f final
+      → IfSome a (λ text. Appends c f (run_text rules start form text))
+  all_written None c d f form final last journal same kept wrote after is ends = tt
+  all_written (Some text) c d f form final last journal same kept wrote after is ends =
+      let said_is = at_start true text in
+      let rules_are : last.rules ≡ rules = same ∙ ap (λ (q : Point). q.rules) e ∙ ap (λ (v : BoardValue). v.rules) b in
+      let written : (coming true p text).text ≡ transcript rules start text = ap (λ (s : Said). s.text) said_is in
+      let journal_is : last.entries ≡ final_journal rules start text = kept ∙ after ∙ ap (λ (s : Said). s.journal) said_is in
+      let ended : final ≡ final_text rules form (final_journal rules start text) = is ∙ (λ i. final_text (rules_are i) form (journal_is i)) in
+      subst (Appends c f) (λ i. written i ++ ended i) (appends-then c d f (coming true p text).text final wrote ends)
+
+  pub read_broken : (a a' c d : Option (List ℕ)) → ReadSome a a' c d (λ given. (coming false p given).text) → ReadSome a a' c d (transcript_so_far rules start)
+  read_broken a a' c d (given, took, wrote) = (given, took, subst (Appends c d) (ap (λ (s : Said). s.text) (at_start false given)) wrote)
+
+  pub text_too_long : (a c d : Option (List ℕ)) (most : ℕ) → IfSome a (λ text. IsTooLong c d p most text)
+      → IfSome a (λ text. (most < length text) × (has_quit (ended_lines (take most text)) ≡ false) × Appends c d (transcript_so_far rules start (take most text)))
+  text_too_long None c d most is = tt
+  text_too_long (Some text) c d most is =
+      let said_is = at_start false (take most text) in
+      (is.long, sym (ap (λ (s : Said). s.quit) said_is) ∙ is.quit, subst (Appends c d) (ap (λ (s : Said). s.text) said_is) is.wrote)

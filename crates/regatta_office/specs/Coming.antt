@@ -1,0 +1,96 @@
+-- What is still to come of a run, at any point of its text.
+use Rattle.std.specs.Prelude.{ℕ, Bool, true, false, ◌≡◌, List, [], ◌∷◌, ◌++◌, length, take, ◌<◌, nat_lt, Option, Some, None, IfSome, if◌then◌else◌}
+use Rattle.std.specs.Io.KnownBytes.{Appends, Consumes}
+use Rattle.regatta_terms.specs.Rules.{RulesParts}
+use Rattle.regatta_scores.specs.Journal.{Journal}
+use Rattle.regatta_office.specs.Lines.{is_line_end, last_line}
+use Rattle.regatta_office.specs.Transcript.{Talk, has_quit, up_to_quit, replies, talk_at_end}
+
+-- the bytes that are kept of a line, with one more: no more than 82 of them
+abbrev pub keep : List ℕ → ℕ → List ℕ
+keep line byte = if nat_lt (length line) 82 then line ++ byte ∷ [] else line
+
+-- the lines of a text that goes on from the line at hand, of each what is kept
+unfoldable pub kept_lines : Bool → List ℕ → List ℕ → List (List ℕ)
+kept_lines counts line [] = last_line counts line
+kept_lines counts line (byte ∷ text) =
+    if is_line_end byte then line ∷ kept_lines counts [] text
+    else kept_lines counts (keep line byte) text
+
+-- a point of a run: the series rules, where it stands, and what is kept of the line at hand
+pub record Point : Type 0 where
+  pub rules : RulesParts
+  pub talk : Talk
+  pub line : List ℕ
+
+-- what a run writes, the journal at its end, and whether a QUIT ends it
+pub record Said : Type 0 where
+  pub text : List ℕ
+  pub journal : Journal
+  pub quit : Bool
+
+-- the same, with a text ahead of it
+abbrev pub ahead : List ℕ → Said → Said
+ahead text said = record { text = text ++ said.text; journal = said.journal; quit = said.quit }
+
+-- what is said to these lines
+abbrev pub said : RulesParts → Talk → List (List ℕ) → Said
+said rules talk lines = record {
+  text = replies rules talk (up_to_quit lines);
+  journal = (talk_at_end rules talk (up_to_quit lines)).journal;
+  quit = has_quit lines;
+}
+
+-- what is still to come, with the rest of the text
+abbrev pub coming : Bool → Point → List ℕ → Said
+coming counts point text = said point.rules point.talk (kept_lines counts point.line text)
+
+-- nothing is to come
+abbrev pub ended : Bool → Point → Said
+ended quit point = record { text = []; journal = point.talk.journal; quit = quit }
+
+-- nothing where a QUIT has ended the run, and else what is to come
+abbrev pub unless : Bool → Bool → Point → List ℕ → Said
+unless quit counts point text = if quit then ended true point else coming counts point text
+
+-- what a writer took for some bytes of the text: whatever comes behind them, the rest of the run
+-- is as it was to come
+pub record Went (old new : Option (List ℕ)) (bytes : List ℕ) (before after : Point) (quit : Bool) : Type 0 where
+  pub written : List ℕ
+  pub wrote : Appends old new written
+  pub rules : after.rules ≡ before.rules
+  pub goes : (counts : Bool) (rest : List ℕ)
+      → coming counts before (bytes ++ rest) ≡ ahead written (unless quit counts after rest)
+
+-- what a writer took at the end of a text
+pub record Finished (old new : Option (List ℕ)) (before after : Point) : Type 0 where
+  pub written : List ℕ
+  pub wrote : Appends old new written
+  pub rules : after.rules ≡ before.rules
+  pub quit : Bool
+  pub says : coming true before [] ≡ ahead written (ended quit after)
+
+-- what a reader gave, and a writer took for it: so many bytes while the run goes on, or all of the
+-- text at its end
+pub record Talked (in-old in-new out-old out-new : Option (List ℕ)) (before after : Point) (count : Option ℕ) : Type 0 where
+  pub given : List ℕ
+  pub took : Consumes in-old in-new given
+  pub written : List ℕ
+  pub wrote : Appends out-old out-new written
+  pub rules : after.rules ≡ before.rules
+  pub goes : (n : ℕ) → count ≡ Some n → (length given ≡ n) × ((counts : Bool) (rest : List ℕ)
+      → coming counts before (given ++ rest) ≡ ahead written (coming counts after rest))
+  pub ends : count ≡ None → IfSome in-new (λ rest. (quit : Bool)
+      × (coming true before (given ++ rest) ≡ ahead written (ended quit after)))
+
+-- a text is longer than is answered: the lines that end within so many bytes of it are answered,
+-- and no QUIT is among them
+pub record IsTooLong (old new : Option (List ℕ)) (before : Point) (most : ℕ) (text : List ℕ) : Type 0 where
+  pub long : most < length text
+  pub quit : (coming false before (take most text)).quit ≡ false
+  pub wrote : Appends old new (coming false before (take most text)).text
+
+-- what a reader gave before it broke off, and a writer took for it
+abbrev pub ReadSome : Option (List ℕ) → Option (List ℕ) → Option (List ℕ) → Option (List ℕ) → (List ℕ → List ℕ) → Type 0
+ReadSome in-old in-new out-old out-new text_for =
+    (given : List ℕ) × Consumes in-old in-new given × Appends out-old out-new (text_for given)

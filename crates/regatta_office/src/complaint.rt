@@ -1,0 +1,112 @@
+//! Why the program stops short, and what it says of it.
+ghost use Rattle.std.specs.Prelude.{◌≢◌};
+
+use crate::run::RunFault;
+use regatta_streams::ReadFault;
+use regatta_tables::{EntriesFault, JournalFault};
+use regatta_terms::RulesFault;
+use std::alloc::AllocError;
+use thiserror::Error;
+
+/// Why the program stops short. Its text is what the program says on standard error.
+#[derive(Clone, Copy, Debug, PartialEq, Eq, Error)]
+pub(crate) enum Complaint {
+    /// The texts of the series rules aren't rules.
+    #[error("regatta: rules fault {number}")]
+    Rules { number: u8 },
+    /// The entry list can't be read.
+    #[error("regatta: entries fault {number} row {row}")]
+    Entries { number: u8, row: usize },
+    /// The journal file can't be read.
+    #[error("regatta: journal fault {number} line {line}")]
+    Journal { number: u8, line: usize },
+    /// An entry of the start is refused by those before it.
+    #[error("regatta: start refused {number} at {at}")]
+    Start { number: u8, at: u32 },
+    /// The input or a start file is too long.
+    #[error("regatta: input too long")]
+    TooLong,
+    /// A file or a stream fails.
+    #[error("regatta: device fault")]
+    Device,
+    /// Memory is wanting.
+    #[error("regatta: no memory")]
+    NoMemory,
+}
+
+impl Complaint {
+    /// The status that the program ends with, from 1 to 3.
+    pub(crate) fn status(self) -> u8
+        ensures { result ≢ 0 }
+    {
+        match self {
+            Complaint::Rules { .. } => 2,
+            Complaint::Entries { .. }
+            | Complaint::Journal { .. }
+            | Complaint::Start { .. }
+            | Complaint::TooLong => 1,
+            Complaint::Device | Complaint::NoMemory => 3,
+        }
+    }
+}
+
+impl From<AllocError> for Complaint {
+    fn from(_: AllocError) -> Complaint {
+        Complaint::NoMemory
+    }
+}
+
+impl From<RulesFault> for Complaint {
+    fn from(fault: RulesFault) -> Complaint {
+        Complaint::Rules {
+            number: fault.number(),
+        }
+    }
+}
+
+impl From<ReadFault> for Complaint {
+    fn from(fault: ReadFault) -> Complaint {
+        match fault {
+            ReadFault::Stream => Complaint::Device,
+            ReadFault::TooLong => Complaint::TooLong,
+            ReadFault::NoMemory => Complaint::NoMemory,
+        }
+    }
+}
+
+impl From<JournalFault> for Complaint {
+    fn from(fault: JournalFault) -> Complaint {
+        let number = fault.number();
+        match fault {
+            JournalFault::BadLine { line, .. } => Complaint::Journal { number, line },
+            JournalFault::TooMany => Complaint::Journal { number, line: 4097 },
+            JournalFault::NoMemory => Complaint::NoMemory,
+        }
+    }
+}
+
+impl From<EntriesFault> for Complaint {
+    fn from(fault: EntriesFault) -> Complaint {
+        match fault.row() {
+            Some(row) => Complaint::Entries {
+                number: fault.number(),
+                row,
+            },
+            None => Complaint::NoMemory,
+        }
+    }
+}
+
+impl From<RunFault> for Complaint {
+    fn from(fault: RunFault) -> Complaint {
+        match fault {
+            RunFault::Start { at, refusal } => Complaint::Start {
+                number: refusal.number(),
+                at,
+            },
+            RunFault::Read | RunFault::Write => Complaint::Device,
+            RunFault::InputTooLong => Complaint::TooLong,
+            RunFault::NoMemory => Complaint::NoMemory,
+        }
+    }
+}

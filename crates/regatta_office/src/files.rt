@@ -1,0 +1,42 @@
+//! The files that a series starts with.
+use crate::complaint::Complaint;
+use regatta_scores::Items;
+use regatta_streams::{Foreign, read_text};
+use regatta_tables::{Journal, Sails, read_entries, read_journal};
+use std::alloc::Global;
+use std::fs::{self, Files};
+use std::io::ErrorKind;
+
+/// The most bytes of a start file.
+const FILE_LIMIT: u32 = 1_048_576;
+
+/// The whole text of the file at that path.
+fn text_at<H: Files + AllocGlobal>(rt: &H, path: &str) -> Result<Vec<u8>, Complaint> {
+    match fs::open(rt, path) {
+        Ok(file) => Ok(read_text(rt.alloc(), &mut Foreign::new(file), FILE_LIMIT)?),
+        Err(error) if error.kind() == ErrorKind::OutOfMemory => Err(Complaint::NoMemory),
+        Err(_) => Err(Complaint::Device),
+    }
+}
+
+/// The entries of the journal file, or none where no file is named.
+pub(crate) fn journal_at<H: Files + AllocGlobal>(
+    rt: &H,
+    path: Option<&str>,
+) -> Result<Journal, Complaint> {
+    match path {
+        Some(path) => Ok(read_journal(rt.alloc(), &text_at(rt, path)?)?),
+        None => Ok(Items::new(Vec::new(rt.alloc()))),
+    }
+}
+
+/// The sails of the entry list, or none where no file is named.
+pub(crate) fn sails_at<H: Files + AllocGlobal>(
+    rt: &H,
+    path: Option<&str>,
+) -> Result<Sails, Complaint> {
+    match path {
+        Some(path) => Ok(read_entries(rt.alloc(), &text_at(rt, path)?)?),
+        None => Ok(Items::new(Vec::new(rt.alloc()))),
+    }
+}

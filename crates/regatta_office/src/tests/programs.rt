@@ -1,0 +1,220 @@
+use super::*;
+use std::{env, fs};
+
+/// A run of the program over memory: its status, what it wrote, and what it said.
+fn run(rt: &HostRuntime, words: &[&str], text: &str) -> Result<(u8, Tape, Tape), Fail> {
+    let mut input = giving(rt.alloc(), text.as_bytes(), 5)?;
+    let mut output = taking(rt.alloc(), 10_000)?;
+    let mut errors = taking(rt.alloc(), 10_000)?;
+    let status = program(rt, words, &mut input, &mut output, &mut errors);
+    Ok((status, output, errors))
+}
+
+#[test]
+fn options_are_the_rules_and_the_form(rt: HostRuntime) -> Result<(), Fail> {
+    let text = "ENTER A\nENTER B\nFINISH 1 A\nSCORE 1\n";
+    let replies = "OK 1 1 0.0\nOK 2 1= 0.0\nOK 3 1= 0.0\nOK 4\n";
+    let cases: [(&[&str], &str); 6] = [
+        (
+            &["replay"],
+            "TABLE 2 RACES 1\n1 A 1.0 1.0\n2 B 3.0 3.0/DNC\n",
+        ),
+        (
+            &["replay", "--print", "csv"],
+            "rank,sail,net,R1\n1,A,1.0,1.0\n2,B,3.0,3.0/DNC\n",
+        ),
+        (
+            &["replay", "--print=journal"],
+            "1 1 SCORER ENTER A\n1 2 SCORER ENTER B\n1 3 SCORER FINISH 1 A\n1 4 SCORER SCORE 1\n",
+        ),
+        (
+            &["replay", "--absent", "A53", "--scp", "99"],
+            "TABLE 2 RACES 1\n1 A 1.0 1.0\n2 B 3.0 3.0/DNC\n",
+        ),
+        (
+            &["replay", "--exclude", "none"],
+            "TABLE 2 RACES 1\n1 A 1.0 1.0\n2 B 3.0 3.0/DNC\n",
+        ),
+        (
+            &["replay", "--exclude", "2,3", "--print", "table"],
+            "TABLE 2 RACES 1\n1 A 1.0 1.0\n2 B 3.0 3.0/DNC\n",
+        ),
+    ];
+    for (words, last) in cases {
+        let (status, output, errors) = run(&rt, words, text)?;
+        assert_eq!(rt; errors.written(), b"".as_slice());
+        assert!(rt; output.written().starts_with(replies.as_bytes()));
+        assert_eq!(rt; &output.written()[replies.len()..], last.as_bytes());
+        assert_eq!(rt; status, 0);
+    }
+    Ok(())
+}
+
+#[test]
+fn rules_are_refused_by_number(rt: HostRuntime) -> Result<(), Fail> {
+    let cases: [(&[&str], &str); 8] = [
+        (&["replay", "--scp", "0"], "regatta: rules fault 1\n"),
+        (&["replay", "--scp", "100"], "regatta: rules fault 1\n"),
+        (
+            &["replay", "--exclude", "2,3,4,5,6"],
+            "regatta: rules fault 2\n",
+        ),
+        (&["replay", "--exclude", "3,3"], "regatta: rules fault 3\n"),
+        (&["replay", "--exclude", "1"], "regatta: rules fault 4\n"),
+        (&["replay", "--exclude", "41"], "regatta: rules fault 5\n"),
+        (&["replay", "--exclude", ""], "regatta: rules fault 6\n"),
+        (&["replay", "--absent", "a54"], "regatta: rules fault 6\n"),
+    ];
+    for (words, said) in cases {
+        let (status, output, errors) = run(&rt, words, "ENTER A\n")?;
+        assert_eq!(rt; errors.written(), said.as_bytes());
+        assert_eq!(rt; output.written(), b"".as_slice());
+        assert_eq!(rt; status, 2);
+    }
+    Ok(())
+}
+
+#[test]
+fn other_words_are_refused(rt: HostRuntime) -> Result<(), Fail> {
+    let cases: [&[&str]; 8] = [
+        &[],
+        &["serve"],
+        &["Replay"],
+        &["replay", "replay"],
+        &["replay", "--print", "pdf"],
+        &["replay", "--scp"],
+        &["replay", "--scp", "3", "--scp", "3"],
+        &["replay", "--speed"],
+    ];
+    for words in cases {
+        let (status, output, errors) = run(&rt, words, "ENTER A\n")?;
+        assert_eq!(rt; output.written(), b"".as_slice());
+        assert!(rt; !errors.written().is_empty());
+        assert_eq!(rt; status, 2);
+    }
+    Ok(())
+}
+
+#[test]
+fn help_names_the_options_and_their_rules(rt: HostRuntime) -> Result<(), Fail> {
+    let (status, output, errors) = run(&rt, &["replay", "--help"], "ENTER A\n")?;
+    assert_eq!(rt; errors.written(), b"".as_slice());
+    assert_eq!(rt; status, 0);
+    let help = std::str::from_utf8(output.written()).unwrap_or("");
+    for word in [
+        "regatta replay",
+        "--absent",
+        "A5.3",
+        "--scp",
+        "44.3(c)",
+        "--exclude",
+        "A2.1",
+        "--journal",
+        "--entries",
+        "--print",
+    ] {
+        assert!(rt; help.contains(word), "at {word}");
+    }
+    let (status, output, _) = run(&rt, &["--help"], "ENTER A\n")?;
+    assert!(rt; !output.written().is_empty());
+    assert_eq!(rt; status, 0);
+    Ok(())
+}
+
+#[test]
+fn devices_fail(rt: HostRuntime) -> Result<(), Fail> {
+    let mut broken = Tape::new(rt.alloc(), b"ENTER A\n", 4, 8, 0)?;
+    let mut output = taking(rt.alloc(), 100)?;
+    let mut errors = taking(rt.alloc(), 100)?;
+    let status = program(&rt, &["replay"], &mut broken, &mut output, &mut errors);
+    assert_eq!(rt; status, 3);
+    assert_eq!(rt; errors.written(), b"regatta: device fault\n".as_slice());
+    let mut input = giving(rt.alloc(), b"ENTER A\n", 4)?;
+    let mut full = taking(rt.alloc(), 10)?;
+    let mut errors = taking(rt.alloc(), 100)?;
+    let status = program(&rt, &["replay"], &mut input, &mut full, &mut errors);
+    assert_eq!(rt; status, 3);
+    assert_eq!(rt; errors.written(), b"regatta: device fault\n".as_slice());
+    let mut full = taking(rt.alloc(), 10)?;
+    let mut errors = taking(rt.alloc(), 100)?;
+    let status = program(&rt, &["--help"], &mut input, &mut full, &mut errors);
+    assert_eq!(rt; status, 3);
+    assert_eq!(rt; errors.written(), b"regatta: device fault\n".as_slice());
+    let mut output = taking(rt.alloc(), 10)?;
+    let mut silent = taking(rt.alloc(), 5)?;
+    let status = program(
+        &rt,
+        &["replay", "--scp", "0"],
+        &mut input,
+        &mut output,
+        &mut silent,
+    );
+    assert_eq!(rt; status, 3);
+    let (status, _, errors) = run(&rt, &["replay", "--journal", "/no/such/file"], "")?;
+    assert_eq!(rt; status, 3);
+    assert_eq!(rt; errors.written(), b"regatta: device fault\n".as_slice());
+    Ok(())
+}
+
+#[test]
+fn start_files_are_read(rt: HostRuntime) -> Result<(), Fail> {
+    let folder = env::temp_dir(&rt)?;
+    let boats = format!(in rt.alloc(); "{}/regatta_boats.csv", folder.display())?;
+    let journal = format!(in rt.alloc(); "{}/regatta_journal.txt", folder.display())?;
+    let words = [
+        "replay",
+        "--journal",
+        journal.as_str(),
+        "--entries",
+        boats.as_str(),
+    ];
+    let cases: [(&str, &str, &str, &str, u8); 7] = [
+        (
+            "1 1 SCORER ENTER A\n2 1 JURY REDRESS 1 A 7.5\n",
+            "Sail\nb\n",
+            "",
+            "OK 4 1= 0.0\nTABLE 3 RACES\n1= A 0.0\n1= B 0.0\n1= C 0.0\n",
+            0,
+        ),
+        (
+            "1 1 SCORER ENTER A\nX\n",
+            "Sail\n",
+            "regatta: journal fault 1 line 2\n",
+            "",
+            1,
+        ),
+        ("", "Boat\nX\n", "regatta: entries fault 1 row 1\n", "", 1),
+        ("", "Sail\nA_B\n", "regatta: entries fault 3 row 2\n", "", 1),
+        ("X", "Boat\nX\n", "regatta: journal fault 1 line 1\n", "", 1),
+        (
+            "1 1 SCORER ENTER A\n",
+            "Sail\nA\n",
+            "regatta: start refused 6 at 2\n",
+            "",
+            1,
+        ),
+        (
+            "1 1 JURY ENTER A\n",
+            "Sail\nB\n",
+            "regatta: start refused 4 at 1\n",
+            "",
+            1,
+        ),
+    ];
+    for (entries, sails, said, written, wanted) in cases {
+        fs::write(&rt, journal.as_str(), entries)?;
+        fs::write(&rt, boats.as_str(), sails)?;
+        let (status, output, errors) = run(&rt, &words, "ENTER C\n")?;
+        assert_eq!(rt; errors.written(), said.as_bytes());
+        assert_eq!(rt; output.written(), written.as_bytes());
+        assert_eq!(rt; status, wanted);
+    }
+    let long = vec![in rt.alloc(); b'\n'; 1_048_577]?;
+    fs::write(&rt, journal.as_str(), &long)?;
+    let (status, _, errors) = run(&rt, &words, "ENTER C\n")?;
+    assert_eq!(rt; errors.written(), b"regatta: input too long\n".as_slice());
+    assert_eq!(rt; status, 1);
+    fs::remove_file(&rt, journal.as_str())?;
+    fs::remove_file(&rt, boats.as_str())?;
+    Ok(())
+}
