@@ -2,4 +2,5 @@ pub mod CsvFacts
 pub mod JournalFacts
 pub mod LineFacts
 pub mod ListFacts
+pub mod ListLaws
 pub mod WrittenFacts

@@ -61,7 +61,7 @@ rows_to rows i row below here =
     ∙ ap (λ (fields : Record). take i (map fields_of rows) ++ fields ∷ []) (get_or-map fields_of rows i row (fields_of row) below ∙ sym (ap fields_of here))
 
 -- the sails of records, and of those behind them
-sails-append : (column : ℕ) (before after : List Record) → sails_in column (before ++ after) ≡ sails_in column before ++ sails_in column after
+pub sails-append : (column : ℕ) (before after : List Record) → sails_in column (before ++ after) ≡ sails_in column before ++ sails_in column after
 sails-append column before after =
     ap (filter_map (sail_in column)) (filter-append (λ fields. not (is_blank fields)) before after)
     ∙ filter_map-append (sail_in column) (filter (λ fields. not (is_blank fields)) before) (filter (λ fields. not (is_blank fields)) after)

@@ -1,10 +1,11 @@
 //! Entry lists, as race offices keep them: comma-separated values with a column of sails.
 
-ghost use Rattle.std.specs.Prelude.{◌≡◌, ◌⊎◌, ◌++◌, ◌∷◌, [], Ok, Err, None, Some, map, position, IfOk, IfErr, OnOk};
-ghost use Rattle.std.specs.List.{list_all};
+ghost use Rattle.std.specs.Prelude.{◌≡◌, ◌≤◌, ◌⊎◌, ◌++◌, ◌∷◌, [], Ok, Err, None, Some, length, map, position, IfOk, IfErr, OnOk};
+ghost use Rattle.std.specs.List.{IsDistinct, list_all};
 ghost use Rattle.csv.specs.Records.{fields_of};
 ghost use Rattle.regatta_terms.specs.Sails.{sail_of};
 ghost use Rattle.regatta_terms.specs.Words.{is_space};
+ghost use Rattle.regatta_scores.specs.Journal.{same_sail};
 ghost use Rattle.regatta_tables.specs.EntryLists.{entries_of_text, entries_under, fault_in, fault_of_field, is_blank, is_sail_heading, number_of_entries_fault, row_of_entries_fault, sails_in, without_spaces};
 
 use crate::records::{fields_in, records_of, without_spaces};
@@ -80,6 +81,8 @@ impl EntriesFault {
 /// records are passed over. The records are those that `csv` reads by default, so any bytes do.
 pub fn read_entries(alloc: Global, text: &[u8]) -> Result<Sails, EntriesFault>
     ensures ok { IfOk result (λ sails. entries_of_text text.now ≡ Ok sails) }
+    ensures few { IfOk result (λ sails. length sails ≤ 200) }
+    ensures once { IfOk result (λ sails. IsDistinct same_sail sails) }
     ensures fault { IfErr result (λ fault.
         (fault ≡ EntriesFault.NoMemory) ⊎ (entries_of_text text.now ≡ Err fault)) }
 {
@@ -131,6 +134,8 @@ fn is_sail_heading(alloc: Global, field: &[u8]) -> Result<bool, AllocError>
 fn read_sails(alloc: Global, column: usize, records: &[ByteRecord]) -> Result<Sails, EntriesFault>
     ensures ok { IfOk result (λ sails.
         entries_under (Some column) (map fields_of records.now) ≡ Ok sails) }
+    ensures few { IfOk result (λ sails. length sails ≤ 200) }
+    ensures once { IfOk result (λ sails. IsDistinct same_sail sails) }
     ensures fault { IfErr result (λ fault. (fault ≡ EntriesFault.NoMemory)
         ⊎ (entries_under (Some column) (map fields_of records.now) ≡ Err fault)) }
 {
