@@ -1,5 +1,6 @@
 //! The entry list.
-ghost use Rattle.std.specs.Prelude.{◌≡◌, ◌<◌, ◌++◌, ◌∷◌, [], length, position, slice_index_or, false, IfOk};
+ghost use Rattle.std.specs.Prelude.{◌≡◌, ◌<◌, ◌++◌, ◌∷◌, [], length, slice_index_or};
+ghost use Rattle.std.specs.Prelude.{position, false, IfOk};
 ghost use Rattle.std.specs.List.{list_any};
 ghost use Rattle.regatta_scores.specs.Journal.{same_sail};
 
