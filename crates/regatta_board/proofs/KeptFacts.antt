@@ -1,12 +1,10 @@
 -- What is kept of a journal says what the journal says.
-use Rattle.std.proofs.Common.{◌≡◌, ℕ, ◌+◌, ◌-◌, ◌<◌, ◌≤◌, Bool, true, false, not, ◌&&◌, List, [], ◌∷◌, refl, ap, ◌∙◌, sym, subst, arith, length, map, get_or, nat_eq, nat_le, Some, None}
-use Rattle.std.specs.List.{list_any, range_with_len}
-use Rattle.std.proofs.lemmas.List.{length-map}
+use Rattle.std.proofs.Common.{◌≡◌, ℕ, ◌-◌, ◌<◌, ◌≤◌, true, false, not, ◌&&◌, List, [], ◌∷◌, refl, ap, ◌∙◌, sym, subst, arith, length, map, get_or, nat_eq, nat_le, None}
+use Rattle.std.specs.List.{list_any}
 use Rattle.std.proofs.lemmas.List.FromFn.{get_or-map-range_with_len}
 use borrow.Author.Tests.{leb-false}
 use Rattle.regatta_terms.specs.Rules.{RulesParts}
 use Rattle.regatta_terms.specs.declared.sail.Sail.{Sail}
-use Rattle.regatta_terms.specs.declared.command.PenaltyKind.{PenaltyKind}
 use Rattle.regatta_terms.specs.declared.command.Role.{Role}
 use Rattle.regatta_terms.specs.declared.command.Command.{Command}
 use Rattle.regatta_terms.specs.declared.command.Command.TheVariants.{Enter, Finish, Tie, Before, Strike, Mark, Penalise, Redress, Clear, Score, Unscore}
