@@ -1,5 +1,5 @@
 -- What is kept on a board.
-use Rattle.std.proofs.Common.{◌≡◌, Bool, false, List, [], ◌∷◌, ◌++◌, refl, ap, ◌∙◌, sym, subst, ℕ, ◌-◌, ◌<◌, ◌≤◌, arith, length, length-append, replicate, find, None}
+use Rattle.std.proofs.Common.{◌≡◌, false, List, [], ◌∷◌, ◌++◌, refl, ap, ◌∙◌, sym, subst, ℕ, ◌-◌, ◌<◌, arith, length, length-append, replicate, find, None}
 use Rattle.std.specs.List.{range_with_len}
 use Rattle.std.specs.Option.{option_map}
 use Rattle.std.proofs.lemmas.List.{length-map}
@@ -10,7 +10,7 @@ use Rattle.regatta_terms.specs.Rules.{RulesParts}
 use Rattle.regatta_terms.specs.declared.sail.Sail.{Sail}
 use Rattle.regatta_terms.specs.declared.command.Command.{Command}
 use Rattle.regatta_scores.specs.declared.table.Row.{Row}
-use Rattle.regatta_scores.specs.Sheet.{Sheet, boats, empty_sheet}
+use Rattle.regatta_scores.specs.Sheet.{boats, empty_sheet}
 use Rattle.regatta_scores.specs.Journal.{Journal, same_sail, entered, held, is_scored}
 use Rattle.regatta_scores.specs.declared.table.Standing.{Standing}
 use Rattle.regatta_scores.specs.Standing.{standing}

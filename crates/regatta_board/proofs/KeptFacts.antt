@@ -1,12 +1,10 @@
 -- What is kept of a journal says what the journal says.
-use Rattle.std.proofs.Common.{◌≡◌, ℕ, ◌+◌, ◌-◌, ◌<◌, ◌≤◌, Bool, true, false, not, ◌&&◌, List, [], ◌∷◌, refl, ap, ◌∙◌, sym, subst, arith, length, map, get_or, nat_eq, nat_le, Some, None}
-use Rattle.std.specs.List.{list_any, range_with_len}
-use Rattle.std.proofs.lemmas.List.{length-map}
+use Rattle.std.proofs.Common.{◌≡◌, ℕ, ◌-◌, ◌<◌, ◌≤◌, true, false, not, ◌&&◌, List, [], ◌∷◌, refl, ap, ◌∙◌, sym, subst, arith, length, map, get_or, nat_eq, nat_le, None}
+use Rattle.std.specs.List.{list_any}
 use Rattle.std.proofs.lemmas.List.FromFn.{get_or-map-range_with_len}
 use borrow.Author.Tests.{leb-false}
 use Rattle.regatta_terms.specs.Rules.{RulesParts}
 use Rattle.regatta_terms.specs.declared.sail.Sail.{Sail}
-use Rattle.regatta_terms.specs.declared.command.PenaltyKind.{PenaltyKind}
 use Rattle.regatta_terms.specs.declared.command.Role.{Role}
 use Rattle.regatta_terms.specs.declared.command.Command.{Command}
 use Rattle.regatta_terms.specs.declared.command.Command.TheVariants.{Enter, Finish, Tie, Before, Strike, Mark, Penalise, Redress, Clear, Score, Unscore}
@@ -19,7 +17,7 @@ use Rattle.regatta_board.specs.KeptJournal.{number, sheet_of, kept_of, IsOrderly
 use Rattle.regatta_board.specs.Step.{number_in, sheet_in, held_in, IsRace, NamesRace, IsKnown, IsOn, Fits}
 use Rattle.regatta_board.specs.Table.{Kept}
 use Rattle.regatta_board.proofs.Allowed.{place_below, number_below, placed_same, unplaced, placed}
-use Rattle.regatta_board.proofs.Lawful.{no_test, is_so, both_so, has_room}
+use Rattle.regatta_board.proofs.Lawful.{no_test, is_so, both_so, has_room, may_step}
 use Rattle.regatta_board.proofs.Numbers.{found_under}
 
 sheet_is : (journal : Journal) (race : ℕ) → IsRace race → sheet_in (kept_of journal) race ≡ sheet_of journal race
@@ -97,7 +95,10 @@ module _ (journal : Journal) (o : IsOrderly journal) (kept : Kept) (e : kept ≡
   decision_fits race r boat none = on race r boat (is_so (is_entered journal boat) (no_test (not (is_entered journal boat)) _ _ none).0)
 
   pub fits : (rules : RulesParts) (role : Role) (c : Command) → NamesRace c → command_refusal limits rules journal role c ≡ None → Fits kept c
-  fits rules role (Enter s) r none = (let room : length (entered journal) < 200 = has_room rules journal role (Enter s) none (λ h. cc) in omega (arith, boats_are))
+  fits rules role (Enter s) r none =
+      let room : length (entered journal) < 200 = has_room rules journal role (Enter s) none (λ h. cc) in
+      let new : is_entered journal s ≡ false = may_step rules journal role (Enter s) r none in
+      ((let within : length kept.sails < 200 = omega (arith, boats_are) in within), entered_is s ∙ new)
   fits rules role (Finish race s) r none = place_fits race r s none
   fits rules role (Tie race s other) r none = place_by_fits race r s other none
   fits rules role (Before race s other) r none = place_by_fits race r s other none

@@ -1,10 +1,10 @@
 -- What is kept after some of its parts were replaced.
 use Rattle.std.specs.Prelude.{◌-◌, slice_set}
 use Rattle.regatta_board.specs.declared.kept.Revision.{Revision}
-use Rattle.regatta_board.specs.declared.kept.Revision.TheVariants.{Boats, Sheet, Counts}
+use Rattle.regatta_board.specs.declared.kept.Revision.TheVariants.{Enter, Sheet, Counts}
 use Rattle.regatta_board.specs.Table.{Kept}
 
 abbrev pub revised : Kept → Revision → Kept
-revised kept (Boats sails sheets) = record kept { sails = sails.items; sheets = sheets.items }
+revised kept (Enter boats sheets) = record kept { sails = boats; sheets = sheets.items }
 revised kept (Sheet race sheet) = record kept { sheets = slice_set kept.sheets (race - 1) sheet }
 revised kept (Counts race counts) = record kept { counts = slice_set kept.counts (race - 1) counts }

@@ -1,8 +1,9 @@
 //! What came of a boat in each race that counts, and the line of the table that it makes.
 ghost use Rattle.std.specs.Prelude.{◌≡◌, ◌≤◌, length, IfOk};
 ghost use Rattle.regatta_scores.specs.Standing.{is_dne as is_dne_of, code_mark as code_mark_of};
-ghost use Rattle.regatta_board.specs.Outcomes.{items as items_of, points as points_of, scores_by, flags as flags_of};
-ghost use Rattle.regatta_board.specs.Outcomes.{line as line_of, mark as mark_of, cell as cell_of, cells_by, row_by};
+ghost use Rattle.regatta_board.specs.Outcomes.{items as items_of, points as points_of, scores_by};
+ghost use Rattle.regatta_board.specs.Outcomes.{flags as flags_of, line as line_of, row_by};
+ghost use Rattle.regatta_board.specs.Outcomes.{mark as mark_of, cell as cell_of, cells_by};
 
 use regatta_scores::{
     Abbrev, BoatLine, Cell, Held, Items, Place, Points, Row, RowItem, Scored, averages, excluded,

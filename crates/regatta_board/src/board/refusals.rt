@@ -1,6 +1,7 @@
 //! Which command is refused, and why.
 ghost use Rattle.std.specs.Prelude.{◌≡◌, length, nat_le, true};
-ghost use Rattle.regatta_scores.specs.Journal.{entered, is_scored as is_scored_in, held as held_in, order};
+ghost use Rattle.regatta_scores.specs.Journal.{entered, order};
+ghost use Rattle.regatta_scores.specs.Journal.{is_scored as is_scored_in, held as held_in};
 ghost use Rattle.regatta_scores.specs.Order.{is_empty};
 ghost use Rattle.regatta_board.specs.Refusals as refusals;
 ghost use Rattle.regatta_board.specs.Refusals.{limits};
@@ -206,7 +207,8 @@ impl Board {
 
     /// Why a command that the role may give is refused, or nothing.
     fn command_refusal(&self, role: Role, command: Command) -> Option<Refusal>
-        ensures { result ≡ refusals.command_refusal limits self.now.rules self.now.entries role command }
+        ensures { result
+            ≡ refusals.command_refusal limits self.now.rules self.now.entries role command }
     {
         match command {
             Command::Enter { sail } => self.enter_refusal(sail),

@@ -1,4 +1,4 @@
-use Rattle.std.proofs.Common.{◌≡◌, ◌∙◌, None}
+use Rattle.std.proofs.Common.{◌∙◌}
 use Rattle.regatta_board.proofs.KeptFacts.{scored_is}
 use Rattle.regatta_board.proofs.BoardLemmas.{board_kept}
 use Rattle.regatta_board.proofs.board.Board.is_scored.Goals as goal

@@ -1,0 +1,7 @@
+-- The entry list as a map from boats to their numbers.
+use Rattle.std.specs.Prelude.{◌≡◌, ℕ, List, Some, slice_get}
+use Rattle.regatta_terms.specs.declared.sail.Sail.{Sail}
+
+-- each boat has her place in the list as her number
+abbrev pub IsNumbered : List (Sail × ℕ) → Type 0
+IsNumbered entries = (place : ℕ) (boat : Sail) (number : ℕ) → slice_get entries place ≡ Some (boat, number) → number ≡ place

@@ -1,0 +1,82 @@
+//! The entry list.
+ghost use Rattle.std.specs.Prelude.{◌≡◌, ◌<◌, ◌++◌, ◌∷◌, [], length, slice_index_or};
+ghost use Rattle.std.specs.Prelude.{position, false, IfOk};
+ghost use Rattle.std.specs.List.{list_any};
+ghost use Rattle.regatta_scores.specs.Journal.{same_sail};
+
+use indexmap::IndexMap;
+use regatta_terms::Sail;
+use std::alloc::{AllocError, Global};
+use std::marker::Model;
+
+/// The boats entered, in order of their entry, each once and with her number: her place in the
+/// list, counted from 0.
+#[derive(Drop)]
+pub struct Boats {
+    numbers: IndexMap<Sail, u16>,
+}
+
+impl Model for Boats {
+    ghost use Rattle.std.specs.Prelude.{List};
+    ghost use Rattle.indexmap.specs.IndexMap.{keys};
+    ghost use Rattle.regatta_terms.specs.declared.sail.Sail as sails;
+    ghost use Rattle.regatta_board.specs.EntryList.{IsNumbered};
+
+    ghost Value = { List sails.Sail };
+
+    ghost view = { λ b. keys b.numbers };
+
+    ghost invariant = { λ b. IsNumbered b.numbers.entries };
+}
+
+impl Boats {
+    /// No boats.
+    pub(crate) fn new(alloc: Global) -> Boats
+        ensures { result ≡ [] }
+    {
+        Boats {
+            numbers: IndexMap::new(alloc),
+        }
+    }
+
+    /// How many boats there are.
+    pub(crate) fn len(&self) -> usize
+        ensures { result ≡ length self.now }
+    {
+        self.numbers.len()
+    }
+
+    /// Whether the boat is in the list.
+    pub(crate) fn contains(&self, boat: Sail) -> bool
+        ensures { result ≡ list_any (same_sail boat) self.now }
+    {
+        self.numbers.contains_key(&boat)
+    }
+
+    /// The number of the boat, where she is in the list.
+    pub(crate) fn number(&self, boat: Sail) -> Option<u16>
+        ensures { result ≡ position (same_sail boat) self.now }
+    {
+        let (_, _, number) = self.numbers.get_full(&boat)?;
+        Some(*number)
+    }
+
+    /// The boat of this number.
+    pub(crate) fn at(&self, number: usize) -> Sail
+        requires { number < length self.now }
+        ensures { result ≡ slice_index_or self.now number [] }
+    {
+        *self.numbers.get_index(number).unwrap().0
+    }
+
+    /// The list with one more boat, last.
+    pub(crate) fn with(&self, boat: Sail) -> Result<Boats, AllocError>
+        requires few { length self.now < 200 }
+        requires new { list_any (same_sail boat) self.now ≡ false }
+        ensures { IfOk result (λ boats. boats ≡ self.now ++ boat ∷ []) }
+    {
+        let mut numbers = self.numbers.clone()?;
+        numbers.insert(boat, self.len() as u16)?;
+        Ok(Boats { numbers })
+    }
+}
