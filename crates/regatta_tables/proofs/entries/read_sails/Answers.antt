@@ -3,7 +3,7 @@ use Rattle.std.specs.List.{IsDistinct}
 use Rattle.csv.specs.Records.{fields_of}
 use Rattle.regatta_terms.specs.declared.sail.Sail.{Sail}
 use Rattle.regatta_scores.specs.Journal.{same_sail}
-use Rattle.regatta_tables.proofs.ListFacts.{all_sound, faulty_row, sound_more, sails_more}
+use Rattle.regatta_tables.proofs.ListFacts.{all_sound, sound_more, sails_more}
 use Rattle.regatta_tables.proofs.ListLaws.{few_sails, sails_once}
 use Rattle.regatta_tables.proofs.entries.read_sails.Goals as goal
 
