@@ -47,7 +47,7 @@ fn an_input_is_too_long(rt: HostRuntime) -> Result<(), Fail> {
     let (output, result) = ended(rt.alloc(), input, taking(rt.alloc(), 100)?);
     assert_eq!(rt; result, Err(RunFault::InputTooLong));
     assert_eq!(rt; output.written(), b"OK 1 1 0.0\n".as_slice());
-    let input = giving(rt.alloc(), &text[..text.len() - 1], 4096)?;
+    let input = giving(rt.alloc(), &text[..text.len().saturating_sub(1)], 4096)?;
     let (output, result) = ended(rt.alloc(), input, taking(rt.alloc(), 100)?);
     assert_eq!(rt; result, Ok(()));
     let written = "OK 1 1 0.0\nNO 20\nTABLE 1 RACES\n1 A 0.0\n";
