@@ -1,5 +1,5 @@
 -- What a writer took, and a reader gave, over several steps of a run.
-use Rattle.std.proofs.Common.{◌≡◌, ℕ, ◌<◌, length, Bool, true, false, List, [], ◌∷◌, ◌++◌, Option, Some, None, Result, Ok, Err, IfOk, OnOk, IfSome, refl, sym, ap, ◌∙◌, subst, append_assoc, append-nil, arith, take, drop, length-append, ◌+◌, ◌≤◌}
+use Rattle.std.proofs.Common.{◌≡◌, ℕ, ◌<◌, length, Bool, true, false, List, [], ◌∷◌, ◌++◌, Option, Some, None, Result, Ok, Err, IfOk, OnOk, IfSome, refl, sym, ap, ◌∙◌, subst, append_assoc, append-nil, arith, min, take, drop, length-append, ◌+◌, ◌≤◌}
 use Rattle.std.proofs.lemmas.List.{take-append-drop, take-take, take_min, take-append-le}
 use Rattle.std.proofs.Math.Seq.{take-append-add}
 use Rattle.regatta_streams.specs.Texts.{AppendsPrefix, GaveAtMost}
@@ -154,8 +154,8 @@ pub stop-then : (a b c : Option (List ℕ)) (xs rest : List ℕ) (p q : Point) �
 stop-then a b c xs rest p q u (n, wrote) = (
   length xs + n,
   subst (Appends a c)
-    (sym (ap (λ (s : Said). s.text) (ap (coming false p) (take-append-add xs rest n) ∙ u.goes false (take n rest))))
-    (appends-then a b c u.written (coming false q (take n rest)).text u.wrote wrote),
+      (sym (ap (λ (s : Said). s.text) (ap (coming false p) (take-append-add xs rest n) ∙ u.goes false (take n rest))))
+      (appends-then a b c u.written (coming false q (take n rest)).text u.wrote wrote),
 )
 
 -- the same of what a reader gives
@@ -343,8 +343,8 @@ module _ (a b c d e f : Option (List ℕ)) (p q r : Point) (n : ℕ) (u : Talked
       by (Some text) (Some mid) h (m, wrote) = (
         length u.given + m,
         subst (Appends d f)
-          (sym (ap (λ (s : Said). s.text) (ap (λ (t : List ℕ). coming false p (take (length u.given + m) t)) h ∙ ap (coming false p) (take-append-add u.given mid m) ∙ u_goes false (take m mid))))
-          (appends-then d e f u.written (coming false q (take m mid)).text u.wrote wrote),
+            (sym (ap (λ (s : Said). s.text) (ap (λ (t : List ℕ). coming false p (take (length u.given + m) t)) h ∙ ap (coming false p) (take-append-add u.given mid m) ∙ u_goes false (take m mid))))
+            (appends-then d e f u.written (coming false q (take m mid)).text u.wrote wrote),
       )
 
   -- the text is too long

@@ -1,17 +1,27 @@
 -- A whole run: what is written for all of the text, and for the lines that had ended at a fault.
-use Rattle.std.proofs.Common.{◌≡◌, ℕ, ◌<◌, Bool, true, false, List, [], ◌++◌, Option, Some, None, IfSome, length, take, inl, inr, sym, ap, ◌∙◌, subst}
+use Rattle.std.proofs.Common.{◌≡◌, ℕ, ◌<◌, Bool, true, false, List, [], ◌++◌, Option, Some, None, IfSome, length, take, inl, inr, refl, sym, ap, ◌∙◌, subst}
 use Rattle.std.specs.Io.KnownBytes.{Appends, Consumes}
 use Rattle.regatta_terms.specs.Rules.{RulesParts}
 use Rattle.regatta_scores.specs.Journal.{Journal}
 use Rattle.regatta_board.specs.BoardFacts.{BoardValue}
 use Rattle.regatta_streams.specs.Texts.{AppendsPrefix}
 use Rattle.regatta_office.proofs.Streams.{prefix-behind, prefix-longer}
-use Rattle.regatta_streams.proofs.KnownBytes.{appends-then}
+use Rattle.regatta_streams.proofs.KnownBytes.{appends-none, appends-then}
 use Rattle.regatta_office.specs.declared.form.Form.{Form}
 use Rattle.regatta_office.specs.Coming.{Cuts, IsTooLong, Stops, Point, ReadSome, Said, coming, said}
 use Rattle.regatta_office.specs.Lines.{ended_lines, lines, lines_by}
-use Rattle.regatta_office.specs.Transcript.{WroteSome, final_journal, final_text, has_quit, opening, run_text, transcript, transcript_so_far}
+use Rattle.regatta_office.specs.Transcript.{WroteSome, final_journal, final_text, has_quit, opening, replies, run_text, up_to_quit, transcript, transcript_so_far}
 use Rattle.regatta_office.proofs.Saying.{coming-whole}
+
+-- no line has ended in no text
+nothing_said : (rules : RulesParts) (start : Journal) → transcript_so_far rules start [] ≡ []
+unfolding up_to_quit replies
+nothing_said rules start = refl
+
+-- nothing was written
+pub wrote_nothing : (rules : RulesParts) (start : Journal) (a c : Option (List ℕ)) → IfSome a (WroteSome rules start c c)
+wrote_nothing rules start None c = tt
+wrote_nothing rules start (Some text) c = inl (0, subst (Appends c c) (sym (nothing_said rules start)) (appends-none c))
 
 module _ (rules : RulesParts) (start : Journal) (board : BoardValue) (p : Point) (b : board ≡ record { rules = rules; entries = start })
     (e : p ≡ record { rules = board.rules; talk = opening board.entries; line = [] }) where

@@ -77,7 +77,7 @@ impl Scribe {
             W.failures output.new ≡ W.failures output.old + 1 }
         ensures cut { IsErrOf result ScribeFault.Write → AppendsPrefix (W.contents output.old)
             (W.contents output.new) (text_after (point self.old).rules (point self.old).talk
-                (line_of (point self.old).line)) }
+            (line_of (point self.old).line)) }
         ensures memory { IsErrOf result ScribeFault.NoMemory →
             W.failures output.new ≡ W.failures output.old }
         ensures silent { IsErrOf result ScribeFault.NoMemory → output.new ≡ output.old }
@@ -103,7 +103,7 @@ impl Scribe {
             W.failures output.new ≡ W.failures output.old + 1 }
         ensures cut { IsErrOf result ScribeFault.Write → (rest : List ℕ) →
             Cuts (W.contents output.old) (W.contents output.new) (point self.old)
-                (byte ∷ rest) }
+            (byte ∷ rest) }
         ensures memory { IsErrOf result ScribeFault.NoMemory →
             W.failures output.new ≡ W.failures output.old }
         ensures silent { IsErrOf result ScribeFault.NoMemory → output.new ≡ output.old }
@@ -127,12 +127,12 @@ impl Scribe {
             W.failures output.new ≡ W.failures output.old + 1 }
         ensures cut { IsErrOf result ScribeFault.Write → (rest : List ℕ) →
             Cuts (W.contents output.old) (W.contents output.new) (point self.old)
-                (piece.now ++ rest) }
+            (piece.now ++ rest) }
         ensures memory { IsErrOf result ScribeFault.NoMemory →
             W.failures output.new ≡ W.failures output.old }
         ensures stopped { IsErrOf result ScribeFault.NoMemory → (rest : List ℕ) →
             Stops (W.contents output.old) (W.contents output.new) (point self.old)
-                (piece.now ++ rest) }
+            (piece.now ++ rest) }
     {
         for byte in piece {
             match self.take(*byte, output) {
