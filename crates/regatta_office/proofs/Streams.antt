@@ -1,14 +1,14 @@
 -- What a writer took, and a reader gave, over several steps of a run.
-use Rattle.std.proofs.Common.{◌≡◌, ℕ, ◌<◌, length, Bool, true, false, List, [], ◌∷◌, ◌++◌, Option, Some, None, Result, Ok, Err, IfOk, OnOk, IfSome, refl, sym, ap, ◌∙◌, subst, append_assoc, append-nil, arith, take, drop, length-append, ◌+◌, ◌≤◌}
-use Rattle.std.proofs.lemmas.List.{take-append-drop, take-take}
+use Rattle.std.proofs.Common.{◌≡◌, ℕ, ◌<◌, length, Bool, true, false, List, [], ◌∷◌, ◌++◌, Option, Some, None, Result, Ok, Err, IfOk, OnOk, IfSome, refl, sym, ap, ◌∙◌, subst, append_assoc, append-nil, arith, min, take, drop, length-append, ◌+◌, ◌≤◌}
+use Rattle.std.proofs.lemmas.List.{take-append-drop, take-take, take_min, take-append-le}
 use Rattle.std.proofs.Math.Seq.{take-append-add}
-use Rattle.regatta_streams.specs.Texts.{GaveAtMost}
+use Rattle.regatta_streams.specs.Texts.{AppendsPrefix, GaveAtMost}
 use Rattle.std.proofs.Math.Seq.{take-append_seam}
-use Rattle.std.specs.Io.KnownBytes.{Appends, Consumes, Keeps}
+use Rattle.std.specs.Io.KnownBytes.{Appends, Consumes, IsAtEnd, Keeps}
 use Rattle.regatta_terms.specs.Lines.{line_of}
 use Rattle.regatta_streams.proofs.KnownBytes.{appends-none, appends-then, consumes-kept, consumes-none, consumes-then}
 use Rattle.regatta_office.specs.Lines.{is_line_end, last_line}
-use Rattle.regatta_office.specs.Coming.{Finished, IsTooLong, Point, ReadSome, Said, Talked, Went, said, kept_lines, ahead, coming, ended, keep, unless}
+use Rattle.regatta_office.specs.Coming.{Cuts, Stops, Finished, IsTooLong, Point, ReadSome, Said, Talked, Went, said, kept_lines, ahead, coming, ended, keep, unless}
 use Rattle.regatta_office.specs.Transcript.{is_quit, talk_after, text_after}
 use Rattle.regatta_office.proofs.Saying.{ahead-ahead, line_ends, line_goes, line_last, line_none, said-none}
 
@@ -108,6 +108,81 @@ went-quit a b xs ys p q u = record {
   goes = λ counts rest. ap (coming counts p) (append_assoc xs ys rest) ∙ u.goes counts (ys ++ rest);
 }
 
+-- ---- a writer that failed, and want of memory
+
+-- some first part of a text is one of a longer text
+pub prefix-longer : (old new : Option (List ℕ)) (a b : List ℕ) → AppendsPrefix old new a → AppendsPrefix old new (a ++ b)
+prefix-longer old new a b (n, wrote) = (
+  min n (length a),
+  subst (Appends old new) (sym (take_min n a) ∙ sym (take-append-le (min n (length a)) a b (omega arith))) wrote,
+)
+
+-- a text, and then some first part of another
+pub prefix-behind : (old mid new : Option (List ℕ)) (a b : List ℕ) → Appends old mid a → AppendsPrefix mid new b → AppendsPrefix old new (a ++ b)
+prefix-behind old mid new a b wrote (n, more) =
+    (length a + n, subst (Appends old new) (sym (take-append-add a b n)) (appends-then old mid new a (take n b) wrote more))
+
+-- the write of a line's text failed
+pub line_cut : (old new : Option (List ℕ)) (before : Point) (byte : ℕ) (rest : List ℕ) → is_line_end byte ≡ true
+    → AppendsPrefix old new (text_after before.rules before.talk (line_of before.line)) → Cuts old new before (byte ∷ rest)
+line_cut old new before byte rest is cut =
+    subst (λ (s : Said). AppendsPrefix old new s.text) (sym (line_ends true before byte rest is)) (prefix-longer old new _ _ cut)
+
+pub last_cut : (old new : Option (List ℕ)) (before : Point) → 0 < length before.line
+    → AppendsPrefix old new (text_after before.rules before.talk (line_of before.line)) → Cuts old new before []
+last_cut old new before some cut = subst (λ (s : Said). AppendsPrefix old new s.text) (sym (line_last before some)) (prefix-longer old new _ [] cut)
+
+-- the write behind some bytes failed
+pub cut-then : (a b c : Option (List ℕ)) (xs rest : List ℕ) (p q : Point) → Went a b xs p q false → Cuts b c q rest → Cuts a c p (xs ++ rest)
+cut-then a b c xs rest p q u cut =
+    subst (λ (s : Said). AppendsPrefix a c s.text) (sym (u.goes true rest)) (prefix-behind a b c u.written _ u.wrote cut)
+
+nothing_comes : (q : Point) → coming false q [] ≡ ended false q
+unfolding kept_lines
+nothing_comes q = ap (said q.rules q.talk) (none q.line) ∙ said-none q.rules q.talk
+  where
+    none : (line : List ℕ) → last_line false line ≡ []
+    none [] = refl
+    none (byte ∷ line) = refl
+
+-- nothing is due yet
+pub stop-none : (out : Option (List ℕ)) (before : Point) (text : List ℕ) → Stops out out before text
+stop-none out before text = (0, subst (λ (s : Said). Appends out out s.text) (sym (nothing_comes before)) (appends-none out))
+
+-- memory was wanting behind some bytes
+pub stop-then : (a b c : Option (List ℕ)) (xs rest : List ℕ) (p q : Point) → Went a b xs p q false → Stops b c q rest → Stops a c p (xs ++ rest)
+stop-then a b c xs rest p q u (n, wrote) = (
+  length xs + n,
+  subst (Appends a c)
+      (sym (ap (λ (s : Said). s.text) (ap (coming false p) (take-append-add xs rest n) ∙ u.goes false (take n rest))))
+      (appends-then a b c u.written (coming false q (take n rest)).text u.wrote wrote),
+)
+
+-- the same of what a reader gives
+pub given_cut : (a b c d : Option (List ℕ)) (p : Point) (given bytes left : List ℕ) → given ≡ bytes ++ left → Consumes a b given
+    → ((rest : List ℕ) → Cuts c d p (bytes ++ rest)) → IfSome a (Cuts c d p)
+given_cut None b c d p given bytes left cut took k = tt
+given_cut (Some text) None c d p given bytes left cut took k = absurd took
+given_cut (Some text) (Some rest) c d p given bytes left cut took k =
+    subst (Cuts c d p) (sym (took ∙ ap (λ (t : List ℕ). t ++ rest) cut ∙ append_assoc bytes left rest)) (k (left ++ rest))
+
+pub given_stop : (a b c d : Option (List ℕ)) (p : Point) (given bytes left : List ℕ) → given ≡ bytes ++ left → Consumes a b given
+    → ((rest : List ℕ) → Stops c d p (bytes ++ rest)) → IfSome a (Stops c d p)
+given_stop None b c d p given bytes left cut took k = tt
+given_stop (Some text) None c d p given bytes left cut took k = absurd took
+given_stop (Some text) (Some rest) c d p given bytes left cut took k =
+    subst (Stops c d p) (sym (took ∙ ap (λ (t : List ℕ). t ++ rest) cut ∙ append_assoc bytes left rest)) (k (left ++ rest))
+
+-- at the end of what a reader gives
+pub end_cut : (a b c d : Option (List ℕ)) (p : Point) (given : List ℕ) → given ≡ [] → Consumes a b given → IsAtEnd b → Cuts c d p [] → IfSome a (Cuts c d p)
+end_cut None b c d p given none took end k = tt
+end_cut (Some text) None c d p given none took end k = absurd took
+end_cut (Some text) (Some rest) c d p given none took end k = subst (Cuts c d p) (sym (took ∙ (λ i. none i ++ end i))) k
+
+pub any_stop : (a c : Option (List ℕ)) (p : Point) → IfSome a (Stops c c p)
+any_stop None c p = tt
+any_stop (Some text) c p = stop-none c p text
+
 -- ---- a reader and a writer
 
 not_some : {n : ℕ} → None ≡ Some n → ⊥
@@ -135,14 +210,6 @@ talked_quit a b c d p q given bytes left cut took u = record {
     by None = tt
     by (Some rest) =
         (true, ap (λ (t : List ℕ). coming true p (t ++ rest)) cut ∙ ap (coming true p) (append_assoc bytes left rest) ∙ u.goes true (left ++ rest))
-
-nothing_comes : (q : Point) → coming false q [] ≡ ended false q
-unfolding kept_lines
-nothing_comes q = ap (said q.rules q.talk) (none q.line) ∙ said-none q.rules q.talk
-  where
-    none : (line : List ℕ) → last_line false line ≡ []
-    none [] = refl
-    none (byte ∷ line) = refl
 
 -- the bytes that were answered are as many as may be, and more were given
 pub talked_long : (a b c d : Option (List ℕ)) (p q : Point) (most : ℕ) (given bytes left : List ℕ) → given ≡ bytes ++ left
@@ -256,6 +323,29 @@ module _ (a b c d e f : Option (List ℕ)) (p q r : Point) (n : ℕ) (u : Talked
         (sym (ap (λ (s : Said). s.text) (ap (coming false p) (sym (append-nil u.given)) ∙ u_goes false [] ∙ ap (ahead u.written) (nothing_comes q)) ∙ append-nil u.written))
         u.wrote,
   )
+
+  -- a write failed behind it, or memory was wanting
+  pub cut_at : IfSome b (Cuts e f q) → IfSome a (Cuts d f p)
+  cut_at = by a b u.took
+    where
+      by : (a b : Option (List ℕ)) → Consumes a b u.given → IfSome b (Cuts e f q) → IfSome a (Cuts d f p)
+      by None b h k = tt
+      by (Some text) None h k = absurd h
+      by (Some text) (Some mid) h k =
+          subst (λ (s : Said). AppendsPrefix d f s.text) (sym (ap (coming true p) h ∙ u_goes true mid)) (prefix-behind d e f u.written _ u.wrote k)
+
+  pub stop_at : IfSome b (Stops e f q) → IfSome a (Stops d f p)
+  stop_at = by a b u.took
+    where
+      by : (a b : Option (List ℕ)) → Consumes a b u.given → IfSome b (Stops e f q) → IfSome a (Stops d f p)
+      by None b h k = tt
+      by (Some text) None h k = absurd h
+      by (Some text) (Some mid) h (m, wrote) = (
+        length u.given + m,
+        subst (Appends d f)
+            (sym (ap (λ (s : Said). s.text) (ap (λ (t : List ℕ). coming false p (take (length u.given + m) t)) h ∙ ap (coming false p) (take-append-add u.given mid m) ∙ u_goes false (take m mid))))
+            (appends-then d e f u.written (coming false q (take m mid)).text u.wrote wrote),
+      )
 
   -- the text is too long
   pub too_long_at : (most : ℕ) → IfSome b (λ text. IsTooLong e f q most text) → IfSome a (λ text. IsTooLong d f p (n + most) text)

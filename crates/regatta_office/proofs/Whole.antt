@@ -1,15 +1,27 @@
 -- A whole run: what is written for all of the text, and for the lines that had ended at a fault.
-use Rattle.std.proofs.Common.{◌≡◌, ℕ, ◌<◌, Bool, true, false, List, [], ◌++◌, Option, Some, None, IfSome, length, take, sym, ap, ◌∙◌, subst}
+use Rattle.std.proofs.Common.{◌≡◌, ℕ, ◌<◌, Bool, true, false, List, [], ◌++◌, Option, Some, None, IfSome, length, take, inl, inr, refl, sym, ap, ◌∙◌, subst}
 use Rattle.std.specs.Io.KnownBytes.{Appends, Consumes}
 use Rattle.regatta_terms.specs.Rules.{RulesParts}
 use Rattle.regatta_scores.specs.Journal.{Journal}
 use Rattle.regatta_board.specs.BoardFacts.{BoardValue}
-use Rattle.regatta_streams.proofs.KnownBytes.{appends-then}
+use Rattle.regatta_streams.specs.Texts.{AppendsPrefix}
+use Rattle.regatta_office.proofs.Streams.{prefix-behind, prefix-longer}
+use Rattle.regatta_streams.proofs.KnownBytes.{appends-none, appends-then}
 use Rattle.regatta_office.specs.declared.form.Form.{Form}
-use Rattle.regatta_office.specs.Coming.{IsTooLong, Point, ReadSome, Said, coming, said}
+use Rattle.regatta_office.specs.Coming.{Cuts, IsTooLong, Stops, Point, ReadSome, Said, coming, said}
 use Rattle.regatta_office.specs.Lines.{ended_lines, lines, lines_by}
-use Rattle.regatta_office.specs.Transcript.{final_journal, final_text, has_quit, opening, run_text, transcript, transcript_so_far}
+use Rattle.regatta_office.specs.Transcript.{WroteSome, final_journal, final_text, has_quit, opening, replies, run_text, up_to_quit, transcript, transcript_so_far}
 use Rattle.regatta_office.proofs.Saying.{coming-whole}
+
+-- no line has ended in no text
+nothing_said : (rules : RulesParts) (start : Journal) → transcript_so_far rules start [] ≡ []
+unfolding up_to_quit replies
+nothing_said rules start = refl
+
+-- nothing was written
+pub wrote_nothing : (rules : RulesParts) (start : Journal) (a c : Option (List ℕ)) → IfSome a (WroteSome rules start c c)
+wrote_nothing rules start None c = tt
+wrote_nothing rules start (Some text) c = inl (0, subst (Appends c c) (sym (nothing_said rules start)) (appends-none c))
 
 module _ (rules : RulesParts) (start : Journal) (board : BoardValue) (p : Point) (b : board ≡ record { rules = rules; entries = start })
     (e : p ≡ record { rules = board.rules; talk = opening board.entries; line = [] }) where
@@ -42,3 +54,33 @@ module _ (rules : RulesParts) (start : Journal) (board : BoardValue) (p : Point)
   text_too_long (Some text) c d most is =
       let said_is = at_start false (take most text) in
       (is.long, sym (ap (λ (s : Said). s.quit) said_is) ∙ is.quit, subst (Appends c d) (ap (λ (s : Said). s.text) said_is) is.wrote)
+
+  pub whole_cut : (a c d : Option (List ℕ)) (form : Form) → IfSome a (Cuts c d p) → IfSome a (λ text. AppendsPrefix c d (run_text rules start form text))
+  whole_cut None c d form k = tt
+  whole_cut (Some text) c d form k =
+      prefix-longer c d (transcript rules start text) (final_text rules form (final_journal rules start text)) (subst (λ (s : Said). AppendsPrefix c d s.text) (at_start true text) k)
+
+  pub whole_stop : (a c d : Option (List ℕ)) → IfSome a (Stops c d p) → IfSome a (WroteSome rules start c d)
+  whole_stop None c d k = tt
+  whole_stop (Some text) c d (n, wrote) = inl (n, subst (λ (s : Said). Appends c d s.text) (at_start false (take n text)) wrote)
+
+  -- the final part wasn't made
+  pub all_said : (a c d : Option (List ℕ)) → IfSome a (λ text. Appends c d (coming true p text).text) → IfSome a (WroteSome rules start c d)
+  all_said None c d k = tt
+  all_said (Some text) c d k = inr (subst (λ (s : Said). Appends c d s.text) (at_start true text) k)
+
+  -- the write of the final part failed
+  pub final_cut : (a c d f : Option (List ℕ)) (form : Form) (final : List ℕ) (last : BoardValue) (journal : Journal) → last.rules ≡ p.rules → last.entries ≡ journal
+      → IfSome a (λ text. Appends c d (coming true p text).text)
+      → IfSome a (λ text. journal ≡ (coming true p text).journal)
+      → final ≡ final_text last.rules form last.entries
+      → AppendsPrefix d f final
+      → IfSome a (λ text. AppendsPrefix c f (run_text rules start form text))
+  final_cut None c d f form final last journal same kept wrote after is ends = tt
+  final_cut (Some text) c d f form final last journal same kept wrote after is ends =
+      let said_is = at_start true text in
+      let rules_are : last.rules ≡ rules = same ∙ ap (λ (q : Point). q.rules) e ∙ ap (λ (v : BoardValue). v.rules) b in
+      let written : (coming true p text).text ≡ transcript rules start text = ap (λ (s : Said). s.text) said_is in
+      let journal_is : last.entries ≡ final_journal rules start text = kept ∙ after ∙ ap (λ (s : Said). s.journal) said_is in
+      let ended : final ≡ final_text rules form (final_journal rules start text) = is ∙ (λ i. final_text (rules_are i) form (journal_is i)) in
+      subst (AppendsPrefix c f) (λ i. written i ++ ended i) (prefix-behind c d f (coming true p text).text final wrote ends)

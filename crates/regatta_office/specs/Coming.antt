@@ -1,6 +1,7 @@
 -- What is still to come of a run, at any point of its text.
 use Rattle.std.specs.Prelude.{ℕ, Bool, true, false, ◌≡◌, List, [], ◌∷◌, ◌++◌, length, take, ◌<◌, nat_lt, Option, Some, None, IfSome, if◌then◌else◌}
 use Rattle.std.specs.Io.KnownBytes.{Appends, Consumes}
+use Rattle.regatta_streams.specs.Texts.{AppendsPrefix}
 use Rattle.regatta_terms.specs.Rules.{RulesParts}
 use Rattle.regatta_scores.specs.Journal.{Journal}
 use Rattle.regatta_office.specs.Lines.{is_line_end, last_line}
@@ -82,6 +83,14 @@ pub record Talked (in-old in-new out-old out-new : Option (List ℕ)) (before af
       → coming counts before (given ++ rest) ≡ ahead written (coming counts after rest))
   pub ends : count ≡ None → IfSome in-new (λ rest. (quit : Bool)
       × (coming true before (given ++ rest) ≡ ahead written (ended quit after)))
+
+-- a writer took some first part of what is to come of a text
+abbrev pub Cuts : Option (List ℕ) → Option (List ℕ) → Point → List ℕ → Type 0
+Cuts old new before text = AppendsPrefix old new (coming true before text).text
+
+-- a writer took what is due for the lines that end within some first part of a text
+abbrev pub Stops : Option (List ℕ) → Option (List ℕ) → Point → List ℕ → Type 0
+Stops old new before text = (n : ℕ) × Appends old new (coming false before (take n text)).text
 
 -- a text is longer than is answered: the lines that end within so many bytes of it are answered,
 -- and no QUIT is among them

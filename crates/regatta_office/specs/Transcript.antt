@@ -1,5 +1,5 @@
 -- What a replay writes: a reply to each line of a text, and then the table, CSV or journal.
-use Rattle.std.specs.Prelude.{◌≡◌, IfSome, ℕ, Bool, true, false, List, [], ◌∷◌, ◌++◌, Option, Some, None, Result, Ok, Err, if◌then◌else◌}
+use Rattle.std.specs.Prelude.{◌≡◌, ◌⊎◌, IfSome, take, ℕ, Bool, true, false, List, [], ◌∷◌, ◌++◌, Option, Some, None, Result, Ok, Err, if◌then◌else◌}
 use Rattle.std.specs.Io.KnownBytes.{Appends}
 use Rattle.regatta_terms.specs.Entries.{EntryParts}
 use Rattle.regatta_terms.specs.Lines.{line_of}
@@ -163,3 +163,10 @@ pub record IsWholeRun (given old new : Option (List ℕ)) : Type 0 where
   pub form : Form
   pub lawful : is_lawful limits rules start ≡ true
   pub wrote : IfSome given (λ text. Appends old new (run_text rules start form text))
+
+-- what was written for some first lines of a text: for those that end within some first part of
+-- it, or for all of them
+abbrev pub WroteSome : RulesParts → Journal → Option (List ℕ) → Option (List ℕ) → List ℕ → Type 0
+WroteSome rules start old new text =
+    ((n : ℕ) × Appends old new (transcript_so_far rules start (take n text)))
+    ⊎ Appends old new (transcript rules start text)

@@ -1,16 +1,16 @@
 //! A run over two streams.
 ghost use Rattle.std.specs.Prelude.{◌≡◌, ◌≢◌, ◌+◌, ◌<◌, ◌≤◌, ◌++◌, ℕ, List, length, take, None, OnOk, IfOk, IfErr, IfSome, IsErrOf, false, true};
 ghost use Rattle.std.specs.Io.KnownBytes.{Appends, Keeps};
-ghost use Rattle.regatta_streams.specs.Texts.{GaveAtMost};
+ghost use Rattle.regatta_streams.specs.Texts.{AppendsPrefix, GaveAtMost};
 ghost use Rattle.regatta_board.specs.Refusals.{limits, is_lawful};
 ghost use Rattle.regatta_board.specs.Replays.{first_refused};
 ghost use Rattle.regatta_office.specs.declared.run.TheConstants.{INPUT_LIMIT};
-ghost use Rattle.regatta_office.specs.Coming.{IsTooLong, ReadSome, Talked, coming};
+ghost use Rattle.regatta_office.specs.Coming.{Cuts, IsTooLong, ReadSome, Stops, Talked, coming};
 ghost use Rattle.regatta_office.specs.Faults.{IsDeviceFault, IsRunFaultOf, scribe_fault as scribe_fault_of, start_fault as start_fault_of};
 ghost use Rattle.regatta_office.specs.Lines.{ended_lines};
 ghost use Rattle.regatta_office.specs.Scribes.{point};
 ghost use Rattle.regatta_office.specs.Starts.{IsRunFault};
-ghost use Rattle.regatta_office.specs.Transcript.{final_text, has_quit, run_text, transcript_so_far};
+ghost use Rattle.regatta_office.specs.Transcript.{WroteSome, final_text, has_quit, run_text, transcript_so_far};
 
 use crate::form::Form;
 use crate::opening::opened;
@@ -89,6 +89,10 @@ fn turn<R: Source, W: Sink>(
     ensures read { IsErrOf result RunFault.Read → output.new ≡ output.old }
     ensures kept { IsErrOf result RunFault.Read →
         Keeps (R.remaining input.old) (R.remaining input.new) }
+    ensures cut { IsErrOf result RunFault.Write → IfSome (R.remaining input.old)
+        (Cuts (W.contents output.old) (W.contents output.new) (point scribe.old)) }
+    ensures stopped { IsErrOf result RunFault.NoMemory → IfSome (R.remaining input.old)
+        (Stops (W.contents output.old) (W.contents output.new) (point scribe.old)) }
     ensures long { IsErrOf result RunFault.InputTooLong → IfSome (R.remaining input.old)
         (λ text. IsTooLong (W.contents output.old) (W.contents output.new) (point scribe.old)
         most text) }
@@ -136,6 +140,10 @@ fn answer_all<R: Source, W: Sink>(
     ensures read { IsErrOf result RunFault.Read → ReadSome (R.remaining input.old)
         (R.remaining input.new) (W.contents output.old) (W.contents output.new)
         (λ given. (coming false (point scribe.old) given).text) }
+    ensures cut { IsErrOf result RunFault.Write → IfSome (R.remaining input.old)
+        (Cuts (W.contents output.old) (W.contents output.new) (point scribe.old)) }
+    ensures stopped { IsErrOf result RunFault.NoMemory → IfSome (R.remaining input.old)
+        (Stops (W.contents output.old) (W.contents output.new) (point scribe.old)) }
     ensures long { IsErrOf result RunFault.InputTooLong → IfSome (R.remaining input.old)
         (λ text. IsTooLong (W.contents output.old) (W.contents output.new) (point scribe.old)
         INPUT_LIMIT text) }
@@ -209,7 +217,9 @@ pub fn replay<R: Source, W: Sink>(
     ensures fault { IfErr result (IsRunFaultOf (R.failures input.old) (R.failures input.new)
         (W.failures output.old) (W.failures output.new)) }
 
-    // What is written by then: replies to the lines that had ended, as far as they count.
+    // What is written by then: replies to the lines that had ended, as far as they count; of a
+    // failed write some first part of the whole text, and of want of memory the replies to some
+    // first lines.
     ensures read { IsErrOf result RunFault.Read → ReadSome (R.remaining input.old)
         (R.remaining input.new) (W.contents output.old) (W.contents output.new)
         (transcript_so_far rules.now start.now) }
@@ -218,6 +228,11 @@ pub fn replay<R: Source, W: Sink>(
         × (has_quit (ended_lines (take INPUT_LIMIT text)) ≡ false)
         × Appends (W.contents output.old) (W.contents output.new)
         (transcript_so_far rules.now start.now (take INPUT_LIMIT text))) }
+    ensures cut { IsErrOf result RunFault.Write → IfSome (R.remaining input.old)
+        (λ text. AppendsPrefix (W.contents output.old) (W.contents output.new)
+        (run_text rules.now start.now form text)) }
+    ensures stopped { IsErrOf result RunFault.NoMemory → IfSome (R.remaining input.old)
+        (WroteSome rules.now start.now (W.contents output.old) (W.contents output.new)) }
 {
     let board = match opened(alloc, rules, start) {
         Ok(board) => board,

@@ -1,8 +1,9 @@
 //! A run so far: it takes bytes of a text, and writes what is due for each line that has ended.
 ghost use Rattle.std.specs.Prelude.{◌≡◌, ◌≢◌, ◌+◌, ◌++◌, ◌∷◌, [], true, false, ℕ, List, IfOk, OnOk, OnErr, IsErrOf};
 ghost use Rattle.std.specs.Io.KnownBytes.{Appends};
+ghost use Rattle.regatta_streams.specs.Texts.{AppendsPrefix};
 ghost use Rattle.regatta_terms.specs.Lines.{line_of};
-ghost use Rattle.regatta_office.specs.Coming.{Finished, Went};
+ghost use Rattle.regatta_office.specs.Coming.{Cuts, Finished, Stops, Went};
 ghost use Rattle.regatta_office.specs.Scribes.{point};
 ghost use Rattle.regatta_office.specs.Transcript.{is_quit as is_quit_of, talk_after, text_after};
 ghost use Rattle.regatta_terms.specs.declared.command.Role.TheVariants.{Scorer};
@@ -74,8 +75,12 @@ impl Scribe {
         ensures well { OnOk result (W.failures output.new ≡ W.failures output.old) }
         ensures write { IsErrOf result ScribeFault.Write →
             W.failures output.new ≡ W.failures output.old + 1 }
+        ensures cut { IsErrOf result ScribeFault.Write → AppendsPrefix (W.contents output.old)
+            (W.contents output.new) (text_after (point self.old).rules (point self.old).talk
+            (line_of (point self.old).line)) }
         ensures memory { IsErrOf result ScribeFault.NoMemory →
             W.failures output.new ≡ W.failures output.old }
+        ensures silent { IsErrOf result ScribeFault.NoMemory → output.new ≡ output.old }
     {
         let asked = read_line(self.cutter.line());
         self.cutter.clear();
@@ -96,8 +101,12 @@ impl Scribe {
         ensures well { OnOk result (W.failures output.new ≡ W.failures output.old) }
         ensures write { IsErrOf result ScribeFault.Write →
             W.failures output.new ≡ W.failures output.old + 1 }
+        ensures cut { IsErrOf result ScribeFault.Write → (rest : List ℕ) →
+            Cuts (W.contents output.old) (W.contents output.new) (point self.old)
+            (byte ∷ rest) }
         ensures memory { IsErrOf result ScribeFault.NoMemory →
             W.failures output.new ≡ W.failures output.old }
+        ensures silent { IsErrOf result ScribeFault.NoMemory → output.new ≡ output.old }
     {
         if !self.cutter.take(byte) {
             return Ok(false);
@@ -116,12 +125,20 @@ impl Scribe {
         ensures well { OnOk result (W.failures output.new ≡ W.failures output.old) }
         ensures write { IsErrOf result ScribeFault.Write →
             W.failures output.new ≡ W.failures output.old + 1 }
+        ensures cut { IsErrOf result ScribeFault.Write → (rest : List ℕ) →
+            Cuts (W.contents output.old) (W.contents output.new) (point self.old)
+            (piece.now ++ rest) }
         ensures memory { IsErrOf result ScribeFault.NoMemory →
             W.failures output.new ≡ W.failures output.old }
+        ensures stopped { IsErrOf result ScribeFault.NoMemory → (rest : List ℕ) →
+            Stops (W.contents output.old) (W.contents output.new) (point self.old)
+            (piece.now ++ rest) }
     {
         for byte in piece {
-            if self.take(*byte, output)? {
-                return Ok(true);
+            match self.take(*byte, output) {
+                Ok(false) => {}
+                Ok(true) => return Ok(true),
+                Err(fault) => return Err(fault),
             }
         }
         Ok(false)
@@ -134,12 +151,18 @@ impl Scribe {
         ensures well { OnOk result (W.failures output.new ≡ W.failures output.old) }
         ensures write { IsErrOf result ScribeFault.Write →
             W.failures output.new ≡ W.failures output.old + 1 }
+        ensures cut { IsErrOf result ScribeFault.Write →
+            Cuts (W.contents output.old) (W.contents output.new) (point self.old) [] }
         ensures memory { IsErrOf result ScribeFault.NoMemory →
             W.failures output.new ≡ W.failures output.old }
+        ensures silent { IsErrOf result ScribeFault.NoMemory → output.new ≡ output.old }
     {
-        if !self.cutter.line().is_empty() {
-            self.end_line(output)?;
+        if self.cutter.line().is_empty() {
+            return Ok(());
         }
-        Ok(())
+        match self.end_line(output) {
+            Ok(_) => Ok(()),
+            Err(fault) => Err(fault),
+        }
     }
 }

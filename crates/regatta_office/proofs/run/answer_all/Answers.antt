@@ -2,7 +2,7 @@ use Rattle.std.proofs.Common.{◌≡◌, ◌+◌, ◌-◌, ◌≤◌, ℕ, Some,
 use Rattle.regatta_office.specs.Coming.{IsTooLong, ReadSome, Talked, coming}
 use Rattle.regatta_office.specs.Scribes.{point}
 use Rattle.regatta_office.specs.declared.run.TheConstants.{INPUT_LIMIT}
-use Rattle.regatta_office.proofs.Streams.{broke_off, gave_more, talked_more, too_long_at}
+use Rattle.regatta_office.proofs.Streams.{broke_off, cut_at, stop_at, gave_more, talked_more, too_long_at}
 use Rattle.regatta_office.proofs.Results.{err_as}
 use Rattle.regatta_office.proofs.run.answer_all.Goals as goal
 
@@ -46,3 +46,11 @@ returns-in-Err-clause-long g c = λ is.
     let sum : INPUT_LIMIT - most + most ≡ INPUT_LIMIT = omega (arith, so_far) in
     subst (λ (n : ℕ). IfSome (g.R.Source.remaining c.args.input.now) (λ text. IsTooLong (g.W.Sink.contents c.args.output.now) (g.W.Sink.contents c.turn.new.output) (point c.args.scribe.now) n text)) sum
     (too_long_at _ _ (g.R.Source.remaining c.turn.new.input) _ _ _ _ _ (point c.turn.new.scribe) (INPUT_LIMIT - most) c.loop-count.invariant.talked most (c.in-Err.ensures.long (err_as (Option ℕ) _ _ is)))
+
+pub returns-in-Err-clause-cut : goal.returns-in-Err-clause-cut
+returns-in-Err-clause-cut g c = λ is.
+    cut_at _ _ (g.R.Source.remaining c.turn.new.input) _ _ _ _ _ (point c.turn.new.scribe) (INPUT_LIMIT - c.loop-count.most) c.loop-count.invariant.talked (c.in-Err.ensures.cut (err_as (Option ℕ) _ _ is))
+
+pub returns-in-Err-clause-stopped : goal.returns-in-Err-clause-stopped
+returns-in-Err-clause-stopped g c = λ is.
+    stop_at _ _ (g.R.Source.remaining c.turn.new.input) _ _ _ _ _ (point c.turn.new.scribe) (INPUT_LIMIT - c.loop-count.most) c.loop-count.invariant.talked (c.in-Err.ensures.stopped (err_as (Option ℕ) _ _ is))

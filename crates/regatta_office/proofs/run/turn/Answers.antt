@@ -1,6 +1,9 @@
-use Rattle.std.proofs.Common.{◌≡◌, ◌<◌, ◌≤◌, length, take, drop, arith}
+use Rattle.std.proofs.Common.{◌≡◌, ◌<◌, ◌≤◌, IfSome, Err, length, take, drop, arith, sym, ap, subst}
 use Rattle.std.proofs.lemmas.List.{length-take, length-drop}
-use Rattle.regatta_office.proofs.Streams.{take_front, talked_quit, talked_long}
+use Rattle.regatta_office.proofs.Streams.{any_stop, given_cut, given_stop, take_front, talked_quit, talked_long}
+use Rattle.regatta_office.specs.Coming.{Stops}
+use Rattle.regatta_office.specs.Scribes.{point}
+use Rattle.regatta_office.proofs.Results.{memory_is, write_is}
 use Rattle.regatta_office.proofs.run.turn.Goals as goal
 
 pub returns-in-Ok-true-clause-talked : goal.returns-in-Ok-true-clause-talked
@@ -19,3 +22,24 @@ returns-then-most-count-clause-long g c = λ e.
     in
     talked_long _ _ _ _ _ _ _ _ _ _ (take_front c.min-2.result c.in-Ok.count buf few) full more
     c.in-Ok.ensures.bytes.0 (rw c.in-Ok-false.field-0-test at c.in-Ok-false.ensures.went)
+
+-- memory was wanting at the end of the text
+pub returns-in-Err-clause-stopped : goal.returns-in-Err-clause-stopped
+returns-in-Err-clause-stopped g c = λ is.
+    let same = c.in-Err.ensures.silent (ap Err (memory_is c.in-Err.fault c.scribe_fault.result c.scribe_fault.ensures is)) in
+    subst (λ (w : g.row.W.Denot). IfSome (g.R.Source.remaining c.args.input.now) (Stops (g.W.Sink.contents c.args.output.now) (g.W.Sink.contents w) (point c.args.scribe.now)))
+    (sym same) (any_stop _ (g.W.Sink.contents c.args.output.now) (point c.args.scribe.now))
+
+-- a write failed in the piece
+pub returns-in-Err-take_all-clause-cut : goal.returns-in-Err-take_all-clause-cut
+returns-in-Err-take_all-clause-cut g c = λ is.
+    let few : c.min-2.result ≤ c.in-Ok.count = omega (arith, c.min-2.ensures) in
+    given_cut _ _ _ _ _ _ _ _ (take_front c.min-2.result c.in-Ok.count c.read.new.buf few) c.in-Ok.ensures.bytes.0
+    (c.in-Err-take_all.ensures.cut (ap Err (write_is c.in-Err-take_all.fault c.scribe_fault-in-Err-take_all.result c.scribe_fault-in-Err-take_all.ensures is)))
+
+-- memory was wanting in the piece
+pub returns-in-Err-take_all-clause-stopped : goal.returns-in-Err-take_all-clause-stopped
+returns-in-Err-take_all-clause-stopped g c = λ is.
+    let few : c.min-2.result ≤ c.in-Ok.count = omega (arith, c.min-2.ensures) in
+    given_stop _ _ _ _ _ _ _ _ (take_front c.min-2.result c.in-Ok.count c.read.new.buf few) c.in-Ok.ensures.bytes.0
+    (c.in-Err-take_all.ensures.stopped (ap Err (memory_is c.in-Err-take_all.fault c.scribe_fault-in-Err-take_all.result c.scribe_fault-in-Err-take_all.ensures is)))
