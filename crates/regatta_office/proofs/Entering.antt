@@ -1,5 +1,5 @@
 -- The boats of an entry list, one after another.
-use Rattle.std.proofs.Common.{◌≡◌, ℕ, ◌+◌, ◌<◌, Bool, true, false, cond, List, [], ◌∷◌, ◌++◌, length, drop, get_or, nat_eq, refl, sym, ap, ◌∙◌, arith, drop-cons, add-one}
+use Rattle.std.proofs.Common.{◌≡◌, ℕ, ◌+◌, ◌<◌, cond, List, [], ◌∷◌, ◌++◌, length, drop, get_or, nat_eq, refl, sym, ap, ◌∙◌, drop-cons, add-one}
 use Rattle.std.proofs.Math.Seq.{drop-length}
 use Rattle.regatta_terms.specs.Entries.{EntryParts}
 use Rattle.regatta_terms.specs.declared.command.Command.TheVariants.{Enter}

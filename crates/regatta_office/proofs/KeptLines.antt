@@ -1,15 +1,13 @@
 -- What is kept of each line tells as much as the line: its lines are the text's.
-use Rattle.std.proofs.Common.{◌≡◌, ℕ, ◌+◌, ◌-◌, ◌<◌, ◌≤◌, Bool, true, false, cond, List, [], ◌∷◌, ◌++◌, length, take, map, Result, Ok, Err, refl, sym, ap, ◌∙◌, arith, append-nil, append_assoc}
+use Rattle.std.proofs.Common.{◌≡◌, ℕ, ◌-◌, ◌<◌, ◌≤◌, Bool, true, false, cond, List, [], ◌∷◌, ◌++◌, length, take, map, Err, refl, sym, ap, ◌∙◌, arith, append-nil, append_assoc}
 use Rattle.std.specs.Prelude.{nat_le, nat_lt}
-use Rattle.std.specs.List.{slice_split, onto_first, slice_index}
+use Rattle.std.specs.List.{slice_split, onto_first}
 use Rattle.std.specs.Str.Lines.{strip_carriage_return}
-use Rattle.std.proofs.lemmas.Bool.{cond-false, lt-leb, lt-ltb, le-ltb, ltb-false, ltb-true}
+use Rattle.std.proofs.lemmas.Bool.{cond-false, lt-leb, le-ltb, ltb-false, ltb-true}
 use Rattle.std.proofs.lemmas.List.{length-append, length-take-le, take-append-le, take_all}
 use Rattle.std.proofs.lemmas.List.Splits.{slice_split-cons_yes, slice_split-cons_no, length-slice_split}
 use Rattle.regatta_terms.specs.Lines.{line_of, line_of_words}
 use Rattle.regatta_terms.specs.Words.{words}
-use Rattle.regatta_terms.specs.declared.line.Line.{Line}
-use Rattle.regatta_terms.specs.declared.line.LineFault.{LineFault}
 use Rattle.regatta_terms.specs.declared.line.LineFault.TheVariants.{TooLong}
 use Rattle.regatta_office.specs.Lines.{is_line_end, last_line, lines_of_pieces, lines_by}
 use Rattle.regatta_office.specs.Coming.{keep, kept_lines}

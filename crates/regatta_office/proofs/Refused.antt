@@ -1,7 +1,6 @@
 -- A refusal that isn't want of memory is the one that was due.
 use Rattle.std.proofs.Common.{◌≡◌, Option, Some, None, true, false, sym, ap, ◌∙◌}
 use Rattle.regatta_terms.specs.declared.reply.Refusal.{Refusal}
-use Rattle.regatta_terms.specs.declared.reply.Refusal.TheVariants.{NoMemory}
 use Rattle.regatta_board.specs.Refusals.{IsRefusal}
 use Rattle.regatta_office.specs.Transcript.{is_want_of_memory}
 

@@ -1,12 +1,12 @@
 -- What is said to lines, one after another.
-use Rattle.std.proofs.Common.{◌≡◌, ℕ, ◌<◌, length, arith, Bool, true, false, cond, List, [], ◌∷◌, ◌++◌, take, map, Result, Ok, Err, refl, sym, ap, ◌∙◌, append-nil, append_assoc}
+use Rattle.std.proofs.Common.{◌≡◌, ℕ, ◌<◌, length, arith, Bool, true, false, cond, List, [], ◌∷◌, ◌++◌, take, map, Result, refl, sym, ap, ◌∙◌, append_assoc}
 use Rattle.regatta_terms.specs.Lines.{line_of}
 use Rattle.regatta_terms.specs.Rules.{RulesParts}
 use Rattle.regatta_terms.specs.declared.line.Line.{Line}
 use Rattle.regatta_terms.specs.declared.line.LineFault.{LineFault}
-use Rattle.regatta_office.specs.Lines.{is_line_end, last_line, lines_by}
+use Rattle.regatta_office.specs.Lines.{is_line_end, lines_by}
 use Rattle.regatta_office.specs.Coming.{Point, Said, ahead, coming, ended, keep, kept_lines, said, unless}
-use Rattle.regatta_office.specs.Transcript.{Talk, has_quit, is_quit, opening, replies, talk_after, talk_at_end, text_after, up_to_quit}
+use Rattle.regatta_office.specs.Transcript.{Talk, has_quit, is_quit, replies, talk_after, talk_at_end, text_after, up_to_quit}
 use Rattle.regatta_office.proofs.KeptLines.{kept_byte, kept_end, kept_of_text, kept_reads}
 
 -- a line, by what it reads as, and what is said to the lines behind it

@@ -1,6 +1,6 @@
 -- A whole run: what is written for all of the text, and for the lines that had ended at a fault.
 use Rattle.std.proofs.Common.{◌≡◌, ℕ, ◌<◌, Bool, true, false, List, [], ◌++◌, Option, Some, None, IfSome, length, take, inl, inr, refl, sym, ap, ◌∙◌, subst}
-use Rattle.std.specs.Io.KnownBytes.{Appends, Consumes}
+use Rattle.std.specs.Io.KnownBytes.{Appends}
 use Rattle.regatta_terms.specs.Rules.{RulesParts}
 use Rattle.regatta_scores.specs.Journal.{Journal}
 use Rattle.regatta_board.specs.BoardFacts.{BoardValue}
@@ -9,7 +9,7 @@ use Rattle.regatta_office.proofs.Streams.{prefix-behind, prefix-longer}
 use Rattle.regatta_streams.proofs.KnownBytes.{appends-none, appends-then}
 use Rattle.regatta_office.specs.declared.form.Form.{Form}
 use Rattle.regatta_office.specs.Coming.{Cuts, IsTooLong, Stops, Point, ReadSome, Said, coming, said}
-use Rattle.regatta_office.specs.Lines.{ended_lines, lines, lines_by}
+use Rattle.regatta_office.specs.Lines.{ended_lines, lines_by}
 use Rattle.regatta_office.specs.Transcript.{WroteSome, final_journal, final_text, has_quit, opening, replies, run_text, up_to_quit, transcript, transcript_so_far}
 use Rattle.regatta_office.proofs.Saying.{coming-whole}
 

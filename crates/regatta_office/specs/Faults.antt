@@ -3,7 +3,7 @@ use Rattle.std.specs.Prelude.{◌≡◌, ℕ, ◌+◌}
 use Rattle.regatta_board.specs.declared.replay.ReplayFault.{ReplayFault}
 use Rattle.regatta_board.specs.declared.replay.ReplayFault.TheVariants as replay
 use Rattle.regatta_office.specs.declared.run.RunFault.{RunFault}
-use Rattle.regatta_office.specs.declared.run.RunFault.TheVariants.{Start, Read, Write, InputTooLong, NoMemory}
+use Rattle.regatta_office.specs.declared.run.RunFault.TheVariants.{Start, Read, Write, NoMemory}
 use Rattle.regatta_office.specs.declared.scribe.ScribeFault.{ScribeFault}
 use Rattle.regatta_office.specs.declared.scribe.ScribeFault.TheVariants as scribe
 

@@ -1,5 +1,5 @@
 -- Worked examples, by computation: the default rules, no start, and the table at the end.
-use Rattle.std.specs.Prelude.{◌≡◌, ℕ, ◌++◌, List, [], ◌∷◌, None, refl, codes}
+use Rattle.std.specs.Prelude.{◌≡◌, ℕ, List, [], ◌∷◌, None, refl, codes}
 use Rattle.std.specs.Fmt.{digits}
 use Rattle.regatta_terms.specs.Lines.{line_of, line_of_words, command_of_words, command_after}
 use Rattle.regatta_terms.specs.Rules.{RulesParts}

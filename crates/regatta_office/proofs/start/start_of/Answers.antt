@@ -1,4 +1,4 @@
-use Rattle.std.proofs.Common.{◌≡◌, arith, sym, ap, ◌∙◌}
+use Rattle.std.proofs.Common.{arith, sym, ◌∙◌}
 use Rattle.regatta_office.proofs.Entering.{last_more, start_more, start_done}
 use Rattle.regatta_office.proofs.start.start_of.Goals as goal
 

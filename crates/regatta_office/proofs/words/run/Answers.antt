@@ -1,4 +1,3 @@
-use Rattle.std.proofs.Common.{◌≡◌}
 use Rattle.regatta_office.proofs.words.run.Goals as goal
 
 pub returns : goal.returns

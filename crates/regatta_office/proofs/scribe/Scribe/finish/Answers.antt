@@ -1,4 +1,4 @@
-use Rattle.std.proofs.Common.{◌≡◌, ◌<◌, Bool, length, refl, rules, arith}
+use Rattle.std.proofs.Common.{◌≡◌, ◌<◌, Bool, length, refl, rules}
 use Rattle.regatta_office.specs.Scribes.{point}
 use Rattle.regatta_office.proofs.Results.{err_as}
 use Rattle.regatta_office.proofs.Streams.{finished_line, finished_none, last_cut}

@@ -1,4 +1,4 @@
-use Rattle.std.proofs.Common.{◌≡◌, ◌∷◌, false, true, sym, ap, ◌∙◌, cond}
+use Rattle.std.proofs.Common.{◌≡◌, false, true, sym, ◌∙◌}
 use Rattle.std.proofs.lemmas.Bool.{cond-true, cond-false}
 use Rattle.regatta_office.specs.Coming.{keep}
 use Rattle.regatta_office.specs.Lines.{is_line_end}
