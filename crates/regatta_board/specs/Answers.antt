@@ -31,7 +31,8 @@ touched_by row = record { rank = row.rank; tied = row.tied; net = row.net }
 
 -- the boat's row of the standing, if she is entered
 abbrev pub rank_of : RulesParts → Journal → Sail → Option Touched
-rank_of rules journal boat = option_map touched_by (find (λ row. same_sail boat row.sail) (standing rules journal).rows)
+rank_of rules journal boat =
+    option_map touched_by (find (λ row. same_sail boat row.sail) (standing rules journal).rows)
 
 abbrev pub touched : RulesParts → Journal → Option Sail → Option Touched
 touched rules journal None = None
@@ -40,4 +41,7 @@ touched rules journal (Some boat) = rank_of rules journal boat
 -- the place of the entry, and where it names a boat her row in the new standing
 abbrev pub answer : RulesParts → Journal → EntryParts → Answer
 answer rules journal entry =
-    record { place = length journal + 1; touched = touched rules (journal ++ entry ∷ []) (boat_named entry.command) }
+    record {
+      place = length journal + 1;
+      touched = touched rules (journal ++ entry ∷ []) (boat_named entry.command);
+    }

@@ -4,4 +4,6 @@ use Rattle.regatta_terms.specs.declared.sail.Sail.{Sail}
 
 -- each boat has her place in the list as her number
 abbrev pub IsNumbered : List (Sail × ℕ) → Type 0
-IsNumbered entries = (place : ℕ) (boat : Sail) (number : ℕ) → slice_get entries place ≡ Some (boat, number) → number ≡ place
+IsNumbered entries =
+    (place : ℕ) (boat : Sail) (number : ℕ)
+    → slice_get entries place ≡ Some (boat, number) → number ≡ place

@@ -24,10 +24,14 @@ abbrev pub points : List Outcome → List ℕ
 points outcomes = averages.points (items outcomes)
 
 abbrev pub scores_by : List Outcome → List ℕ → List Scored
-scores_by outcomes points = map (λ o. record { points = o.1; dne = is_dne o.0.held.code }) (zip outcomes points)
+scores_by outcomes points =
+    map (λ o. record { points = o.1; dne = is_dne o.0.held.code }) (zip outcomes points)
 
 abbrev pub flags : RulesParts → List Outcome → List Bool
-flags rules outcomes = exclusion.excluded (exclusions_of rules.thresholds (length (scores_by outcomes (points outcomes)))) (scores_by outcomes (points outcomes))
+flags rules outcomes =
+    exclusion.excluded
+    (exclusions_of rules.thresholds (length (scores_by outcomes (points outcomes))))
+    (scores_by outcomes (points outcomes))
 
 abbrev pub line : RulesParts → List Outcome → Line
 line rules outcomes = record { points = points outcomes; excluded = flags rules outcomes }
@@ -56,7 +60,11 @@ row rules boat place outcomes = row_by boat place (line rules outcomes) outcomes
 -- what the journal says of a boat
 abbrev pub outcome : RulesParts → Journal → ℕ → Sail → Outcome
 outcome rules journal race boat =
-    record { plain = plain same_sail rules (journal_race journal race) boat; held = held journal race boat; placed = stands_in same_sail boat (order journal race) }
+    record {
+      plain = plain same_sail rules (journal_race journal race) boat;
+      held = held journal race boat;
+      placed = stands_in same_sail boat (order journal race);
+    }
 
 abbrev pub outcomes : RulesParts → Journal → Sail → List Outcome
 outcomes rules journal boat = map (λ race. outcome rules journal race boat) (scored journal)

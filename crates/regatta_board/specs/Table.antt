@@ -33,7 +33,11 @@ no_outcome = record { plain = 0; held = nothing_held; placed = false }
 -- what came of each boat on a sheet
 abbrev pub outcome_on : RulesParts → Sheet → ℕ → Outcome
 outcome_on rules sheet boat =
-    record { plain = plain nat_eq rules (race_of sheet.order sheet.held) boat; held = slice_index_or sheet.held boat nothing_held; placed = stands_in nat_eq boat sheet.order }
+    record {
+      plain = plain nat_eq rules (race_of sheet.order sheet.held) boat;
+      held = slice_index_or sheet.held boat nothing_held;
+      placed = stands_in nat_eq boat sheet.order;
+    }
 
 abbrev pub column : RulesParts → Sheet → List Outcome
 column rules sheet = map (outcome_on rules sheet) (range_with_len 0 (boats sheet))
@@ -43,7 +47,8 @@ abbrev pub races : List Bool → List ℕ
 races counts = filter (λ race. slice_index_or counts (race - 1) false) (range_with_len 1 40)
 
 abbrev pub columns : RulesParts → List Sheet → List ℕ → List (List Outcome)
-columns rules sheets races = map (λ race. column rules (slice_index_or sheets (race - 1) (empty_sheet 0))) races
+columns rules sheets races =
+    map (λ race. column rules (slice_index_or sheets (race - 1) (empty_sheet 0))) races
 
 -- of one boat
 abbrev pub outcomes : List (List Outcome) → ℕ → List Outcome
@@ -54,10 +59,13 @@ lines rules columns n = map (λ boat. line rules (outcomes columns boat)) (range
 
 abbrev pub row_of : RulesParts → List Sail → List (List Outcome) → ℕ → Row
 row_of rules sails columns boat =
-    row rules (slice_index_or sails boat []) (place (lines rules columns (length sails)) (line rules (outcomes columns boat))) (outcomes columns boat)
+    row rules (slice_index_or sails boat [])
+    (place (lines rules columns (length sails)) (line rules (outcomes columns boat)))
+    (outcomes columns boat)
 
 abbrev pub rows : RulesParts → List Sail → List (List Outcome) → List Row
-rows rules sails columns = scores.sorted_rows (map (row_of rules sails columns) (range_with_len 0 (length sails)))
+rows rules sails columns =
+    scores.sorted_rows (map (row_of rules sails columns) (range_with_len 0 (length sails)))
 
 -- the same from the lines and places of the boats
 abbrev pub no_line : Line
