@@ -108,17 +108,6 @@ impl RaceSheet {
         }
     }
 
-    /// A copy of the sheet.
-    #[tactic(auto, using(crate::proofs::Sheets::copied_sheet))]
-    pub fn copied(&self) -> Result<RaceSheet, AllocError>
-        ensures { IfOk result (λ sheet. sheet ≡ self.now) }
-    {
-        let alloc = self.allocator();
-        let order = orders::copied_order(alloc, &self.order)?;
-        let held = Vec::from_slice(alloc, &self.held)?;
-        Ok(RaceSheet { order, held })
-    }
-
     /// The sheet with one more boat.
     #[tactic(auto, using(crate::proofs::Sheets::more_sheet))]
     fn with_boat(&self) -> Result<RaceSheet, AllocError>

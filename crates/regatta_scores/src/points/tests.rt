@@ -148,37 +148,6 @@ fn ties_codes_and_strikes_move_places(rt: HostRuntime) -> Result<(), Fail> {
 }
 
 #[test]
-fn a_copy_holds_the_same(rt: HostRuntime) -> Result<(), Fail> {
-    let rules = Rules::new(Absent::A52, None, &[2])?;
-    let mut sheet = RaceSheet::new(rt.alloc(), 3)?;
-    for change in [
-        Change::Last { boat: 2 },
-        Change::Last { boat: 0 },
-        Change::Hold {
-            boat: 0,
-            held: penalties(1, 2),
-        },
-        Change::Hold {
-            boat: 1,
-            held: coded(Code::Ocs),
-        },
-    ] {
-        sheet = changed(&sheet, change)?;
-    }
-    let copy = sheet.copied()?;
-    let wanted: [u32; 3] = [40, 40, 10];
-    for either in [&sheet, &copy] {
-        let found = points(rt.alloc(), either, &rules)?;
-        assert_eq!(rt; found.as_slice(), wanted.as_slice());
-    }
-    for (boat, placed) in [(0, true), (1, false), (2, true)] {
-        assert!(rt; is_placed(&copy, boat, placed));
-        assert_eq!(rt; held(&copy, boat), held(&sheet, boat));
-    }
-    Ok(())
-}
-
-#[test]
 fn each_race_scored_is_counted(rt: HostRuntime) -> Result<(), Fail> {
     let rules = Rules::new(Absent::A52, None, &[])?;
     let sheet = RaceSheet::new(rt.alloc(), 1)?;
