@@ -7,7 +7,9 @@ use Rattle.regatta_terms.specs.declared.sail.Sail.{Sail}
 use Rattle.regatta_terms.specs.declared.reply.Answer.{Answer}
 use Rattle.regatta_terms.specs.declared.reply.Touched.{Touched}
 use Rattle.regatta_terms.specs.declared.command.Command.{Command}
-use Rattle.regatta_terms.specs.declared.command.Command.TheVariants.{Enter, Finish, Tie, Before, Strike, Mark, Penalise, Redress, Clear, Score, Unscore}
+use Rattle.regatta_terms.specs.declared.command.Command.TheVariants.{Enter, Finish, Tie, Before}
+use Rattle.regatta_terms.specs.declared.command.Command.TheVariants.{Strike, Mark, Penalise}
+use Rattle.regatta_terms.specs.declared.command.Command.TheVariants.{Redress, Clear, Score, Unscore}
 use Rattle.regatta_scores.specs.declared.table.Row.{Row}
 use Rattle.regatta_scores.specs.Journal.{Journal, same_sail}
 use Rattle.regatta_scores.specs.Standing.{standing}
@@ -26,6 +28,7 @@ boat_named (Clear race sail) = Some sail
 boat_named (Score race) = None
 boat_named (Unscore race) = None
 
+-- what an answer tells of a row: rank (RRS A8), whether it is shared, and net points
 abbrev pub touched_by : Row → Touched
 touched_by row = record { rank = row.rank; tied = row.tied; net = row.net }
 
@@ -34,6 +37,7 @@ abbrev pub rank_of : RulesParts → Journal → Sail → Option Touched
 rank_of rules journal boat =
     option_map touched_by (find (λ row. same_sail boat row.sail) (standing rules journal).rows)
 
+-- the same of the boat that a command names, if it names one
 abbrev pub touched : RulesParts → Journal → Option Sail → Option Touched
 touched rules journal None = None
 touched rules journal (Some boat) = rank_of rules journal boat

@@ -17,34 +17,43 @@ use Rattle.regatta_scores.specs.Ranking.{Line, net}
 use Rattle.regatta_scores.specs.Standing.{is_dne, mark_by}
 use Rattle.regatta_board.specs.declared.outcomes.Outcome.{Outcome}
 
+-- what averages are made from: a boat's plain points and her redress in each race (RRS A9)
 abbrev pub items : List Outcome → List RowItem
 items outcomes = map (λ o. record { plain = o.plain; redress = o.held.redress }) outcomes
 
+-- her points in each race, with redress worked out over the races that count (RRS A9)
 abbrev pub points : List Outcome → List ℕ
 points outcomes = averages.points (items outcomes)
 
+-- her scores as exclusions see them: the points, and whether a DNE keeps the score in (RRS A2.1)
 abbrev pub scores_by : List Outcome → List ℕ → List Scored
 scores_by outcomes points =
     map (λ o. record { points = o.1; dne = is_dne o.0.held.code }) (zip outcomes points)
 
+-- which of her scores are excluded, as many as the thresholds say (RRS A2.1)
 abbrev pub flags : RulesParts → List Outcome → List Bool
 flags rules outcomes =
     exclusion.excluded
     (exclusions_of rules.thresholds (length (scores_by outcomes (points outcomes))))
     (scores_by outcomes (points outcomes))
 
+-- what ranks are made from: her points, and which of them are excluded (RRS A2.1, A8)
 abbrev pub line : RulesParts → List Outcome → Line
 line rules outcomes = record { points = points outcomes; excluded = flags rules outcomes }
 
+-- the abbreviation that the table shows beside the points, if any (RRS A10)
 unfoldable pub mark : Outcome → Option Abbrev
 mark o = mark_by o.held.redress (status_by o.held.code o.placed) o.held
 
+-- a cell of the table: points, abbreviation (RRS A10), and whether it is excluded (RRS A2.1)
 abbrev pub cell : Outcome → ℕ → Bool → Cell
 cell o points dropped = record { points = points; mark = mark o; dropped = dropped }
 
+-- the cells of a boat, one for each race that counts
 abbrev pub cells_by : List Outcome → List ℕ → List Bool → List Cell
 cells_by outcomes points flags = map (λ o. cell o.0 o.1.0 o.1.1) (zip outcomes (zip points flags))
 
+-- a boat's row of the table from her line and her rank (RRS A8)
 abbrev pub row_by : Sail → Place → Line → List Outcome → Row
 row_by boat place line outcomes = record {
   sail = boat;
@@ -54,10 +63,12 @@ row_by boat place line outcomes = record {
   cells = cells_by outcomes line.points line.excluded;
 }
 
+-- the same where the line is made from what came of her
 abbrev pub row : RulesParts → Sail → Place → List Outcome → Row
 row rules boat place outcomes = row_by boat place (line rules outcomes) outcomes
 
--- what the journal says of a boat
+-- what the journal says of a boat in one race: her plain points (RRS A6.1, A7), what she holds, and
+-- whether she is placed
 abbrev pub outcome : RulesParts → Journal → ℕ → Sail → Outcome
 outcome rules journal race boat =
     record {
@@ -66,5 +77,6 @@ outcome rules journal race boat =
       placed = stands_in same_sail boat (order journal race);
     }
 
+-- the same in each race that counts
 abbrev pub outcomes : RulesParts → Journal → Sail → List Outcome
 outcomes rules journal boat = map (λ race. outcome rules journal race boat) (scored journal)

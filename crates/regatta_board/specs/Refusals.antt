@@ -1,5 +1,7 @@
 -- Which command is refused, and why: by the first reason that applies.
-use Rattle.std.specs.Prelude.{◌≡◌, ℕ, ◌+◌, min, Bool, true, false, not, ◌&&◌, ◌||◌, nat_eq, nat_le, List, [], ◌∷◌, ◌++◌, length, filter, map, unwrap_or, Option, Some, None, is_some, is_none, if◌then◌else◌}
+use Rattle.std.specs.Prelude.{◌≡◌, ℕ, ◌+◌, min, Bool, true, false, not, ◌&&◌, ◌||◌, nat_eq, nat_le}
+use Rattle.std.specs.Prelude.{List, [], ◌∷◌, ◌++◌, length, filter, map, unwrap_or, Option, Some}
+use Rattle.std.specs.Prelude.{None, is_some, is_none, if◌then◌else◌}
 use Rattle.std.specs.List.{list_any}
 use Rattle.regatta_terms.specs.Entries.{EntryParts}
 use Rattle.regatta_terms.specs.Rules.{RulesParts}
@@ -11,11 +13,20 @@ use Rattle.regatta_terms.specs.declared.command.PenaltyKind.TheVariants.{Zfp, Sc
 use Rattle.regatta_terms.specs.declared.command.Role.{Role}
 use Rattle.regatta_terms.specs.declared.command.Role.TheVariants as role
 use Rattle.regatta_terms.specs.declared.command.Command.{Command}
-use Rattle.regatta_terms.specs.declared.command.Command.TheVariants.{Enter, Finish, Tie, Before, Strike, Mark, Penalise, Redress, Clear, Score, Unscore}
+use Rattle.regatta_terms.specs.declared.command.Command.TheVariants.{Enter, Finish, Tie, Before}
+use Rattle.regatta_terms.specs.declared.command.Command.TheVariants.{Strike, Mark, Penalise}
+use Rattle.regatta_terms.specs.declared.command.Command.TheVariants.{Redress, Clear, Score, Unscore}
 use Rattle.regatta_terms.specs.declared.reply.Refusal.{Refusal}
-use Rattle.regatta_terms.specs.declared.reply.Refusal.TheVariants.{NoMemory, JournalFull, OldNumber, NotYours, EntryFull, AlreadyEntered, NotEntered, AlreadyPlaced, NotPlaced, Decided, PenaltyLimit, NothingToClear, AlreadyScored, NotScored, NoFinisher}
+use Rattle.regatta_terms.specs.declared.reply.Refusal.TheVariants.{NoMemory, JournalFull, OldNumber}
+use Rattle.regatta_terms.specs.declared.reply.Refusal.TheVariants.{NotYours, EntryFull}
+use Rattle.regatta_terms.specs.declared.reply.Refusal.TheVariants.{AlreadyEntered, NotEntered}
+use Rattle.regatta_terms.specs.declared.reply.Refusal.TheVariants.{AlreadyPlaced, NotPlaced}
+use Rattle.regatta_terms.specs.declared.reply.Refusal.TheVariants.{Decided, PenaltyLimit}
+use Rattle.regatta_terms.specs.declared.reply.Refusal.TheVariants.{NothingToClear, AlreadyScored}
+use Rattle.regatta_terms.specs.declared.reply.Refusal.TheVariants.{NotScored, NoFinisher}
 use Rattle.regatta_scores.specs.declared.sheet.Held.{Held}
-use Rattle.regatta_scores.specs.Journal.{Journal, same_sail, entered, order, held, is_scored, last_item}
+use Rattle.regatta_scores.specs.Journal.{Journal, same_sail, entered, order, held, is_scored}
+use Rattle.regatta_scores.specs.Journal.{last_item}
 use Rattle.regatta_scores.specs.Order.{stands_in, is_empty}
 use Rattle.regatta_board.specs.declared.limits.TheConstants.{MAX_BOATS, MAX_ENTRIES}
 
@@ -32,7 +43,10 @@ limits = record { boats = MAX_BOATS; entries = MAX_ENTRIES }
 
 -- the last number of the seat, or 0
 abbrev pub last_number : Journal → ℕ → ℕ
-last_number journal seat = unwrap_or (last_item (map (λ entry. entry.nth) (filter (λ entry. nat_eq entry.seat seat) journal))) 0
+last_number journal seat =
+    unwrap_or
+    (last_item (map (λ entry. entry.nth) (filter (λ entry. nat_eq entry.seat seat) journal)))
+    0
 
 -- the number after one: a number at the end of its range stays
 abbrev pub number_after : ℕ → ℕ
@@ -42,27 +56,34 @@ number_after last = min (last + 1) 4294967295
 abbrev pub next_number : Journal → ℕ → ℕ
 next_number journal seat = number_after (last_number journal seat)
 
+-- the boat is in the entry list (RRS A2.2)
 abbrev pub is_entered : Journal → Sail → Bool
 is_entered journal boat = list_any (same_sail boat) (entered journal)
 
+-- the boat stands in the finishing order of the race
 abbrev pub is_placed : Journal → ℕ → Sail → Bool
 is_placed journal race boat = stands_in same_sail boat (order journal race)
 
--- she holds a decision of the protest committee: DSQ, DNE or redress
+-- a code of the protest committee, DSQ or DNE: RRS A5.1 names those that need no hearing
 abbrev pub is_protest_code : Option Code → Bool
 is_protest_code None = false
 is_protest_code (Some code) = is_jury_code code
 
+-- she holds a decision of the protest committee: DSQ, DNE or redress
 abbrev pub is_decided : Held → Bool
 is_decided held = is_protest_code held.code || is_some held.redress
 
+-- how many penalties of the kind she holds: ZFP (RRS 30.2) or SCP (RRS 44.3(c))
 abbrev pub penalties : PenaltyKind → Held → ℕ
 penalties Zfp held = held.zfp
 penalties Scp held = held.scp
 
+-- no code, penalty or redress: there is nothing that Clear could take away
 abbrev pub holds_nothing : Held → Bool
-holds_nothing held = is_none held.code && nat_eq held.zfp 0 && nat_eq held.scp 0 && is_none held.redress
+holds_nothing held =
+    is_none held.code && nat_eq held.zfp 0 && nat_eq held.scp 0 && is_none held.redress
 
+-- the role of the protest committee, which alone may clear its own decisions
 abbrev pub is_jury : Role → Bool
 is_jury role.Jury = true
 is_jury _ = false
@@ -91,18 +112,21 @@ decision_refusal journal race boat =
     else if is_decided (held journal race boat) then Some Decided
     else None
 
+-- of Enter: a boat is entered once (RRS A2.2), while there is room for her
 abbrev pub enter_refusal : Limits → Journal → Sail → Option Refusal
 enter_refusal most journal boat =
     if is_entered journal boat then Some AlreadyEntered
     else if nat_le most.boats (length (entered journal)) then Some EntryFull
     else None
 
+-- of Strike: only who stands in the order can be taken out of it
 abbrev pub strike_refusal : Journal → ℕ → Sail → Option Refusal
 strike_refusal journal race boat =
     if not (is_entered journal boat) then Some NotEntered
     else if not (is_placed journal race boat) then Some NotPlaced
     else None
 
+-- of Penalise: at most nine ZFP (RRS 30.2) and nine SCP (RRS 44.3(c)), and none after a decision
 abbrev pub penalty_refusal : Journal → ℕ → Sail → PenaltyKind → Option Refusal
 penalty_refusal journal race boat kind =
     if not (is_entered journal boat) then Some NotEntered
@@ -110,6 +134,7 @@ penalty_refusal journal race boat kind =
     else if nat_le 9 (penalties kind (held journal race boat)) then Some PenaltyLimit
     else None
 
+-- of Clear: a decision of the protest committee is cleared by the jury alone (RRS A5.1)
 abbrev pub clear_refusal : Journal → Role → ℕ → Sail → Option Refusal
 clear_refusal journal role race boat =
     if not (is_entered journal boat) then Some NotEntered
@@ -117,33 +142,43 @@ clear_refusal journal role race boat =
     else if holds_nothing (held journal race boat) then Some NothingToClear
     else None
 
+-- of Score: a race counts once, and not before a boat has finished
 abbrev pub score_refusal : Journal → ℕ → Option Refusal
 score_refusal journal race =
     if is_scored journal race then Some AlreadyScored
     else if is_empty (order journal race) then Some NoFinisher
     else None
 
+-- of Unscore: only a race that counts can stop counting
 abbrev pub unscore_refusal : Journal → ℕ → Option Refusal
 unscore_refusal journal race = if is_scored journal race then None else Some NotScored
 
+-- of each command; no case reads the series rules yet: which commands a series takes hangs on its
+-- rules, and a later rule of refusal will read them
 abbrev pub command_refusal : Limits → RulesParts → Journal → Role → Command → Option Refusal
 command_refusal most rules journal role (Enter sail) = enter_refusal most journal sail
 command_refusal most rules journal role (Finish race sail) = place_refusal journal race sail
-command_refusal most rules journal role (Tie race sail other) = place_by_refusal journal race sail other
-command_refusal most rules journal role (Before race sail other) = place_by_refusal journal race sail other
+command_refusal most rules journal role (Tie race sail other) =
+    place_by_refusal journal race sail other
+command_refusal most rules journal role (Before race sail other) =
+    place_by_refusal journal race sail other
 command_refusal most rules journal role (Strike race sail) = strike_refusal journal race sail
 command_refusal most rules journal role (Mark race sail code) = decision_refusal journal race sail
-command_refusal most rules journal role (Penalise race sail kind) = penalty_refusal journal race sail kind
-command_refusal most rules journal role (Redress race sail redress) = decision_refusal journal race sail
+command_refusal most rules journal role (Penalise race sail kind) =
+    penalty_refusal journal race sail kind
+command_refusal most rules journal role (Redress race sail redress) =
+    decision_refusal journal race sail
 command_refusal most rules journal role (Clear race sail) = clear_refusal journal role race sail
 command_refusal most rules journal role (Score race) = score_refusal journal race
 command_refusal most rules journal role (Unscore race) = unscore_refusal journal race
 
--- why the entry is refused by the journal, or nothing
+-- why the entry is refused by the journal, or nothing; the series rules are handed on for a later
+-- rule of refusal, as no command's refusal reads them yet
 abbrev pub refusal : Limits → RulesParts → Journal → EntryParts → Option Refusal
 refusal most rules journal entry =
     if nat_le most.entries (length journal) then Some JournalFull
-    else if nat_le entry.nth (last_number journal entry.seat) then Some (OldNumber (last_number journal entry.seat))
+    else if nat_le entry.nth (last_number journal entry.seat) then
+    Some (OldNumber (last_number journal entry.seat))
     else if not (may_send entry.role entry.command) then Some NotYours
     else command_refusal most rules journal entry.role entry.command
 
@@ -152,15 +187,21 @@ abbrev pub IsRefusal : Option Refusal → Refusal → Type 0
 IsRefusal (Some due) why = why ≡ due
 IsRefusal None why = why ≡ NoMemory
 
--- each entry is accepted by those before it
+-- each entry is accepted by those before it; the series rules are for `refusal`, which does not
+-- read them yet
 abbrev pub accepts_all : Limits → RulesParts → Journal → List EntryParts → Bool
 accepts_all most rules before [] = true
 accepts_all most rules before (entry ∷ entries) =
-    is_none (refusal most rules before entry) && accepts_all most rules (before ++ entry ∷ []) entries
+    is_none (refusal most rules before entry) &&
+    accepts_all most rules (before ++ entry ∷ []) entries
 
+-- a journal that a board may hold: each entry was accepted when it came; the series rules will
+-- matter once a rule of refusal reads them
 abbrev pub is_lawful : Limits → RulesParts → Journal → Bool
 is_lawful most rules journal = accepts_all most rules [] journal
 
 -- the same without order of reading: whatever stands before an entry accepts it
 pub record IsLawful (limits : Limits) (rules : RulesParts) (journal : Journal) : Type 0 where
-  pub accepted : (before after : Journal) (entry : EntryParts) → journal ≡ before ++ entry ∷ after → refusal limits rules before entry ≡ None
+  pub accepted : (before after : Journal) (entry : EntryParts) →
+      journal ≡ before ++ entry ∷ after →
+      refusal limits rules before entry ≡ None

@@ -12,17 +12,20 @@ use Rattle.regatta_board.specs.Answers.{answer}
 
 -- the next entry of seat 1
 abbrev pub next_entry : Journal → Role → Command → EntryParts
-next_entry journal role command = record { seat = 1; nth = next_number journal 1; role = role; command = command }
+next_entry journal role command =
+    record { seat = 1; nth = next_number journal 1; role = role; command = command }
 
--- the reply to an entry, and the journal after it
+-- the reply to an entry: the refusal that is due, or else the answer
 abbrev pub reply_by : RulesParts → Journal → EntryParts → Option Refusal → Result Answer Refusal
 reply_by rules journal entry None = Ok (answer rules journal entry)
 reply_by rules journal entry (Some why) = Err why
 
+-- the journal after the entry: a refused one leaves no trace
 abbrev pub journal_by : Journal → EntryParts → Option Refusal → Journal
 journal_by journal entry None = journal ++ entry ∷ []
 journal_by journal entry (Some why) = journal
 
+-- the replies to a run of commands, one for each, in their order
 abbrev pub replies : RulesParts → Journal → List (Role × Command) → List (Result Answer Refusal)
 replies rules journal [] = []
 replies rules journal (c ∷ cs) =
@@ -30,6 +33,7 @@ replies rules journal (c ∷ cs) =
     let why = refusal limits rules journal entry in
     reply_by rules journal entry why ∷ replies rules (journal_by journal entry why) cs
 
+-- the journal at the end of a run of commands
 abbrev pub journal_after : RulesParts → Journal → List (Role × Command) → Journal
 journal_after rules journal [] = journal
 journal_after rules journal (c ∷ cs) =

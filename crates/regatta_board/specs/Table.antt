@@ -1,5 +1,6 @@
 -- The standing made from sheets: boats and races by their numbers.
-use Rattle.std.specs.Prelude.{◌≡◌, ℕ, ◌-◌, ◌≤◌, Bool, false, nat_eq, List, [], length, map, filter, slice_index_or, All}
+use Rattle.std.specs.Prelude.{◌≡◌, ℕ, ◌-◌, ◌≤◌, Bool, false, nat_eq, List, [], length, map, filter}
+use Rattle.std.specs.Prelude.{slice_index_or, All}
 use Rattle.std.specs.List.{range_with_len}
 use Rattle.regatta_terms.specs.Rules.{RulesParts}
 use Rattle.regatta_terms.specs.declared.sail.Sail.{Sail}
@@ -27,6 +28,7 @@ pub record IsKept (kept : Kept) : Type 0 where
   pub counts : length kept.counts ≡ 40
   pub same : All (λ sheet. boats sheet ≡ length kept.sails) kept.sheets
 
+-- what stands where no boat has this number: no lookup that matters meets it
 abbrev pub no_outcome : Outcome
 no_outcome = record { plain = 0; held = nothing_held; placed = false }
 
@@ -39,6 +41,7 @@ outcome_on rules sheet boat =
       placed = stands_in nat_eq boat sheet.order;
     }
 
+-- what came of every boat in one race, by their numbers
 abbrev pub column : RulesParts → Sheet → List Outcome
 column rules sheet = map (outcome_on rules sheet) (range_with_len 0 (boats sheet))
 
@@ -46,43 +49,51 @@ column rules sheet = map (outcome_on rules sheet) (range_with_len 0 (boats sheet
 abbrev pub races : List Bool → List ℕ
 races counts = filter (λ race. slice_index_or counts (race - 1) false) (range_with_len 1 40)
 
+-- the same for each race that counts, in the order of the races
 abbrev pub columns : RulesParts → List Sheet → List ℕ → List (List Outcome)
 columns rules sheets races =
     map (λ race. column rules (slice_index_or sheets (race - 1) (empty_sheet 0))) races
 
--- of one boat
+-- what came of one boat in each race that counts
 abbrev pub outcomes : List (List Outcome) → ℕ → List Outcome
 outcomes columns boat = map (λ column. slice_index_or column boat no_outcome) columns
 
+-- the lines of all boats: their points, and which of them are excluded (RRS A2.1)
 abbrev pub lines : RulesParts → List (List Outcome) → ℕ → List Line
 lines rules columns n = map (λ boat. line rules (outcomes columns boat)) (range_with_len 0 n)
 
+-- a boat's row of the table, with her rank among all the lines (RRS A8)
 abbrev pub row_of : RulesParts → List Sail → List (List Outcome) → ℕ → Row
 row_of rules sails columns boat =
     row rules (slice_index_or sails boat [])
     (place (lines rules columns (length sails)) (line rules (outcomes columns boat)))
     (outcomes columns boat)
 
+-- the rows of all boats, in the order in which the table shows them (RRS A8)
 abbrev pub rows : RulesParts → List Sail → List (List Outcome) → List Row
 rows rules sails columns =
     scores.sorted_rows (map (row_of rules sails columns) (range_with_len 0 (length sails)))
 
--- the same from the lines and places of the boats
+-- what stands where no boat has this number, in the list of lines
 abbrev pub no_line : Line
 no_line = record { points = []; excluded = [] }
 
+-- what stands where no boat has this number, in the list of places
 abbrev pub no_place : Place
 no_place = record { rank = 0; tied = false }
 
+-- a boat's row from the lines and places of the boats, each made once (RRS A8)
 abbrev pub row_at : List Sail → List (List Outcome) → List Line → List Place → ℕ → Row
 row_at sails columns lines places boat =
     row_by (slice_index_or sails boat []) (slice_index_or places boat no_place)
     (slice_index_or lines boat no_line) (outcomes columns boat)
 
+-- the rows of all boats from their lines and places, in the table's order (RRS A8)
 abbrev pub rows_by : List Sail → List (List Outcome) → List Line → List Place → List Row
 rows_by sails columns lines places =
     scores.sorted_rows (map (row_at sails columns lines places) (range_with_len 0 (length sails)))
 
+-- the standing that what is kept makes: the races that count, and a row for each boat (RRS A2.2)
 abbrev pub table : RulesParts → Kept → Standing
 table rules kept =
     let cols = columns rules kept.sheets (races kept.counts) in

@@ -28,13 +28,15 @@ D = 68 ∷ []
 
 -- the reply `OK place rank net`, and `OK place`
 abbrev pub ok : ℕ → ℕ → Bool → ℕ → Result Answer Refusal
-ok place rank tied net = Ok (record { place = place; touched = Some (record { rank = rank; tied = tied; net = net }) })
+ok place rank tied net =
+    Ok (record { place = place; touched = Some (record { rank = rank; tied = tied; net = net }) })
 
 abbrev pub ok_alone : ℕ → Result Answer Refusal
 ok_alone place = Ok (record { place = place; touched = None })
 
 abbrev pub row : Sail → ℕ → Bool → ℕ → List Cell → Row
-row sail rank tied net cells = record { sail = sail; rank = rank; tied = tied; net = net; cells = cells }
+row sail rank tied net cells =
+    record { sail = sail; rank = rank; tied = tied; net = net; cells = cells }
 
 abbrev pub cell : ℕ → Option Abbrev → Bool → Cell
 cell points mark dropped = record { points = points; mark = mark; dropped = dropped }

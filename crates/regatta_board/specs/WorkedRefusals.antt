@@ -6,8 +6,14 @@ use Rattle.regatta_terms.specs.declared.command.Redress.TheVariants as redress
 use Rattle.regatta_terms.specs.declared.command.Role.{Role}
 use Rattle.regatta_terms.specs.declared.command.Role.TheVariants as role
 use Rattle.regatta_terms.specs.declared.command.Command.{Command}
-use Rattle.regatta_terms.specs.declared.command.Command.TheVariants.{Enter, Finish, Tie, Strike, Mark, Penalise, Redress, Clear, Score, Unscore}
-use Rattle.regatta_terms.specs.declared.reply.Refusal.TheVariants.{NotYours, AlreadyEntered, NotEntered, AlreadyPlaced, NotPlaced, Decided, NothingToClear, AlreadyScored, NotScored, NoFinisher}
+use Rattle.regatta_terms.specs.declared.command.Command.TheVariants.{Enter, Finish, Tie, Strike}
+use Rattle.regatta_terms.specs.declared.command.Command.TheVariants.{Mark, Penalise, Redress, Clear}
+use Rattle.regatta_terms.specs.declared.command.Command.TheVariants.{Score, Unscore}
+use Rattle.regatta_terms.specs.declared.reply.Refusal.TheVariants.{NotYours, AlreadyEntered}
+use Rattle.regatta_terms.specs.declared.reply.Refusal.TheVariants.{NotEntered, AlreadyPlaced}
+use Rattle.regatta_terms.specs.declared.reply.Refusal.TheVariants.{NotPlaced, Decided}
+use Rattle.regatta_terms.specs.declared.reply.Refusal.TheVariants.{NothingToClear, AlreadyScored}
+use Rattle.regatta_terms.specs.declared.reply.Refusal.TheVariants.{NotScored, NoFinisher}
 use Rattle.regatta_scores.specs.declared.table.Abbrev.TheVariants as abbreviation
 use Rattle.regatta_scores.specs.Standing.{standing}
 use Rattle.regatta_board.specs.Runs.{replies, journal_after}

@@ -5,7 +5,8 @@ use Rattle.regatta_terms.specs.declared.command.Redress.TheVariants as redress
 use Rattle.regatta_terms.specs.declared.command.Role.{Role}
 use Rattle.regatta_terms.specs.declared.command.Role.TheVariants as role
 use Rattle.regatta_terms.specs.declared.command.Command.{Command}
-use Rattle.regatta_terms.specs.declared.command.Command.TheVariants.{Enter, Finish, Tie, Before, Strike, Mark, Redress, Score}
+use Rattle.regatta_terms.specs.declared.command.Command.TheVariants.{Enter, Finish, Tie, Before}
+use Rattle.regatta_terms.specs.declared.command.Command.TheVariants.{Strike, Mark, Redress, Score}
 use Rattle.regatta_terms.specs.declared.reply.Refusal.TheVariants.{NotYours, Decided}
 use Rattle.regatta_scores.specs.declared.table.Abbrev.TheVariants as abbreviation
 use Rattle.regatta_scores.specs.Standing.{standing}
@@ -74,7 +75,8 @@ pub disqualified_from_a_tie_replies :
 disqualified_from_a_tie_replies = refl
 
 pub disqualified_from_a_tie_table :
-    standing (rules_with (2 ∷ [])) (journal_after (rules_with (2 ∷ [])) [] disqualified_from_a_tie_commands)
+    standing (rules_with (2 ∷ []))
+    (journal_after (rules_with (2 ∷ [])) [] disqualified_from_a_tie_commands)
     ≡ record {
       races = 1 ∷ [];
       rows = row B 1 false 10 (cell 10 None false ∷ [])
@@ -192,7 +194,8 @@ average_with_exclusion_commands =
     ∷ []
 
 pub average_with_exclusion_table :
-    standing (rules_with (2 ∷ [])) (journal_after (rules_with (2 ∷ [])) [] average_with_exclusion_commands)
+    standing (rules_with (2 ∷ []))
+    (journal_after (rules_with (2 ∷ [])) [] average_with_exclusion_commands)
     ≡ record {
       races = 1 ∷ 2 ∷ [];
       rows = row A 1 false 10 (cell 10 None true ∷ cell 10 (Some abbreviation.Rdg) false ∷ [])
@@ -233,8 +236,11 @@ pub late_entry_with_average_table :
     ≡ record {
       races = 1 ∷ 2 ∷ [];
       rows = row B 1 false 30 (cell 20 None false ∷ cell 10 None false ∷ [])
-          ∷ row A 2 true 80 (cell 40 (Some abbreviation.Rdg) false ∷ cell 40 (Some abbreviation.Dnc) false ∷ [])
-          ∷ row C 2 true 80 (cell 40 (Some abbreviation.Dnc) false ∷ cell 40 (Some abbreviation.Dnc) false ∷ []) ∷ [];
+          ∷ row A 2 true 80
+          (cell 40 (Some abbreviation.Rdg) false ∷ cell 40 (Some abbreviation.Dnc) false ∷ [])
+          ∷ row C 2 true 80
+          (cell 40 (Some abbreviation.Dnc) false ∷ cell 40 (Some abbreviation.Dnc) false ∷ [])
+          ∷ [];
     }
 late_entry_with_average_table = refl
 
