@@ -22,6 +22,12 @@ fn texts_of(alloc: Global, words: &[String]) -> Result<Vec<&str>, AllocError> {
     Ok(texts)
 }
 
+/// The status where the words aren't text, which is said on standard error.
+fn bad_words<E: Sink>(errors: &mut E) -> ExitCode {
+    let _ = write_all(errors, b"error: a word isn't UTF-8\n");
+    ExitCode::from(BAD_WORDS)
+}
+
 /// The status where memory is wanting, which is said on standard error.
 fn no_memory<E: Sink>(errors: &mut E) -> ExitCode {
     let _ = write_all(errors, b"regatta: no memory\n");
@@ -33,7 +39,7 @@ fn main(rt: HostRuntime) -> ExitCode {
     let args = match env::args(&rt) {
         Ok(args) => args,
         Err(error) if error.kind() == ErrorKind::OutOfMemory => return no_memory(&mut errors),
-        Err(_) => return ExitCode::from(BAD_WORDS),
+        Err(_) => return bad_words(&mut errors),
     };
     let collected: Result<Vec<String>, AllocError> = args.skip(1).collect(rt.alloc());
     let Ok(words) = collected else {

@@ -186,8 +186,8 @@ fn write_final(
 ///
 /// `Start` where an entry of the start is refused by those before it: nothing is written then.
 /// `Read` and `Write` where the device fails, `InputTooLong` where a byte past `INPUT_LIMIT` comes
-/// and no QUIT before it, `NoMemory` where memory is wanting. The final part isn't written then;
-/// lines before the fault were answered.
+/// and no QUIT before it, `NoMemory` where memory is wanting. Lines before the fault were answered,
+/// and the final part isn't written, but for some first part of it where its own write fails.
 pub fn replay<R: Source, W: Sink>(
     alloc: Global,
     input: &mut R,

@@ -25,7 +25,6 @@ fn number_with(entry: &Entry, last: u32) -> u32
 }
 
 /// The last number of the seat, or 0.
-
 fn last_number(entries: &[Entry]) -> u32
     ensures { result ≡ last_number_in entries.now 1 }
 {
@@ -38,7 +37,12 @@ fn last_number(entries: &[Entry]) -> u32
 
 /// The entry by which the scorer in seat 1 enters a boat, behind the seat's last number.
 fn entering(last: u32, sail: Sail) -> Entry
-    ensures { result ≡ record { seat = 1; nth = number_after last; role = Scorer; command = Enter sail } }
+    ensures { result ≡ record {
+      seat = 1;
+      nth = number_after last;
+      role = Scorer;
+      command = Enter sail;
+    } }
 {
     let nth = last.saturating_add(1);
     Entry::new(SEAT, nth, Role::Scorer, Command::Enter { sail }).unwrap()

@@ -110,7 +110,8 @@ pub fn program<H: Files + AllocGlobal, R: Source, W: Sink, E: Sink>(
         Err(error) => return answer_words(alloc, &error, output, errors),
     };
     let Some(options) = options_of(&matches) else {
-        return complain(alloc, errors, Complaint::NoMemory);
+        let _ = write_all(errors, b"error: no command\n");
+        return BAD_WORDS;
     };
     match run(rt, &options, input, output) {
         Ok(()) => 0,

@@ -1,6 +1,7 @@
 -- The text of results as CSV.
-use Rattle.std.specs.Prelude.{ℕ, List, ◌∷◌, ◌++◌, map, flat_map, codes, decimal}
+use Rattle.std.specs.Prelude.{ℕ, true, List, ◌∷◌, ◌++◌, map, flat_map, codes, decimal}
 use Rattle.csv.specs.Writing.{default_writer, row_text}
+use Rattle.csv.specs.declared.writer.WriterBuilder.{WriterBuilder}
 use Rattle.regatta_scores.specs.declared.table.Standing.{Standing}
 use Rattle.regatta_tables.specs.TableTexts.{row_words}
 
@@ -19,3 +20,8 @@ csv_records standing = header_fields standing.races ∷ map row_words standing.r
 -- the records as `csv` writes them by default: commas, a line feed behind each, quotes where needed
 abbrev pub csv_text : Standing → List ℕ
 csv_text standing = flat_map (λ fields. row_text default_writer fields) (csv_records standing)
+
+-- the writer's settings: the default ones, but that records may have any lengths, which shows in no
+-- text
+abbrev pub any_lengths : WriterBuilder
+any_lengths = record default_writer { flexible = true }

@@ -31,7 +31,11 @@ pub fn write_csv(alloc: Global, standing: &Standing, out: &mut Vec<u8>) -> Resul
 fn results(alloc: Global, standing: &Standing) -> Result<Vec<u8>, Error>
     ensures { IfOk result (λ text. text.items ≡ csv_text standing.now) }
 {
-    let mut writer = WriterBuilder::new().from_writer(Vec::new(alloc));
+    // Records of other lengths than the header's are written, too, so that want of memory is the
+    // one error.
+    let mut writer = WriterBuilder::new()
+        .flexible(true)
+        .from_writer(Vec::new(alloc));
     let Ok(header) = header_record(alloc, standing.races.as_slice()) else {
         return Err(Error::out_of_memory());
     };
@@ -47,7 +51,7 @@ fn results(alloc: Global, standing: &Standing) -> Result<Vec<u8>, Error>
 fn write_rows(alloc: Global, writer: &mut Writer<Vec<u8>>, rows: &[Row]) -> Result<(), Error>
     requires fields { written.fields_written writer.old ≡ 0 }
     requires wrote { written.has_written writer.old ≡ false }
-    requires setup { written.writer_setup writer.old ≡ default_writer }
+    requires setup { written.writer_setup writer.old ≡ any_lengths }
     ensures text { OnOk result (Appends
         (written.text_written (λ v. Some v.items) writer.old)
         (written.text_written (λ v. Some v.items) writer.new)
@@ -66,14 +70,14 @@ fn write_rows(alloc: Global, writer: &mut Writer<Vec<u8>>, rows: &[Row]) -> Resu
 fn write_record(alloc: Global, writer: &mut Writer<Vec<u8>>, texts: &[Vec<u8>]) -> Result<(), Error>
     requires fields { written.fields_written writer.old ≡ 0 }
     requires wrote { written.has_written writer.old ≡ false }
-    requires setup { written.writer_setup writer.old ≡ default_writer }
+    requires setup { written.writer_setup writer.old ≡ any_lengths }
     ensures text { OnOk result (Appends
         (written.text_written (λ v. Some v.items) writer.old)
         (written.text_written (λ v. Some v.items) writer.new)
         (row_text default_writer (map (λ field. field.items) texts.now))) }
     ensures fields { OnOk result (written.fields_written writer.new ≡ 0) }
     ensures wrote { OnOk result (written.has_written writer.new ≡ false) }
-    ensures setup { OnOk result (written.writer_setup writer.new ≡ default_writer) }
+    ensures setup { OnOk result (written.writer_setup writer.new ≡ any_lengths) }
 {
     let Ok(fields) = slices_of(alloc, texts) else {
         return Err(Error::out_of_memory());

@@ -12,34 +12,37 @@ fn run(rt: &HostRuntime, words: &[&str], text: &str) -> Result<(u8, Tape, Tape),
 
 #[test]
 fn options_are_the_rules_and_the_form(rt: HostRuntime) -> Result<(), Fail> {
-    let text = "ENTER A\nENTER B\nFINISH 1 A\nSCORE 1\n";
-    let replies = "OK 1 1 0.0\nOK 2 1= 0.0\nOK 3 1= 0.0\nOK 4\n";
+    let text = "ENTER A\nENTER B\nENTER C\nFINISH 1 A\nMARK 1 B DNF\nPENALTY 1 A SCP\nSCORE 1\n";
     let cases: [(&[&str], &str); 6] = [
         (
             &["replay"],
-            "TABLE 2 RACES 1\n1 A 1.0 1.0\n2 B 3.0 3.0/DNC\n",
+            "TABLE 3 RACES 1\n1 A 2.0 2.0/SCP\n2= B 4.0 4.0/DNF\n2= C 4.0 4.0/DNC\n",
+        ),
+        (
+            &["replay", "--absent", "A53"],
+            "TABLE 3 RACES 1\n1 A 2.0 2.0/SCP\n2 B 3.0 3.0/DNF\n3 C 4.0 4.0/DNC\n",
+        ),
+        (
+            &["replay", "--scp", "2"],
+            "TABLE 3 RACES 1\n1 A 3.0 3.0/SCP\n2= B 4.0 4.0/DNF\n2= C 4.0 4.0/DNC\n",
+        ),
+        (
+            &["replay", "--exclude", "none", "--print", "table"],
+            "TABLE 3 RACES 1\n1 A 2.0 2.0/SCP\n2= B 4.0 4.0/DNF\n2= C 4.0 4.0/DNC\n",
         ),
         (
             &["replay", "--print", "csv"],
-            "rank,sail,net,R1\n1,A,1.0,1.0\n2,B,3.0,3.0/DNC\n",
+            "rank,sail,net,R1\n1,A,2.0,2.0/SCP\n2=,B,4.0,4.0/DNF\n2=,C,4.0,4.0/DNC\n",
         ),
         (
             &["replay", "--print=journal"],
-            "1 1 SCORER ENTER A\n1 2 SCORER ENTER B\n1 3 SCORER FINISH 1 A\n1 4 SCORER SCORE 1\n",
-        ),
-        (
-            &["replay", "--absent", "A53", "--scp", "99"],
-            "TABLE 2 RACES 1\n1 A 1.0 1.0\n2 B 3.0 3.0/DNC\n",
-        ),
-        (
-            &["replay", "--exclude", "none"],
-            "TABLE 2 RACES 1\n1 A 1.0 1.0\n2 B 3.0 3.0/DNC\n",
-        ),
-        (
-            &["replay", "--exclude", "2,3", "--print", "table"],
-            "TABLE 2 RACES 1\n1 A 1.0 1.0\n2 B 3.0 3.0/DNC\n",
+            "1 1 SCORER ENTER A\n1 2 SCORER ENTER B\n1 3 SCORER ENTER C\n\
+                1 4 SCORER FINISH 1 A\n1 5 SCORER MARK 1 B DNF\n1 6 SCORER PENALTY 1 A SCP\n\
+                1 7 SCORER SCORE 1\n",
         ),
     ];
+    let replies = "OK 1 1 0.0\nOK 2 1= 0.0\nOK 3 1= 0.0\nOK 4 1= 0.0\nOK 5 1= 0.0\nOK 6 1= 0.0\n\
+        OK 7\n";
     for (words, last) in cases {
         let (status, output, errors) = run(&rt, words, text)?;
         assert_eq!(rt; errors.written(), b"".as_slice());
@@ -47,6 +50,10 @@ fn options_are_the_rules_and_the_form(rt: HostRuntime) -> Result<(), Fail> {
         assert_eq!(rt; &output.written()[replies.len()..], last.as_bytes());
         assert_eq!(rt; status, 0);
     }
+    let two_races = "ENTER A\nENTER B\nFINISH 1 A\nFINISH 1 B\nFINISH 2 B\nSCORE 1\nSCORE 2\n";
+    let (_, output, _) = run(&rt, &["replay", "--exclude", "none"], two_races)?;
+    let table = "TABLE 2 RACES 1 2\n1 B 3.0 2.0 1.0\n2 A 4.0 1.0 3.0/DNC\n";
+    assert!(rt; output.written().ends_with(table.as_bytes()));
     Ok(())
 }
 
@@ -168,7 +175,7 @@ fn start_files_are_read(rt: HostRuntime) -> Result<(), Fail> {
         "--entries",
         boats.as_str(),
     ];
-    let cases: [(&str, &str, &str, &str, u8); 7] = [
+    let cases: [(&str, &str, &str, &str, u8); 9] = [
         (
             "1 1 SCORER ENTER A\n2 1 JURY REDRESS 1 A 7.5\n",
             "Sail\nb\n",
@@ -184,7 +191,21 @@ fn start_files_are_read(rt: HostRuntime) -> Result<(), Fail> {
             1,
         ),
         ("", "Boat\nX\n", "regatta: entries fault 1 row 1\n", "", 1),
+        (
+            "",
+            "Boat,Sail\nX\n",
+            "regatta: entries fault 2 row 2\n",
+            "",
+            1,
+        ),
         ("", "Sail\nA_B\n", "regatta: entries fault 3 row 2\n", "", 1),
+        (
+            "",
+            "Sail\nA\na\n",
+            "regatta: entries fault 4 row 3\n",
+            "",
+            1,
+        ),
         ("X", "Boat\nX\n", "regatta: journal fault 1 line 1\n", "", 1),
         (
             "1 1 SCORER ENTER A\n",
@@ -209,6 +230,17 @@ fn start_files_are_read(rt: HostRuntime) -> Result<(), Fail> {
         assert_eq!(rt; output.written(), written.as_bytes());
         assert_eq!(rt; status, wanted);
     }
+    let mut full = Vec::new(rt.alloc());
+    for _ in 0..4097 {
+        full.extend_from_slice(b"1 1 SCORER ENTER A\n")?;
+    }
+    fs::write(&rt, journal.as_str(), &full)?;
+    let (status, _, errors) = run(&rt, &words, "ENTER C\n")?;
+    assert_eq!(rt;
+        errors.written(),
+        b"regatta: journal fault 2 line 4097\n".as_slice()
+    );
+    assert_eq!(rt; status, 1);
     let long = vec![in rt.alloc(); b'\n'; 1_048_577]?;
     fs::write(&rt, journal.as_str(), &long)?;
     let (status, _, errors) = run(&rt, &words, "ENTER C\n")?;
