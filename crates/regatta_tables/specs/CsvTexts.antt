@@ -17,11 +17,11 @@ header_fields races = codes "rank" ∷ codes "sail" ∷ codes "net" ∷ map race
 abbrev pub csv_records : Standing → List (List (List ℕ))
 csv_records standing = header_fields standing.races ∷ map row_words standing.rows
 
--- the records as `csv` writes them by default: commas, a line feed behind each, quotes where needed
-abbrev pub csv_text : Standing → List ℕ
-csv_text standing = flat_map (λ fields. row_text default_writer fields) (csv_records standing)
-
--- the writer's settings: the default ones, but that records may have any lengths, which shows in no
--- text
+-- the settings of `csv`: the default ones, but that records may have any lengths: commas, a line
+-- feed behind each, quotes where needed
 abbrev pub any_lengths : WriterBuilder
 any_lengths = record default_writer { flexible = true }
+
+-- the records as `csv` writes them with these settings
+abbrev pub csv_text : Standing → List ℕ
+csv_text standing = flat_map (λ fields. row_text any_lengths fields) (csv_records standing)

@@ -3,8 +3,8 @@
 ghost use Rattle.std.specs.Prelude.{◌≡◌, ◌≢◌, ◌≤◌, ◌++◌, Some, true, false, IfOk, OnOk, OnErr, map, flat_map, vec_capacity};
 ghost use Rattle.std.specs.Io.KnownBytes.{Appends};
 ghost use Rattle.csv.specs.Writing as written;
-ghost use Rattle.csv.specs.Writing.{default_writer, row_text};
-ghost use Rattle.regatta_tables.specs.CsvTexts.{csv_text, header_fields, race_name};
+ghost use Rattle.csv.specs.Writing.{row_text};
+ghost use Rattle.regatta_tables.specs.CsvTexts.{any_lengths, csv_text, header_fields, race_name};
 ghost use Rattle.regatta_tables.specs.TableTexts.{row_words, cell_text};
 
 use crate::pieces::{points_word, rank_word};
@@ -55,7 +55,7 @@ fn write_rows(alloc: Global, writer: &mut Writer<Vec<u8>>, rows: &[Row]) -> Resu
     ensures text { OnOk result (Appends
         (written.text_written (λ v. Some v.items) writer.old)
         (written.text_written (λ v. Some v.items) writer.new)
-        (flat_map (λ row. row_text default_writer (row_words row)) rows.now)) }
+        (flat_map (λ row. row_text any_lengths (row_words row)) rows.now)) }
 {
     for row in rows {
         let Ok(record) = row_record(alloc, row) else {
@@ -74,7 +74,7 @@ fn write_record(alloc: Global, writer: &mut Writer<Vec<u8>>, texts: &[Vec<u8>]) 
     ensures text { OnOk result (Appends
         (written.text_written (λ v. Some v.items) writer.old)
         (written.text_written (λ v. Some v.items) writer.new)
-        (row_text default_writer (map (λ field. field.items) texts.now))) }
+        (row_text any_lengths (map (λ field. field.items) texts.now))) }
     ensures fields { OnOk result (written.fields_written writer.new ≡ 0) }
     ensures wrote { OnOk result (written.has_written writer.new ≡ false) }
     ensures setup { OnOk result (written.writer_setup writer.new ≡ any_lengths) }
