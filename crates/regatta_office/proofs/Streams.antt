@@ -1,5 +1,5 @@
 -- What a writer took, and a reader gave, over several steps of a run.
-use Rattle.std.proofs.Common.{◌≡◌, ℕ, ◌<◌, length, Bool, true, false, List, [], ◌∷◌, ◌++◌, Option, Some, None, Result, Ok, Err, IfOk, OnOk, IfSome, refl, sym, ap, ◌∙◌, subst, append_assoc, append-nil, arith, min, take, drop, length-append, ◌+◌, ◌≤◌}
+use Rattle.std.proofs.Common.{◌≡◌, ℕ, ◌<◌, length, Bool, true, false, List, [], ◌∷◌, ◌++◌, Option, Some, None, Result, Ok, Err, IfOk, OnOk, IfSome, refl, sym, ap, ◌∙◌, subst, append_assoc, append-nil, arith, min, take, drop, length-append, ◌+◌, ◌-◌, ◌≤◌, inl, inr}
 use Rattle.std.proofs.lemmas.List.{take-append-drop, take-take, take_min, take-append-le}
 use Rattle.std.proofs.Math.Seq.{take-append-add}
 use Rattle.regatta_streams.specs.Texts.{AppendsPrefix, GaveAtMost}
@@ -8,7 +8,7 @@ use Rattle.std.specs.Io.KnownBytes.{Appends, Consumes, IsAtEnd, Keeps}
 use Rattle.regatta_terms.specs.Lines.{line_of}
 use Rattle.regatta_streams.proofs.KnownBytes.{appends-none, appends-then, consumes-kept, consumes-none, consumes-then}
 use Rattle.regatta_office.specs.Lines.{is_line_end, last_line}
-use Rattle.regatta_office.specs.Coming.{Cuts, Stops, Finished, IsTooLong, Point, ReadSome, Said, Talked, Went, said, kept_lines, ahead, coming, ended, keep, unless}
+use Rattle.regatta_office.specs.Coming.{Cuts, Stops, Finished, IsTooLong, IsWithin, Point, ReadSome, Said, Talked, Went, said, kept_lines, ahead, coming, ended, keep, unless}
 use Rattle.regatta_office.specs.Transcript.{is_quit, talk_after, text_after}
 use Rattle.regatta_office.proofs.Saying.{ahead-ahead, line_ends, line_goes, line_last, line_none, said-none}
 
@@ -229,6 +229,26 @@ talked_long (Some text) (Some rest) c d p q most given bytes left cut full more 
       wrote = subst (Appends c d) (sym (ap (λ (s : Said). s.text) said_is ∙ append-nil u.written)) u.wrote;
     }
 
+-- a QUIT stood in the bytes that were answered, which are no more than may be
+pub within_quit : (a b c d : Option (List ℕ)) (p q : Point) (most : ℕ) (given bytes left : List ℕ) → given ≡ bytes ++ left
+    → length bytes ≤ most → Consumes a b given → Went c d bytes p q true → IfSome a (IsWithin p most)
+within_quit None b c d p q most given bytes left cut few took u = tt
+within_quit (Some text) None c d p q most given bytes left cut few took u = absurd took
+within_quit (Some text) (Some rest) c d p q most given bytes left cut few took u =
+    let split : text ≡ bytes ++ (left ++ rest) = took ∙ ap (λ (t : List ℕ). t ++ rest) cut ∙ append_assoc bytes left rest in
+    let sum : length bytes + (most - length bytes) ≡ most = omega (arith, few) in
+    let front : take most text ≡ bytes ++ take (most - length bytes) (left ++ rest) =
+    rw split (ap (λ (n : ℕ). take n (bytes ++ (left ++ rest))) (sym sum) ∙ take-append-add bytes (left ++ rest) (most - length bytes))
+    in
+    inr (ap (λ (s : Said). s.quit) (ap (coming false p) front ∙ u.goes false (take (most - length bytes) (left ++ rest))))
+
+-- the text is at its end
+pub within_end : (a b : Option (List ℕ)) (p : Point) (most : ℕ) (given : List ℕ) → given ≡ [] → Consumes a b given → IsAtEnd b → IfSome a (IsWithin p most)
+within_end None b p most given none took end = tt
+within_end (Some text) None p most given none took end = absurd took
+within_end (Some text) (Some rest) p most given none took end =
+    inl (let size : length text ≡ 0 = ap (λ (t : List ℕ). length t) (took ∙ (λ i. none i ++ end i)) in omega (arith, size))
+
 -- nothing came yet
 pub talked_none : (a c : Option (List ℕ)) (p : Point) → Talked a a c c p p (Some 0)
 talked_none a c p = record {
@@ -346,6 +366,19 @@ module _ (a b c d e f : Option (List ℕ)) (p q r : Point) (n : ℕ) (u : Talked
             (sym (ap (λ (s : Said). s.text) (ap (λ (t : List ℕ). coming false p (take (length u.given + m) t)) h ∙ ap (coming false p) (take-append-add u.given mid m) ∙ u_goes false (take m mid))))
             (appends-then d e f u.written (coming false q (take m mid)).text u.wrote wrote),
       )
+
+  -- the text ends within what may be answered, or a QUIT does
+  pub within_at : (most : ℕ) → IfSome b (IsWithin q most) → IfSome a (IsWithin p (n + most))
+  within_at most k = by a b u.took k
+    where
+      by : (a b : Option (List ℕ)) → Consumes a b u.given → IfSome b (IsWithin q most) → IfSome a (IsWithin p (n + most))
+      by None b h k = tt
+      by (Some text) None h k = absurd h
+      by (Some text) (Some mid) h (inl few) =
+          inl (rw h (omega (arith, few, u_count, length-append u.given mid)))
+      by (Some text) (Some mid) h (inr quit) =
+          let front : take (n + most) text ≡ u.given ++ take most mid = rw (h, sym u_count) (take-append-add u.given mid most) in
+          inr (ap (λ (s : Said). s.quit) (ap (coming false p) front ∙ u_goes false (take most mid)) ∙ quit)
 
   -- the text is too long
   pub too_long_at : (most : ℕ) → IfSome b (λ text. IsTooLong e f q most text) → IfSome a (λ text. IsTooLong d f p (n + most) text)

@@ -8,9 +8,9 @@ use Rattle.regatta_streams.specs.Texts.{AppendsPrefix}
 use Rattle.regatta_office.proofs.Streams.{prefix-behind, prefix-longer}
 use Rattle.regatta_streams.proofs.KnownBytes.{appends-none, appends-then}
 use Rattle.regatta_office.specs.declared.form.Form.{Form}
-use Rattle.regatta_office.specs.Coming.{Cuts, IsTooLong, Stops, Point, ReadSome, Said, coming, said}
+use Rattle.regatta_office.specs.Coming.{Cuts, IsTooLong, IsWithin, Stops, Point, ReadSome, Said, coming, said}
 use Rattle.regatta_office.specs.Lines.{ended_lines, lines_by}
-use Rattle.regatta_office.specs.Transcript.{WroteSome, final_journal, final_text, has_quit, opening, replies, run_text, up_to_quit, transcript, transcript_so_far}
+use Rattle.regatta_office.specs.Transcript.{EndsWithin, WroteSome, final_journal, final_text, has_quit, opening, replies, run_text, up_to_quit, transcript, transcript_so_far}
 use Rattle.regatta_office.proofs.Saying.{coming-whole}
 
 -- no line has ended in no text
@@ -54,6 +54,11 @@ module _ (rules : RulesParts) (start : Journal) (board : BoardValue) (p : Point)
   text_too_long (Some text) c d most is =
       let said_is = at_start false (take most text) in
       (is.long, sym (ap (λ (s : Said). s.quit) said_is) ∙ is.quit, subst (Appends c d) (ap (λ (s : Said). s.text) said_is) is.wrote)
+
+  pub within_limit : (a : Option (List ℕ)) (most : ℕ) → IfSome a (IsWithin p most) → IfSome a (EndsWithin most)
+  within_limit None most k = tt
+  within_limit (Some text) most (inl few) = inl few
+  within_limit (Some text) most (inr quit) = inr (sym (ap (λ (s : Said). s.quit) (at_start false (take most text))) ∙ quit)
 
   pub whole_cut : (a c d : Option (List ℕ)) (form : Form) → IfSome a (Cuts c d p) → IfSome a (λ text. AppendsPrefix c d (run_text rules start form text))
   whole_cut None c d form k = tt

@@ -1,5 +1,5 @@
 -- What is still to come of a run, at any point of its text.
-use Rattle.std.specs.Prelude.{ℕ, Bool, true, false, ◌≡◌, List, [], ◌∷◌, ◌++◌, length, take, ◌<◌, nat_lt, Option, Some, None, IfSome, if◌then◌else◌}
+use Rattle.std.specs.Prelude.{ℕ, Bool, true, false, ◌≡◌, List, [], ◌∷◌, ◌++◌, length, take, ◌<◌, ◌≤◌, ◌⊎◌, nat_lt, Option, Some, None, IfSome, if◌then◌else◌}
 use Rattle.std.specs.Io.KnownBytes.{Appends, Consumes}
 use Rattle.regatta_streams.specs.Texts.{AppendsPrefix}
 use Rattle.regatta_terms.specs.Rules.{RulesParts}
@@ -98,6 +98,11 @@ pub record IsTooLong (old new : Option (List ℕ)) (before : Point) (most : ℕ)
   pub long : most < length text
   pub quit : (coming false before (take most text)).quit ≡ false
   pub wrote : Appends old new (coming false before (take most text)).text
+
+-- a text ends within so many bytes, or a QUIT does
+abbrev pub IsWithin : Point → ℕ → List ℕ → Type 0
+IsWithin before most text =
+    (length text ≤ most) ⊎ ((coming false before (take most text)).quit ≡ true)
 
 -- what a reader gave before it broke off, and a writer took for it
 abbrev pub ReadSome : Option (List ℕ) → Option (List ℕ) → Option (List ℕ) → Option (List ℕ) → (List ℕ → List ℕ) → Type 0

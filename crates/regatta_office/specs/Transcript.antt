@@ -1,5 +1,5 @@
 -- What a replay writes: a reply to each line of a text, and then the table, CSV or journal.
-use Rattle.std.specs.Prelude.{◌≡◌, ◌⊎◌, IfSome, take, ℕ, Bool, true, false, List, [], ◌∷◌, ◌++◌, Option, Some, None, Result, Ok, Err, if◌then◌else◌}
+use Rattle.std.specs.Prelude.{◌≡◌, ◌⊎◌, IfSome, length, take, ℕ, ◌≤◌, Bool, true, false, List, [], ◌∷◌, ◌++◌, Option, Some, None, Result, Ok, Err, if◌then◌else◌}
 use Rattle.std.specs.Io.KnownBytes.{Appends}
 use Rattle.regatta_terms.specs.Entries.{EntryParts}
 use Rattle.regatta_terms.specs.Lines.{line_of}
@@ -163,6 +163,10 @@ pub record IsWholeRun (given old new : Option (List ℕ)) : Type 0 where
   pub form : Form
   pub lawful : is_lawful limits rules start ≡ true
   pub wrote : IfSome given (λ text. Appends old new (run_text rules start form text))
+
+-- a text is no longer than so many bytes, or a QUIT is among the lines that end within them
+abbrev pub EndsWithin : ℕ → List ℕ → Type 0
+EndsWithin most text = (length text ≤ most) ⊎ (has_quit (ended_lines (take most text)) ≡ true)
 
 -- what was written for some first lines of a text: for those that end within some first part of
 -- it, or for all of them

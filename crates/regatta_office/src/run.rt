@@ -5,12 +5,12 @@ ghost use Rattle.regatta_streams.specs.Texts.{AppendsPrefix, GaveAtMost};
 ghost use Rattle.regatta_board.specs.Refusals.{limits, is_lawful};
 ghost use Rattle.regatta_board.specs.Replays.{first_refused};
 ghost use Rattle.regatta_office.specs.declared.run.TheConstants.{INPUT_LIMIT};
-ghost use Rattle.regatta_office.specs.Coming.{Cuts, IsTooLong, ReadSome, Stops, Talked, coming};
+ghost use Rattle.regatta_office.specs.Coming.{Cuts, IsTooLong, IsWithin, ReadSome, Stops, Talked, coming};
 ghost use Rattle.regatta_office.specs.Faults.{IsDeviceFault, IsRunFaultOf, scribe_fault as scribe_fault_of, start_fault as start_fault_of};
 ghost use Rattle.regatta_office.specs.Lines.{ended_lines};
 ghost use Rattle.regatta_office.specs.Scribes.{point};
 ghost use Rattle.regatta_office.specs.Starts.{IsRunFault};
-ghost use Rattle.regatta_office.specs.Transcript.{WroteSome, final_text, has_quit, run_text, transcript_so_far};
+ghost use Rattle.regatta_office.specs.Transcript.{EndsWithin, WroteSome, final_text, has_quit, run_text, transcript_so_far};
 
 use crate::form::Form;
 use crate::opening::opened;
@@ -81,6 +81,8 @@ fn turn<R: Source, W: Sink>(
         (W.contents output.old) (W.contents output.new) (point scribe.old) (point scribe.new)
         count) }
     ensures count { IfOk result (λ count. IfSome count (λ n. (0 < n) × (n ≤ most))) }
+    ensures within { IfOk result (λ count. count ≡ None →
+        IfSome (R.remaining input.old) (IsWithin (point scribe.old) most)) }
     ensures taken { GaveAtMost (most + 1) (R.remaining input.old) (R.remaining input.new) }
     ensures well { OnOk result ((R.failures input.new ≡ R.failures input.old)
         × (W.failures output.new ≡ W.failures output.old)) }
@@ -131,6 +133,8 @@ fn answer_all<R: Source, W: Sink>(
     ensures after { OnOk result (IfSome (R.remaining input.old) (λ text.
         (point scribe.new).talk.journal ≡ (coming true (point scribe.old) text).journal)) }
     ensures rules { OnOk result ((point scribe.new).rules ≡ (point scribe.old).rules) }
+    ensures within { OnOk result (IfSome (R.remaining input.old)
+        (IsWithin (point scribe.old) INPUT_LIMIT)) }
     ensures taken { GaveAtMost (INPUT_LIMIT + 1) (R.remaining input.old)
         (R.remaining input.new) }
     ensures well { OnOk result ((R.failures input.new ≡ R.failures input.old)
@@ -201,6 +205,8 @@ pub fn replay<R: Source, W: Sink>(
     ensures answered { OnOk result (IfSome (R.remaining input.old) (λ text. Appends
         (W.contents output.old) (W.contents output.new)
         (run_text rules.now start.now form text))) }
+    // No more than the limit is answered, and no more is taken than tells that.
+    ensures within { OnOk result (IfSome (R.remaining input.old) (EndsWithin INPUT_LIMIT)) }
     ensures taken { GaveAtMost (INPUT_LIMIT + 1) (R.remaining input.old)
         (R.remaining input.new) }
 

@@ -61,6 +61,23 @@ fn an_input_is_too_long(rt: HostRuntime) -> Result<(), Fail> {
 }
 
 #[test]
+fn quit_ends_within_the_limit(rt: HostRuntime) -> Result<(), Fail> {
+    let mut text = long_text(rt.alloc(), b"", 1_048_570)?;
+    text.extend_from_slice(b"\nQUIT\nENTER A\n")?;
+    let input = giving(rt.alloc(), &text, 4096)?;
+    let (output, result) = ended(rt.alloc(), input, taking(rt.alloc(), 100)?);
+    assert_eq!(rt; result, Ok(()));
+    assert_eq!(rt; output.written(), b"NO 20\nBYE\nTABLE 0 RACES\n".as_slice());
+    let mut text = long_text(rt.alloc(), b"", 1_048_571)?;
+    text.extend_from_slice(b"\nQUIT\n")?;
+    let input = giving(rt.alloc(), &text, 4096)?;
+    let (output, result) = ended(rt.alloc(), input, taking(rt.alloc(), 100)?);
+    assert_eq!(rt; result, Err(RunFault::InputTooLong));
+    assert_eq!(rt; output.written(), b"NO 20\n".as_slice());
+    Ok(())
+}
+
+#[test]
 fn lines_are_cut_at_their_ends(rt: HostRuntime) -> Result<(), Fail> {
     let mut text = long_text(rt.alloc(), b"", 81)?;
     text.push(b'\n')?;

@@ -1,8 +1,8 @@
 use Rattle.std.proofs.Common.{◌≡◌, ◌+◌, ◌-◌, ◌≤◌, ℕ, Some, IfSome, Option, false, arith, sym, ◌∙◌, subst}
-use Rattle.regatta_office.specs.Coming.{IsTooLong, ReadSome, Talked, coming}
+use Rattle.regatta_office.specs.Coming.{IsTooLong, IsWithin, ReadSome, Talked, coming}
 use Rattle.regatta_office.specs.Scribes.{point}
 use Rattle.regatta_office.specs.declared.run.TheConstants.{INPUT_LIMIT}
-use Rattle.regatta_office.proofs.Streams.{broke_off, cut_at, stop_at, gave_more, talked_more, too_long_at}
+use Rattle.regatta_office.proofs.Streams.{broke_off, cut_at, stop_at, gave_more, talked_more, too_long_at, within_at}
 use Rattle.regatta_office.proofs.Results.{err_as}
 use Rattle.regatta_office.proofs.run.answer_all.Goals as goal
 
@@ -25,6 +25,14 @@ pub returns-in-Ok-None-clause-taken : goal.returns-in-Ok-None-clause-taken
 returns-in-Ok-None-clause-taken g c =
     let so_far = c.loop-count.invariant.most in
     gave_more _ _ (g.R.Source.remaining c.turn.new.input) _ _ (g.W.Sink.contents c.turn.new.output) _ _ (point c.turn.new.scribe) (INPUT_LIMIT - c.loop-count.most) c.loop-count.invariant.talked (c.loop-count.most + 1) 1048577 (omega (arith, so_far)) c.turn.ensures.taken
+
+pub returns-in-Ok-None-clause-within : goal.returns-in-Ok-None-clause-within
+returns-in-Ok-None-clause-within g c =
+    let most = c.loop-count.most in
+    let so_far = c.loop-count.invariant.most in
+    let sum : INPUT_LIMIT - most + most ≡ INPUT_LIMIT = omega (arith, so_far) in
+    subst (λ (n : ℕ). IfSome (g.R.Source.remaining c.args.input.now) (IsWithin (point c.args.scribe.now) n)) sum
+    (within_at _ _ (g.R.Source.remaining c.turn.new.input) _ _ (g.W.Sink.contents c.turn.new.output) _ _ (point c.turn.new.scribe) (INPUT_LIMIT - most) c.loop-count.invariant.talked most (c.in-Ok-None.ensures.within c.in-Ok-None.field-0-is))
 
 pub returns-in-Err-clause-taken : goal.returns-in-Err-clause-taken
 returns-in-Err-clause-taken g c =

@@ -5,7 +5,7 @@ use Rattle.regatta_office.specs.declared.run.TheConstants.{INPUT_LIMIT}
 use Rattle.regatta_office.specs.Scribes.{point}
 use Rattle.regatta_office.proofs.Results.{err_of, ok_of}
 use Rattle.regatta_streams.specs.Texts.{AppendsPrefix}
-use Rattle.regatta_office.proofs.Whole.{all_said, all_written, final_cut, read_broken, whole_cut, whole_stop, wrote_nothing, text_too_long}
+use Rattle.regatta_office.proofs.Whole.{all_said, all_written, final_cut, read_broken, whole_cut, whole_stop, wrote_nothing, text_too_long, within_limit}
 use Rattle.regatta_office.proofs.run.replay.Goals as goal
 
 pub returns-in-Err-answer_all-clause-read : goal.returns-in-Err-answer_all-clause-read
@@ -34,6 +34,11 @@ returns-clause-answered g c =
     (g.R.Source.remaining c.args.input.now) _ (g.W.Sink.contents c.answer_all.new.output) _ c.args.form c.write_final.new.out.items last _ (c.board.ensures.rules ∙ c.in_default.ensures.rules) c.board.ensures.journal
     c.in_default.ensures.wrote c.in_default.ensures.after whole
     (subst (Appends (g.W.Sink.contents c.answer_all.new.output) (g.W.Sink.contents c.write_all.new.output)) c.deref.ensures.value ends)
+
+pub returns-clause-within : goal.returns-clause-within
+returns-clause-within g c =
+    within_limit c.args.rules.now c.args.start.now c.in-Ok.board (point c.new-scribe.result) c.in-Ok.ensures.board c.new-scribe.ensures
+    (g.R.Source.remaining c.args.input.now) INPUT_LIMIT c.in_default.ensures.within
 
 -- what was written by then
 pub returns-in-Err-clause-stopped : goal.returns-in-Err-clause-stopped

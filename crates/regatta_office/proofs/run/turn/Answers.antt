@@ -1,6 +1,6 @@
 use Rattle.std.proofs.Common.{◌≡◌, ◌<◌, ◌≤◌, IfSome, Err, length, take, drop, arith, sym, ap, subst}
 use Rattle.std.proofs.lemmas.List.{length-take, length-drop}
-use Rattle.regatta_office.proofs.Streams.{any_stop, given_cut, given_stop, take_front, talked_quit, talked_long}
+use Rattle.regatta_office.proofs.Streams.{any_stop, given_cut, given_stop, take_front, talked_quit, talked_long, within_end, within_quit}
 use Rattle.regatta_office.specs.Coming.{Stops}
 use Rattle.regatta_office.specs.Scribes.{point}
 use Rattle.regatta_office.proofs.Results.{memory_is, write_is}
@@ -10,6 +10,14 @@ pub returns-in-Ok-true-clause-talked : goal.returns-in-Ok-true-clause-talked
 returns-in-Ok-true-clause-talked g c =
     let few : c.min-2.result ≤ c.in-Ok.count = omega (arith, c.min-2.ensures) in
     talked_quit _ _ _ _ _ _ _ _ _ (take_front c.min-2.result c.in-Ok.count c.read.new.buf few)
+    c.in-Ok.ensures.bytes.0 (rw c.in-Ok-true.field-0-test at c.in-Ok-true.ensures.went)
+
+pub returns-in-Ok-true-clause-within : goal.returns-in-Ok-true-clause-within
+returns-in-Ok-true-clause-within g c = λ none.
+    let buf = c.read.new.buf in
+    let few : c.min-2.result ≤ c.in-Ok.count = omega (arith, c.min-2.ensures) in
+    let short : length (take c.min-2.result buf) ≤ c.args.most = omega (arith, c.min-2.ensures, length-take c.min-2.result buf) in
+    within_quit _ _ _ _ _ _ _ _ _ _ (take_front c.min-2.result c.in-Ok.count buf few) short
     c.in-Ok.ensures.bytes.0 (rw c.in-Ok-true.field-0-test at c.in-Ok-true.ensures.went)
 
 pub returns-then-most-count-clause-long : goal.returns-then-most-count-clause-long
