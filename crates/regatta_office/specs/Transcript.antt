@@ -156,14 +156,6 @@ abbrev pub run_text : RulesParts → Journal → Form → List ℕ → List ℕ
 run_text rules start form text =
     transcript rules start text ++ final_text rules form (final_journal rules start text)
 
--- a whole run was written, under some rules, from some lawful start and in some form
-pub record IsWholeRun (given old new : Option (List ℕ)) : Type 0 where
-  pub rules : RulesParts
-  pub start : Journal
-  pub form : Form
-  pub lawful : is_lawful limits rules start ≡ true
-  pub wrote : IfSome given (λ text. Appends old new (run_text rules start form text))
-
 -- a text is no longer than so many bytes, or a QUIT is among the lines that end within them
 abbrev pub EndsWithin : ℕ → List ℕ → Type 0
 EndsWithin most text = (length text ≤ most) ⊎ (has_quit (ended_lines (take most text)) ≡ true)

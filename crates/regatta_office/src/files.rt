@@ -1,4 +1,8 @@
 //! The files that a series starts with.
+ghost use Rattle.std.specs.Prelude.{IfOk};
+ghost use Rattle.std.specs.Option.{option_copied};
+ghost use Rattle.regatta_office.specs.Asked.{AreSailsAt, IsJournalAt};
+
 use crate::complaint::Complaint;
 use regatta_scores::Items;
 use regatta_streams::{Foreign, read_text};
@@ -23,7 +27,9 @@ fn text_at<H: Files + AllocGlobal>(rt: &H, path: &str) -> Result<Vec<u8>, Compla
 pub(crate) fn journal_at<H: Files + AllocGlobal>(
     rt: &H,
     path: Option<&str>,
-) -> Result<Journal, Complaint> {
+) -> Result<Journal, Complaint>
+    ensures { IfOk result (IsJournalAt (option_copied path.entry)) }
+{
     match path {
         Some(path) => Ok(read_journal(rt.alloc(), &text_at(rt, path)?)?),
         None => Ok(Items::new(Vec::new(rt.alloc()))),
@@ -34,7 +40,9 @@ pub(crate) fn journal_at<H: Files + AllocGlobal>(
 pub(crate) fn sails_at<H: Files + AllocGlobal>(
     rt: &H,
     path: Option<&str>,
-) -> Result<Sails, Complaint> {
+) -> Result<Sails, Complaint>
+    ensures { IfOk result (AreSailsAt (option_copied path.entry)) }
+{
     match path {
         Some(path) => Ok(read_entries(rt.alloc(), &text_at(rt, path)?)?),
         None => Ok(Items::new(Vec::new(rt.alloc()))),

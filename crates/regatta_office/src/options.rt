@@ -1,7 +1,11 @@
 //! The words of the program.
+ghost use Rattle.std.specs.Option.{option_copied};
+ghost use Rattle.regatta_office.specs.Asked.{Asked};
+
 use crate::form::Form;
 use clap::{Arg, ArgMatches, Command};
 use std::alloc::{AllocError, Global};
+use std::marker::Model;
 
 /// What the run is to print at its end, by the option's word.
 static FORMS: [&str; 3] = ["table", "csv", "journal"];
@@ -16,6 +20,19 @@ pub(crate) struct Options<'a> {
     pub(crate) journal: Option<&'a str>,
     pub(crate) entries: Option<&'a str>,
     pub(crate) form: Form,
+}
+
+impl<'a> Model for Options<'a> {
+    ghost Value = { Asked };
+
+    ghost view = { λ options. record {
+      absent = options.absent.now;
+      scp = option_copied options.scp;
+      exclude = options.exclude.now;
+      journal = option_copied options.journal;
+      entries = option_copied options.entries;
+      form = options.form;
+    } };
 }
 
 /// What the help says of the program.

@@ -1,7 +1,7 @@
 //! The program: from its words to its status.
 ghost use Rattle.std.specs.Prelude.{◌≡◌, ◌≢◌, ◌⊎◌, ℕ, List, IfSome, OnOk};
 ghost use Rattle.std.specs.Io.KnownBytes.{Appends};
-ghost use Rattle.regatta_office.specs.Transcript.{IsWholeRun};
+ghost use Rattle.regatta_office.specs.Asked.{Asked, IsRunOf};
 
 use crate::complaint::Complaint;
 use crate::files::{journal_at, sails_at};
@@ -63,7 +63,7 @@ fn run<H: Files + AllocGlobal, R: Source, W: Sink>(
     input: &mut R,
     output: &mut W,
 ) -> Result<(), Complaint>
-    ensures { OnOk result (IsWholeRun (R.remaining input.old) (W.contents output.old)
+    ensures { OnOk result (IsRunOf options.now (R.remaining input.old) (W.contents output.old)
         (W.contents output.new)) }
 {
     let rules = Rules::read(options.absent, options.scp, options.exclude)?;
@@ -97,9 +97,10 @@ pub fn program<H: Files + AllocGlobal, R: Source, W: Sink, E: Sink>(
     output: &mut W,
     errors: &mut E,
 ) -> u8
-    // All of a run is written, or the input wasn't read: the words asked for help.
-    ensures done { result ≡ 0 → (input.new ≡ input.old) ⊎ IsWholeRun (R.remaining input.old)
-        (W.contents output.old) (W.contents output.new) }
+    // All of a run as it was asked for is written, or the input wasn't read: the words asked for
+    // help.
+    ensures done { result ≡ 0 → (input.new ≡ input.old) ⊎ ((asked : Asked) × IsRunOf asked
+        (R.remaining input.old) (W.contents output.old) (W.contents output.new)) }
 {
     let alloc = rt.alloc();
     let Ok(command) = regatta(alloc) else {
