@@ -1,7 +1,8 @@
 //! The files that a series starts with.
-ghost use Rattle.std.specs.Prelude.{IfOk};
+ghost use Rattle.std.specs.Prelude.{◌≤◌, IfOk, length};
 ghost use Rattle.std.specs.Option.{option_copied};
 ghost use Rattle.regatta_office.specs.Asked.{AreSailsAt, IsJournalAt};
+ghost use Rattle.regatta_office.specs.declared.files.TheConstants.{FILE_LIMIT};
 
 use crate::complaint::Complaint;
 use regatta_scores::Items;
@@ -15,7 +16,9 @@ use std::io::ErrorKind;
 const FILE_LIMIT: u32 = 1_048_576;
 
 /// The whole text of the file at that path.
-fn text_at<H: Files + AllocGlobal>(rt: &H, path: &str) -> Result<Vec<u8>, Complaint> {
+fn text_at<H: Files + AllocGlobal>(rt: &H, path: &str) -> Result<Vec<u8>, Complaint>
+    ensures { IfOk result (λ text. length text.items ≤ FILE_LIMIT) }
+{
     match fs::open(rt, path) {
         Ok(file) => Ok(read_text(rt.alloc(), &mut Foreign::new(file), FILE_LIMIT)?),
         Err(error) if error.kind() == ErrorKind::OutOfMemory => Err(Complaint::NoMemory),

@@ -1,4 +1,4 @@
-use Rattle.std.proofs.Common.{◌≡◌, ◌∙◌, sym, subst, true, IfSome, List, ℕ}
+use Rattle.std.proofs.Common.{◌≡◌, subst, true, IfSome, List, ℕ}
 use Rattle.std.specs.Io.KnownBytes.{Appends}
 use Rattle.regatta_scores.specs.Journal.{Journal}
 use Rattle.regatta_board.specs.Refusals.{limits, is_lawful}
@@ -12,7 +12,7 @@ returns g c =
     let start_is : c.as_slice-3.result.now ≡ start_of c.in_ok-journal.journal c.in_ok-sails.sails = cc (c.in_ok-start.ensures, c.as_slice.ensures, c.as_slice-2.ensures, c.as_slice-3.ensures) in
     subst (λ (asked : Asked). IsRunOf asked (g.R.Source.remaining c.args.input.now) (g.W.Sink.contents c.args.output.now) (g.W.Sink.contents c.replay.new.output)) c.options.view_is (record {
       rules = c.in_ok-rules.rules;
-      read = sym c.read.ensures ∙ c.in_ok-rules.was;
+      read = cc (c.read.ensures, c.in_ok-rules.was);
       journal = c.in_ok-journal.journal;
       from_journal = c.in_ok-journal.ensures;
       sails = c.in_ok-sails.sails;
