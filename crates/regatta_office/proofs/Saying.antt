@@ -1,24 +1,31 @@
 -- What is said to lines, one after another.
-use Rattle.std.proofs.Common.{◌≡◌, ℕ, ◌<◌, length, arith, Bool, true, false, cond, List, [], ◌∷◌, ◌++◌, take, map, Result, refl, sym, ap, ◌∙◌, append_assoc}
+use Rattle.std.proofs.Common.{◌≡◌, ℕ, ◌<◌, length, arith, Bool, true, false, cond, List, [], ◌∷◌}
+use Rattle.std.proofs.Common.{◌++◌, take, map, Result, refl, sym, ap, ◌∙◌, append_assoc}
 use Rattle.regatta_terms.specs.Lines.{line_of}
 use Rattle.regatta_terms.specs.Rules.{RulesParts}
 use Rattle.regatta_terms.specs.declared.line.Line.{Line}
 use Rattle.regatta_terms.specs.declared.line.LineFault.{LineFault}
 use Rattle.regatta_office.specs.Lines.{is_line_end, lines_by}
-use Rattle.regatta_office.specs.Coming.{Point, Said, ahead, coming, ended, keep, kept_lines, said, unless}
-use Rattle.regatta_office.specs.Transcript.{Talk, has_quit, is_quit, replies, talk_after, talk_at_end, text_after, up_to_quit}
+use Rattle.regatta_office.specs.Coming.{Point, Said, ahead, coming, ended, keep, kept_lines, said}
+use Rattle.regatta_office.specs.Coming.{unless}
+use Rattle.regatta_office.specs.Transcript.{Talk, has_quit, is_quit, replies, talk_after}
+use Rattle.regatta_office.specs.Transcript.{talk_at_end, text_after, up_to_quit}
 use Rattle.regatta_office.proofs.KeptLines.{kept_byte, kept_end, kept_of_text, kept_reads}
 
 -- a line, by what it reads as, and what is said to the lines behind it
 abbrev next_said : RulesParts → Talk → Result Line LineFault → List (List ℕ) → Said
 next_said rules talk asked rest =
-    ahead (text_after rules talk asked) (cond (is_quit asked) (record { text = []; journal = (talk_after rules talk asked).journal; quit = true }) (said rules (talk_after rules talk asked) rest))
+    ahead (text_after rules talk asked) (cond (is_quit asked)
+    (record { text = []; journal = (talk_after rules talk asked).journal; quit = true })
+    (said rules (talk_after rules talk asked) rest))
 
-pub said-none : (rules : RulesParts) (talk : Talk) → said rules talk [] ≡ record { text = []; journal = talk.journal; quit = false }
+pub said-none : (rules : RulesParts) (talk : Talk)
+    → said rules talk [] ≡ record { text = []; journal = talk.journal; quit = false }
 unfolding up_to_quit replies talk_at_end has_quit
 said-none rules talk = refl
 
-said-by : (rules : RulesParts) (talk : Talk) (line : List ℕ) (rest : List (List ℕ)) (b : Bool) → is_quit (line_of line) ≡ b
+said-by : (rules : RulesParts) (talk : Talk) (line : List ℕ) (rest : List (List ℕ)) (b : Bool)
+    → is_quit (line_of line) ≡ b
     → said rules talk (line ∷ rest) ≡ next_said rules talk (line_of line) rest
 unfolding up_to_quit replies talk_at_end has_quit
 said-by rules talk line rest true is = rw is refl
@@ -29,32 +36,51 @@ pub said-cons : (rules : RulesParts) (talk : Talk) (line : List ℕ) (rest : Lis
 said-cons rules talk line rest = said-by rules talk line rest (is_quit (line_of line)) refl
 
 -- lines that read alike are answered alike
-pub said-kept : (rules : RulesParts) (talk : Talk) (lines : List (List ℕ)) → said rules talk (map (take 82) lines) ≡ said rules talk lines
+pub said-kept : (rules : RulesParts) (talk : Talk) (lines : List (List ℕ))
+    → said rules talk (map (take 82) lines) ≡ said rules talk lines
 said-kept rules talk [] = refl
 said-kept rules talk (line ∷ rest) =
     said-cons rules talk (take 82 line) (map (take 82) rest)
-    ∙ ap (λ (asked : Result Line LineFault). next_said rules talk asked (map (take 82) rest)) (kept_reads line)
-    ∙ ap (λ (s : Said). ahead (text_after rules talk (line_of line)) (cond (is_quit (line_of line)) (record { text = []; journal = (talk_after rules talk (line_of line)).journal; quit = true }) s))
+    ∙ ap (λ (asked : Result Line LineFault). next_said rules talk asked (map (take 82) rest))
+    (kept_reads line)
+    ∙ ap (λ (s : Said). ahead (text_after rules talk (line_of line))
+    (cond (is_quit (line_of line)) (record {
+      text = [];
+      journal = (talk_after rules talk (line_of line)).journal;
+      quit = true;
+    }) s))
     (said-kept rules (talk_after rules talk (line_of line)) rest)
     ∙ sym (said-cons rules talk line rest)
 
 -- what is to come at the beginning of a text is what is said to its lines
 pub coming-whole : (counts : Bool) (rules : RulesParts) (talk : Talk) (text : List ℕ)
-    → coming counts (record { rules = rules; talk = talk; line = [] }) text ≡ said rules talk (lines_by counts text)
-coming-whole counts rules talk text = ap (said rules talk) (kept_of_text counts text) ∙ said-kept rules talk (lines_by counts text)
+    → coming counts (record { rules = rules; talk = talk; line = [] }) text
+    ≡ said rules talk (lines_by counts text)
+coming-whole counts rules talk text = ap (said rules talk) (kept_of_text counts text)
+    ∙ said-kept rules talk (lines_by counts text)
 
 -- the end of a line
 pub line_ends : (counts : Bool) (point : Point) (byte : ℕ) (rest : List ℕ) → is_line_end byte ≡ true
     → coming counts point (byte ∷ rest)
     ≡ ahead (text_after point.rules point.talk (line_of point.line))
-    (unless (is_quit (line_of point.line)) counts (record { rules = point.rules; talk = talk_after point.rules point.talk (line_of point.line); line = [] }) rest)
+    (unless (is_quit (line_of point.line)) counts
+    (record {
+      rules = point.rules;
+      talk = talk_after point.rules point.talk
+          (line_of point.line);
+      line = [];
+    }) rest)
 line_ends counts point byte rest is =
-    ap (said point.rules point.talk) (kept_end counts point.line byte rest is) ∙ said-cons point.rules point.talk point.line (kept_lines counts [] rest)
+    ap (said point.rules point.talk) (kept_end counts point.line byte rest is)
+    ∙ said-cons point.rules point.talk point.line (kept_lines counts [] rest)
 
 -- another byte of a line
-pub line_goes : (counts : Bool) (point : Point) (byte : ℕ) (rest : List ℕ) → is_line_end byte ≡ false
-    → coming counts point (byte ∷ rest) ≡ coming counts (record point { line = keep point.line byte }) rest
-line_goes counts point byte rest is = ap (said point.rules point.talk) (kept_byte counts point.line byte rest is)
+pub line_goes : (counts : Bool) (point : Point) (byte : ℕ) (rest : List ℕ)
+    → is_line_end byte ≡ false
+    → coming counts point (byte ∷ rest) ≡ coming counts
+    (record point { line = keep point.line byte }) rest
+line_goes counts point byte rest is = ap (said point.rules point.talk)
+    (kept_byte counts point.line byte rest is)
 
 -- the end of a text, with bytes of a line at hand, and with none
 last_kept : (line : List ℕ) → 0 < length line → kept_lines true line [] ≡ line ∷ []
@@ -63,7 +89,8 @@ last_kept [] some = absurd (omega (arith, some))
 last_kept (byte ∷ line) some = refl
 
 last_said : (quit : Bool) (rules : RulesParts) (talk : Talk) (text : List ℕ)
-    → ahead text (cond quit (record { text = []; journal = talk.journal; quit = true }) (said rules talk []))
+    → ahead text (cond quit (record { text = []; journal = talk.journal; quit = true })
+    (said rules talk []))
     ≡ ahead text (record { text = []; journal = talk.journal; quit = quit })
 last_said true rules talk text = refl
 last_said false rules talk text = ap (ahead text) (said-none rules talk)
@@ -71,10 +98,18 @@ last_said false rules talk text = ap (ahead text) (said-none rules talk)
 pub line_last : (point : Point) → 0 < length point.line
     → coming true point []
     ≡ ahead (text_after point.rules point.talk (line_of point.line))
-    (ended (is_quit (line_of point.line)) (record { rules = point.rules; talk = talk_after point.rules point.talk (line_of point.line); line = [] }))
+    (ended (is_quit (line_of point.line)) (record {
+      rules = point.rules;
+      talk = talk_after
+          point.rules point.talk (line_of point.line);
+      line = [];
+    }))
 line_last point some =
-    ap (said point.rules point.talk) (last_kept point.line some) ∙ said-cons point.rules point.talk point.line []
-    ∙ last_said (is_quit (line_of point.line)) point.rules (talk_after point.rules point.talk (line_of point.line)) (text_after point.rules point.talk (line_of point.line))
+    ap (said point.rules point.talk) (last_kept point.line some)
+    ∙ said-cons point.rules point.talk point.line []
+    ∙ last_said (is_quit (line_of point.line)) point.rules
+    (talk_after point.rules point.talk (line_of point.line))
+    (text_after point.rules point.talk (line_of point.line))
 
 none_kept : (line : List ℕ) → length line ≡ 0 → kept_lines true line [] ≡ []
 unfolding kept_lines
@@ -82,7 +117,8 @@ none_kept [] none = refl
 none_kept (byte ∷ line) none = absurd (omega (arith, none))
 
 pub line_none : (point : Point) → length point.line ≡ 0 → coming true point [] ≡ ended false point
-line_none point none = ap (said point.rules point.talk) (none_kept point.line none) ∙ said-none point.rules point.talk
+line_none point none = ap (said point.rules point.talk) (none_kept point.line none)
+    ∙ said-none point.rules point.talk
 
 -- ---- a text ahead
 
@@ -90,4 +126,5 @@ pub ahead-none : (s : Said) → ahead [] s ≡ s
 ahead-none s = refl
 
 pub ahead-ahead : (a b : List ℕ) (s : Said) → ahead (a ++ b) s ≡ ahead a (ahead b s)
-ahead-ahead a b s = ap (λ (t : List ℕ). record { text = t; journal = s.journal; quit = s.quit }) (append_assoc a b s.text)
+ahead-ahead a b s = ap (λ (t : List ℕ). record { text = t; journal = s.journal; quit = s.quit })
+    (append_assoc a b s.text)

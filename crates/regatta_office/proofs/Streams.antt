@@ -1,32 +1,47 @@
 -- What a writer took, and a reader gave, over several steps of a run.
-use Rattle.std.proofs.Common.{◌≡◌, ℕ, ◌<◌, length, Bool, true, false, List, [], ◌∷◌, ◌++◌, Option, Some, None, Result, Ok, Err, IfOk, OnOk, IfSome, refl, sym, ap, ◌∙◌, subst, append_assoc, append-nil, arith, min, take, drop, length-append, ◌+◌, ◌-◌, ◌≤◌, inl, inr}
+use Rattle.std.proofs.Common.{◌≡◌, ℕ, ◌<◌, length, Bool, true, false, List, [], ◌∷◌, ◌++◌, Option}
+use Rattle.std.proofs.Common.{Some, None, Result, Ok, Err, IfOk, OnOk, IfSome, refl, sym, ap, ◌∙◌}
+use Rattle.std.proofs.Common.{subst, append_assoc, append-nil, arith, min, take, drop}
+use Rattle.std.proofs.Common.{length-append, ◌+◌, ◌-◌, ◌≤◌, inl, inr}
 use Rattle.std.proofs.lemmas.List.{take-append-drop, take-take, take_min, take-append-le}
 use Rattle.std.proofs.Math.Seq.{take-append-add}
 use Rattle.regatta_streams.specs.Texts.{AppendsPrefix, GaveAtMost}
 use Rattle.std.proofs.Math.Seq.{take-append_seam}
 use Rattle.std.specs.Io.KnownBytes.{Appends, Consumes, IsAtEnd, Keeps}
 use Rattle.regatta_terms.specs.Lines.{line_of}
-use Rattle.regatta_streams.proofs.KnownBytes.{appends-none, appends-then, consumes-kept, consumes-none, consumes-then}
+use Rattle.regatta_streams.proofs.KnownBytes.{appends-none, appends-then, consumes-kept}
+use Rattle.regatta_streams.proofs.KnownBytes.{consumes-none, consumes-then}
 use Rattle.regatta_office.specs.Lines.{is_line_end, last_line}
-use Rattle.regatta_office.specs.Coming.{Cuts, Stops, Finished, IsTooLong, IsWithin, Point, ReadSome, Said, Talked, Went, said, kept_lines, ahead, coming, ended, keep, unless}
+use Rattle.regatta_office.specs.Coming.{Cuts, Stops, Finished, IsTooLong, IsWithin, Point, ReadSome}
+use Rattle.regatta_office.specs.Coming.{Said, Talked, Went, said, kept_lines, ahead, coming, ended}
+use Rattle.regatta_office.specs.Coming.{keep, unless}
 use Rattle.regatta_office.specs.Transcript.{is_quit, talk_after, text_after}
-use Rattle.regatta_office.proofs.Saying.{ahead-ahead, line_ends, line_goes, line_last, line_none, said-none}
+use Rattle.regatta_office.proofs.Saying.{ahead-ahead, line_ends, line_goes, line_last, line_none}
+use Rattle.regatta_office.proofs.Saying.{said-none}
 
 -- a byte of a line was kept
 pub byte_kept : (out : Option (List ℕ)) (before after : Point) (byte : ℕ) → is_line_end byte ≡ false
-    → after ≡ record before { line = keep before.line byte } → Went out out (byte ∷ []) before after false
+    → after ≡ record before { line = keep before.line byte }
+    → Went out out (byte ∷ []) before after false
 byte_kept out before after byte is kept = record {
   written = [];
   wrote = appends-none out;
   rules = ap (λ (p : Point). p.rules) kept;
-  goes = λ counts rest. line_goes counts before byte rest is ∙ ap (λ (p : Point). coming counts p rest) (sym kept);
+  goes = λ counts rest. line_goes counts before byte rest is
+      ∙ ap (λ (p : Point). coming counts p rest) (sym kept);
 }
 
 -- a line ended, and was answered
-pub line_ended : (old new : Option (List ℕ)) (before after : Point) (byte : ℕ) (quit : Bool) → is_line_end byte ≡ true
+pub line_ended : (old new : Option (List ℕ)) (before after : Point) (byte : ℕ) (quit : Bool)
+    → is_line_end byte ≡ true
     → quit ≡ is_quit (line_of before.line)
     → Appends old new (text_after before.rules before.talk (line_of before.line))
-    → after ≡ record { rules = before.rules; talk = talk_after before.rules before.talk (line_of before.line); line = [] }
+    → after ≡ record {
+      rules = before.rules;
+      talk = talk_after before.rules before.talk
+          (line_of before.line);
+      line = [];
+    }
     → Went old new (byte ∷ []) before after quit
 line_ended old new before after byte quit is quits wrote went = record {
   written = text_after before.rules before.talk (line_of before.line);
@@ -34,21 +49,34 @@ line_ended old new before after byte quit is quits wrote went = record {
   rules = ap (λ (p : Point). p.rules) went;
   goes = λ counts rest.
       line_ends counts before byte rest is
-      ∙ (λ i. ahead (text_after before.rules before.talk (line_of before.line)) (unless (sym quits i) counts (sym went i) rest));
+      ∙ (λ i. ahead (text_after before.rules before.talk (line_of before.line))
+      (unless (sym quits i) counts (sym went i) rest));
 }
 
 -- the same of an answer that may have failed, with what was kept of the line
-pub line_ended_ok : {E : Type 0} (old new : Option (List ℕ)) (before after : Point) (line : List ℕ) (byte : ℕ) (r : Result Bool E)
+pub line_ended_ok : {E : Type 0} (old new : Option (List ℕ)) (before after : Point) (line : List ℕ)
+    (byte : ℕ) (r : Result Bool E)
     → is_line_end byte ≡ true → line ≡ before.line
     → IfOk r (λ quit. quit ≡ is_quit (line_of line))
     → OnOk r (Appends old new (text_after before.rules before.talk (line_of line)))
-    → OnOk r (after ≡ record { rules = before.rules; talk = talk_after before.rules before.talk (line_of line); line = [] })
+    → OnOk r (after ≡ record {
+      rules = before.rules;
+      talk = talk_after before.rules before.talk
+          (line_of line);
+      line = [];
+    })
     → IfOk r (λ quit. Went old new (byte ∷ []) before after quit)
 line_ended_ok old new before after line byte (Ok quit) is same quits wrote went =
     line_ended old new before after byte quit is
     (quits ∙ ap (λ (l : List ℕ). is_quit (line_of l)) same)
-    (subst (λ (l : List ℕ). Appends old new (text_after before.rules before.talk (line_of l))) same wrote)
-    (went ∙ ap (λ (l : List ℕ). record { rules = before.rules; talk = talk_after before.rules before.talk (line_of l); line = [] }) same)
+    (subst (λ (l : List ℕ). Appends old new (text_after before.rules before.talk (line_of l))) same
+    wrote)
+    (went ∙ ap (λ (l : List ℕ). record {
+      rules = before.rules;
+      talk = talk_after before.rules
+          before.talk (line_of l);
+      line = [];
+    }) same)
 line_ended_ok old new before after line byte (Err e) is same quits wrote went = tt
 
 -- ---- the end of a text
@@ -56,7 +84,12 @@ line_ended_ok old new before after line byte (Err e) is same quits wrote went = 
 -- a last line without LF was answered
 pub finished_line : (old new : Option (List ℕ)) (before after : Point) → 0 < length before.line
     → Appends old new (text_after before.rules before.talk (line_of before.line))
-    → after ≡ record { rules = before.rules; talk = talk_after before.rules before.talk (line_of before.line); line = [] }
+    → after ≡ record {
+      rules = before.rules;
+      talk = talk_after before.rules before.talk
+          (line_of before.line);
+      line = [];
+    }
     → Finished old new before after
 finished_line old new before after some wrote went = record {
   written = text_after before.rules before.talk (line_of before.line);
@@ -65,11 +98,13 @@ finished_line old new before after some wrote went = record {
   quit = is_quit (line_of before.line);
   says =
       line_last before some
-      ∙ (λ i. ahead (text_after before.rules before.talk (line_of before.line)) (ended (is_quit (line_of before.line)) (sym went i)));
+      ∙ (λ i. ahead (text_after before.rules before.talk (line_of before.line))
+      (ended (is_quit (line_of before.line)) (sym went i)));
 }
 
 -- there is none
-pub finished_none : (out : Option (List ℕ)) (before after : Point) → length before.line ≡ 0 → after ≡ before → Finished out out before after
+pub finished_none : (out : Option (List ℕ)) (before after : Point) → length before.line ≡ 0
+    → after ≡ before → Finished out out before after
 finished_none out before after none same = record {
   written = [];
   wrote = appends-none out;
@@ -96,11 +131,13 @@ went-then a b c xs ys p q r quit u v = record {
   rules = v.rules ∙ u.rules;
   goes = λ counts rest.
       ap (coming counts p) (append_assoc xs ys rest) ∙ u.goes counts (ys ++ rest)
-      ∙ ap (ahead u.written) (v.goes counts rest) ∙ sym (ahead-ahead u.written v.written (unless quit counts r rest));
+      ∙ ap (ahead u.written) (v.goes counts rest)
+      ∙ sym (ahead-ahead u.written v.written (unless quit counts r rest));
 }
 
 -- where the run ended within some bytes, those behind them say nothing
-pub went-quit : (a b : Option (List ℕ)) (xs ys : List ℕ) (p q : Point) → Went a b xs p q true → Went a b (xs ++ ys) p q true
+pub went-quit : (a b : Option (List ℕ)) (xs ys : List ℕ) (p q : Point) → Went a b xs p q true
+    → Went a b (xs ++ ys) p q true
 went-quit a b xs ys p q u = record {
   written = u.written;
   wrote = u.wrote;
@@ -111,31 +148,44 @@ went-quit a b xs ys p q u = record {
 -- ---- a writer that failed, and want of memory
 
 -- some first part of a text is one of a longer text
-pub prefix-longer : (old new : Option (List ℕ)) (a b : List ℕ) → AppendsPrefix old new a → AppendsPrefix old new (a ++ b)
+pub prefix-longer : (old new : Option (List ℕ)) (a b : List ℕ) → AppendsPrefix old new a
+    → AppendsPrefix old new (a ++ b)
 prefix-longer old new a b (n, wrote) = (
   min n (length a),
-  subst (Appends old new) (sym (take_min n a) ∙ sym (take-append-le (min n (length a)) a b (omega arith))) wrote,
+  subst (Appends old new) (sym (take_min n a) ∙ sym
+      (take-append-le (min n (length a)) a b (omega arith))) wrote,
 )
 
 -- a text, and then some first part of another
-pub prefix-behind : (old mid new : Option (List ℕ)) (a b : List ℕ) → Appends old mid a → AppendsPrefix mid new b → AppendsPrefix old new (a ++ b)
-prefix-behind old mid new a b wrote (n, more) =
-    (length a + n, subst (Appends old new) (sym (take-append-add a b n)) (appends-then old mid new a (take n b) wrote more))
+pub prefix-behind : (old mid new : Option (List ℕ)) (a b : List ℕ) → Appends old mid a
+    → AppendsPrefix mid new b → AppendsPrefix old new (a ++ b)
+prefix-behind old mid new a b wrote (n, more) = (
+  length a + n,
+  subst (Appends old new) (sym (take-append-add a b n))
+      (appends-then old mid new a (take n b) wrote more),
+)
 
 -- the write of a line's text failed
-pub line_cut : (old new : Option (List ℕ)) (before : Point) (byte : ℕ) (rest : List ℕ) → is_line_end byte ≡ true
-    → AppendsPrefix old new (text_after before.rules before.talk (line_of before.line)) → Cuts old new before (byte ∷ rest)
+pub line_cut : (old new : Option (List ℕ)) (before : Point) (byte : ℕ) (rest : List ℕ)
+    → is_line_end byte ≡ true
+    → AppendsPrefix old new (text_after before.rules before.talk (line_of before.line))
+    → Cuts old new before (byte ∷ rest)
 line_cut old new before byte rest is cut =
-    subst (λ (s : Said). AppendsPrefix old new s.text) (sym (line_ends true before byte rest is)) (prefix-longer old new _ _ cut)
+    subst (λ (s : Said). AppendsPrefix old new s.text) (sym (line_ends true before byte rest is))
+    (prefix-longer old new _ _ cut)
 
 pub last_cut : (old new : Option (List ℕ)) (before : Point) → 0 < length before.line
-    → AppendsPrefix old new (text_after before.rules before.talk (line_of before.line)) → Cuts old new before []
-last_cut old new before some cut = subst (λ (s : Said). AppendsPrefix old new s.text) (sym (line_last before some)) (prefix-longer old new _ [] cut)
+    → AppendsPrefix old new (text_after before.rules before.talk (line_of before.line))
+    → Cuts old new before []
+last_cut old new before some cut = subst (λ (s : Said). AppendsPrefix old new s.text)
+    (sym (line_last before some)) (prefix-longer old new _ [] cut)
 
 -- the write behind some bytes failed
-pub cut-then : (a b c : Option (List ℕ)) (xs rest : List ℕ) (p q : Point) → Went a b xs p q false → Cuts b c q rest → Cuts a c p (xs ++ rest)
+pub cut-then : (a b c : Option (List ℕ)) (xs rest : List ℕ) (p q : Point) → Went a b xs p q false
+    → Cuts b c q rest → Cuts a c p (xs ++ rest)
 cut-then a b c xs rest p q u cut =
-    subst (λ (s : Said). AppendsPrefix a c s.text) (sym (u.goes true rest)) (prefix-behind a b c u.written _ u.wrote cut)
+    subst (λ (s : Said). AppendsPrefix a c s.text) (sym (u.goes true rest))
+    (prefix-behind a b c u.written _ u.wrote cut)
 
 nothing_comes : (q : Point) → coming false q [] ≡ ended false q
 unfolding kept_lines
@@ -147,37 +197,49 @@ nothing_comes q = ap (said q.rules q.talk) (none q.line) ∙ said-none q.rules q
 
 -- nothing is due yet
 pub stop-none : (out : Option (List ℕ)) (before : Point) (text : List ℕ) → Stops out out before text
-stop-none out before text = (0, subst (λ (s : Said). Appends out out s.text) (sym (nothing_comes before)) (appends-none out))
+stop-none out before text = (
+  0,
+  subst (λ (s : Said). Appends out out s.text)
+      (sym (nothing_comes before)) (appends-none out),
+)
 
 -- memory was wanting behind some bytes
-pub stop-then : (a b c : Option (List ℕ)) (xs rest : List ℕ) (p q : Point) → Went a b xs p q false → Stops b c q rest → Stops a c p (xs ++ rest)
+pub stop-then : (a b c : Option (List ℕ)) (xs rest : List ℕ) (p q : Point) → Went a b xs p q false
+    → Stops b c q rest → Stops a c p (xs ++ rest)
 stop-then a b c xs rest p q u (n, wrote) = (
   length xs + n,
   subst (Appends a c)
-      (sym (ap (λ (s : Said). s.text) (ap (coming false p) (take-append-add xs rest n) ∙ u.goes false (take n rest))))
+      (sym (ap (λ (s : Said). s.text) (ap (coming false p) (take-append-add xs rest n)
+      ∙ u.goes false (take n rest))))
       (appends-then a b c u.written (coming false q (take n rest)).text u.wrote wrote),
 )
 
 -- the same of what a reader gives
-pub given_cut : (a b c d : Option (List ℕ)) (p : Point) (given bytes left : List ℕ) → given ≡ bytes ++ left → Consumes a b given
+pub given_cut : (a b c d : Option (List ℕ)) (p : Point) (given bytes left : List ℕ)
+    → given ≡ bytes ++ left → Consumes a b given
     → ((rest : List ℕ) → Cuts c d p (bytes ++ rest)) → IfSome a (Cuts c d p)
 given_cut None b c d p given bytes left cut took k = tt
 given_cut (Some text) None c d p given bytes left cut took k = absurd took
 given_cut (Some text) (Some rest) c d p given bytes left cut took k =
-    subst (Cuts c d p) (sym (took ∙ ap (λ (t : List ℕ). t ++ rest) cut ∙ append_assoc bytes left rest)) (k (left ++ rest))
+    subst (Cuts c d p) (sym (took ∙ ap (λ (t : List ℕ). t ++ rest) cut
+    ∙ append_assoc bytes left rest)) (k (left ++ rest))
 
-pub given_stop : (a b c d : Option (List ℕ)) (p : Point) (given bytes left : List ℕ) → given ≡ bytes ++ left → Consumes a b given
+pub given_stop : (a b c d : Option (List ℕ)) (p : Point) (given bytes left : List ℕ)
+    → given ≡ bytes ++ left → Consumes a b given
     → ((rest : List ℕ) → Stops c d p (bytes ++ rest)) → IfSome a (Stops c d p)
 given_stop None b c d p given bytes left cut took k = tt
 given_stop (Some text) None c d p given bytes left cut took k = absurd took
 given_stop (Some text) (Some rest) c d p given bytes left cut took k =
-    subst (Stops c d p) (sym (took ∙ ap (λ (t : List ℕ). t ++ rest) cut ∙ append_assoc bytes left rest)) (k (left ++ rest))
+    subst (Stops c d p) (sym (took ∙ ap (λ (t : List ℕ). t ++ rest) cut
+    ∙ append_assoc bytes left rest)) (k (left ++ rest))
 
 -- at the end of what a reader gives
-pub end_cut : (a b c d : Option (List ℕ)) (p : Point) (given : List ℕ) → given ≡ [] → Consumes a b given → IsAtEnd b → Cuts c d p [] → IfSome a (Cuts c d p)
+pub end_cut : (a b c d : Option (List ℕ)) (p : Point) (given : List ℕ) → given ≡ []
+    → Consumes a b given → IsAtEnd b → Cuts c d p [] → IfSome a (Cuts c d p)
 end_cut None b c d p given none took end k = tt
 end_cut (Some text) None c d p given none took end k = absurd took
-end_cut (Some text) (Some rest) c d p given none took end k = subst (Cuts c d p) (sym (took ∙ (λ i. none i ++ end i))) k
+end_cut (Some text) (Some rest) c d p given none took end k = subst (Cuts c d p)
+    (sym (took ∙ (λ i. none i ++ end i))) k
 
 pub any_stop : (a c : Option (List ℕ)) (p : Point) → IfSome a (Stops c c p)
 any_stop None c p = tt
@@ -191,10 +253,12 @@ not_some e = cc
 -- a piece of a list stands in a longer one
 pub take_front : (m n : ℕ) (xs : List ℕ) → m ≤ n → take n xs ≡ take m xs ++ drop m (take n xs)
 take_front m n xs few =
-    sym (take-append-drop m (take n xs)) ∙ ap (λ (ys : List ℕ). ys ++ drop m (take n xs)) (take-take m n xs few)
+    sym (take-append-drop m (take n xs)) ∙ ap (λ (ys : List ℕ). ys ++ drop m (take n xs))
+    (take-take m n xs few)
 
 -- a QUIT stood in what the reader gave
-pub talked_quit : (a b c d : Option (List ℕ)) (p q : Point) (given bytes left : List ℕ) → given ≡ bytes ++ left
+pub talked_quit : (a b c d : Option (List ℕ)) (p q : Point) (given bytes left : List ℕ)
+    → given ≡ bytes ++ left
     → Consumes a b given → Went c d bytes p q true → Talked a b c d p q None
 talked_quit a b c d p q given bytes left cut took u = record {
   given = given;
@@ -206,48 +270,70 @@ talked_quit a b c d p q given bytes left cut took u = record {
   ends = λ none. by b;
 }
   where
-    by : (b : Option (List ℕ)) → IfSome b (λ rest. (quit : Bool) × (coming true p (given ++ rest) ≡ ahead u.written (ended quit q)))
+    by : (b : Option (List ℕ)) → IfSome b (λ rest. (quit : Bool)
+        × (coming true p (given ++ rest) ≡ ahead u.written (ended quit q)))
     by None = tt
-    by (Some rest) =
-        (true, ap (λ (t : List ℕ). coming true p (t ++ rest)) cut ∙ ap (coming true p) (append_assoc bytes left rest) ∙ u.goes true (left ++ rest))
+    by (Some rest) = (
+      true,
+      ap (λ (t : List ℕ). coming true p (t ++ rest)) cut
+          ∙ ap (coming true p) (append_assoc bytes left rest) ∙ u.goes true (left ++ rest),
+    )
 
 -- the bytes that were answered are as many as may be, and more were given
-pub talked_long : (a b c d : Option (List ℕ)) (p q : Point) (most : ℕ) (given bytes left : List ℕ) → given ≡ bytes ++ left
+pub talked_long : (a b c d : Option (List ℕ)) (p q : Point) (most : ℕ) (given bytes left : List ℕ)
+    → given ≡ bytes ++ left
     → length bytes ≡ most → 0 < length left
     → Consumes a b given → Went c d bytes p q false → IfSome a (λ text. IsTooLong c d p most text)
 talked_long None b c d p q most given bytes left cut full more took u = tt
 talked_long (Some text) None c d p q most given bytes left cut full more took u = absurd took
 talked_long (Some text) (Some rest) c d p q most given bytes left cut full more took u =
-    let split : text ≡ bytes ++ (left ++ rest) = took ∙ ap (λ (t : List ℕ). t ++ rest) cut ∙ append_assoc bytes left rest in
-    let front : take most text ≡ bytes = rw (split, sym full) (take-append_seam bytes (left ++ rest)) in
+    let split : text ≡ bytes ++ (left ++ rest) = took ∙ ap (λ (t : List ℕ). t ++ rest) cut
+    ∙ append_assoc bytes left rest in
+    let front : take most text ≡ bytes = rw (split, sym full)
+    (take-append_seam bytes (left ++ rest)) in
     let said_is : coming false p (take most text) ≡ ahead u.written (ended false q) =
-    ap (coming false p) (front ∙ sym (append-nil bytes)) ∙ u.goes false [] ∙ ap (ahead u.written) (nothing_comes q)
+    ap (coming false p) (front ∙ sym (append-nil bytes)) ∙ u.goes false []
+    ∙ ap (ahead u.written) (nothing_comes q)
     in
     record {
-      long = rw split (omega (arith, full, more, length-append bytes (left ++ rest), length-append left rest));
+      long = rw split (omega (
+        arith,
+        full,
+        more,
+        length-append bytes (left ++ rest),
+        length-append left rest,
+      ));
       quit = ap (λ (s : Said). s.quit) said_is;
-      wrote = subst (Appends c d) (sym (ap (λ (s : Said). s.text) said_is ∙ append-nil u.written)) u.wrote;
+      wrote = subst (Appends c d) (sym (ap (λ (s : Said). s.text) said_is ∙ append-nil u.written))
+          u.wrote;
     }
 
 -- a QUIT stood in the bytes that were answered, which are no more than may be
-pub within_quit : (a b c d : Option (List ℕ)) (p q : Point) (most : ℕ) (given bytes left : List ℕ) → given ≡ bytes ++ left
-    → length bytes ≤ most → Consumes a b given → Went c d bytes p q true → IfSome a (IsWithin p most)
+pub within_quit : (a b c d : Option (List ℕ)) (p q : Point) (most : ℕ) (given bytes left : List ℕ)
+    → given ≡ bytes ++ left
+    → length bytes ≤ most → Consumes a b given → Went c d bytes p q true
+    → IfSome a (IsWithin p most)
 within_quit None b c d p q most given bytes left cut few took u = tt
 within_quit (Some text) None c d p q most given bytes left cut few took u = absurd took
 within_quit (Some text) (Some rest) c d p q most given bytes left cut few took u =
-    let split : text ≡ bytes ++ (left ++ rest) = took ∙ ap (λ (t : List ℕ). t ++ rest) cut ∙ append_assoc bytes left rest in
+    let split : text ≡ bytes ++ (left ++ rest) = took ∙ ap (λ (t : List ℕ). t ++ rest) cut
+    ∙ append_assoc bytes left rest in
     let sum : length bytes + (most - length bytes) ≡ most = omega (arith, few) in
     let front : take most text ≡ bytes ++ take (most - length bytes) (left ++ rest) =
-    rw split (ap (λ (n : ℕ). take n (bytes ++ (left ++ rest))) (sym sum) ∙ take-append-add bytes (left ++ rest) (most - length bytes))
+    rw split (ap (λ (n : ℕ). take n (bytes ++ (left ++ rest))) (sym sum)
+    ∙ take-append-add bytes (left ++ rest) (most - length bytes))
     in
-    inr (ap (λ (s : Said). s.quit) (ap (coming false p) front ∙ u.goes false (take (most - length bytes) (left ++ rest))))
+    inr (ap (λ (s : Said). s.quit) (ap (coming false p) front
+    ∙ u.goes false (take (most - length bytes) (left ++ rest))))
 
 -- the text is at its end
-pub within_end : (a b : Option (List ℕ)) (p : Point) (most : ℕ) (given : List ℕ) → given ≡ [] → Consumes a b given → IsAtEnd b → IfSome a (IsWithin p most)
+pub within_end : (a b : Option (List ℕ)) (p : Point) (most : ℕ) (given : List ℕ) → given ≡ []
+    → Consumes a b given → IsAtEnd b → IfSome a (IsWithin p most)
 within_end None b p most given none took end = tt
 within_end (Some text) None p most given none took end = absurd took
 within_end (Some text) (Some rest) p most given none took end =
-    inl (let size : length text ≡ 0 = ap (λ (t : List ℕ). length t) (took ∙ (λ i. none i ++ end i)) in omega (arith, size))
+    inl (let size : length text ≡ 0 = ap (λ (t : List ℕ). length t)
+    (took ∙ (λ i. none i ++ end i)) in omega (arith, size))
 
 -- nothing came yet
 pub talked_none : (a c : Option (List ℕ)) (p : Point) → Talked a a c c p p (Some 0)
@@ -265,8 +351,10 @@ talked_none a c p = record {
     some_not e = cc
 
 -- one turn, and then another
-module _ (a b c d e f : Option (List ℕ)) (p q r : Point) (n : ℕ) (u : Talked a b d e p q (Some n)) where
-  u_goes : (counts : Bool) (rest : List ℕ) → coming counts p (u.given ++ rest) ≡ ahead u.written (coming counts q rest)
+module _ (a b c d e f : Option (List ℕ)) (p q r : Point) (n : ℕ)
+    (u : Talked a b d e p q (Some n)) where
+  u_goes : (counts : Bool) (rest : List ℕ) → coming counts p (u.given ++ rest)
+      ≡ ahead u.written (coming counts q rest)
   u_goes = (u.goes n refl).1
 
   u_count : length u.given ≡ n
@@ -284,7 +372,8 @@ module _ (a b c d e f : Option (List ℕ)) (p q r : Point) (n : ℕ) (u : Talked
       length-append u.given v.given ∙ (λ i. u_count i + (v.goes m refl).0 i) ∙ some_same is,
       λ counts rest.
           ap (coming counts p) (append_assoc u.given v.given rest) ∙ u_goes counts (v.given ++ rest)
-          ∙ ap (ahead u.written) ((v.goes m refl).1 counts rest) ∙ sym (ahead-ahead u.written v.written (coming counts r rest)),
+          ∙ ap (ahead u.written) ((v.goes m refl).1 counts rest)
+          ∙ sym (ahead-ahead u.written v.written (coming counts r rest)),
     );
     ends = λ is. absurd (some_not is);
   }
@@ -296,42 +385,51 @@ module _ (a b c d e f : Option (List ℕ)) (p q r : Point) (n : ℕ) (u : Talked
       some_same is = cc
 
   -- the run has ended: all of the text was answered
-  pub talked_all : Talked b c e f q r None → IfSome a (λ text. Appends d f (coming true p text).text)
+  pub talked_all : Talked b c e f q r None → IfSome a
+      (λ text. Appends d f (coming true p text).text)
   talked_all v = whole a b c u.took v.took (v.ends refl)
     where
       whole : (a b c : Option (List ℕ)) → Consumes a b u.given → Consumes b c v.given
-          → IfSome c (λ rest. (quit : Bool) × (coming true q (v.given ++ rest) ≡ ahead v.written (ended quit r)))
+          → IfSome c (λ rest. (quit : Bool) × (coming true q (v.given ++ rest)
+          ≡ ahead v.written (ended quit r)))
           → IfSome a (λ text. Appends d f (coming true p text).text)
       whole None b c h k w = tt
       whole (Some text) None c h k w = absurd h
       whole (Some text) (Some mid) None h k w = absurd k
       whole (Some text) (Some mid) (Some rest) h k (quit, says) =
           let is : coming true p text ≡ ahead u.written (ahead v.written (ended quit r)) =
-          ap (coming true p) h ∙ u_goes true mid ∙ ap (λ (t : List ℕ). ahead u.written (coming true q t)) k ∙ ap (ahead u.written) says
+          ap (coming true p) h ∙ u_goes true mid
+          ∙ ap (λ (t : List ℕ). ahead u.written (coming true q t)) k ∙ ap (ahead u.written) says
           in
           subst (Appends d f)
-          (sym (ap (λ (s : Said). s.text) is ∙ ap (λ (t : List ℕ). u.written ++ t) (append-nil v.written)))
+          (sym (ap (λ (s : Said). s.text) is ∙ ap (λ (t : List ℕ). u.written ++ t)
+          (append-nil v.written)))
           (appends-then d e f u.written v.written u.wrote v.wrote)
 
-  pub talked_journal : Talked b c e f q r None → IfSome a (λ text. r.talk.journal ≡ (coming true p text).journal)
+  pub talked_journal : Talked b c e f q r None
+      → IfSome a (λ text. r.talk.journal ≡ (coming true p text).journal)
   talked_journal v = whole a b c u.took v.took (v.ends refl)
     where
       whole : (a b c : Option (List ℕ)) → Consumes a b u.given → Consumes b c v.given
-          → IfSome c (λ rest. (quit : Bool) × (coming true q (v.given ++ rest) ≡ ahead v.written (ended quit r)))
+          → IfSome c (λ rest. (quit : Bool) × (coming true q (v.given ++ rest)
+          ≡ ahead v.written (ended quit r)))
           → IfSome a (λ text. r.talk.journal ≡ (coming true p text).journal)
       whole None b c h k w = tt
       whole (Some text) None c h k w = absurd h
       whole (Some text) (Some mid) None h k w = absurd k
       whole (Some text) (Some mid) (Some rest) h k (quit, says) =
           sym (ap (λ (s : Said). s.journal)
-          (ap (coming true p) h ∙ u_goes true mid ∙ ap (λ (t : List ℕ). ahead u.written (coming true q t)) k ∙ ap (ahead u.written) says))
+          (ap (coming true p) h ∙ u_goes true mid
+          ∙ ap (λ (t : List ℕ). ahead u.written (coming true q t)) k
+          ∙ ap (ahead u.written) says))
 
   -- the reader gave so many bytes, and then at most so many more
   pub gave_more : (most limit : ℕ) → n + most ≤ limit → GaveAtMost most b c → GaveAtMost limit a c
   gave_more most limit few (bytes, took, short) = (
     u.given ++ bytes,
     consumes-then a b c u.given bytes u.took took,
-    (let bound : length (u.given ++ bytes) ≤ limit = omega (arith, few, short, u_count, length-append u.given bytes) in bound),
+    (let bound : length (u.given ++ bytes) ≤ limit = omega
+        (arith, few, short, u_count, length-append u.given bytes) in bound),
   )
 
   -- the reader broke off
@@ -340,7 +438,8 @@ module _ (a b c d e f : Option (List ℕ)) (p q r : Point) (n : ℕ) (u : Talked
     u.given,
     consumes-kept a b c u.given u.took kept,
     subst (Appends d e)
-        (sym (ap (λ (s : Said). s.text) (ap (coming false p) (sym (append-nil u.given)) ∙ u_goes false [] ∙ ap (ahead u.written) (nothing_comes q)) ∙ append-nil u.written))
+        (sym (ap (λ (s : Said). s.text) (ap (coming false p) (sym (append-nil u.given))
+        ∙ u_goes false [] ∙ ap (ahead u.written) (nothing_comes q)) ∙ append-nil u.written))
         u.wrote,
   )
 
@@ -348,22 +447,28 @@ module _ (a b c d e f : Option (List ℕ)) (p q r : Point) (n : ℕ) (u : Talked
   pub cut_at : IfSome b (Cuts e f q) → IfSome a (Cuts d f p)
   cut_at = by a b u.took
     where
-      by : (a b : Option (List ℕ)) → Consumes a b u.given → IfSome b (Cuts e f q) → IfSome a (Cuts d f p)
+      by : (a b : Option (List ℕ)) → Consumes a b u.given → IfSome b (Cuts e f q)
+          → IfSome a (Cuts d f p)
       by None b h k = tt
       by (Some text) None h k = absurd h
       by (Some text) (Some mid) h k =
-          subst (λ (s : Said). AppendsPrefix d f s.text) (sym (ap (coming true p) h ∙ u_goes true mid)) (prefix-behind d e f u.written _ u.wrote k)
+          subst (λ (s : Said). AppendsPrefix d f s.text)
+          (sym (ap (coming true p) h ∙ u_goes true mid))
+          (prefix-behind d e f u.written _ u.wrote k)
 
   pub stop_at : IfSome b (Stops e f q) → IfSome a (Stops d f p)
   stop_at = by a b u.took
     where
-      by : (a b : Option (List ℕ)) → Consumes a b u.given → IfSome b (Stops e f q) → IfSome a (Stops d f p)
+      by : (a b : Option (List ℕ)) → Consumes a b u.given → IfSome b (Stops e f q)
+          → IfSome a (Stops d f p)
       by None b h k = tt
       by (Some text) None h k = absurd h
       by (Some text) (Some mid) h (m, wrote) = (
         length u.given + m,
         subst (Appends d f)
-            (sym (ap (λ (s : Said). s.text) (ap (λ (t : List ℕ). coming false p (take (length u.given + m) t)) h ∙ ap (coming false p) (take-append-add u.given mid m) ∙ u_goes false (take m mid))))
+            (sym (ap (λ (s : Said). s.text) (ap
+            (λ (t : List ℕ). coming false p (take (length u.given + m) t)) h
+            ∙ ap (coming false p) (take-append-add u.given mid m) ∙ u_goes false (take m mid))))
             (appends-then d e f u.written (coming false q (take m mid)).text u.wrote wrote),
       )
 
@@ -371,27 +476,38 @@ module _ (a b c d e f : Option (List ℕ)) (p q r : Point) (n : ℕ) (u : Talked
   pub within_at : (most : ℕ) → IfSome b (IsWithin q most) → IfSome a (IsWithin p (n + most))
   within_at most k = by a b u.took k
     where
-      by : (a b : Option (List ℕ)) → Consumes a b u.given → IfSome b (IsWithin q most) → IfSome a (IsWithin p (n + most))
+      by : (a b : Option (List ℕ)) → Consumes a b u.given → IfSome b (IsWithin q most)
+          → IfSome a (IsWithin p (n + most))
       by None b h k = tt
       by (Some text) None h k = absurd h
       by (Some text) (Some mid) h (inl few) =
           inl (rw h (omega (arith, few, u_count, length-append u.given mid)))
       by (Some text) (Some mid) h (inr quit) =
-          let front : take (n + most) text ≡ u.given ++ take most mid = rw (h, sym u_count) (take-append-add u.given mid most) in
-          inr (ap (λ (s : Said). s.quit) (ap (coming false p) front ∙ u_goes false (take most mid)) ∙ quit)
+          let front : take (n + most) text ≡ u.given ++ take most mid = rw (h, sym u_count)
+          (take-append-add u.given mid most) in
+          inr (ap (λ (s : Said). s.quit) (ap (coming false p) front ∙ u_goes false (take most mid))
+          ∙ quit)
 
   -- the text is too long
-  pub too_long_at : (most : ℕ) → IfSome b (λ text. IsTooLong e f q most text) → IfSome a (λ text. IsTooLong d f p (n + most) text)
+  pub too_long_at : (most : ℕ) → IfSome b (λ text. IsTooLong e f q most text)
+      → IfSome a (λ text. IsTooLong d f p (n + most) text)
   too_long_at most long = by a b u.took long
     where
-      by : (a b : Option (List ℕ)) → Consumes a b u.given → IfSome b (λ text. IsTooLong e f q most text) → IfSome a (λ text. IsTooLong d f p (n + most) text)
+      by : (a b : Option (List ℕ)) → Consumes a b u.given
+          → IfSome b (λ text. IsTooLong e f q most text)
+          → IfSome a (λ text. IsTooLong d f p (n + most) text)
       by None b h k = tt
       by (Some text) None h k = absurd h
       by (Some text) (Some mid) h k =
-          let front : take (n + most) text ≡ u.given ++ take most mid = rw (h, sym u_count) (take-append-add u.given mid most) in
-          let is : coming false p (take (n + most) text) ≡ ahead u.written (coming false q (take most mid)) = ap (coming false p) front ∙ u_goes false (take most mid) in
+          let front : take (n + most) text ≡ u.given ++ take most mid = rw (h, sym u_count)
+          (take-append-add u.given mid most) in
+          let is : coming false p (take (n + most) text)
+          ≡ ahead u.written (coming false q (take most mid)) = ap (coming false p) front
+          ∙ u_goes false (take most mid) in
           record {
             long = rw h (let l = k.long in omega (arith, l, u_count, length-append u.given mid));
             quit = ap (λ (s : Said). s.quit) is ∙ k.quit;
-            wrote = subst (Appends d f) (sym (ap (λ (s : Said). s.text) is)) (appends-then d e f u.written (coming false q (take most mid)).text u.wrote k.wrote);
+            wrote = subst (Appends d f) (sym (ap (λ (s : Said). s.text) is))
+                (appends-then d e f u.written (coming false q (take most mid)).text u.wrote
+                k.wrote);
           }

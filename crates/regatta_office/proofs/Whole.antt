@@ -1,5 +1,6 @@
 -- A whole run: what is written for all of the text, and for the lines that had ended at a fault.
-use Rattle.std.proofs.Common.{◌≡◌, ℕ, ◌<◌, Bool, true, false, List, [], ◌++◌, Option, Some, None, IfSome, length, take, inl, inr, refl, sym, ap, ◌∙◌, subst}
+use Rattle.std.proofs.Common.{◌≡◌, ℕ, ◌<◌, Bool, true, false, List, [], ◌++◌, Option, Some, None}
+use Rattle.std.proofs.Common.{IfSome, length, take, inl, inr, refl, sym, ap, ◌∙◌, subst}
 use Rattle.std.specs.Io.KnownBytes.{Appends}
 use Rattle.regatta_terms.specs.Rules.{RulesParts}
 use Rattle.regatta_scores.specs.Journal.{Journal}
@@ -8,9 +9,12 @@ use Rattle.regatta_streams.specs.Texts.{AppendsPrefix}
 use Rattle.regatta_office.proofs.Streams.{prefix-behind, prefix-longer}
 use Rattle.regatta_streams.proofs.KnownBytes.{appends-none, appends-then}
 use Rattle.regatta_office.specs.declared.form.Form.{Form}
-use Rattle.regatta_office.specs.Coming.{Cuts, IsTooLong, IsWithin, Stops, Point, ReadSome, Said, coming, said}
+use Rattle.regatta_office.specs.Coming.{Cuts, IsTooLong, IsWithin, Stops, Point, ReadSome, Said}
+use Rattle.regatta_office.specs.Coming.{coming, said}
 use Rattle.regatta_office.specs.Lines.{ended_lines, lines_by}
-use Rattle.regatta_office.specs.Transcript.{EndsWithin, WroteSome, final_journal, final_text, has_quit, opening, replies, run_text, up_to_quit, transcript, transcript_so_far}
+use Rattle.regatta_office.specs.Transcript.{EndsWithin, WroteSome, final_journal, final_text}
+use Rattle.regatta_office.specs.Transcript.{has_quit, opening, replies, run_text, up_to_quit}
+use Rattle.regatta_office.specs.Transcript.{transcript, transcript_so_far}
 use Rattle.regatta_office.proofs.Saying.{coming-whole}
 
 -- no line has ended in no text
@@ -19,18 +23,30 @@ unfolding up_to_quit replies
 nothing_said rules start = refl
 
 -- nothing was written
-pub wrote_nothing : (rules : RulesParts) (start : Journal) (a c : Option (List ℕ)) → IfSome a (WroteSome rules start c c)
+pub wrote_nothing : (rules : RulesParts) (start : Journal) (a c : Option (List ℕ))
+    → IfSome a (WroteSome rules start c c)
 wrote_nothing rules start None c = tt
-wrote_nothing rules start (Some text) c = inl (0, subst (Appends c c) (sym (nothing_said rules start)) (appends-none c))
+wrote_nothing rules start (Some text) c = inl (
+  0,
+  subst (Appends c c) (sym (nothing_said rules start)) (appends-none c),
+)
 
-module _ (rules : RulesParts) (start : Journal) (board : BoardValue) (p : Point) (b : board ≡ record { rules = rules; entries = start })
+module _ (rules : RulesParts) (start : Journal) (board : BoardValue) (p : Point)
+    (b : board ≡ record { rules = rules; entries = start })
     (e : p ≡ record { rules = board.rules; talk = opening board.entries; line = [] }) where
-  at_start : (counts : Bool) (text : List ℕ) → coming counts p text ≡ said rules (opening start) (lines_by counts text)
+  at_start : (counts : Bool) (text : List ℕ) → coming counts p text
+      ≡ said rules (opening start) (lines_by counts text)
   at_start counts text =
-      ap (λ (q : Point). coming counts q text) (e ∙ ap (λ (v : BoardValue). record { rules = v.rules; talk = opening v.entries; line = [] }) b)
+      ap (λ (q : Point). coming counts q text)
+      (e ∙ ap (λ (v : BoardValue). record {
+        rules = v.rules;
+        talk = opening v.entries;
+        line = [];
+      }) b)
       ∙ coming-whole counts rules (opening start) text
 
-  pub all_written : (a c d f : Option (List ℕ)) (form : Form) (final : List ℕ) (last : BoardValue) (journal : Journal) → last.rules ≡ p.rules → last.entries ≡ journal
+  pub all_written : (a c d f : Option (List ℕ)) (form : Form) (final : List ℕ) (last : BoardValue)
+      (journal : Journal) → last.rules ≡ p.rules → last.entries ≡ journal
       → IfSome a (λ text. Appends c d (coming true p text).text)
       → IfSome a (λ text. journal ≡ (coming true p text).journal)
       → final ≡ final_text last.rules form last.entries
@@ -39,43 +55,71 @@ module _ (rules : RulesParts) (start : Journal) (board : BoardValue) (p : Point)
   all_written None c d f form final last journal same kept wrote after is ends = tt
   all_written (Some text) c d f form final last journal same kept wrote after is ends =
       let said_is = at_start true text in
-      let rules_are : last.rules ≡ rules = same ∙ ap (λ (q : Point). q.rules) e ∙ ap (λ (v : BoardValue). v.rules) b in
-      let written : (coming true p text).text ≡ transcript rules start text = ap (λ (s : Said). s.text) said_is in
-      let journal_is : last.entries ≡ final_journal rules start text = kept ∙ after ∙ ap (λ (s : Said). s.journal) said_is in
-      let ended : final ≡ final_text rules form (final_journal rules start text) = is ∙ (λ i. final_text (rules_are i) form (journal_is i)) in
-      subst (Appends c f) (λ i. written i ++ ended i) (appends-then c d f (coming true p text).text final wrote ends)
+      let rules_are : last.rules ≡ rules = same ∙ ap (λ (q : Point). q.rules) e
+      ∙ ap (λ (v : BoardValue). v.rules) b in
+      let written : (coming true p text).text ≡ transcript rules start text = ap
+      (λ (s : Said). s.text) said_is in
+      let journal_is : last.entries ≡ final_journal rules start text = kept ∙ after
+      ∙ ap (λ (s : Said). s.journal) said_is in
+      let ended : final ≡ final_text rules form (final_journal rules start text) = is
+      ∙ (λ i. final_text (rules_are i) form (journal_is i)) in
+      subst (Appends c f) (λ i. written i ++ ended i)
+      (appends-then c d f (coming true p text).text final wrote ends)
 
-  pub read_broken : (a a' c d : Option (List ℕ)) → ReadSome a a' c d (λ given. (coming false p given).text) → ReadSome a a' c d (transcript_so_far rules start)
-  read_broken a a' c d (given, took, wrote) = (given, took, subst (Appends c d) (ap (λ (s : Said). s.text) (at_start false given)) wrote)
+  pub read_broken : (a a' c d : Option (List ℕ))
+      → ReadSome a a' c d (λ given. (coming false p given).text)
+      → ReadSome a a' c d (transcript_so_far rules start)
+  read_broken a a' c d (given, took, wrote) = (
+    given,
+    took,
+    subst (Appends c d) (ap (λ (s : Said). s.text) (at_start false given)) wrote,
+  )
 
-  pub text_too_long : (a c d : Option (List ℕ)) (most : ℕ) → IfSome a (λ text. IsTooLong c d p most text)
-      → IfSome a (λ text. (most < length text) × (has_quit (ended_lines (take most text)) ≡ false) × Appends c d (transcript_so_far rules start (take most text)))
+  pub text_too_long : (a c d : Option (List ℕ)) (most : ℕ)
+      → IfSome a (λ text. IsTooLong c d p most text)
+      → IfSome a (λ text. (most < length text) × (has_quit (ended_lines (take most text)) ≡ false)
+      × Appends c d (transcript_so_far rules start (take most text)))
   text_too_long None c d most is = tt
   text_too_long (Some text) c d most is =
-      let said_is = at_start false (take most text) in
-      (is.long, sym (ap (λ (s : Said). s.quit) said_is) ∙ is.quit, subst (Appends c d) (ap (λ (s : Said). s.text) said_is) is.wrote)
+      let said_is = at_start false (take most text) in (
+        is.long,
+        sym (ap (λ (s : Said). s.quit) said_is)
+            ∙ is.quit,
+        subst (Appends c d) (ap (λ (s : Said). s.text) said_is) is.wrote,
+      )
 
-  pub within_limit : (a : Option (List ℕ)) (most : ℕ) → IfSome a (IsWithin p most) → IfSome a (EndsWithin most)
+  pub within_limit : (a : Option (List ℕ)) (most : ℕ) → IfSome a (IsWithin p most)
+      → IfSome a (EndsWithin most)
   within_limit None most k = tt
   within_limit (Some text) most (inl few) = inl few
-  within_limit (Some text) most (inr quit) = inr (sym (ap (λ (s : Said). s.quit) (at_start false (take most text))) ∙ quit)
+  within_limit (Some text) most (inr quit) = inr
+      (sym (ap (λ (s : Said). s.quit) (at_start false (take most text))) ∙ quit)
 
-  pub whole_cut : (a c d : Option (List ℕ)) (form : Form) → IfSome a (Cuts c d p) → IfSome a (λ text. AppendsPrefix c d (run_text rules start form text))
+  pub whole_cut : (a c d : Option (List ℕ)) (form : Form) → IfSome a (Cuts c d p)
+      → IfSome a (λ text. AppendsPrefix c d (run_text rules start form text))
   whole_cut None c d form k = tt
   whole_cut (Some text) c d form k =
-      prefix-longer c d (transcript rules start text) (final_text rules form (final_journal rules start text)) (subst (λ (s : Said). AppendsPrefix c d s.text) (at_start true text) k)
+      prefix-longer c d (transcript rules start text)
+      (final_text rules form (final_journal rules start text))
+      (subst (λ (s : Said). AppendsPrefix c d s.text) (at_start true text) k)
 
-  pub whole_stop : (a c d : Option (List ℕ)) → IfSome a (Stops c d p) → IfSome a (WroteSome rules start c d)
+  pub whole_stop : (a c d : Option (List ℕ)) → IfSome a (Stops c d p)
+      → IfSome a (WroteSome rules start c d)
   whole_stop None c d k = tt
-  whole_stop (Some text) c d (n, wrote) = inl (n, subst (λ (s : Said). Appends c d s.text) (at_start false (take n text)) wrote)
+  whole_stop (Some text) c d (n, wrote) = inl (
+    n,
+    subst (λ (s : Said). Appends c d s.text) (at_start false (take n text)) wrote,
+  )
 
   -- the final part wasn't made
-  pub all_said : (a c d : Option (List ℕ)) → IfSome a (λ text. Appends c d (coming true p text).text) → IfSome a (WroteSome rules start c d)
+  pub all_said : (a c d : Option (List ℕ)) → IfSome a
+      (λ text. Appends c d (coming true p text).text) → IfSome a (WroteSome rules start c d)
   all_said None c d k = tt
   all_said (Some text) c d k = inr (subst (λ (s : Said). Appends c d s.text) (at_start true text) k)
 
   -- the write of the final part failed
-  pub final_cut : (a c d f : Option (List ℕ)) (form : Form) (final : List ℕ) (last : BoardValue) (journal : Journal) → last.rules ≡ p.rules → last.entries ≡ journal
+  pub final_cut : (a c d f : Option (List ℕ)) (form : Form) (final : List ℕ) (last : BoardValue)
+      (journal : Journal) → last.rules ≡ p.rules → last.entries ≡ journal
       → IfSome a (λ text. Appends c d (coming true p text).text)
       → IfSome a (λ text. journal ≡ (coming true p text).journal)
       → final ≡ final_text last.rules form last.entries
@@ -84,8 +128,13 @@ module _ (rules : RulesParts) (start : Journal) (board : BoardValue) (p : Point)
   final_cut None c d f form final last journal same kept wrote after is ends = tt
   final_cut (Some text) c d f form final last journal same kept wrote after is ends =
       let said_is = at_start true text in
-      let rules_are : last.rules ≡ rules = same ∙ ap (λ (q : Point). q.rules) e ∙ ap (λ (v : BoardValue). v.rules) b in
-      let written : (coming true p text).text ≡ transcript rules start text = ap (λ (s : Said). s.text) said_is in
-      let journal_is : last.entries ≡ final_journal rules start text = kept ∙ after ∙ ap (λ (s : Said). s.journal) said_is in
-      let ended : final ≡ final_text rules form (final_journal rules start text) = is ∙ (λ i. final_text (rules_are i) form (journal_is i)) in
-      subst (AppendsPrefix c f) (λ i. written i ++ ended i) (prefix-behind c d f (coming true p text).text final wrote ends)
+      let rules_are : last.rules ≡ rules = same ∙ ap (λ (q : Point). q.rules) e
+      ∙ ap (λ (v : BoardValue). v.rules) b in
+      let written : (coming true p text).text ≡ transcript rules start text = ap
+      (λ (s : Said). s.text) said_is in
+      let journal_is : last.entries ≡ final_journal rules start text = kept ∙ after
+      ∙ ap (λ (s : Said). s.journal) said_is in
+      let ended : final ≡ final_text rules form (final_journal rules start text) = is
+      ∙ (λ i. final_text (rules_are i) form (journal_is i)) in
+      subst (AppendsPrefix c f) (λ i. written i ++ ended i)
+      (prefix-behind c d f (coming true p text).text final wrote ends)

@@ -1,5 +1,6 @@
 -- What is still to come of a run, at any point of its text.
-use Rattle.std.specs.Prelude.{ℕ, Bool, true, false, ◌≡◌, List, [], ◌∷◌, ◌++◌, length, take, ◌<◌, ◌≤◌, ◌⊎◌, nat_lt, Option, Some, None, IfSome, if◌then◌else◌}
+use Rattle.std.specs.Prelude.{ℕ, Bool, true, false, ◌≡◌, List, [], ◌∷◌, ◌++◌, length, take, ◌<◌}
+use Rattle.std.specs.Prelude.{◌≤◌, ◌⊎◌, nat_lt, Option, Some, None, IfSome, if◌then◌else◌}
 use Rattle.std.specs.Io.KnownBytes.{Appends, Consumes}
 use Rattle.regatta_streams.specs.Texts.{AppendsPrefix}
 use Rattle.regatta_terms.specs.Rules.{RulesParts}
@@ -56,7 +57,8 @@ unless quit counts point text = if quit then ended true point else coming counts
 
 -- what a writer took for some bytes of the text: whatever comes behind them, the rest of the run
 -- is as it was to come
-pub record Went (old new : Option (List ℕ)) (bytes : List ℕ) (before after : Point) (quit : Bool) : Type 0 where
+pub record Went (old new : Option (List ℕ)) (bytes : List ℕ) (before after : Point)
+    (quit : Bool) : Type 0 where
   pub written : List ℕ
   pub wrote : Appends old new written
   pub rules : after.rules ≡ before.rules
@@ -73,7 +75,8 @@ pub record Finished (old new : Option (List ℕ)) (before after : Point) : Type 
 
 -- what a reader gave, and a writer took for it: so many bytes while the run goes on, or all of the
 -- text at its end
-pub record Talked (in-old in-new out-old out-new : Option (List ℕ)) (before after : Point) (count : Option ℕ) : Type 0 where
+pub record Talked (in-old in-new out-old out-new : Option (List ℕ)) (before after : Point)
+    (count : Option ℕ) : Type 0 where
   pub given : List ℕ
   pub took : Consumes in-old in-new given
   pub written : List ℕ
@@ -94,7 +97,8 @@ Stops old new before text = (n : ℕ) × Appends old new (coming false before (t
 
 -- a text is longer than is answered: the lines that end within so many bytes of it are answered,
 -- and no QUIT is among them
-pub record IsTooLong (old new : Option (List ℕ)) (before : Point) (most : ℕ) (text : List ℕ) : Type 0 where
+pub record IsTooLong (old new : Option (List ℕ)) (before : Point) (most : ℕ)
+    (text : List ℕ) : Type 0 where
   pub long : most < length text
   pub quit : (coming false before (take most text)).quit ≡ false
   pub wrote : Appends old new (coming false before (take most text)).text
@@ -105,6 +109,7 @@ IsWithin before most text =
     (length text ≤ most) ⊎ ((coming false before (take most text)).quit ≡ true)
 
 -- what a reader gave before it broke off, and a writer took for it
-abbrev pub ReadSome : Option (List ℕ) → Option (List ℕ) → Option (List ℕ) → Option (List ℕ) → (List ℕ → List ℕ) → Type 0
+abbrev pub ReadSome : Option (List ℕ) → Option (List ℕ) → Option (List ℕ) → Option (List ℕ)
+    → (List ℕ → List ℕ) → Type 0
 ReadSome in-old in-new out-old out-new text_for =
     (given : List ℕ) × Consumes in-old in-new given × Appends out-old out-new (text_for given)

@@ -1,5 +1,6 @@
 -- What a replay writes: a reply to each line of a text, and then the table, CSV or journal.
-use Rattle.std.specs.Prelude.{◌≡◌, ◌⊎◌, IfSome, length, take, ℕ, ◌≤◌, Bool, true, false, List, [], ◌∷◌, ◌++◌, Option, Some, None, Result, Ok, Err, if◌then◌else◌}
+use Rattle.std.specs.Prelude.{◌≡◌, ◌⊎◌, IfSome, length, take, ℕ, ◌≤◌, Bool, true, false, List, []}
+use Rattle.std.specs.Prelude.{◌∷◌, ◌++◌, Option, Some, None, Result, Ok, Err, if◌then◌else◌}
 use Rattle.std.specs.Io.KnownBytes.{Appends}
 use Rattle.regatta_terms.specs.Entries.{EntryParts}
 use Rattle.regatta_terms.specs.Lines.{line_of}
@@ -14,7 +15,8 @@ use Rattle.regatta_terms.specs.declared.reply.Refusal.{Refusal}
 use Rattle.regatta_terms.specs.declared.reply.Refusal.TheVariants.{NoMemory, NotEntered}
 use Rattle.regatta_terms.specs.declared.reply.Touched.{Touched}
 use Rattle.regatta_terms.specs.declared.reply.Reply.{Reply}
-use Rattle.regatta_terms.specs.declared.reply.Reply.TheVariants.{Done, Refused, Fault, RoleSet, Ranked, Bye}
+use Rattle.regatta_terms.specs.declared.reply.Reply.TheVariants.{Done, Refused, Fault, RoleSet}
+use Rattle.regatta_terms.specs.declared.reply.Reply.TheVariants.{Ranked, Bye}
 use Rattle.regatta_scores.specs.Journal.{Journal}
 use Rattle.regatta_scores.specs.Standing.{standing}
 use Rattle.regatta_board.specs.Answers.{answer, rank_of}
@@ -121,7 +123,8 @@ has_quit (line ∷ rest) = if is_quit (line_of line) then true else has_quit res
 unfoldable pub replies : RulesParts → Talk → List (List ℕ) → List ℕ
 replies rules talk [] = []
 replies rules talk (line ∷ rest) =
-    text_after rules talk (line_of line) ++ replies rules (talk_after rules talk (line_of line)) rest
+    text_after rules talk (line_of line) ++ replies rules
+    (talk_after rules talk (line_of line)) rest
 
 -- where the run stands after them
 unfoldable pub talk_at_end : RulesParts → Talk → List (List ℕ) → Talk

@@ -35,23 +35,27 @@ unfolding digits replies talk_at_end up_to_quit line_of line_of_words command_of
 one_race = refl
 
 -- a boat of a tie is disqualified, and the role at hand decides who may (A6.1, A7, A5.1)
-pub a_tie_and_a_disqualification : run (codes "ENTER A\nENTER B\nENTER C\nFINISH 1 A\nTIE 1 B A\nFINISH 1 C\nSCORE 1\nROLE JURY\nMARK 1 A DSQ\nROLE FINISH\nMARK 1 B DSQ\nROLE SCORER\nMARK 1 A RET\n")
+pub a_tie_and_a_disqualification : run
+    (codes "ENTER A\nENTER B\nENTER C\nFINISH 1 A\nTIE 1 B A\nFINISH 1 C\nSCORE 1\nROLE JURY\nMARK 1 A DSQ\nROLE FINISH\nMARK 1 B DSQ\nROLE SCORER\nMARK 1 A RET\n")
     ≡ codes "OK 1 1 0.0\nOK 2 1= 0.0\nOK 3 1= 0.0\nOK 4 1= 0.0\nOK 5 1= 0.0\nOK 6 1= 0.0\nOK 7\nROLE JURY\nOK 8 3 4.0\nROLE FINISH\nNO 4\nROLE SCORER\nNO 10\nTABLE 3 RACES 1\n1 B 1.0 1.0\n2 C 2.0 2.0\n3 A 4.0 4.0/DSQ\n"
 unfolding digits replies talk_at_end up_to_quit line_of line_of_words command_of_words command_after
 a_tie_and_a_disqualification = refl
 
 -- redress as an average follows another race (A9), under other rules
-pub redress : run_text no_exclusions [] Table (codes "ENTER A\nENTER B\nFINISH 1 A\nFINISH 1 B\nFINISH 2 B\nSCORE 1\nSCORE 2\nROLE JURY\nREDRESS 2 A ALL\nROLE SCORER\nSTRIKE 1 A\nBEFORE 1 A B\n")
+pub redress : run_text no_exclusions [] Table (codes
+    "ENTER A\nENTER B\nFINISH 1 A\nFINISH 1 B\nFINISH 2 B\nSCORE 1\nSCORE 2\nROLE JURY\nREDRESS 2 A ALL\nROLE SCORER\nSTRIKE 1 A\nBEFORE 1 A B\n")
     ≡ codes "OK 1 1 0.0\nOK 2 1= 0.0\nOK 3 1= 0.0\nOK 4 1= 0.0\nOK 5 1= 0.0\nOK 6\nOK 7\nROLE JURY\nOK 8 1 2.0\nROLE SCORER\nOK 9 2 6.0\nOK 10 1 2.0\nTABLE 2 RACES 1 2\n1 A 2.0 1.0 1.0/RDG\n2 B 3.0 2.0 1.0\n"
 unfolding digits replies talk_at_end up_to_quit line_of line_of_words command_of_words command_after
 redress = refl
 
 -- lines behind QUIT aren't answered, and the last line needs no LF
-pub the_end_of_a_talk : run_text default_rules [] Journal (codes "ENTER A\nRANK A\nRANK B\nQUIT\nENTER C\n")
+pub the_end_of_a_talk : run_text default_rules [] Journal
+    (codes "ENTER A\nRANK A\nRANK B\nQUIT\nENTER C\n")
     ≡ codes "OK 1 1 0.0\nRANK 1 0.0\nNO 7\nBYE\n1 1 SCORER ENTER A\n"
 unfolding digits replies talk_at_end up_to_quit line_of line_of_words command_of_words command_after
 the_end_of_a_talk = refl
 
-pub a_last_line : run (codes "ENTER A\nENTER B") ≡ codes "OK 1 1 0.0\nOK 2 1= 0.0\nTABLE 2 RACES\n1= A 0.0\n1= B 0.0\n"
+pub a_last_line : run (codes "ENTER A\nENTER B")
+    ≡ codes "OK 1 1 0.0\nOK 2 1= 0.0\nTABLE 2 RACES\n1= A 0.0\n1= B 0.0\n"
 unfolding digits replies talk_at_end up_to_quit line_of line_of_words command_of_words command_after
 a_last_line = refl

@@ -163,11 +163,23 @@ fn devices_fail(rt: HostRuntime) -> Result<(), Fail> {
     Ok(())
 }
 
+/// A new folder for the files of one test, so that two runs of it don't meet.
+fn new_folder(rt: &HostRuntime) -> Result<String, Fail> {
+    let temporary = env::temp_dir(rt)?;
+    for number in 0..1000u32 {
+        let folder = format!(in rt.alloc(); "{}/regatta_{number}", temporary.display())?;
+        if fs::create_dir(rt, folder.as_str()).is_ok() {
+            return Ok(folder);
+        }
+    }
+    Err(Fail::new("no new folder is to be had"))
+}
+
 #[test]
 fn start_files_are_read(rt: HostRuntime) -> Result<(), Fail> {
-    let folder = env::temp_dir(&rt)?;
-    let boats = format!(in rt.alloc(); "{}/regatta_boats.csv", folder.display())?;
-    let journal = format!(in rt.alloc(); "{}/regatta_journal.txt", folder.display())?;
+    let folder = new_folder(&rt)?;
+    let boats = format!(in rt.alloc(); "{folder}/boats.csv")?;
+    let journal = format!(in rt.alloc(); "{folder}/journal.txt")?;
     let words = [
         "replay",
         "--journal",
@@ -246,7 +258,6 @@ fn start_files_are_read(rt: HostRuntime) -> Result<(), Fail> {
     let (status, _, errors) = run(&rt, &words, "ENTER C\n")?;
     assert_eq!(rt; errors.written(), b"regatta: input too long\n".as_slice());
     assert_eq!(rt; status, 1);
-    fs::remove_file(&rt, journal.as_str())?;
-    fs::remove_file(&rt, boats.as_str())?;
+    fs::remove_dir_all(&rt, folder.as_str())?;
     Ok(())
 }

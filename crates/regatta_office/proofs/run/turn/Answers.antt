@@ -1,6 +1,7 @@
 use Rattle.std.proofs.Common.{◌≡◌, ◌<◌, ◌≤◌, IfSome, Err, length, take, drop, arith, sym, ap, subst}
 use Rattle.std.proofs.lemmas.List.{length-take, length-drop}
-use Rattle.regatta_office.proofs.Streams.{any_stop, given_cut, given_stop, take_front, talked_quit, talked_long, within_end, within_quit}
+use Rattle.regatta_office.proofs.Streams.{any_stop, given_cut, given_stop, take_front, talked_quit}
+use Rattle.regatta_office.proofs.Streams.{talked_long, within_end, within_quit}
 use Rattle.regatta_office.specs.Coming.{Stops}
 use Rattle.regatta_office.specs.Scribes.{point}
 use Rattle.regatta_office.proofs.Results.{memory_is, write_is}
@@ -16,7 +17,8 @@ pub returns-in-Ok-true-clause-within : goal.returns-in-Ok-true-clause-within
 returns-in-Ok-true-clause-within g c = λ none.
     let buf = c.read.new.buf in
     let few : c.min-2.result ≤ c.in-Ok.count = omega (arith, c.min-2.ensures) in
-    let short : length (take c.min-2.result buf) ≤ c.args.most = omega (arith, c.min-2.ensures, length-take c.min-2.result buf) in
+    let short : length (take c.min-2.result buf) ≤ c.args.most = omega
+    (arith, c.min-2.ensures, length-take c.min-2.result buf) in
     within_quit _ _ _ _ _ _ _ _ _ _ (take_front c.min-2.result c.in-Ok.count buf few) short
     c.in-Ok.ensures.bytes.0 (rw c.in-Ok-true.field-0-test at c.in-Ok-true.ensures.went)
 
@@ -24,9 +26,23 @@ pub returns-then-most-count-clause-long : goal.returns-then-most-count-clause-lo
 returns-then-most-count-clause-long g c = λ e.
     let buf = c.read.new.buf in
     let few : c.min-2.result ≤ c.in-Ok.count = omega (arith, c.min-2.ensures) in
-    let full : length (take c.min-2.result buf) ≡ c.args.most = omega (arith, c.if-most-count.true, c.min-2.ensures, c.in-Ok.ensures.bound, length-take c.min-2.result buf) in
+    let full : length (take c.min-2.result buf)
+    ≡ c.args.most = omega (
+      arith,
+      c.if-most-count.true,
+      c.min-2.ensures,
+      c.in-Ok.ensures.bound,
+      length-take c.min-2.result buf,
+    ) in
     let more : 0 < length (drop c.min-2.result (take c.in-Ok.count buf)) =
-    omega (arith, c.if-most-count.true, c.min-2.ensures, c.in-Ok.ensures.bound, length-take c.in-Ok.count buf, length-drop c.min-2.result (take c.in-Ok.count buf))
+    omega (
+      arith,
+      c.if-most-count.true,
+      c.min-2.ensures,
+      c.in-Ok.ensures.bound,
+      length-take c.in-Ok.count buf,
+      length-drop c.min-2.result (take c.in-Ok.count buf),
+    )
     in
     talked_long _ _ _ _ _ _ _ _ _ _ (take_front c.min-2.result c.in-Ok.count buf few) full more
     c.in-Ok.ensures.bytes.0 (rw c.in-Ok-false.field-0-test at c.in-Ok-false.ensures.went)
@@ -34,20 +50,28 @@ returns-then-most-count-clause-long g c = λ e.
 -- memory was wanting at the end of the text
 pub returns-in-Err-clause-stopped : goal.returns-in-Err-clause-stopped
 returns-in-Err-clause-stopped g c = λ is.
-    let same = c.in-Err.ensures.silent (ap Err (memory_is c.in-Err.fault c.scribe_fault.result c.scribe_fault.ensures is)) in
-    subst (λ (w : g.row.W.Denot). IfSome (g.R.Source.remaining c.args.input.now) (Stops (g.W.Sink.contents c.args.output.now) (g.W.Sink.contents w) (point c.args.scribe.now)))
+    let same = c.in-Err.ensures.silent (ap Err
+    (memory_is c.in-Err.fault c.scribe_fault.result c.scribe_fault.ensures is)) in
+    subst (λ (w : g.row.W.Denot). IfSome (g.R.Source.remaining c.args.input.now)
+    (Stops (g.W.Sink.contents c.args.output.now) (g.W.Sink.contents w)
+    (point c.args.scribe.now)))
     (sym same) (any_stop _ (g.W.Sink.contents c.args.output.now) (point c.args.scribe.now))
 
 -- a write failed in the piece
 pub returns-in-Err-take_all-clause-cut : goal.returns-in-Err-take_all-clause-cut
 returns-in-Err-take_all-clause-cut g c = λ is.
     let few : c.min-2.result ≤ c.in-Ok.count = omega (arith, c.min-2.ensures) in
-    given_cut _ _ _ _ _ _ _ _ (take_front c.min-2.result c.in-Ok.count c.read.new.buf few) c.in-Ok.ensures.bytes.0
-    (c.in-Err-take_all.ensures.cut (ap Err (write_is c.in-Err-take_all.fault c.scribe_fault-in-Err-take_all.result c.scribe_fault-in-Err-take_all.ensures is)))
+    given_cut _ _ _ _ _ _ _ _ (take_front c.min-2.result c.in-Ok.count c.read.new.buf few)
+    c.in-Ok.ensures.bytes.0
+    (c.in-Err-take_all.ensures.cut (ap Err (write_is c.in-Err-take_all.fault
+    c.scribe_fault-in-Err-take_all.result c.scribe_fault-in-Err-take_all.ensures is)))
 
 -- memory was wanting in the piece
 pub returns-in-Err-take_all-clause-stopped : goal.returns-in-Err-take_all-clause-stopped
 returns-in-Err-take_all-clause-stopped g c = λ is.
     let few : c.min-2.result ≤ c.in-Ok.count = omega (arith, c.min-2.ensures) in
-    given_stop _ _ _ _ _ _ _ _ (take_front c.min-2.result c.in-Ok.count c.read.new.buf few) c.in-Ok.ensures.bytes.0
-    (c.in-Err-take_all.ensures.stopped (ap Err (memory_is c.in-Err-take_all.fault c.scribe_fault-in-Err-take_all.result c.scribe_fault-in-Err-take_all.ensures is)))
+    given_stop _ _ _ _ _ _ _ _ (take_front c.min-2.result c.in-Ok.count c.read.new.buf few)
+    c.in-Ok.ensures.bytes.0
+    (c.in-Err-take_all.ensures.stopped (ap Err
+    (memory_is c.in-Err-take_all.fault c.scribe_fault-in-Err-take_all.result
+    c.scribe_fault-in-Err-take_all.ensures is)))

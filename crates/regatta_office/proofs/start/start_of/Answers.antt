@@ -9,9 +9,15 @@ loop-sail-preserved c =
     let sails = c.args.sails.now in
     let i = c.loop-sail.sail-index in
     record {
-      last = c.nth-last.ensures.value ∙ last_more old new sails i c.loop-sail.last c.sail-item.result c.entering-entry.result (omega arith) c.sail-item.is c.loop-sail.invariant.last c.entering-entry.ensures c.in_ok-push.ensures.items;
-      start = start_more old new sails i c.loop-sail.last c.sail-item.result c.entering-entry.result (omega arith) c.sail-item.is c.loop-sail.invariant.last c.entering-entry.ensures c.in_ok-push.ensures.items ∙ c.loop-sail.invariant.start;
+      last = c.nth-last.ensures.value ∙ last_more old new sails i c.loop-sail.last
+          c.sail-item.result c.entering-entry.result
+          (omega arith) c.sail-item.is c.loop-sail.invariant.last c.entering-entry.ensures
+          c.in_ok-push.ensures.items;
+      start = start_more old new sails i c.loop-sail.last c.sail-item.result
+          c.entering-entry.result (omega arith) c.sail-item.is c.loop-sail.invariant.last
+          c.entering-entry.ensures c.in_ok-push.ensures.items ∙ c.loop-sail.invariant.start;
     }
 
 pub returns : goal.returns
-returns c = c.new.ensures ∙ sym (start_done c.loop-sail.start.items c.args.sails.now c.loop-sail.sail-index (omega arith)) ∙ c.loop-sail.invariant.start
+returns c = c.new.ensures ∙ sym (start_done c.loop-sail.start.items c.args.sails.now
+    c.loop-sail.sail-index (omega arith)) ∙ c.loop-sail.invariant.start

@@ -11,14 +11,18 @@ returns-then-not-take-clause-went g c =
     let before = point c.args.self.now in
     let goes : is_line_end c.args.byte ≡ false = sym c.take.ensures.ended ∙ c.if-not-take.true in
     byte_kept _ before _ c.args.byte goes
-    (λ i. record before { line = (c.take.ensures.kept ∙ cond-false (is_line_end c.args.byte) before.line (keep before.line c.args.byte) goes) i })
+    (λ i. record before {
+      line = (c.take.ensures.kept
+          ∙ cond-false (is_line_end c.args.byte) before.line (keep before.line c.args.byte) goes) i;
+    })
 
 pub returns-clause-went : goal.returns-clause-went
 returns-clause-went g c =
     let before = point c.args.self.now in
     let ends : is_line_end c.args.byte ≡ true = sym c.take.ensures.ended ∙ c.if-not-take.false in
     line_ended_ok _ _ before _ c.take.new.self.kept.items c.args.byte c.end_line.result ends
-    (c.take.ensures.kept ∙ cond-true (is_line_end c.args.byte) before.line (keep before.line c.args.byte) ends)
+    (c.take.ensures.kept ∙ cond-true (is_line_end c.args.byte) before.line
+    (keep before.line c.args.byte) ends)
     c.end_line.ensures.quit c.end_line.ensures.wrote c.end_line.ensures.after
 
 -- the write of its text failed
@@ -26,5 +30,6 @@ pub returns-clause-cut : goal.returns-clause-cut
 returns-clause-cut g c = λ is rest.
     let before = point c.args.self.now in
     let ends : is_line_end c.args.byte ≡ true = sym c.take.ensures.ended ∙ c.if-not-take.false in
-    let kept : c.take.new.self.kept.items ≡ before.line = c.take.ensures.kept ∙ cond-true (is_line_end c.args.byte) before.line (keep before.line c.args.byte) ends in
+    let kept : c.take.new.self.kept.items ≡ before.line = c.take.ensures.kept
+    ∙ cond-true (is_line_end c.args.byte) before.line (keep before.line c.args.byte) ends in
     line_cut _ _ before c.args.byte rest ends (rw kept at (c.end_line.ensures.cut is))

@@ -7,5 +7,6 @@ use Rattle.regatta_office.proofs.scribe.Scribe.take_all.Given as goal
 abbrev pub invariant-loop-byte : goal.invariant-loop-byte
 invariant-loop-byte g l = record {
   well : g.W.Device.failures l.output ≡ g.W.Device.failures l.fn.output;
-  went : Went (g.W.Sink.contents l.fn.output) (g.W.Sink.contents l.output) (take l.byte-index l.piece) (point l.fn.self) (point l.self) false;
+  went : Went (g.W.Sink.contents l.fn.output) (g.W.Sink.contents l.output)
+      (take l.byte-index l.piece) (point l.fn.self) (point l.self) false;
 }
