@@ -11,7 +11,7 @@ use Rattle.regatta_terms.specs.declared.sail.Sail.{Sail}
 use Rattle.regatta_terms.specs.declared.command.Command.{Command}
 use Rattle.regatta_scores.specs.declared.table.Row.{Row}
 use Rattle.regatta_scores.specs.Sheet.{boats, empty_sheet}
-use Rattle.regatta_scores.specs.Journal.{Journal, same_sail, entered, held, is_scored}
+use Rattle.regatta_scores.specs.Journal.{Journal, same_sail, entered, held, is_scored, scored}
 use Rattle.regatta_scores.specs.declared.table.Standing.{Standing}
 use Rattle.regatta_scores.specs.Standing.{standing}
 use Rattle.regatta_board.specs.Refusals.{limits, refusal, command_refusal}
@@ -23,7 +23,7 @@ use Rattle.regatta_board.proofs.Orderly.{orderly_more}
 use Rattle.regatta_board.proofs.StepOf.{step_is}
 use Rattle.regatta_board.specs.declared.kept.Revision.{Revision}
 use Rattle.regatta_board.specs.Revisions.{revised}
-use Rattle.regatta_board.specs.Table.{Kept, IsKept, table}
+use Rattle.regatta_board.specs.Table.{Kept, IsKept, races, table}
 use Rattle.regatta_board.specs.KeptJournal.{sheet_of, kept_of, IsOrderly}
 use Rattle.regatta_board.specs.BoardFacts.{BoardValue, IsBoard}
 use Rattle.regatta_board.proofs.TableOf.{table_is}
@@ -100,9 +100,13 @@ module _ (rules : RulesParts) (entries : Journal) (kept : Kept) (made : Standing
     -- the board after an accepted entry: what is kept takes one step
     pub board_more : (new : Kept) (found : Standing) → new ≡ step kept c → found ≡ table rules new → IsBoard rules (entries ++ e ∷ []) new found
     board_more new found now is_table = record {
-      few = (let room : length entries < 4096 = not_full rules entries e none in omega (arith, length-append entries (e ∷ [])));
+      few = (let room : length entries < limits.entries = not_full rules entries e none in omega (arith, length-append entries (e ∷ [])));
       lawful = lawful_more rules entries e is.lawful none;
       orderly = orderly;
       keeps = next_is new now;
       stands = is_table ∙ ap (table rules) (next_is new now) ∙ table_is rules (entries ++ e ∷ []) orderly;
     }
+
+    -- the races that count on it are those of the journal
+    pub races_more : (new : Kept) → new ≡ step kept c → length (races new.counts) ≡ length (scored (entries ++ e ∷ []))
+    races_more new now = ap (λ (s : Standing). length s.races) (board_more new (table rules new) now refl).stands

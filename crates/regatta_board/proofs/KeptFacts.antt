@@ -96,9 +96,9 @@ module _ (journal : Journal) (o : IsOrderly journal) (kept : Kept) (e : kept ≡
 
   pub fits : (rules : RulesParts) (role : Role) (c : Command) → NamesRace c → command_refusal limits rules journal role c ≡ None → Fits kept c
   fits rules role (Enter s) r none =
-      let room : length (entered journal) < 200 = has_room rules journal role (Enter s) none (λ h. cc) in
+      let room : length (entered journal) < limits.boats = has_room rules journal role (Enter s) none (λ h. cc) in
       let new : is_entered journal s ≡ false = may_step rules journal role (Enter s) r none in
-      ((let within : length kept.sails < 200 = omega (arith, boats_are) in within), entered_is s ∙ new)
+      ((let within : length kept.sails < limits.boats = omega (arith, boats_are) in within), entered_is s ∙ new)
   fits rules role (Finish race s) r none = place_fits race r s none
   fits rules role (Tie race s other) r none = place_by_fits race r s other none
   fits rules role (Before race s other) r none = place_by_fits race r s other none

@@ -10,7 +10,7 @@ use Rattle.regatta_terms.specs.declared.command.Command.TheVariants.{Enter, Fini
 use Rattle.regatta_scores.specs.Order.{is_empty, in_group, stands_in, with_last, joined, with_ahead, without}
 use Rattle.regatta_scores.specs.Journal.{Journal, same_sail, names_race, sail_entered, entered, order, held, order_by, order_after, race_commands, decides}
 use Rattle.regatta_scores.proofs.Apart.{race_commands_more, entered_more}
-use Rattle.regatta_board.specs.Refusals.{is_entered}
+use Rattle.regatta_board.specs.Refusals.{limits, is_entered}
 use Rattle.regatta_board.specs.KeptJournal.{IsOrderly}
 use Rattle.regatta_board.specs.Step.{MayStep}
 use Rattle.regatta_board.proofs.Numbers.{same_is}
@@ -161,7 +161,7 @@ any_push p (x ∷ xs) s = ap (λ t. p x || t) (any_push p xs s) ∙ assoc (p x) 
     assoc true b d = refl
     assoc false b d = refl
 
-orderly_enter : (journal : Journal) → IsOrderly journal → (entry : EntryParts) (s : Sail) → entry.command ≡ Enter s → is_entered journal s ≡ false → length (entered journal) < 200 → IsOrderly (journal ++ entry ∷ [])
+orderly_enter : (journal : Journal) → IsOrderly journal → (entry : EntryParts) (s : Sail) → entry.command ≡ Enter s → is_entered journal s ≡ false → length (entered journal) < limits.boats → IsOrderly (journal ++ entry ∷ [])
 orderly_enter journal o entry s is out room =
     let boats : entered (journal ++ entry ∷ []) ≡ entered journal ++ s ∷ [] = entered_more journal entry ∙ rw is refl in
     let long : length (entered (journal ++ entry ∷ [])) ≡ length (entered journal) + 1 = ap length boats ∙ length-append (entered journal) (s ∷ []) in
@@ -173,7 +173,7 @@ orderly_enter journal o entry s is out room =
       nothing = λ race b h. (let before : is_entered journal b ≡ false = (or_false (is_entered journal b) _ (sym (ap (λ xs. list_any (same_sail b) xs) boats ∙ any_push (same_sail b) (entered journal) s) ∙ h)).0 in held_more journal entry (Enter s) race b is refl ∙ o.nothing race b before);
     }
 
-pub orderly_more : (journal : Journal) → IsOrderly journal → (entry : EntryParts) (c : Command) → entry.command ≡ c → MayStep journal c → (sail_entered c ≢ None → length (entered journal) < 200) → IsOrderly (journal ++ entry ∷ [])
+pub orderly_more : (journal : Journal) → IsOrderly journal → (entry : EntryParts) (c : Command) → entry.command ≡ c → MayStep journal c → (sail_entered c ≢ None → length (entered journal) < limits.boats) → IsOrderly (journal ++ entry ∷ [])
 orderly_more journal o entry (Enter s) is may room = orderly_enter journal o entry s is may (room (λ h. cc))
 orderly_more journal o entry (Finish r s) is may room = orderly_same journal o entry (Finish r s) is may refl
 orderly_more journal o entry (Tie r s other) is may room = orderly_same journal o entry (Tie r s other) is may refl
