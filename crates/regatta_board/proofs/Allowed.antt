@@ -1,5 +1,7 @@
--- A boat's number stands on a sheet where she stands in the order, and is below the number of boats where she is entered.
-use Rattle.std.proofs.Common.{◌≡◌, ℕ, ◌+◌, ◌<◌, Bool, true, false, cond, not, ◌||◌, List, [], ◌∷◌, refl, ◌∙◌, arith, length, map, nat_eq}
+-- A boat's number stands on a sheet where she stands in the order, and is below the number of boats
+-- where she is entered.
+use Rattle.std.proofs.Common.{◌≡◌, ℕ, ◌+◌, ◌<◌, Bool, true, false, cond, not, ◌||◌, List, [], ◌∷◌}
+use Rattle.std.proofs.Common.{refl, ◌∙◌, arith, length, map, nat_eq}
 use Rattle.std.specs.List.{list_any}
 use Rattle.std.proofs.lemmas.List.{length-map}
 use Rattle.regatta_terms.specs.declared.sail.Sail.{Sail}
@@ -13,27 +15,44 @@ use Rattle.regatta_board.proofs.Numbers.{place_in}
 use Rattle.regatta_board.proofs.Renumbered.{group_numbered}
 
 -- on the sheet as in the journal
-pub placed_same : (journal : Journal) (race : ℕ) (boat : Sail) → is_entered journal boat ≡ true → stands_in nat_eq (number journal boat) (sheet_of journal race).order ≡ is_placed journal race boat
+pub placed_same : (journal : Journal) (race : ℕ) (boat : Sail) → is_entered journal boat ≡ true
+    → stands_in nat_eq (number journal boat) (sheet_of journal race).order
+    ≡ is_placed journal race boat
 placed_same journal race boat known = by (order journal race)
   where
-    by : (gs : List (List Sail)) → stands_in nat_eq (number journal boat) (map (map (number journal)) gs) ≡ stands_in same_sail boat gs
+    by : (gs : List (List Sail))
+        → stands_in nat_eq (number journal boat) (map (map (number journal)) gs)
+        ≡ stands_in same_sail boat gs
     by [] = refl
     by (g ∷ gs) = λ i. group_numbered (entered journal) boat known g i || by gs i
 
-pub place_below : (xs : List Sail) (x : Sail) → list_any (same_sail x) xs ≡ true → place_in xs x < length xs
+pub place_below : (xs : List Sail) (x : Sail) → list_any (same_sail x) xs ≡ true
+    → place_in xs x < length xs
 place_below [] x h = cc
 place_below (z ∷ zs) x h = by (same_sail x z) refl (place_below zs x)
   where
-    by : (b : Bool) → same_sail x z ≡ b → (list_any (same_sail x) zs ≡ true → place_in zs x < length zs) → cond (not (same_sail x z)) (1 + place_in zs x) 0 < length (z ∷ zs)
+    by : (b : Bool) → same_sail x z ≡ b
+        → (list_any (same_sail x) zs ≡ true → place_in zs x < length zs)
+        → cond (not (same_sail x z)) (1 + place_in zs x) 0 < length (z ∷ zs)
     by true e rest = rw e (omega arith)
     by false e rest = let below : place_in zs x < length zs = rest (rw e at h) in rw e (omega arith)
 
-pub number_below : (journal : Journal) (race : ℕ) (boat : Sail) → is_entered journal boat ≡ true → number journal boat < boats (sheet_of journal race)
-number_below journal race boat known = omega (arith, place_below (entered journal) boat known, length-map (entered journal) (held journal race))
+pub number_below : (journal : Journal) (race : ℕ) (boat : Sail) → is_entered journal boat ≡ true
+    → number journal boat < boats (sheet_of journal race)
+number_below journal race boat known =
+    omega (
+      arith,
+      place_below (entered journal) boat known,
+      length-map (entered journal) (held journal race),
+    )
 
 -- the conditions of changes
-pub unplaced : (journal : Journal) (race : ℕ) (boat : Sail) → is_entered journal boat ≡ true → is_placed journal race boat ≡ false → IsUnplaced (sheet_of journal race) (number journal boat)
-unplaced journal race boat known out = (number_below journal race boat known, placed_same journal race boat known ∙ out)
+pub unplaced : (journal : Journal) (race : ℕ) (boat : Sail) → is_entered journal boat ≡ true
+    → is_placed journal race boat ≡ false → IsUnplaced (sheet_of journal race) (number journal boat)
+unplaced journal race boat known out =
+    (number_below journal race boat known, placed_same journal race boat known ∙ out)
 
-pub placed : (journal : Journal) (race : ℕ) (boat : Sail) → is_entered journal boat ≡ true → is_placed journal race boat ≡ true → IsPlaced (sheet_of journal race) (number journal boat)
-placed journal race boat known in_it = (number_below journal race boat known, placed_same journal race boat known ∙ in_it)
+pub placed : (journal : Journal) (race : ℕ) (boat : Sail) → is_entered journal boat ≡ true
+    → is_placed journal race boat ≡ true → IsPlaced (sheet_of journal race) (number journal boat)
+placed journal race boat known in_it =
+    (number_below journal race boat known, placed_same journal race boat known ∙ in_it)

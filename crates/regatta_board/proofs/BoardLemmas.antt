@@ -1,5 +1,6 @@
 -- What is kept on a board.
-use Rattle.std.proofs.Common.{◌≡◌, false, List, [], ◌∷◌, ◌++◌, refl, ap, ◌∙◌, sym, subst, ℕ, ◌-◌, ◌<◌, arith, length, length-append, replicate, find, None}
+use Rattle.std.proofs.Common.{◌≡◌, false, List, [], ◌∷◌, ◌++◌, refl, ap, ◌∙◌, sym, subst, ℕ, ◌-◌}
+use Rattle.std.proofs.Common.{◌<◌, arith, length, length-append, replicate, find, None}
 use Rattle.std.specs.List.{range_with_len}
 use Rattle.std.specs.Option.{option_map}
 use Rattle.std.proofs.lemmas.List.{length-map}
@@ -11,19 +12,20 @@ use Rattle.regatta_terms.specs.declared.sail.Sail.{Sail}
 use Rattle.regatta_terms.specs.declared.command.Command.{Command}
 use Rattle.regatta_scores.specs.declared.table.Row.{Row}
 use Rattle.regatta_scores.specs.Sheet.{boats, empty_sheet}
-use Rattle.regatta_scores.specs.Journal.{Journal, same_sail, entered, held, is_scored}
+use Rattle.regatta_scores.specs.Journal.{Journal, same_sail, entered, held, is_scored, scored}
 use Rattle.regatta_scores.specs.declared.table.Standing.{Standing}
 use Rattle.regatta_scores.specs.Standing.{standing}
 use Rattle.regatta_board.specs.Refusals.{limits, refusal, command_refusal}
 use Rattle.regatta_board.specs.Answers.{touched_by, rank_of}
 use Rattle.regatta_board.specs.Step.{sheet_in, step, IsRace, NamesRace, MayStep, Fits}
-use Rattle.regatta_board.proofs.Lawful.{lawful_more, no_command_refusal, may_step, has_room, not_full}
+use Rattle.regatta_board.proofs.Lawful.{lawful_more, no_command_refusal, may_step, has_room}
+use Rattle.regatta_board.proofs.Lawful.{not_full}
 use Rattle.regatta_board.proofs.KeptFacts.{fits}
 use Rattle.regatta_board.proofs.Orderly.{orderly_more}
 use Rattle.regatta_board.proofs.StepOf.{step_is}
 use Rattle.regatta_board.specs.declared.kept.Revision.{Revision}
 use Rattle.regatta_board.specs.Revisions.{revised}
-use Rattle.regatta_board.specs.Table.{Kept, IsKept, table}
+use Rattle.regatta_board.specs.Table.{Kept, IsKept, races, table}
 use Rattle.regatta_board.specs.KeptJournal.{sheet_of, kept_of, IsOrderly}
 use Rattle.regatta_board.specs.BoardFacts.{BoardValue, IsBoard}
 use Rattle.regatta_board.proofs.TableOf.{table_is}
@@ -33,7 +35,8 @@ kept_of_is journal orderly = record {
   few = orderly.few;
   sheets = length-map-range_with_len (sheet_of journal) 1 40;
   counts = length-map-range_with_len (is_scored journal) 1 40;
-  same = All-map (λ sheet. boats sheet ≡ length (entered journal)) (sheet_of journal) (range_with_len 1 40) (λ k d h. length-map (entered journal) (held journal _));
+  same = All-map (λ sheet. boats sheet ≡ length (entered journal)) (sheet_of journal)
+      (range_with_len 1 40) (λ k d h. length-map (entered journal) (held journal _));
 }
 
 empty_orderly : IsOrderly []
@@ -47,40 +50,73 @@ empty_orderly = record {
 abbrev pub no_standing : Standing
 no_standing = record { races = []; rows = [] }
 
-pub empty_board : (rules : RulesParts) → IsBoard rules [] (record { sails = []; sheets = replicate 40 (empty_sheet 0); counts = replicate 40 false }) no_standing
-empty_board rules = record { few = omega arith; lawful = refl; orderly = empty_orderly; keeps = refl; stands = refl }
+pub empty_board : (rules : RulesParts)
+    → IsBoard rules []
+    (record { sails = []; sheets = replicate 40 (empty_sheet 0); counts = replicate 40 false })
+    no_standing
+empty_board rules =
+    record {
+      few = omega arith;
+      lawful = refl;
+      orderly = empty_orderly;
+      keeps = refl;
+      stands = refl;
+    }
 
 -- each sheet has a line for each boat
-pub sheet_long : (kept : Kept) → IsKept kept → (race : ℕ) → IsRace race → boats (sheet_in kept race) ≡ length kept.sails
+pub sheet_long : (kept : Kept) → IsKept kept → (race : ℕ) → IsRace race
+    → boats (sheet_in kept race) ≡ length kept.sails
 sheet_long kept is race within =
     let at : race - 1 < length kept.sheets = omega (arith, within.0, within.1, is.sheets) in
-    All-get_or (λ sheet. boats sheet ≡ length kept.sails) kept.sheets (race - 1) (empty_sheet 0) at is.same
+    All-get_or (λ sheet. boats sheet ≡ length kept.sails) kept.sheets (race - 1) (empty_sheet 0)
+    at is.same
 
-module _ (rules : RulesParts) (entries : Journal) (kept : Kept) (made : Standing) (is : IsBoard rules entries kept made) where
+module _ (rules : RulesParts) (entries : Journal) (kept : Kept) (made : Standing)
+    (is : IsBoard rules entries kept made) where
   pub board_kept : IsKept kept
   board_kept = subst IsKept (sym is.keeps) (kept_of_is entries is.orderly)
 
   pub board_standing : table rules kept ≡ standing rules entries
   board_standing = ap (table rules) is.keeps ∙ table_is rules entries is.orderly
 
-  pub board_rank : (boat : Sail) (rows : List Row) → rows ≡ made.rows → option_map touched_by (find (λ row. same_sail boat row.sail) rows) ≡ rank_of rules entries boat
-  board_rank boat rows e = ap (λ rs. option_map touched_by (find (λ (row : Row). same_sail boat row.sail) rs)) (e ∙ ap (λ s. s.rows) is.stands)
+  pub board_rank : (boat : Sail) (rows : List Row) → rows ≡ made.rows
+      → option_map touched_by (find (λ row. same_sail boat row.sail) rows)
+      ≡ rank_of rules entries boat
+  board_rank boat rows e =
+      ap (λ rs. option_map touched_by (find (λ (row : Row). same_sail boat row.sail) rs)) (e
+      ∙ ap (λ s. s.rows) is.stands)
 
   -- a staged entry makes a board of what was kept, and of what is kept by the same value
-  pub staged : (before : BoardValue) → before ≡ record { rules = rules; entries = entries } → (e : EntryParts) (revision : Revision) (found : Standing) → IsBoard rules (entries ++ e ∷ []) (revised kept revision) found → IsBoard before.rules (before.entries ++ e ∷ []) (revised (kept_of before.entries) revision) found
+  pub staged : (before : BoardValue) → before ≡ record { rules = rules; entries = entries }
+      → (e : EntryParts) (revision : Revision) (found : Standing)
+      → IsBoard rules (entries ++ e ∷ []) (revised kept revision) found
+      → IsBoard before.rules (before.entries ++ e ∷ []) (revised (kept_of before.entries) revision)
+      found
   staged before b e revision found more =
-      let here : IsBoard rules (entries ++ e ∷ []) (revised (kept_of entries) revision) found = subst (λ k. IsBoard rules (entries ++ e ∷ []) (revised k revision) found) is.keeps more in
-      subst (λ (v : BoardValue). IsBoard v.rules (v.entries ++ e ∷ []) (revised (kept_of v.entries) revision) found) (sym b) here
+      let here : IsBoard rules (entries ++ e ∷ []) (revised (kept_of entries) revision) found =
+      subst (λ k. IsBoard rules (entries ++ e ∷ []) (revised k revision) found) is.keeps more in
+      subst (λ (v : BoardValue). IsBoard v.rules (v.entries ++ e ∷ [])
+      (revised (kept_of v.entries) revision) found) (sym b) here
 
-  pub committed : (before : BoardValue) → before ≡ record { rules = rules; entries = entries } → (e : EntryParts) (revision : Revision) (found : Standing) → IsBoard before.rules (before.entries ++ e ∷ []) (revised (kept_of before.entries) revision) found → (items : Journal) → items ≡ entries ++ e ∷ [] → (new : Kept) → new ≡ revised kept revision → IsBoard rules items new found
+  pub committed : (before : BoardValue) → before ≡ record { rules = rules; entries = entries }
+      → (e : EntryParts) (revision : Revision) (found : Standing)
+      → IsBoard before.rules (before.entries ++ e ∷ []) (revised (kept_of before.entries) revision)
+      found → (items : Journal) → items ≡ entries ++ e ∷ [] → (new : Kept)
+      → new ≡ revised kept revision → IsBoard rules items new found
   committed before b e revision found more items i new n =
-      let here : IsBoard rules (entries ++ e ∷ []) (revised (kept_of entries) revision) found = subst (λ (v : BoardValue). IsBoard v.rules (v.entries ++ e ∷ []) (revised (kept_of v.entries) revision) found) b more in
-      let kept_is : revised (kept_of entries) revision ≡ new = ap (λ k. revised k revision) (sym is.keeps) ∙ sym n in
-      subst (λ js. IsBoard rules js new found) (sym i) (subst (λ k. IsBoard rules (entries ++ e ∷ []) k found) kept_is here)
+      let here : IsBoard rules (entries ++ e ∷ []) (revised (kept_of entries) revision) found =
+      subst (λ (v : BoardValue). IsBoard v.rules (v.entries ++ e ∷ [])
+      (revised (kept_of v.entries) revision) found) b more in
+      let kept_is : revised (kept_of entries) revision ≡ new =
+      ap (λ k. revised k revision) (sym is.keeps) ∙ sym n in
+      subst (λ js. IsBoard rules js new found) (sym i)
+      (subst (λ k. IsBoard rules (entries ++ e ∷ []) k found) kept_is here)
 
-  module _ (e : EntryParts) (c : Command) (named : c ≡ e.command) (race : NamesRace c) (none : refusal limits rules entries e ≡ None) where
+  module _ (e : EntryParts) (c : Command) (named : c ≡ e.command) (race : NamesRace c)
+      (none : refusal limits rules entries e ≡ None) where
     accepted : command_refusal limits rules entries e.role c ≡ None
-    accepted = ap (λ d. command_refusal limits rules entries e.role d) named ∙ no_command_refusal rules entries e none
+    accepted = ap (λ d. command_refusal limits rules entries e.role d) named
+        ∙ no_command_refusal rules entries e none
 
     may : MayStep entries c
     may = may_step rules entries e.role c race accepted
@@ -89,20 +125,32 @@ module _ (rules : RulesParts) (entries : Journal) (kept : Kept) (made : Standing
     board_fits = fits entries is.orderly kept is.keeps rules e.role c race accepted
 
     orderly : IsOrderly (entries ++ e ∷ [])
-    orderly = orderly_more entries is.orderly e c (sym named) may (has_room rules entries e.role c accepted)
+    orderly = orderly_more entries is.orderly e c (sym named) may
+        (has_room rules entries e.role c accepted)
 
     next_is : (new : Kept) → new ≡ step kept c → new ≡ kept_of (entries ++ e ∷ [])
-    next_is new now = now ∙ ap (λ k. step k c) is.keeps ∙ step_is entries is.orderly e c (sym named) may
+    next_is new now = now ∙ ap (λ k. step k c) is.keeps
+        ∙ step_is entries is.orderly e c (sym named) may
 
     pub next_kept : (new : Kept) → new ≡ step kept c → IsKept new
-    next_kept new now = subst IsKept (sym (next_is new now)) (kept_of_is (entries ++ e ∷ []) orderly)
+    next_kept new now =
+        subst IsKept (sym (next_is new now)) (kept_of_is (entries ++ e ∷ []) orderly)
 
     -- the board after an accepted entry: what is kept takes one step
-    pub board_more : (new : Kept) (found : Standing) → new ≡ step kept c → found ≡ table rules new → IsBoard rules (entries ++ e ∷ []) new found
+    pub board_more : (new : Kept) (found : Standing) → new ≡ step kept c → found ≡ table rules new
+        → IsBoard rules (entries ++ e ∷ []) new found
     board_more new found now is_table = record {
-      few = (let room : length entries < 4096 = not_full rules entries e none in omega (arith, length-append entries (e ∷ [])));
+      few = (let room : length entries < limits.entries = not_full rules entries e none in
+          omega (arith, length-append entries (e ∷ [])));
       lawful = lawful_more rules entries e is.lawful none;
       orderly = orderly;
       keeps = next_is new now;
-      stands = is_table ∙ ap (table rules) (next_is new now) ∙ table_is rules (entries ++ e ∷ []) orderly;
+      stands = is_table ∙ ap (table rules) (next_is new now)
+          ∙ table_is rules (entries ++ e ∷ []) orderly;
     }
+
+    -- the races that count on it are those of the journal
+    pub races_more : (new : Kept) → new ≡ step kept c
+        → length (races new.counts) ≡ length (scored (entries ++ e ∷ []))
+    races_more new now =
+        ap (λ (s : Standing). length s.races) (board_more new (table rules new) now refl).stands

@@ -1,7 +1,10 @@
 -- Columns of outcomes.
-use Rattle.std.proofs.Common.{◌≡◌, ℕ, ◌+◌, ◌-◌, ◌<◌, Bool, false, true, cond, List, [], ◌∷◌, ◌++◌, ap, ◌∙◌, sym, ◌≤◌, arith, length, length-append, map, filter, get_or, nat_eq}
+use Rattle.std.proofs.Common.{◌≡◌, ℕ, ◌+◌, ◌-◌, ◌<◌, Bool, false, true, cond, List, [], ◌∷◌, ◌++◌}
+use Rattle.std.proofs.Common.{ap, ◌∙◌, sym, ◌≤◌, arith, length, length-append, map, filter, get_or}
+use Rattle.std.proofs.Common.{nat_eq}
 use Rattle.std.specs.List.{range_with_len}
-use Rattle.std.proofs.lemmas.List.FromFn.{length-map-range_with_len, get_or-map-range_with_len, map-range_with_len_more}
+use Rattle.std.proofs.lemmas.List.FromFn.{length-map-range_with_len, get_or-map-range_with_len}
+use Rattle.std.proofs.lemmas.List.FromFn.{map-range_with_len_more}
 use Rattle.std.proofs.lemmas.List.Elements.{filter-append}
 use Rattle.regatta_terms.specs.Rules.{RulesParts}
 use Rattle.regatta_scores.specs.Order.{stands_in}
@@ -10,38 +13,61 @@ use Rattle.regatta_scores.specs.RacePoints.{plain, race_of, race_points}
 use Rattle.regatta_scores.proofs.Ranges.{range_more}
 use Rattle.regatta_board.specs.Table.{outcome_on}
 
-pub points_long : (rules : RulesParts) (sheet : Sheet) → length (race_points rules sheet) ≡ boats sheet
-points_long rules sheet = length-map-range_with_len (plain nat_eq rules (race_of sheet.order sheet.held)) 0 (boats sheet)
+pub points_long : (rules : RulesParts) (sheet : Sheet)
+    → length (race_points rules sheet) ≡ boats sheet
+points_long rules sheet =
+    length-map-range_with_len (plain nat_eq rules (race_of sheet.order sheet.held)) 0 (boats sheet)
 
-pub points_at : (rules : RulesParts) (sheet : Sheet) (boat : ℕ) → boat < boats sheet → get_or (race_points rules sheet) boat 0 ≡ plain nat_eq rules (race_of sheet.order sheet.held) boat
-points_at rules sheet boat h = get_or-map-range_with_len (plain nat_eq rules (race_of sheet.order sheet.held)) 0 (boats sheet) boat boat 0 h (omega arith)
+pub points_at : (rules : RulesParts) (sheet : Sheet) (boat : ℕ) → boat < boats sheet
+    → get_or (race_points rules sheet) boat 0 ≡ plain nat_eq rules (race_of sheet.order sheet.held)
+    boat
+points_at rules sheet boat h =
+    get_or-map-range_with_len (plain nat_eq rules (race_of sheet.order sheet.held)) 0 (boats sheet)
+    boat boat 0 h (omega arith)
 
-pub column_more : (rules : RulesParts) (sheet : Sheet) (n : ℕ) → map (outcome_on rules sheet) (range_with_len 0 (n + 1)) ≡ map (outcome_on rules sheet) (range_with_len 0 n) ++ outcome_on rules sheet n ∷ []
+pub column_more : (rules : RulesParts) (sheet : Sheet) (n : ℕ)
+    → map (outcome_on rules sheet) (range_with_len 0 (n + 1))
+    ≡ map (outcome_on rules sheet) (range_with_len 0 n) ++ outcome_on rules sheet n ∷ []
 column_more rules sheet n = map-range_with_len_more (outcome_on rules sheet) 0 n n (omega arith)
 
-pub column_long : (rules : RulesParts) (sheet : Sheet) → length (map (outcome_on rules sheet) (range_with_len 0 (boats sheet))) ≡ boats sheet
+pub column_long : (rules : RulesParts) (sheet : Sheet)
+    → length (map (outcome_on rules sheet) (range_with_len 0 (boats sheet))) ≡ boats sheet
 column_long rules sheet = length-map-range_with_len (outcome_on rules sheet) 0 (boats sheet)
 
 pub placed_long : (sheet : Sheet) → length (all_placed sheet) ≡ boats sheet
-placed_long sheet = length-map-range_with_len (λ boat. stands_in nat_eq boat sheet.order) 0 (boats sheet)
+placed_long sheet =
+    length-map-range_with_len (λ boat. stands_in nat_eq boat sheet.order) 0 (boats sheet)
 
-pub placed_at : (sheet : Sheet) (boat : ℕ) → boat < boats sheet → get_or (all_placed sheet) boat false ≡ stands_in nat_eq boat sheet.order
-placed_at sheet boat h = get_or-map-range_with_len (λ b. stands_in nat_eq b sheet.order) 0 (boats sheet) boat boat false h (omega arith)
+pub placed_at : (sheet : Sheet) (boat : ℕ) → boat < boats sheet
+    → get_or (all_placed sheet) boat false ≡ stands_in nat_eq boat sheet.order
+placed_at sheet boat h =
+    get_or-map-range_with_len (λ b. stands_in nat_eq b sheet.order) 0 (boats sheet) boat boat false
+    h (omega arith)
 
 pub ruleset columns = (points_long, points_at, placed_long, placed_at, column_more, column_long)
 
-races_step : (counts : List Bool) (i : ℕ) → filter (λ race. get_or counts (race - 1) false) (range_with_len 1 (i + 1)) ≡ filter (λ race. get_or counts (race - 1) false) (range_with_len 1 i) ++ cond (get_or counts ((i + 1) - 1) false) ((i + 1) ∷ []) []
+races_step : (counts : List Bool) (i : ℕ)
+    → filter (λ race. get_or counts (race - 1) false) (range_with_len 1 (i + 1))
+    ≡ filter (λ race. get_or counts (race - 1) false) (range_with_len 1 i)
+    ++ cond (get_or counts ((i + 1) - 1) false) ((i + 1) ∷ []) []
 races_step counts i =
     let same : (1 + i) ≡ i + 1 = omega arith in
     let test = λ (race : ℕ). get_or counts (race - 1) false in
-    ap (filter test) (range_more 1 i) ∙ filter-append test (range_with_len 1 i) ((1 + i) ∷ []) ∙ ap (λ k. filter test (range_with_len 1 i) ++ filter test (k ∷ [])) same
+    ap (filter test) (range_more 1 i) ∙ filter-append test (range_with_len 1 i) ((1 + i) ∷ [])
+    ∙ ap (λ k. filter test (range_with_len 1 i) ++ filter test (k ∷ [])) same
 
-pub races_more : (counts : List Bool) (i : ℕ) (found new : List ℕ) → found ≡ filter (λ race. get_or counts (race - 1) false) (range_with_len 1 i) → new ≡ found ++ cond (get_or counts ((i + 1) - 1) false) ((i + 1) ∷ []) [] → new ≡ filter (λ race. get_or counts (race - 1) false) (range_with_len 1 (i + 1))
-races_more counts i found new e f = f ∙ ap (λ xs. xs ++ cond (get_or counts ((i + 1) - 1) false) ((i + 1) ∷ []) []) e ∙ sym (races_step counts i)
+pub races_more : (counts : List Bool) (i : ℕ) (found new : List ℕ)
+    → found ≡ filter (λ race. get_or counts (race - 1) false) (range_with_len 1 i)
+    → new ≡ found ++ cond (get_or counts ((i + 1) - 1) false) ((i + 1) ∷ []) []
+    → new ≡ filter (λ race. get_or counts (race - 1) false) (range_with_len 1 (i + 1))
+races_more counts i found new e f = f
+    ∙ ap (λ xs. xs ++ cond (get_or counts ((i + 1) - 1) false) ((i + 1) ∷ []) []) e
+    ∙ sym (races_step counts i)
 
 one_long : (b : Bool) (xs : List ℕ) (r : ℕ) → length (xs ++ cond b (r ∷ []) []) ≤ length xs + 1
 one_long true xs r = omega (arith, length-append xs (r ∷ []))
 one_long false xs r = omega (arith, length-append xs [])
 
-pub few_more : (b : Bool) (found new : List ℕ) (i r : ℕ) → new ≡ found ++ cond b (r ∷ []) [] → length found ≤ i → length new ≤ i + 1
+pub few_more : (b : Bool) (found new : List ℕ) (i r : ℕ) → new ≡ found ++ cond b (r ∷ []) []
+    → length found ≤ i → length new ≤ i + 1
 few_more b found new i r e h = omega (arith, ap length e, one_long b found r)

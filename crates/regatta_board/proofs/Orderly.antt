@@ -1,16 +1,22 @@
 -- An accepted command leaves a journal orderly.
-use Rattle.std.proofs.Common.{◌≡◌, ◌≢◌, ℕ, zero, suc, ◌+◌, ◌<◌, Bool, true, false, cond, not, ◌||◌, List, [], ◌∷◌, ◌++◌, refl, ap, ◌∙◌, sym, arith, length, length-append, filter, get_or, None}
+use Rattle.std.proofs.Common.{◌≡◌, ◌≢◌, ℕ, zero, suc, ◌+◌, ◌<◌, Bool, true, false, cond, not, ◌||◌}
+use Rattle.std.proofs.Common.{List, [], ◌∷◌, ◌++◌, refl, ap, ◌∙◌, sym, arith, length, length-append}
+use Rattle.std.proofs.Common.{filter, get_or, None}
 use Rattle.std.specs.List.{list_any}
 use Rattle.std.proofs.lemmas.List.{append-nil}
 use Rattle.std.proofs.lemmas.List.Sums.{fold_push}
 use Rattle.regatta_terms.specs.Entries.{EntryParts}
 use Rattle.regatta_terms.specs.declared.sail.Sail.{Sail}
 use Rattle.regatta_terms.specs.declared.command.Command.{Command}
-use Rattle.regatta_terms.specs.declared.command.Command.TheVariants.{Enter, Finish, Tie, Before, Strike, Mark, Penalise, Redress, Clear, Score, Unscore}
-use Rattle.regatta_scores.specs.Order.{is_empty, in_group, stands_in, with_last, joined, with_ahead, without}
-use Rattle.regatta_scores.specs.Journal.{Journal, same_sail, names_race, sail_entered, entered, order, held, order_by, order_after, race_commands, decides}
+use Rattle.regatta_terms.specs.declared.command.Command.TheVariants.{Enter, Finish, Tie, Before}
+use Rattle.regatta_terms.specs.declared.command.Command.TheVariants.{Strike, Mark, Penalise}
+use Rattle.regatta_terms.specs.declared.command.Command.TheVariants.{Redress, Clear, Score, Unscore}
+use Rattle.regatta_scores.specs.Order.{is_empty, in_group, stands_in, with_last, joined, with_ahead}
+use Rattle.regatta_scores.specs.Order.{without}
+use Rattle.regatta_scores.specs.Journal.{Journal, same_sail, names_race, sail_entered, entered}
+use Rattle.regatta_scores.specs.Journal.{order, held, order_by, order_after, race_commands, decides}
 use Rattle.regatta_scores.proofs.Apart.{race_commands_more, entered_more}
-use Rattle.regatta_board.specs.Refusals.{is_entered}
+use Rattle.regatta_board.specs.Refusals.{limits, is_entered}
 use Rattle.regatta_board.specs.KeptJournal.{IsOrderly}
 use Rattle.regatta_board.specs.Step.{MayStep}
 use Rattle.regatta_board.proofs.Numbers.{same_is}
@@ -30,64 +36,123 @@ or_right false b h = h
 
 -- ---- who stands in an order after one more change: those before, and the boat of the command
 
-group_push : (b s : Sail) (g : List Sail) (Q : Type 0) → (in_group same_sail b g ≡ true → Q) → (same_sail s b ≡ true → Q) → in_group same_sail b (g ++ s ∷ []) ≡ true → Q
+group_push : (b s : Sail) (g : List Sail) (Q : Type 0) → (in_group same_sail b g ≡ true → Q)
+    → (same_sail s b ≡ true → Q) → in_group same_sail b (g ++ s ∷ []) ≡ true → Q
 group_push b s [] Q f g h = or_elim (same_sail s b) false Q g (λ k. absurd (cc)) h
-group_push b s (x ∷ xs) Q f g h = or_elim (same_sail x b) _ Q (λ k. f (or_left (same_sail x b) _ k)) (λ k. group_push b s xs Q (λ m. f (or_right (same_sail x b) _ m)) g k) h
+group_push b s (x ∷ xs) Q f g h =
+    or_elim (same_sail x b) _ Q (λ k. f (or_left (same_sail x b) _ k))
+    (λ k. group_push b s xs Q (λ m. f (or_right (same_sail x b) _ m)) g k) h
 
-in_last : (b s : Sail) (o : List (List Sail)) (Q : Type 0) → (stands_in same_sail b o ≡ true → Q) → (same_sail s b ≡ true → Q) → stands_in same_sail b (with_last same_sail o s) ≡ true → Q
-in_last b s [] Q f g h = or_elim (in_group same_sail b (s ∷ [])) false Q (λ k. or_elim (same_sail s b) false Q g (λ m. absurd (cc)) k) (λ k. absurd (cc)) h
-in_last b s (x ∷ xs) Q f g h = or_elim (in_group same_sail b x) _ Q (λ k. f (or_left (in_group same_sail b x) _ k)) (λ k. in_last b s xs Q (λ m. f (or_right (in_group same_sail b x) _ m)) g k) h
+in_last : (b s : Sail) (o : List (List Sail)) (Q : Type 0) → (stands_in same_sail b o ≡ true → Q)
+    → (same_sail s b ≡ true → Q) → stands_in same_sail b (with_last same_sail o s) ≡ true → Q
+in_last b s [] Q f g h =
+    or_elim (in_group same_sail b (s ∷ [])) false Q
+    (λ k. or_elim (same_sail s b) false Q g (λ m. absurd (cc)) k) (λ k. absurd (cc)) h
+in_last b s (x ∷ xs) Q f g h =
+    or_elim (in_group same_sail b x) _ Q (λ k. f (or_left (in_group same_sail b x) _ k))
+    (λ k. in_last b s xs Q (λ m. f (or_right (in_group same_sail b x) _ m)) g k) h
 
-in_joined : (b s other : Sail) (o : List (List Sail)) (Q : Type 0) → (stands_in same_sail b o ≡ true → Q) → (same_sail s b ≡ true → Q) → stands_in same_sail b (joined same_sail o s other) ≡ true → Q
+in_joined : (b s other : Sail) (o : List (List Sail)) (Q : Type 0)
+    → (stands_in same_sail b o ≡ true → Q) → (same_sail s b ≡ true → Q)
+    → stands_in same_sail b (joined same_sail o s other) ≡ true → Q
 in_joined b s other [] Q f g h = f h
-in_joined b s other (x ∷ xs) Q f g h = by (in_group same_sail other x) h (in_joined b s other xs Q (λ m. f (or_right (in_group same_sail b x) _ m)) g)
+in_joined b s other (x ∷ xs) Q f g h =
+    by (in_group same_sail other x) h
+    (in_joined b s other xs Q (λ m. f (or_right (in_group same_sail b x) _ m)) g)
   where
-    by : (t : Bool) → (in_group same_sail b (cond t (x ++ s ∷ []) x) || stands_in same_sail b (joined same_sail xs s other)) ≡ true → (stands_in same_sail b (joined same_sail xs s other) ≡ true → Q) → Q
-    by true k rest = or_elim (in_group same_sail b (x ++ s ∷ [])) _ Q (λ m. group_push b s x Q (λ n. f (or_left (in_group same_sail b x) _ n)) g m) rest k
-    by false k rest = or_elim (in_group same_sail b x) _ Q (λ m. f (or_left (in_group same_sail b x) _ m)) rest k
+    by : (t : Bool)
+        → (in_group same_sail b (cond t (x ++ s ∷ []) x)
+        || stands_in same_sail b (joined same_sail xs s other)) ≡ true
+        → (stands_in same_sail b (joined same_sail xs s other) ≡ true → Q) → Q
+    by true k rest =
+        or_elim (in_group same_sail b (x ++ s ∷ [])) _ Q
+        (λ m. group_push b s x Q (λ n. f (or_left (in_group same_sail b x) _ n)) g m) rest k
+    by false k rest =
+        or_elim (in_group same_sail b x) _ Q (λ m. f (or_left (in_group same_sail b x) _ m)) rest k
 
-in_ahead : (b s other : Sail) (o : List (List Sail)) (Q : Type 0) → (stands_in same_sail b o ≡ true → Q) → (same_sail s b ≡ true → Q) → stands_in same_sail b (with_ahead same_sail o s other) ≡ true → Q
+in_ahead : (b s other : Sail) (o : List (List Sail)) (Q : Type 0)
+    → (stands_in same_sail b o ≡ true → Q) → (same_sail s b ≡ true → Q)
+    → stands_in same_sail b (with_ahead same_sail o s other) ≡ true → Q
 in_ahead b s other [] Q f g h = f h
-in_ahead b s other (x ∷ xs) Q f g h = by (in_group same_sail other x) h (in_ahead b s other xs Q (λ m. f (or_right (in_group same_sail b x) _ m)) g)
+in_ahead b s other (x ∷ xs) Q f g h =
+    by (in_group same_sail other x) h
+    (in_ahead b s other xs Q (λ m. f (or_right (in_group same_sail b x) _ m)) g)
   where
-    by : (t : Bool) → stands_in same_sail b (cond t ((s ∷ []) ∷ x ∷ []) (x ∷ []) ++ with_ahead same_sail xs s other) ≡ true → (stands_in same_sail b (with_ahead same_sail xs s other) ≡ true → Q) → Q
-    by true k rest = or_elim (in_group same_sail b (s ∷ [])) _ Q (λ m. or_elim (same_sail s b) false Q g (λ n. absurd (cc)) m) (λ m. or_elim (in_group same_sail b x) _ Q (λ n. f (or_left (in_group same_sail b x) _ n)) rest m) k
-    by false k rest = or_elim (in_group same_sail b x) _ Q (λ m. f (or_left (in_group same_sail b x) _ m)) rest k
+    by : (t : Bool)
+        → stands_in same_sail b (cond t ((s ∷ []) ∷ x ∷ []) (x ∷ [])
+        ++ with_ahead same_sail xs s other) ≡ true
+        → (stands_in same_sail b (with_ahead same_sail xs s other) ≡ true → Q) → Q
+    by true k rest =
+        or_elim (in_group same_sail b (s ∷ [])) _ Q
+        (λ m. or_elim (same_sail s b) false Q g (λ n. absurd (cc)) m)
+        (λ m. or_elim (in_group same_sail b x) _ Q (λ n. f (or_left (in_group same_sail b x) _ n))
+        rest m) k
+    by false k rest =
+        or_elim (in_group same_sail b x) _ Q (λ m. f (or_left (in_group same_sail b x) _ m)) rest k
 
-group_kept : (p : Sail → Bool) (b : Sail) (g : List Sail) → in_group same_sail b (filter p g) ≡ true → in_group same_sail b g ≡ true
+group_kept : (p : Sail → Bool) (b : Sail) (g : List Sail) → in_group same_sail b (filter p g) ≡ true
+    → in_group same_sail b g ≡ true
 group_kept p b [] h = h
 group_kept p b (x ∷ xs) h = by (p x) h (group_kept p b xs)
   where
-    by : (t : Bool) → in_group same_sail b (cond t (x ∷ filter p xs) (filter p xs)) ≡ true → (in_group same_sail b (filter p xs) ≡ true → in_group same_sail b xs ≡ true) → in_group same_sail b (x ∷ xs) ≡ true
-    by true k rest = or_elim (same_sail x b) _ _ (or_left (same_sail x b) _) (λ m. or_right (same_sail x b) _ (rest m)) k
+    by : (t : Bool) → in_group same_sail b (cond t (x ∷ filter p xs) (filter p xs)) ≡ true
+        → (in_group same_sail b (filter p xs) ≡ true → in_group same_sail b xs ≡ true)
+        → in_group same_sail b (x ∷ xs) ≡ true
+    by true k rest =
+        or_elim (same_sail x b) _ _ (or_left (same_sail x b) _)
+        (λ m. or_right (same_sail x b) _ (rest m)) k
     by false k rest = or_right (same_sail x b) _ (rest k)
 
-in_without : (b s : Sail) (o : List (List Sail)) → stands_in same_sail b (without same_sail o s) ≡ true → stands_in same_sail b o ≡ true
+in_without : (b s : Sail) (o : List (List Sail))
+    → stands_in same_sail b (without same_sail o s) ≡ true → stands_in same_sail b o ≡ true
 in_without b s [] h = h
-in_without b s (x ∷ xs) h = by (is_empty (filter (λ o. not (same_sail o s)) x)) h (in_without b s xs)
+in_without b s (x ∷ xs) h =
+    by (is_empty (filter (λ o. not (same_sail o s)) x)) h (in_without b s xs)
   where
-    by : (t : Bool) → stands_in same_sail b (cond (not t) (filter (λ o. not (same_sail o s)) x ∷ without same_sail xs s) (without same_sail xs s)) ≡ true → (stands_in same_sail b (without same_sail xs s) ≡ true → stands_in same_sail b xs ≡ true) → stands_in same_sail b (x ∷ xs) ≡ true
+    by : (t : Bool)
+        → stands_in same_sail b
+        (cond (not t) (filter (λ o. not (same_sail o s)) x ∷ without same_sail xs s)
+        (without same_sail xs s)) ≡ true
+        → (stands_in same_sail b (without same_sail xs s) ≡ true → stands_in same_sail b xs ≡ true)
+        → stands_in same_sail b (x ∷ xs) ≡ true
     by true k rest = or_right (in_group same_sail b x) _ (rest k)
-    by false k rest = or_elim (in_group same_sail b (filter (λ o. not (same_sail o s)) x)) _ _ (λ m. or_left (in_group same_sail b x) _ (group_kept (λ o. not (same_sail o s)) b x m)) (λ m. or_right (in_group same_sail b x) _ (rest m)) k
+    by false k rest =
+        or_elim (in_group same_sail b (filter (λ o. not (same_sail o s)) x)) _ _
+        (λ m. or_left (in_group same_sail b x) _ (group_kept (λ o. not (same_sail o s)) b x m))
+        (λ m. or_right (in_group same_sail b x) _ (rest m)) k
 
 -- ---- the journal after an accepted command
 
-entered_one : (boats : List Sail) (s b : Sail) → list_any (same_sail s) boats ≡ true → same_sail s b ≡ true → list_any (same_sail b) boats ≡ true
+entered_one : (boats : List Sail) (s b : Sail) → list_any (same_sail s) boats ≡ true
+    → same_sail s b ≡ true → list_any (same_sail b) boats ≡ true
 entered_one boats s b h e = ap (λ x. list_any (same_sail x) boats) (sym (same_is s b e)) ∙ h
 
-order_more : (journal : Journal) (entry : EntryParts) (c : Command) (race : ℕ) → entry.command ≡ c → order (journal ++ entry ∷ []) race ≡ cond (names_race race c) (order_after (order journal race) c) (order journal race)
-order_more journal entry c race is = ap order_by (race_commands_more journal entry race) ∙ ap (λ d. order_by (race_commands journal race ++ cond (names_race race d) (d ∷ []) [])) is ∙ by (names_race race c)
+order_more : (journal : Journal) (entry : EntryParts) (c : Command) (race : ℕ) → entry.command ≡ c
+    → order (journal ++ entry ∷ []) race
+    ≡ cond (names_race race c) (order_after (order journal race) c) (order journal race)
+order_more journal entry c race is = ap order_by (race_commands_more journal entry race)
+    ∙ ap (λ d. order_by (race_commands journal race ++ cond (names_race race d) (d ∷ []) [])) is
+    ∙ by (names_race race c)
   where
-    by : (t : Bool) → order_by (race_commands journal race ++ cond t (c ∷ []) []) ≡ cond t (order_after (order journal race) c) (order journal race)
+    by : (t : Bool) → order_by (race_commands journal race ++ cond t (c ∷ []) [])
+        ≡ cond t (order_after (order journal race) c) (order journal race)
     by true = fold_push order_after [] (race_commands journal race) c
     by false = ap order_by (append-nil (race_commands journal race))
 
 -- who stands in an order after the command is entered
-stands_entered : (journal : Journal) → IsOrderly journal → (c : Command) (race : ℕ) → MayStep journal c → (b : Sail) → stands_in same_sail b (order_after (order journal race) c) ≡ true → is_entered journal b ≡ true
-stands_entered journal o (Finish r s) race may b h = in_last b s (order journal race) _ (o.known race b) (entered_one (entered journal) s b may.1) h
-stands_entered journal o (Tie r s other) race may b h = in_joined b s other (order journal race) _ (o.known race b) (entered_one (entered journal) s b may.1) h
-stands_entered journal o (Before r s other) race may b h = in_ahead b s other (order journal race) _ (o.known race b) (entered_one (entered journal) s b may.1) h
-stands_entered journal o (Strike r s) race may b h = o.known race b (in_without b s (order journal race) h)
+stands_entered : (journal : Journal) → IsOrderly journal → (c : Command) (race : ℕ)
+    → MayStep journal c → (b : Sail) → stands_in same_sail b (order_after (order journal race) c)
+    ≡ true → is_entered journal b ≡ true
+stands_entered journal o (Finish r s) race may b h =
+    in_last b s (order journal race) _ (o.known race b) (entered_one (entered journal) s b may.1) h
+stands_entered journal o (Tie r s other) race may b h =
+    in_joined b s other (order journal race) _ (o.known race b)
+    (entered_one (entered journal) s b may.1) h
+stands_entered journal o (Before r s other) race may b h =
+    in_ahead b s other (order journal race) _ (o.known race b)
+    (entered_one (entered journal) s b may.1) h
+stands_entered journal o (Strike r s) race may b h =
+    o.known race b (in_without b s (order journal race) h)
 stands_entered journal o (Enter s) race may b h = o.known race b h
 stands_entered journal o (Mark r s code) race may b h = o.known race b h
 stands_entered journal o (Penalise r s kind) race may b h = o.known race b h
@@ -97,11 +162,14 @@ stands_entered journal o (Score r) race may b h = o.known race b h
 stands_entered journal o (Unscore r) race may b h = o.known race b h
 
 -- nobody else is decided about
-not_about : (boats : List Sail) (s b : Sail) (t : Bool) → list_any (same_sail s) boats ≡ true → list_any (same_sail b) boats ≡ false → same_sail b s ≡ t → t ≡ false
-not_about boats s b true h out e = let in_it : list_any (same_sail b) boats ≡ true = ap (λ x. list_any (same_sail x) boats) (same_is b s e) ∙ h in absurd (cc)
+not_about : (boats : List Sail) (s b : Sail) (t : Bool) → list_any (same_sail s) boats ≡ true
+    → list_any (same_sail b) boats ≡ false → same_sail b s ≡ t → t ≡ false
+not_about boats s b true h out e = let in_it : list_any (same_sail b) boats ≡ true =
+    ap (λ x. list_any (same_sail x) boats) (same_is b s e) ∙ h in absurd (cc)
 not_about boats s b false h out e = refl
 
-undecided : (journal : Journal) (c : Command) → MayStep journal c → (b : Sail) → is_entered journal b ≡ false → decides b c ≡ false
+undecided : (journal : Journal) (c : Command) → MayStep journal c → (b : Sail)
+    → is_entered journal b ≡ false → decides b c ≡ false
 undecided journal (Mark r s code) may b out = not_about (entered journal) s b _ may.1 out refl
 undecided journal (Penalise r s kind) may b out = not_about (entered journal) s b _ may.1 out refl
 undecided journal (Redress r s redress) may b out = not_about (entered journal) s b _ may.1 out refl
@@ -114,74 +182,133 @@ undecided journal (Strike r s) may b out = refl
 undecided journal (Score r) may b out = refl
 undecided journal (Unscore r) may b out = refl
 
-held_more : (journal : Journal) (entry : EntryParts) (c : Command) (race : ℕ) (b : Sail) → entry.command ≡ c → decides b c ≡ false → held (journal ++ entry ∷ []) race b ≡ held journal race b
-held_more journal entry c race b is none = ap (λ cs. held_from cs b) (race_commands_more journal entry race) ∙ ap (λ d. held_from (race_commands journal race ++ cond (names_race race d) (d ∷ []) []) b) is ∙ by (names_race race c)
+held_more : (journal : Journal) (entry : EntryParts) (c : Command) (race : ℕ) (b : Sail)
+    → entry.command ≡ c → decides b c ≡ false
+    → held (journal ++ entry ∷ []) race b ≡ held journal race b
+held_more journal entry c race b is none =
+    ap (λ cs. held_from cs b) (race_commands_more journal entry race)
+    ∙ ap (λ d. held_from (race_commands journal race ++ cond (names_race race d) (d ∷ []) []) b) is
+    ∙ by (names_race race c)
   where
-    by : (t : Bool) → held_from (race_commands journal race ++ cond t (c ∷ []) []) b ≡ held journal race b
+    by : (t : Bool) → held_from (race_commands journal race ++ cond t (c ∷ []) []) b
+        ≡ held journal race b
     by true = others_hold (race_commands journal race) c b none
     by false = ap (λ cs. held_from cs b) (append-nil (race_commands journal race))
 
-module _ (journal : Journal) (o : IsOrderly journal) (entry : EntryParts) (c : Command) (is : entry.command ≡ c) (may : MayStep journal c) where
+module _ (journal : Journal) (o : IsOrderly journal) (entry : EntryParts) (c : Command)
+    (is : entry.command ≡ c) (may : MayStep journal c) where
   orderly_same : sail_entered c ≡ None → IsOrderly (journal ++ entry ∷ [])
   orderly_same none =
-      let boats : entered (journal ++ entry ∷ []) ≡ entered journal = entered_more journal entry ∙ rw (is, none) (append-nil _) in
-      let long : length (entered (journal ++ entry ∷ [])) ≡ length (entered journal) = ap length boats in
+      let boats : entered (journal ++ entry ∷ []) ≡ entered journal = entered_more journal entry
+      ∙ rw (is, none) (append-nil _) in
+      let long : length (entered (journal ++ entry ∷ [])) ≡ length (entered journal) =
+      ap length boats in
       record {
         few = omega (arith, o.few, long);
-        apart = λ i j d h k. ap (λ xs. same_sail (get_or xs j d) (get_or xs i d)) boats ∙ o.apart i j d h (omega (arith, long));
-        known = λ race b h. ap (λ xs. list_any (same_sail b) xs) boats ∙ by race b (names_race race c) (sym (ap (stands_in same_sail b) (order_more journal entry c race is)) ∙ h);
-        nothing = λ race b out. (let before : is_entered journal b ≡ false = sym (ap (λ xs. list_any (same_sail b) xs) boats) ∙ out in held_more journal entry c race b is (undecided journal c may b before) ∙ o.nothing race b before);
+        apart = λ i j d h k. ap (λ xs. same_sail (get_or xs j d) (get_or xs i d)) boats
+            ∙ o.apart i j d h (omega (arith, long));
+        known = λ race b h. ap (λ xs. list_any (same_sail b) xs) boats
+            ∙ by race b (names_race race c)
+            (sym (ap (stands_in same_sail b) (order_more journal entry c race is)) ∙ h);
+        nothing = λ race b out. (let before : is_entered journal b
+            ≡ false = sym (ap (λ xs. list_any (same_sail b) xs) boats) ∙ out in
+            held_more journal entry c race b is (undecided journal c may b before)
+            ∙ o.nothing race b before);
       }
     where
-      by : (race : ℕ) (b : Sail) (t : Bool) → stands_in same_sail b (cond t (order_after (order journal race) c) (order journal race)) ≡ true → is_entered journal b ≡ true
+      by : (race : ℕ) (b : Sail) (t : Bool)
+          → stands_in same_sail b (cond t (order_after (order journal race) c) (order journal race))
+          ≡ true → is_entered journal b ≡ true
       by race b true h = stands_entered journal o c race may b h
       by race b false h = o.known race b h
 
-each_push : (xs : List Sail) (s x : Sail) → ((j : ℕ) (d : Sail) → j < length xs → same_sail (get_or xs j d) x ≡ false) → same_sail s x ≡ false → (j : ℕ) (d : Sail) → j < length (xs ++ s ∷ []) → same_sail (get_or (xs ++ s ∷ []) j d) x ≡ false
+each_push : (xs : List Sail) (s x : Sail)
+    → ((j : ℕ) (d : Sail) → j < length xs → same_sail (get_or xs j d) x ≡ false)
+    → same_sail s x ≡ false → (j : ℕ) (d : Sail) → j < length (xs ++ s ∷ [])
+    → same_sail (get_or (xs ++ s ∷ []) j d) x ≡ false
 each_push [] s x each last zero d h = last
 each_push [] s x each last (suc j) d h = absurd (omega arith)
 each_push (y ∷ ys) s x each last zero d h = each 0 d (omega arith)
-each_push (y ∷ ys) s x each last (suc j) d h = each_push ys s x (λ k e m. each (suc k) e (omega arith)) last j d (omega arith)
+each_push (y ∷ ys) s x each last (suc j) d h =
+    each_push ys s x (λ k e m. each (suc k) e (omega arith)) last j d (omega arith)
 
 or_false : (a b : Bool) → (a || b) ≡ false → (a ≡ false) × (b ≡ false)
 or_false true b h = cc
 or_false false b h = (refl, h)
 
-apart_push : (xs : List Sail) (s : Sail) → ((i j : ℕ) (d : Sail) → i < j → j < length xs → same_sail (get_or xs j d) (get_or xs i d) ≡ false) → list_any (same_sail s) xs ≡ false → (i j : ℕ) (d : Sail) → i < j → j < length (xs ++ s ∷ []) → same_sail (get_or (xs ++ s ∷ []) j d) (get_or (xs ++ s ∷ []) i d) ≡ false
+apart_push : (xs : List Sail) (s : Sail)
+    → ((i j : ℕ) (d : Sail) → i < j → j < length xs
+    → same_sail (get_or xs j d) (get_or xs i d) ≡ false) → list_any (same_sail s) xs ≡ false
+    → (i j : ℕ) (d : Sail) → i < j → j < length (xs ++ s ∷ [])
+    → same_sail (get_or (xs ++ s ∷ []) j d) (get_or (xs ++ s ∷ []) i d) ≡ false
 apart_push [] s apart out i j d h k = absurd (omega arith)
 apart_push (x ∷ xs) s apart out i zero d h k = absurd (omega arith)
-apart_push (x ∷ xs) s apart out zero (suc j) d h k = each_push xs s x (λ m e l. apart 0 (suc m) e (omega arith) (omega arith)) (or_false (same_sail s x) _ out).0 j d (omega arith)
-apart_push (x ∷ xs) s apart out (suc i) (suc j) d h k = apart_push xs s (λ m n e l q. apart (suc m) (suc n) e (omega arith) (omega arith)) (or_false (same_sail s x) _ out).1 i j d (omega arith) (omega arith)
+apart_push (x ∷ xs) s apart out zero (suc j) d h k =
+    each_push xs s x (λ m e l. apart 0 (suc m) e (omega arith) (omega arith))
+    (or_false (same_sail s x) _ out).0 j d (omega arith)
+apart_push (x ∷ xs) s apart out (suc i) (suc j) d h k =
+    apart_push xs s (λ m n e l q. apart (suc m) (suc n) e (omega arith) (omega arith))
+    (or_false (same_sail s x) _ out).1 i j d (omega arith) (omega arith)
 
-any_push : (p : Sail → Bool) (xs : List Sail) (s : Sail) → list_any p (xs ++ s ∷ []) ≡ (list_any p xs || (p s || false))
+any_push : (p : Sail → Bool) (xs : List Sail) (s : Sail)
+    → list_any p (xs ++ s ∷ []) ≡ (list_any p xs || (p s || false))
 any_push p [] s = refl
-any_push p (x ∷ xs) s = ap (λ t. p x || t) (any_push p xs s) ∙ assoc (p x) (list_any p xs) (p s || false)
+any_push p (x ∷ xs) s = ap (λ t. p x || t) (any_push p xs s)
+    ∙ assoc (p x) (list_any p xs) (p s || false)
   where
     assoc : (a b d : Bool) → (a || (b || d)) ≡ ((a || b) || d)
     assoc true b d = refl
     assoc false b d = refl
 
-orderly_enter : (journal : Journal) → IsOrderly journal → (entry : EntryParts) (s : Sail) → entry.command ≡ Enter s → is_entered journal s ≡ false → length (entered journal) < 200 → IsOrderly (journal ++ entry ∷ [])
+orderly_enter : (journal : Journal) → IsOrderly journal → (entry : EntryParts) (s : Sail)
+    → entry.command ≡ Enter s → is_entered journal s ≡ false
+    → length (entered journal) < limits.boats → IsOrderly (journal ++ entry ∷ [])
 orderly_enter journal o entry s is out room =
-    let boats : entered (journal ++ entry ∷ []) ≡ entered journal ++ s ∷ [] = entered_more journal entry ∙ rw is refl in
-    let long : length (entered (journal ++ entry ∷ [])) ≡ length (entered journal) + 1 = ap length boats ∙ length-append (entered journal) (s ∷ []) in
-    let longer : length (entered journal ++ s ∷ []) ≡ length (entered journal) + 1 = length-append (entered journal) (s ∷ []) in
+    let boats : entered (journal ++ entry ∷ []) ≡ entered journal ++ s ∷ [] =
+    entered_more journal entry ∙ rw is refl in
+    let long : length (entered (journal ++ entry ∷ [])) ≡ length (entered journal) + 1 =
+    ap length boats ∙ length-append (entered journal) (s ∷ []) in
+    let longer : length (entered journal ++ s ∷ []) ≡ length (entered journal) + 1 =
+    length-append (entered journal) (s ∷ []) in
     record {
       few = omega (arith, long, room);
-      apart = λ i j d h k. ap (λ xs. same_sail (get_or xs j d) (get_or xs i d)) boats ∙ apart_push (entered journal) s o.apart out i j d h (omega (arith, long, longer));
-      known = λ race b h. ap (λ xs. list_any (same_sail b) xs) boats ∙ any_push (same_sail b) (entered journal) s ∙ or_left (is_entered journal b) _ (o.known race b (sym (ap (stands_in same_sail b) (order_more journal entry (Enter s) race is)) ∙ h));
-      nothing = λ race b h. (let before : is_entered journal b ≡ false = (or_false (is_entered journal b) _ (sym (ap (λ xs. list_any (same_sail b) xs) boats ∙ any_push (same_sail b) (entered journal) s) ∙ h)).0 in held_more journal entry (Enter s) race b is refl ∙ o.nothing race b before);
+      apart = λ i j d h k. ap (λ xs. same_sail (get_or xs j d) (get_or xs i d)) boats
+          ∙ apart_push (entered journal) s o.apart out i j d h (omega (arith, long, longer));
+      known = λ race b h. ap (λ xs. list_any (same_sail b) xs) boats
+          ∙ any_push (same_sail b) (entered journal) s
+          ∙ or_left (is_entered journal b) _
+          (o.known race b
+          (sym (ap (stands_in same_sail b) (order_more journal entry (Enter s) race is)) ∙ h));
+      nothing = λ race b h. (let before : is_entered journal b
+          ≡ false = (or_false (is_entered journal b) _
+          (sym (ap (λ xs. list_any (same_sail b) xs) boats
+          ∙ any_push (same_sail b) (entered journal) s) ∙ h)).0 in
+          held_more journal entry (Enter s) race b is refl ∙ o.nothing race b before);
     }
 
-pub orderly_more : (journal : Journal) → IsOrderly journal → (entry : EntryParts) (c : Command) → entry.command ≡ c → MayStep journal c → (sail_entered c ≢ None → length (entered journal) < 200) → IsOrderly (journal ++ entry ∷ [])
-orderly_more journal o entry (Enter s) is may room = orderly_enter journal o entry s is may (room (λ h. cc))
-orderly_more journal o entry (Finish r s) is may room = orderly_same journal o entry (Finish r s) is may refl
-orderly_more journal o entry (Tie r s other) is may room = orderly_same journal o entry (Tie r s other) is may refl
-orderly_more journal o entry (Before r s other) is may room = orderly_same journal o entry (Before r s other) is may refl
-orderly_more journal o entry (Strike r s) is may room = orderly_same journal o entry (Strike r s) is may refl
-orderly_more journal o entry (Mark r s code) is may room = orderly_same journal o entry (Mark r s code) is may refl
-orderly_more journal o entry (Penalise r s kind) is may room = orderly_same journal o entry (Penalise r s kind) is may refl
-orderly_more journal o entry (Redress r s redress) is may room = orderly_same journal o entry (Redress r s redress) is may refl
-orderly_more journal o entry (Clear r s) is may room = orderly_same journal o entry (Clear r s) is may refl
-orderly_more journal o entry (Score r) is may room = orderly_same journal o entry (Score r) is may refl
-orderly_more journal o entry (Unscore r) is may room = orderly_same journal o entry (Unscore r) is may refl
+pub orderly_more : (journal : Journal) → IsOrderly journal → (entry : EntryParts) (c : Command)
+    → entry.command ≡ c → MayStep journal c
+    → (sail_entered c ≢ None → length (entered journal) < limits.boats)
+    → IsOrderly (journal ++ entry ∷ [])
+orderly_more journal o entry (Enter s) is may room =
+    orderly_enter journal o entry s is may (room (λ h. cc))
+orderly_more journal o entry (Finish r s) is may room =
+    orderly_same journal o entry (Finish r s) is may refl
+orderly_more journal o entry (Tie r s other) is may room =
+    orderly_same journal o entry (Tie r s other) is may refl
+orderly_more journal o entry (Before r s other) is may room =
+    orderly_same journal o entry (Before r s other) is may refl
+orderly_more journal o entry (Strike r s) is may room =
+    orderly_same journal o entry (Strike r s) is may refl
+orderly_more journal o entry (Mark r s code) is may room =
+    orderly_same journal o entry (Mark r s code) is may refl
+orderly_more journal o entry (Penalise r s kind) is may room =
+    orderly_same journal o entry (Penalise r s kind) is may refl
+orderly_more journal o entry (Redress r s redress) is may room =
+    orderly_same journal o entry (Redress r s redress) is may refl
+orderly_more journal o entry (Clear r s) is may room =
+    orderly_same journal o entry (Clear r s) is may refl
+orderly_more journal o entry (Score r) is may room =
+    orderly_same journal o entry (Score r) is may refl
+orderly_more journal o entry (Unscore r) is may room =
+    orderly_same journal o entry (Unscore r) is may refl

@@ -90,28 +90,6 @@ is_jury _ = false
 
 -- ---- the refusals of each command, in their order
 
--- of Finish: a new group with the boat
-abbrev pub place_refusal : Journal → ℕ → Sail → Option Refusal
-place_refusal journal race boat =
-    if not (is_entered journal boat) then Some NotEntered
-    else if is_placed journal race boat then Some AlreadyPlaced
-    else None
-
--- of Tie and Before: a place by that of another boat
-abbrev pub place_by_refusal : Journal → ℕ → Sail → Sail → Option Refusal
-place_by_refusal journal race boat other =
-    if not (is_entered journal boat && is_entered journal other) then Some NotEntered
-    else if is_placed journal race boat then Some AlreadyPlaced
-    else if not (is_placed journal race other) then Some NotPlaced
-    else None
-
--- of Mark and Redress
-abbrev pub decision_refusal : Journal → ℕ → Sail → Option Refusal
-decision_refusal journal race boat =
-    if not (is_entered journal boat) then Some NotEntered
-    else if is_decided (held journal race boat) then Some Decided
-    else None
-
 -- of Enter: a boat is entered once (RRS A2.2), while there is room for her
 abbrev pub enter_refusal : Limits → Journal → Sail → Option Refusal
 enter_refusal most journal boat =
@@ -119,11 +97,33 @@ enter_refusal most journal boat =
     else if nat_le most.boats (length (entered journal)) then Some EntryFull
     else None
 
+-- of Finish: a boat finishes once in a race (RRS A3)
+abbrev pub place_refusal : Journal → ℕ → Sail → Option Refusal
+place_refusal journal race boat =
+    if not (is_entered journal boat) then Some NotEntered
+    else if is_placed journal race boat then Some AlreadyPlaced
+    else None
+
+-- of Tie and Before: a place by that of another boat (RRS A3, A7)
+abbrev pub place_by_refusal : Journal → ℕ → Sail → Sail → Option Refusal
+place_by_refusal journal race boat other =
+    if not (is_entered journal boat && is_entered journal other) then Some NotEntered
+    else if is_placed journal race boat then Some AlreadyPlaced
+    else if not (is_placed journal race other) then Some NotPlaced
+    else None
+
 -- of Strike: only who stands in the order can be taken out of it
 abbrev pub strike_refusal : Journal → ℕ → Sail → Option Refusal
 strike_refusal journal race boat =
     if not (is_entered journal boat) then Some NotEntered
     else if not (is_placed journal race boat) then Some NotPlaced
+    else None
+
+-- of Mark and Redress: a decision of the protest committee stands (RRS A5.1)
+abbrev pub decision_refusal : Journal → ℕ → Sail → Option Refusal
+decision_refusal journal race boat =
+    if not (is_entered journal boat) then Some NotEntered
+    else if is_decided (held journal race boat) then Some Decided
     else None
 
 -- of Penalise: at most nine ZFP (RRS 30.2) and nine SCP (RRS 44.3(c)), and none after a decision
@@ -153,8 +153,8 @@ score_refusal journal race =
 abbrev pub unscore_refusal : Journal → ℕ → Option Refusal
 unscore_refusal journal race = if is_scored journal race then None else Some NotScored
 
--- of each command; no case reads the series rules yet: which commands a series takes hangs on its
--- rules, and a later rule of refusal will read them
+-- of each command; the series rules are an argument because a refusal may hang on them, and none of
+-- these does
 abbrev pub command_refusal : Limits → RulesParts → Journal → Role → Command → Option Refusal
 command_refusal most rules journal role (Enter sail) = enter_refusal most journal sail
 command_refusal most rules journal role (Finish race sail) = place_refusal journal race sail
@@ -172,8 +172,7 @@ command_refusal most rules journal role (Clear race sail) = clear_refusal journa
 command_refusal most rules journal role (Score race) = score_refusal journal race
 command_refusal most rules journal role (Unscore race) = unscore_refusal journal race
 
--- why the entry is refused by the journal, or nothing; the series rules are handed on for a later
--- rule of refusal, as no command's refusal reads them yet
+-- why the entry is refused by the journal, or nothing
 abbrev pub refusal : Limits → RulesParts → Journal → EntryParts → Option Refusal
 refusal most rules journal entry =
     if nat_le most.entries (length journal) then Some JournalFull
@@ -187,21 +186,13 @@ abbrev pub IsRefusal : Option Refusal → Refusal → Type 0
 IsRefusal (Some due) why = why ≡ due
 IsRefusal None why = why ≡ NoMemory
 
--- each entry is accepted by those before it; the series rules are for `refusal`, which does not
--- read them yet
+-- each entry is accepted by those before it
 abbrev pub accepts_all : Limits → RulesParts → Journal → List EntryParts → Bool
 accepts_all most rules before [] = true
 accepts_all most rules before (entry ∷ entries) =
     is_none (refusal most rules before entry) &&
     accepts_all most rules (before ++ entry ∷ []) entries
 
--- a journal that a board may hold: each entry was accepted when it came; the series rules will
--- matter once a rule of refusal reads them
+-- a journal that a board may hold: each entry was accepted when it came
 abbrev pub is_lawful : Limits → RulesParts → Journal → Bool
 is_lawful most rules journal = accepts_all most rules [] journal
-
--- the same without order of reading: whatever stands before an entry accepts it
-pub record IsLawful (limits : Limits) (rules : RulesParts) (journal : Journal) : Type 0 where
-  pub accepted : (before after : Journal) (entry : EntryParts) →
-      journal ≡ before ++ entry ∷ after →
-      refusal limits rules before entry ≡ None

@@ -13,6 +13,7 @@ use Rattle.regatta_scores.specs.RacePoints.{plain, race_of}
 use Rattle.regatta_scores.specs.Ranking.{Line, place}
 use Rattle.regatta_scores.specs.Standing as scores
 use Rattle.regatta_board.specs.declared.outcomes.Outcome.{Outcome}
+use Rattle.regatta_board.specs.Refusals.{limits}
 use Rattle.regatta_board.specs.Outcomes.{line, row, row_by}
 
 -- what is kept of a journal: the boats entered, and of each race its sheet and whether it counts
@@ -21,9 +22,9 @@ pub record Kept : Type 0 where
   pub sheets : List Sheet
   pub counts : List Bool
 
--- 40 races, at most 200 boats, all of them on each sheet
+-- 40 races, no more boats than may be entered, and all of them on each sheet
 pub record IsKept (kept : Kept) : Type 0 where
-  pub few : length kept.sails ≤ 200
+  pub few : length kept.sails ≤ limits.boats
   pub sheets : length kept.sheets ≡ 40
   pub counts : length kept.counts ≡ 40
   pub same : All (λ sheet. boats sheet ≡ length kept.sails) kept.sheets

@@ -1,10 +1,9 @@
--- Worked examples: every refusal.
-use Rattle.std.specs.Prelude.{◌≡◌, refl, false, List, [], ◌∷◌, Some, Err}
+-- Worked examples: the refusals of commands.
+use Rattle.std.specs.Prelude.{◌≡◌, refl, false, List, [], ◌∷◌, Err}
 use Rattle.regatta_terms.specs.declared.command.Code.TheVariants as code
 use Rattle.regatta_terms.specs.declared.command.PenaltyKind.TheVariants as kind
 use Rattle.regatta_terms.specs.declared.command.Redress.TheVariants as redress
 use Rattle.regatta_terms.specs.declared.command.Role.{Role}
-use Rattle.regatta_terms.specs.declared.command.Role.TheVariants as role
 use Rattle.regatta_terms.specs.declared.command.Command.{Command}
 use Rattle.regatta_terms.specs.declared.command.Command.TheVariants.{Enter, Finish, Tie, Strike}
 use Rattle.regatta_terms.specs.declared.command.Command.TheVariants.{Mark, Penalise, Redress, Clear}
@@ -16,37 +15,40 @@ use Rattle.regatta_terms.specs.declared.reply.Refusal.TheVariants.{NothingToClea
 use Rattle.regatta_terms.specs.declared.reply.Refusal.TheVariants.{NotScored, NoFinisher}
 use Rattle.regatta_scores.specs.declared.table.Abbrev.TheVariants as abbreviation
 use Rattle.regatta_scores.specs.Standing.{standing}
+use Rattle.regatta_scores.specs.WorkedStandings.{a, b, scorer, jury, default_rules, table, row}
+use Rattle.regatta_scores.specs.WorkedStandings.{marked}
 use Rattle.regatta_board.specs.Runs.{replies, journal_after}
-use Rattle.regatta_board.specs.Worked.{rules_with, A, B, ok, ok_alone, row, cell}
+use Rattle.regatta_board.specs.Worked.{ok, ok_alone}
 
--- each refusal of a command
+-- each refusal that one boat and one race can meet
 abbrev pub each_refusal_commands : List (Role × Command)
 each_refusal_commands =
-    (role.Scorer, Enter A)
-    ∷ (role.Scorer, Enter A)
-    ∷ (role.Scorer, Finish 1 B)
-    ∷ (role.Scorer, Tie 1 A A)
-    ∷ (role.Scorer, Strike 1 A)
-    ∷ (role.Scorer, Score 1)
-    ∷ (role.Scorer, Unscore 1)
-    ∷ (role.Scorer, Clear 1 A)
-    ∷ (role.Scorer, Finish 1 A)
-    ∷ (role.Scorer, Finish 1 A)
-    ∷ (role.Scorer, Tie 1 A A)
-    ∷ (role.Scorer, Score 1)
-    ∷ (role.Scorer, Score 1)
-    ∷ (role.Scorer, Mark 1 A code.Dsq)
-    ∷ (role.Jury, Mark 1 A code.Dsq)
-    ∷ (role.Jury, Redress 1 A redress.AllRaces)
-    ∷ (role.Jury, Penalise 1 A kind.Zfp)
-    ∷ (role.Scorer, Clear 1 A)
-    ∷ (role.Jury, Clear 1 A)
-    ∷ (role.Jury, Redress 1 A (redress.Points 25))
-    ∷ (role.Jury, Redress 1 A redress.AllRaces)
+    scorer (Enter a)
+    ∷ scorer (Enter a)
+    ∷ scorer (Finish 1 b)
+    ∷ scorer (Tie 1 a a)
+    ∷ scorer (Strike 1 a)
+    ∷ scorer (Score 1)
+    ∷ scorer (Unscore 1)
+    ∷ scorer (Clear 1 a)
+    ∷ scorer (Finish 1 a)
+    ∷ scorer (Finish 1 a)
+    ∷ scorer (Tie 1 a a)
+    ∷ scorer (Score 1)
+    ∷ scorer (Score 1)
+    ∷ scorer (Mark 1 a code.Dsq)
+    ∷ jury (Mark 1 a code.Dsq)
+    ∷ jury (Redress 1 a redress.AllRaces)
+    ∷ jury (Penalise 1 a kind.Zfp)
+    ∷ scorer (Clear 1 a)
+    ∷ jury (Clear 1 a)
+    ∷ jury (Redress 1 a (redress.Points 25))
+    ∷ jury (Redress 1 a redress.AllRaces)
     ∷ []
 
+-- what each of them is answered
 pub each_refusal_replies :
-    replies (rules_with (2 ∷ [])) [] each_refusal_commands
+    replies default_rules [] each_refusal_commands
     ≡ ok 1 1 false 0
     ∷ Err AlreadyEntered
     ∷ Err NotEntered
@@ -71,10 +73,8 @@ pub each_refusal_replies :
     ∷ []
 each_refusal_replies = refl
 
+-- and the standing that they leave
 pub each_refusal_table :
-    standing (rules_with (2 ∷ [])) (journal_after (rules_with (2 ∷ [])) [] each_refusal_commands)
-    ≡ record {
-      races = 1 ∷ [];
-      rows = row A 1 false 25 (cell 25 (Some abbreviation.Rdg) false ∷ []) ∷ [];
-    }
+    standing default_rules (journal_after default_rules [] each_refusal_commands)
+    ≡ table (1 ∷ []) (row a 1 false 25 (marked 25 abbreviation.Rdg ∷ []) ∷ [])
 each_refusal_table = refl

@@ -3,6 +3,7 @@ ghost use Rattle.std.specs.Prelude.{◌≡◌, ◌<◌, ◌++◌, ◌∷◌, [],
 ghost use Rattle.std.specs.Prelude.{position, false, IfOk};
 ghost use Rattle.std.specs.List.{list_any};
 ghost use Rattle.regatta_scores.specs.Journal.{same_sail};
+ghost use Rattle.regatta_board.specs.Refusals.{limits};
 
 use indexmap::IndexMap;
 use regatta_terms::Sail;
@@ -71,7 +72,7 @@ impl Boats {
 
     /// The list with one more boat, last.
     pub(crate) fn with(&self, boat: Sail) -> Result<Boats, AllocError>
-        requires few { length self.now < 200 }
+        requires few { length self.now < limits.boats }
         requires new { list_any (same_sail boat) self.now ≡ false }
         ensures { IfOk result (λ boats. boats ≡ self.now ++ boat ∷ []) }
     {

@@ -12,10 +12,12 @@ use regatta_terms::{Code, Rules, Sail, Tenths};
 use std::alloc::{AllocError, Global};
 
 /// What came of one boat in one race.
-#[derive(Clone, Copy, Debug, PartialEq, Eq)]
+#[derive(Clone, Copy)]
 pub struct Outcome {
+    /// Her points before redress.
     pub plain: Tenths,
     pub held: Held,
+    /// Whether she stands in the finishing order.
     pub placed: bool,
 }
 
@@ -32,7 +34,7 @@ fn items(alloc: Global, outcomes: &[Outcome]) -> Result<Vec<RowItem>, AllocError
         .collect(alloc)
 }
 
-/// Her points in each race.
+/// Her points in each race, with redress (RRS A9).
 #[tactic(auto, using(crate::proofs::Lengths::lengths))]
 fn points(alloc: Global, outcomes: &[Outcome]) -> Result<Points, AllocError>
     requires { length outcomes.now ≤ 40 }
@@ -42,7 +44,7 @@ fn points(alloc: Global, outcomes: &[Outcome]) -> Result<Points, AllocError>
     averages(alloc, &items(alloc, outcomes)?)
 }
 
-/// Whether the code is a disqualification that is not excludable.
+/// Whether the code is a disqualification that is not excludable (RRS 90.3(b)).
 fn is_dne(code: Option<Code>) -> bool
     ensures { result ≡ is_dne_of code }
 {
@@ -63,7 +65,7 @@ fn scores(alloc: Global, outcomes: &[Outcome], points: &[Tenths]) -> Result<Vec<
         .collect(alloc)
 }
 
-/// Which of her scores are excluded.
+/// Which of her scores are excluded (RRS A2.1).
 #[tactic(auto, using(crate::proofs::Lengths::lengths))]
 fn flags(
     alloc: Global,
@@ -97,6 +99,7 @@ pub(crate) fn line(
     BoatLine::new(alloc, points.as_slice(), flags.as_slice())
 }
 
+/// The abbreviation of a code (RRS A10).
 fn code_mark(code: Code) -> Abbrev
     ensures { result ≡ code_mark_of code }
 {
@@ -113,7 +116,7 @@ fn code_mark(code: Code) -> Abbrev
     }
 }
 
-/// The abbreviation in a cell.
+/// The abbreviation in a cell (RRS A10): RDG with redress, else the code, else ZFP, else SCP.
 #[tactic(auto, unfolding(crate::specs::Outcomes::mark))]
 fn mark(outcome: &Outcome) -> Option<Abbrev>
     ensures { result ≡ mark_of outcome.now }
@@ -131,6 +134,7 @@ fn mark(outcome: &Outcome) -> Option<Abbrev>
     }
 }
 
+/// A cell of the table.
 fn cell(outcome: &Outcome, points: Tenths, dropped: bool) -> Cell
     ensures { result ≡ cell_of outcome.now points dropped }
 {

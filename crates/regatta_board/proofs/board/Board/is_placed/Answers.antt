@@ -13,12 +13,16 @@ pub is_placed-requires-clause-known : goal.is_placed-requires-clause-known
 is_placed-requires-clause-known c =
     let b = c.self.inside in
     let is = c.self.invariant.0 in
-    let known : is_entered b.entries.items c.args.boat ≡ true = rw (← c.self.view_is) at c.requires in
+    let known : is_entered b.entries.items c.args.boat ≡ true =
+    rw (← c.self.view_is) at c.requires in
     known_is b.entries.items is.orderly b.kept is.keeps c.args.boat known
 
 pub returns : goal.returns
 returns c =
     let b = c.self.inside in
     let is = c.self.invariant.0 in
-    let known : is_entered b.entries.items c.args.boat ≡ true = rw (← c.self.view_is) at c.requires in
-    rw (← c.self.view_is) (c.is_placed.ensures.value ∙ placed_is b.entries.items is.orderly b.kept is.keeps c.args.race c.is_placed.ensures.range c.args.boat known)
+    let known : is_entered b.entries.items c.args.boat ≡ true =
+    rw (← c.self.view_is) at c.requires in
+    rw (← c.self.view_is) (c.is_placed.ensures.value
+    ∙ placed_is b.entries.items is.orderly b.kept is.keeps c.args.race c.is_placed.ensures.range
+    c.args.boat known)
