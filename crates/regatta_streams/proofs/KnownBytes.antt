@@ -1,13 +1,9 @@
 -- Known bytes over several reads and writes.
-use Rattle.std.proofs.Common.{refl, sym, ap, ◌∙◌, ◌≡◌, ℕ, List, [], ◌++◌, Option, Some, None, IfSome, length, take, drop, ◌-◌, ◌<◌, arith}
-use Rattle.std.proofs.lemmas.List.{append-nil, append_assoc, length-append, length-drop, take-append-drop}
+use Rattle.std.proofs.Common.{sym, ap, ◌∙◌, ◌≡◌, ℕ, List, ◌++◌, Option, Some, None, length, take, drop, ◌-◌}
+use Rattle.std.proofs.lemmas.List.{append_assoc, length-drop, take-append-drop}
 use Rattle.std.proofs.Math.Seq.{take-length, take-append_seam}
-use Rattle.std.specs.Io.KnownBytes.{Appends, Consumes, IsAtEnd, Keeps}
+use Rattle.std.specs.Io.KnownBytes.{Appends, Consumes, Keeps}
 use Rattle.regatta_streams.specs.Texts.{AppendsPrefix}
-
-pub appends-none : (a : Option (List ℕ)) → Appends a a []
-appends-none None = tt
-appends-none (Some xs) = sym (append-nil xs)
 
 pub appends-then : (a b c : Option (List ℕ)) (x y : List ℕ) → Appends a b x → Appends b c y → Appends a c (x ++ y)
 appends-then None b c x y h k = tt
@@ -21,33 +17,11 @@ appends-kept (Some xs) None c x h k = absurd h
 appends-kept (Some xs) (Some ys) None x h k = k
 appends-kept (Some xs) (Some ys) (Some zs) x h k = k ∙ h
 
-pub consumes-none : (a : Option (List ℕ)) → Consumes a a []
-consumes-none None = tt
-consumes-none (Some xs) = refl
-
 pub consumes-then : (a b c : Option (List ℕ)) (x y : List ℕ) → Consumes a b x → Consumes b c y → Consumes a c (x ++ y)
 consumes-then None b c x y h k = tt
 consumes-then (Some xs) None c x y h k = absurd h
 consumes-then (Some xs) (Some ys) None x y h k = k
 consumes-then (Some xs) (Some ys) (Some zs) x y h k = h ∙ ap (λ t. x ++ t) k ∙ sym (append_assoc x y zs)
-
-pub consumes-kept : (a b c : Option (List ℕ)) (x : List ℕ) → Consumes a b x → Keeps b c → Consumes a c x
-consumes-kept None b c x h k = tt
-consumes-kept (Some xs) None c x h k = absurd h
-consumes-kept (Some xs) (Some ys) None x h k = k
-consumes-kept (Some xs) (Some ys) (Some zs) x h k = h ∙ ap (λ t. x ++ t) (sym k)
-
--- what was read up to the end is all that there was
-pub all-consumed : (a b : Option (List ℕ)) (x : List ℕ) → Consumes a b x → IsAtEnd b → IfSome a (λ given. x ≡ given)
-all-consumed None b x h e = tt
-all-consumed (Some xs) None x h e = absurd h
-all-consumed (Some xs) (Some ys) x h e = sym (h ∙ ap (λ t. x ++ t) e ∙ append-nil x)
-
--- where so many bytes were read, there were no fewer
-pub no-fewer : (a b : Option (List ℕ)) (x : List ℕ) (limit : ℕ) → Consumes a b x → limit < length x → IfSome a (λ given. limit < length given)
-no-fewer None b x limit h e = tt
-no-fewer (Some xs) None x limit h e = absurd h
-no-fewer (Some xs) (Some ys) x limit h e = rw h (omega (arith, e, length-append x ys))
 
 pub rest_split : (n : ℕ) (xs : List ℕ) → xs ≡ take n xs ++ take (length xs - n) (drop n xs)
 rest_split n xs =

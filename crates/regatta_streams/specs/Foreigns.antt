@@ -1,7 +1,11 @@
 -- What a contract sees of a `Foreign`.
-use Rattle.std.specs.Prelude.{ℕ}
+use Rattle.std.specs.Prelude.{ℕ, List, Option}
 use Rattle.regatta_streams.specs.declared.foreign.Foreign.{Foreign}
 
 -- how many of its calls have failed
 abbrev pub failed_calls : {X : Type 0} → Foreign X → ℕ
 failed_calls stream = stream.failures.count
+
+-- the bytes that its reader still gives, or that its writer holds, where these are told
+abbrev pub inner_bytes : {X : Type 0} → (X → Option (List ℕ)) → Foreign X → Option (List ℕ)
+inner_bytes bytes stream = bytes stream.inner

@@ -27,7 +27,8 @@ after_read tape n = record tape { rest = drop n tape.rest; gives = tape.gives - 
 
 -- the tape once it took these bytes
 abbrev pub after_write : TapeParts → List ℕ → TapeParts
-after_write tape bytes = record tape { written = tape.written ++ bytes; takes = tape.takes - length bytes }
+after_write tape bytes =
+    record tape { written = tape.written ++ bytes; takes = tape.takes - length bytes }
 
 -- the tape once a call failed
 abbrev pub after_fault : TapeParts → TapeParts

@@ -139,10 +139,12 @@ unfolding line_of line_of_words command_of_words command_after
 quit = refl
 
 -- ---- points of redress
+
 -- what REDRESS 1 A and a last word ask for
 abbrev pub redress_line : List ℕ → Result Line LineFault
 redress_line how = line_of (codes "REDRESS 1 A " ++ how)
 
+-- what a line asks for that gives redress to A in race 1
 abbrev pub redress : Redress → Line
 redress r = Do (command.Redress 1 (codes "A") r)
 

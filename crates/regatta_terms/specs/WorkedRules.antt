@@ -10,10 +10,11 @@ use Rattle.regatta_terms.specs.Rules.{RulesParts, rules_of, rules_of_texts, excl
 abbrev pub rules : Absent → Option ℕ → List ℕ → Result RulesParts RulesFault
 rules absent scp thresholds = Ok (record { absent = absent; scp = scp; thresholds = thresholds })
 
--- what the texts a52 and 2 read as with this amount, and a52 with these thresholds
+-- what the texts a52 and 2 read as with this amount
 abbrev pub with_amount : List ℕ → Result RulesParts RulesFault
 with_amount scp = rules_of_texts (codes "a52") (Some scp) (codes "2")
 
+-- what the text a52 reads as with these thresholds
 abbrev pub with_thresholds : List ℕ → Result RulesParts RulesFault
 with_thresholds exclude = rules_of_texts (codes "a52") None exclude
 
