@@ -19,7 +19,7 @@ use Rattle.regatta_scores.specs.Order.{in_group, stands_in}
 use Rattle.regatta_scores.specs.Journal.{Journal, same_sail, race_commands, order, order_by}
 use Rattle.regatta_scores.specs.Journal.{order_after, held, held_by, decides, is_clear, code_marked}
 use Rattle.regatta_scores.specs.Journal.{last_item}
-use Rattle.regatta_scores.specs.RacePoints.{Status, Finished, Coded, journal_race, status}
+use Rattle.regatta_scores.specs.RacePoints.{Finished, Coded, journal_race, status}
 use Rattle.regatta_scores.specs.RacePoints.{status_by, finishers, groups_ahead, her_group}
 use Rattle.regatta_scores.specs.RaceLaws.{CodedBoatsLeaveTheOrder}
 use Rattle.regatta_scores.proofs.Apart.{race_commands_more}
