@@ -1,5 +1,7 @@
 -- The three cases in which one boat beats another.
-use Rattle.std.proofs.Common.{◌≡◌, ℕ, zero, suc, ◌<◌, ◌≤◌, Bool, true, false, cond, List, [], ◌∷◌, refl, ap, ◌∙◌, sym, arith, length, take, sum_by, slice_index, nat_lt, nat_cmp, ◌==◌, All}
+use Rattle.std.proofs.Common.{◌≡◌, ℕ, zero, suc, ◌<◌, ◌≤◌, Bool, true, false, cond, List, [], ◌∷◌}
+use Rattle.std.proofs.Common.{refl, ap, ◌∙◌, sym, arith, length, take, sum_by, slice_index, nat_lt}
+use Rattle.std.proofs.Common.{nat_cmp, ◌==◌, All}
 use mathlib.Core.Logic.{inl, inr}
 use Rattle.std.specs.Ordering.{ordering_then, is_lt}
 use Rattle.std.specs.declared.cmp.Ordering.{Ordering}
@@ -38,53 +40,87 @@ is_less x y h = rw (lt-ltb x y h) refl
 then_lower : (r s : Ordering) → r ≡ Equal → s ≡ Less → ordering_then r s ≡ Less
 then_lower r s e f = rw e f
 
-lower_at : (xs ys : List ℕ) (k : ℕ) → k < length xs → k < length ys → take k xs ≡ take k ys → slice_index xs k < slice_index ys k → slice_cmp nat_cmp xs ys ≡ Less
+lower_at : (xs ys : List ℕ) (k : ℕ) → k < length xs → k < length ys → take k xs ≡ take k ys →
+    slice_index xs k < slice_index ys k → slice_cmp nat_cmp xs ys ≡ Less
 lower_at [] ys k in_first in_second same lower = absurd (omega (arith, in_first))
 lower_at (x ∷ xs) [] k in_first in_second same lower = absurd (omega (arith, in_second))
-lower_at (x ∷ xs) (y ∷ ys) zero in_first in_second same lower = ap (λ r. ordering_then r (slice_cmp nat_cmp xs ys)) (is_less x y lower)
+lower_at (x ∷ xs) (y ∷ ys) zero in_first in_second same lower =
+    ap (λ r. ordering_then r (slice_cmp nat_cmp xs ys)) (is_less x y lower)
 lower_at (x ∷ xs) (y ∷ ys) (suc k) in_first in_second same lower =
     let heads : x ≡ y = ap (λ zs. slice_index zs 0) same in
     let tails : take k xs ≡ take k ys = ap tail same in
-    then_lower (nat_cmp x y) (slice_cmp nat_cmp xs ys) (ap (nat_cmp x) (sym heads) ∙ tied_itself nat_cmp_total x) (lower_at xs ys k (omega (arith, in_first)) (omega (arith, in_second)) tails lower)
+    then_lower (nat_cmp x y) (slice_cmp nat_cmp xs ys)
+    (ap (nat_cmp x) (sym heads) ∙ tied_itself nat_cmp_total x)
+    (lower_at xs ys k (omega (arith, in_first)) (omega (arith, in_second)) tails lower)
   where
     tail : List ℕ → List ℕ
     tail [] = []
     tail (z ∷ zs) = zs
 
-at_next : (x y : ℕ) (xs ys : List ℕ) → x ≡ y → IsLowerAtFirst xs ys → IsLowerAtFirst (x ∷ xs) (y ∷ ys)
-at_next x y xs ys e rest = record { at = suc rest.at; in_first = omega (arith, rest.in_first); in_second = omega (arith, rest.in_second); same = λ i. e i ∷ rest.same i; lower = rest.lower }
+at_next : (x y : ℕ) (xs ys : List ℕ) → x ≡ y → IsLowerAtFirst xs ys →
+    IsLowerAtFirst (x ∷ xs) (y ∷ ys)
+at_next x y xs ys e rest =
+    record {
+      at = suc rest.at;
+      in_first = omega (arith, rest.in_first);
+      in_second = omega (arith, rest.in_second);
+      same = λ i. e i ∷ rest.same i;
+      lower = rest.lower;
+    }
 
--- where two lists have one sum of weights, and each weight of the second is above zero, the first doesn't end inside the second
-first_lower_by : (w : ℕ → ℕ) (x y : ℕ) (xs ys : List ℕ) (r : Ordering) → All (λ z. 1 ≤ w z) (y ∷ ys) → sum_by w (x ∷ xs) ≡ sum_by w (y ∷ ys) → nat_cmp x y ≡ r → ordering_then r (slice_cmp nat_cmp xs ys) ≡ Less →
-    (All (λ z. 1 ≤ w z) ys → sum_by w xs ≡ sum_by w ys → slice_cmp nat_cmp xs ys ≡ Less → IsLowerAtFirst xs ys) → IsLowerAtFirst (x ∷ xs) (y ∷ ys)
-first_lower_by w x y xs ys Less positive sums here e rest = record { at = zero; in_first = omega arith; in_second = omega arith; same = refl; lower = less_is x y here }
+-- where two lists have one sum of weights, and each weight of the second is above zero, the first
+-- doesn't end inside the second
+first_lower_by : (w : ℕ → ℕ) (x y : ℕ) (xs ys : List ℕ) (r : Ordering) →
+    All (λ z. 1 ≤ w z) (y ∷ ys) → sum_by w (x ∷ xs) ≡ sum_by w (y ∷ ys) → nat_cmp x y ≡ r →
+    ordering_then r (slice_cmp nat_cmp xs ys) ≡ Less →
+    (All (λ z. 1 ≤ w z) ys → sum_by w xs ≡ sum_by w ys → slice_cmp nat_cmp xs ys ≡ Less →
+    IsLowerAtFirst xs ys) → IsLowerAtFirst (x ∷ xs) (y ∷ ys)
+first_lower_by w x y xs ys Less positive sums here e rest =
+    record {
+      at = zero;
+      in_first = omega arith;
+      in_second = omega arith;
+      same = refl;
+      lower = less_is x y here;
+    }
 first_lower_by w x y xs ys Equal positive sums here e rest =
     let equal : x ≡ y = nat_cmp-IsAntisymmetric x y here in
     let weights = ap w equal in
-    at_next x y xs ys equal (rest (all_rest (λ z. 1 ≤ w z) y ys positive) (omega (arith, sums, weights, sum_by-cons w x xs, sum_by-cons w y ys)) e)
+    at_next x y xs ys equal (rest (all_rest (λ z. 1 ≤ w z) y ys positive)
+    (omega (arith, sums, weights, sum_by-cons w x xs, sum_by-cons w y ys)) e)
 first_lower_by w x y xs ys Greater positive sums here e rest = cc
 
-first_lower : (w : ℕ → ℕ) (xs ys : List ℕ) → All (λ y. 1 ≤ w y) ys → sum_by w xs ≡ sum_by w ys → slice_cmp nat_cmp xs ys ≡ Less → IsLowerAtFirst xs ys
+first_lower : (w : ℕ → ℕ) (xs ys : List ℕ) → All (λ y. 1 ≤ w y) ys → sum_by w xs ≡ sum_by w ys →
+    slice_cmp nat_cmp xs ys ≡ Less → IsLowerAtFirst xs ys
 first_lower w [] [] positive sums e = cc
-first_lower w [] (y ∷ ys) positive sums e = let here : 1 ≤ w y = positive zero y (omega arith) in absurd (omega (arith, sums, sum_by-cons w y ys, here))
+first_lower w [] (y ∷ ys) positive sums e = let here : 1 ≤ w y = positive zero y (omega arith) in
+    absurd (omega (arith, sums, sum_by-cons w y ys, here))
 first_lower w (x ∷ xs) [] positive sums e = cc
-first_lower w (x ∷ xs) (y ∷ ys) positive sums e = first_lower_by w x y xs ys (nat_cmp x y) positive sums refl e (first_lower w xs ys)
+first_lower w (x ∷ xs) (y ∷ ys) positive sums e =
+    first_lower_by w x y xs ys (nat_cmp x y) positive sums refl e (first_lower w xs ys)
 
 -- ---- the lists of two boats
 
-kept_positive : (points : List ℕ) (flags : List Bool) → All (λ p. 10 ≤ p) points → All (λ p. 1 ≤ p) (kept points flags)
+kept_positive : (points : List ℕ) (flags : List Bool) → All (λ p. 10 ≤ p) points →
+    All (λ p. 1 ≤ p) (kept points flags)
 kept_positive [] flags each = λ k d h. absurd (omega (arith, h))
 kept_positive (x ∷ xs) [] each = λ k d h. absurd (omega (arith, h))
-kept_positive (x ∷ xs) (true ∷ flags) each = kept_positive xs flags (all_rest (λ p. 10 ≤ p) x xs each)
+kept_positive (x ∷ xs) (true ∷ flags) each =
+    kept_positive xs flags (all_rest (λ p. 10 ≤ p) x xs each)
 kept_positive (x ∷ xs) (false ∷ flags) each =
     let here : 10 ≤ x = each zero x (omega arith) in
-    all_cons (λ p. 1 ≤ p) x (kept xs flags) (omega (arith, here)) (kept_positive xs flags (all_rest (λ p. 10 ≤ p) x xs each))
+    all_cons (λ p. 1 ≤ p) x (kept xs flags) (omega (arith, here))
+    (kept_positive xs flags (all_rest (λ p. 10 ≤ p) x xs each))
 
 best_sum : (a : Line) → sum_by (λ p. p) (best_to_worst a) ≡ net a
-best_sum a = sum_by-IsPermutation (λ p. p) (kept a.points a.excluded) (best_to_worst a) (rising_permutes (kept a.points a.excluded))
+best_sum a =
+    sum_by-IsPermutation (λ p. p) (kept a.points a.excluded) (best_to_worst a)
+    (rising_permutes (kept a.points a.excluded))
 
 best_positive : (a : Line) → All (λ p. 10 ≤ p) a.points → All (λ p. 1 ≤ p) (best_to_worst a)
-best_positive a each = All-permutation (λ p. 1 ≤ p) (kept a.points a.excluded) (best_to_worst a) (rising_permutes (kept a.points a.excluded)) (kept_positive a.points a.excluded each)
+best_positive a each =
+    All-permutation (λ p. 1 ≤ p) (kept a.points a.excluded) (best_to_worst a)
+    (rising_permutes (kept a.points a.excluded)) (kept_positive a.points a.excluded each)
 
 ones : (xs : List ℕ) → sum_by (λ (p : ℕ). 1) xs ≡ length xs
 ones [] = refl
@@ -92,32 +128,62 @@ ones (x ∷ xs) = omega (arith, sum_by-cons (λ (p : ℕ). 1) x xs, ones xs)
 
 -- ---- the law
 
-better_by : (a b : Line) → All (λ p. 10 ≤ p) b.points → length a.points ≡ length b.points → (r s : Ordering) → nat_cmp (net a) (net b) ≡ r → slice_cmp nat_cmp (best_to_worst a) (best_to_worst b) ≡ s →
-    is_lt (ordering_then r (ordering_then s (slice_cmp nat_cmp (last_to_first a) (last_to_first b)))) ≡ true → IsBetter a b
+better_by : (a b : Line) → All (λ p. 10 ≤ p) b.points → length a.points ≡ length b.points →
+    (r s : Ordering) → nat_cmp (net a) (net b) ≡ r →
+    slice_cmp nat_cmp (best_to_worst a) (best_to_worst b) ≡ s →
+    is_lt (ordering_then r (ordering_then s
+    (slice_cmp nat_cmp (last_to_first a) (last_to_first b)))) ≡ true → IsBetter a b
 better_by a b high long Less s e f h = inl (less_is (net a) (net b) e)
 better_by a b high long Equal Less e f h =
     let equal = nat_cmp-IsAntisymmetric (net a) (net b) e in
-    inr (inl (equal, first_lower (λ p. p) (best_to_worst a) (best_to_worst b) (best_positive b high) (best_sum a ∙ equal ∙ sym (best_sum b)) f))
+    inr (inl (
+      equal,
+      first_lower (λ p. p) (best_to_worst a) (best_to_worst b) (best_positive b high)
+          (best_sum a ∙ equal ∙ sym (best_sum b)) f,
+    ))
 better_by a b high long Equal Equal e f h =
     let equal = nat_cmp-IsAntisymmetric (net a) (net b) e in
-    let same = slice_cmp-IsAntisymmetric nat_cmp-IsAntisymmetric (best_to_worst a) (best_to_worst b) f in
-    let lengths : sum_by (λ (p : ℕ). 1) (last_to_first a) ≡ sum_by (λ (p : ℕ). 1) (last_to_first b) = ones (last_to_first a) ∙ length-reverse a.points ∙ long ∙ sym (length-reverse b.points) ∙ sym (ones (last_to_first b)) in
-    inr (inr (equal, same, first_lower (λ p. 1) (last_to_first a) (last_to_first b) (λ k d within. omega arith) lengths (Less-is (slice_cmp nat_cmp (last_to_first a) (last_to_first b)) h)))
+    let same =
+    slice_cmp-IsAntisymmetric nat_cmp-IsAntisymmetric (best_to_worst a) (best_to_worst b) f in
+    let lengths : sum_by (λ (p : ℕ). 1) (last_to_first a)
+    ≡ sum_by (λ (p : ℕ). 1) (last_to_first b) =
+    ones (last_to_first a) ∙ length-reverse a.points ∙ long ∙ sym (length-reverse b.points)
+    ∙ sym (ones (last_to_first b)) in
+    inr (inr (
+      equal,
+      same,
+      first_lower (λ p. 1) (last_to_first a) (last_to_first b)
+          (λ k d within. omega arith) lengths
+          (Less-is (slice_cmp nat_cmp (last_to_first a) (last_to_first b)) h),
+    ))
 better_by a b high long Equal Greater e f h = cc
 better_by a b high long Greater s e f h = cc
 
 beats_by : (a b : Line) → IsBetter a b → beats a b ≡ true
-beats_by a b (inl lower) = ap (λ r. is_lt (ordering_then r (ordering_then (slice_cmp nat_cmp (best_to_worst a) (best_to_worst b)) (slice_cmp nat_cmp (last_to_first a) (last_to_first b))))) (is_less (net a) (net b) lower)
+beats_by a b (inl lower) =
+    ap (λ r. is_lt (ordering_then r
+    (ordering_then (slice_cmp nat_cmp (best_to_worst a) (best_to_worst b))
+    (slice_cmp nat_cmp (last_to_first a) (last_to_first b))))) (is_less (net a) (net b) lower)
 beats_by a b (inr (inl case)) =
     let first = ap (nat_cmp (net a)) (sym case.0) ∙ tied_itself nat_cmp_total (net a) in
-    let second = lower_at (best_to_worst a) (best_to_worst b) case.1.at case.1.in_first case.1.in_second case.1.same case.1.lower in
-    λ i. is_lt (ordering_then (first i) (ordering_then (second i) (slice_cmp nat_cmp (last_to_first a) (last_to_first b))))
+    let second =
+    lower_at (best_to_worst a) (best_to_worst b) case.1.at case.1.in_first case.1.in_second
+    case.1.same case.1.lower in
+    λ i. is_lt (ordering_then (first i)
+    (ordering_then (second i) (slice_cmp nat_cmp (last_to_first a) (last_to_first b))))
 beats_by a b (inr (inr case)) =
     let first = ap (nat_cmp (net a)) (sym case.0) ∙ tied_itself nat_cmp_total (net a) in
-    let second = ap (slice_cmp nat_cmp (best_to_worst a)) (sym case.1) ∙ tied_itself nat_list_cmp_total (best_to_worst a) in
-    let third = lower_at (last_to_first a) (last_to_first b) case.2.at case.2.in_first case.2.in_second case.2.same case.2.lower in
+    let second =
+    ap (slice_cmp nat_cmp (best_to_worst a)) (sym case.1)
+    ∙ tied_itself nat_list_cmp_total (best_to_worst a) in
+    let third =
+    lower_at (last_to_first a) (last_to_first b) case.2.at case.2.in_first case.2.in_second
+    case.2.same case.2.lower in
     λ i. is_lt (ordering_then (first i) (ordering_then (second i) (third i)))
 
 pub boats_are_beaten_in_three_cases : BeatsInThreeCases
-boats_are_beaten_in_three_cases a b high_a high_b long =
-    (better_by a b high_b long (nat_cmp (net a) (net b)) (slice_cmp nat_cmp (best_to_worst a) (best_to_worst b)) refl refl, beats_by a b)
+boats_are_beaten_in_three_cases a b high_a high_b long = (
+  better_by a b high_b long (nat_cmp (net a) (net b))
+      (slice_cmp nat_cmp (best_to_worst a) (best_to_worst b)) refl refl,
+  beats_by a b,
+)

@@ -1,5 +1,6 @@
 -- A command of one race changes no other race.
-use Rattle.std.proofs.Common.{◌≡◌, ◌≢◌, ℕ, Bool, true, false, cond, [], ◌∷◌, ◌++◌, refl, ap, ◌∙◌, sym, filter, filter_map, nat_eq, None}
+use Rattle.std.proofs.Common.{◌≡◌, ◌≢◌, ℕ, Bool, true, false, cond, [], ◌∷◌, ◌++◌, refl, ap, ◌∙◌}
+use Rattle.std.proofs.Common.{sym, filter, filter_map, nat_eq, None}
 use Rattle.std.specs.List.{cons_option}
 use Rattle.std.proofs.lemmas.List.{map-append, append-nil}
 use Rattle.std.proofs.lemmas.List.Elements.{filter-append, filter_map-append}
@@ -7,16 +8,23 @@ use borrow.Author.Tests.{eqb-true}
 use Rattle.regatta_terms.specs.Entries.{EntryParts}
 use Rattle.regatta_terms.specs.declared.sail.Sail.{Sail}
 use Rattle.regatta_terms.specs.declared.command.Command.{Command}
-use Rattle.regatta_terms.specs.declared.command.Command.TheVariants.{Enter, Finish, Tie, Before, Strike, Mark, Penalise, Redress, Clear, Score, Unscore}
-use Rattle.regatta_scores.specs.Journal.{Journal, same_sail, names_race, sail_entered, commands, entered, race_commands, order_by, held_by, standing_decisions}
+use Rattle.regatta_terms.specs.declared.command.Command.TheVariants.{Enter, Finish, Tie, Before}
+use Rattle.regatta_terms.specs.declared.command.Command.TheVariants.{Strike, Mark, Penalise}
+use Rattle.regatta_terms.specs.declared.command.Command.TheVariants.{Redress, Clear, Score, Unscore}
+use Rattle.regatta_scores.specs.Journal.{Journal, same_sail, names_race, sail_entered, commands}
+use Rattle.regatta_scores.specs.Journal.{entered, race_commands, order_by, held_by}
+use Rattle.regatta_scores.specs.Journal.{standing_decisions}
 use Rattle.regatta_scores.specs.RacePoints.{Race, journal_race, status, dnf, plain}
 use Rattle.regatta_scores.specs.RaceLaws.{SaysTheSame, RacesAreApart}
 
-no_other : (race other r : ℕ) (b : Bool) → nat_eq race r ≡ true → other ≢ race → nat_eq other r ≡ b → b ≡ false
+no_other : (race other r : ℕ) (b : Bool) → nat_eq race r ≡ true → other ≢ race →
+    nat_eq other r ≡ b → b ≡ false
 no_other race other r false one apart e = refl
-no_other race other r true one apart e = absurd (apart (eqb-true other r e ∙ sym (eqb-true race r one)))
+no_other race other r true one apart e =
+    absurd (apart (eqb-true other r e ∙ sym (eqb-true race r one)))
 
-pub not_named : (race other : ℕ) (command : Command) → names_race race command ≡ true → other ≢ race → names_race other command ≡ false
+pub not_named : (race other : ℕ) (command : Command) → names_race race command ≡ true →
+    other ≢ race → names_race other command ≡ false
 not_named race other (Enter sail) h apart = cc
 not_named race other (Finish r sail) h apart = no_other race other r _ h apart refl
 not_named race other (Tie r sail by) h apart = no_other race other r _ h apart refl
@@ -29,7 +37,8 @@ not_named race other (Clear r sail) h apart = no_other race other r _ h apart re
 not_named race other (Score r) h apart = no_other race other r _ h apart refl
 not_named race other (Unscore r) h apart = no_other race other r _ h apart refl
 
-pub enters_none : (race : ℕ) (command : Command) → names_race race command ≡ true → sail_entered command ≡ None
+pub enters_none : (race : ℕ) (command : Command) → names_race race command ≡ true →
+    sail_entered command ≡ None
 enters_none race (Enter sail) h = cc
 enters_none race (Finish r sail) h = refl
 enters_none race (Tie r sail by) h = refl
@@ -43,23 +52,40 @@ enters_none race (Score r) h = refl
 enters_none race (Unscore r) h = refl
 
 -- the commands of a race after one more entry
-pub race_commands_more : (journal : Journal) (entry : EntryParts) (race : ℕ) → race_commands (journal ++ entry ∷ []) race ≡ race_commands journal race ++ cond (names_race race entry.command) (entry.command ∷ []) []
-race_commands_more journal entry race = ap (filter (names_race race)) (map-append (λ (e : EntryParts). e.command) journal (entry ∷ [])) ∙ filter-append (names_race race) (commands journal) (entry.command ∷ [])
+pub race_commands_more : (journal : Journal) (entry : EntryParts) (race : ℕ) →
+    race_commands (journal ++ entry ∷ []) race
+    ≡ race_commands journal race ++ cond (names_race race entry.command) (entry.command ∷ []) []
+race_commands_more journal entry race =
+    ap (filter (names_race race)) (map-append (λ (e : EntryParts). e.command) journal (entry ∷ []))
+    ∙ filter-append (names_race race) (commands journal) (entry.command ∷ [])
 
-pub same_commands : (journal : Journal) (entry : EntryParts) (race : ℕ) → names_race race entry.command ≡ false → race_commands (journal ++ entry ∷ []) race ≡ race_commands journal race
+pub same_commands : (journal : Journal) (entry : EntryParts) (race : ℕ) →
+    names_race race entry.command ≡ false →
+    race_commands (journal ++ entry ∷ []) race ≡ race_commands journal race
 same_commands journal entry race h = race_commands_more journal entry race ∙ rw h (append-nil _)
 
-pub entered_more : (journal : Journal) (entry : EntryParts) → entered (journal ++ entry ∷ []) ≡ entered journal ++ cons_option (sail_entered entry.command) []
-entered_more journal entry = ap (filter_map sail_entered) (map-append (λ (e : EntryParts). e.command) journal (entry ∷ [])) ∙ filter_map-append sail_entered (commands journal) (entry.command ∷ [])
+pub entered_more : (journal : Journal) (entry : EntryParts) →
+    entered (journal ++ entry ∷ []) ≡ entered journal ++ cons_option (sail_entered entry.command) []
+entered_more journal entry =
+    ap (filter_map sail_entered) (map-append (λ (e : EntryParts). e.command) journal (entry ∷ []))
+    ∙ filter_map-append sail_entered (commands journal) (entry.command ∷ [])
 
-pub same_entered : (journal : Journal) (entry : EntryParts) → sail_entered entry.command ≡ None → entered (journal ++ entry ∷ []) ≡ entered journal
+pub same_entered : (journal : Journal) (entry : EntryParts) → sail_entered entry.command ≡ None →
+    entered (journal ++ entry ∷ []) ≡ entered journal
 same_entered journal entry h = entered_more journal entry ∙ rw h (append-nil _)
 
 -- a race is made of the entry list and its own commands
-pub same_race : (old new : Journal) (race : ℕ) → entered new ≡ entered old → race_commands new race ≡ race_commands old race → journal_race new race ≡ journal_race old race
-same_race old new race boats cs i = record { entered = boats i; order = order_by (cs i); held = λ boat. held_by (standing_decisions (cs i) boat) }
+pub same_race : (old new : Journal) (race : ℕ) → entered new ≡ entered old →
+    race_commands new race ≡ race_commands old race → journal_race new race ≡ journal_race old race
+same_race old new race boats cs i =
+    record {
+      entered = boats i;
+      order = order_by (cs i);
+      held = λ boat. held_by (standing_decisions (cs i) boat);
+    }
 
-pub says_the_same : (old new : Journal) (race : ℕ) → journal_race new race ≡ journal_race old race → SaysTheSame old new race
+says_the_same : (old new : Journal) (race : ℕ) → journal_race new race ≡ journal_race old race →
+    SaysTheSame old new race
 says_the_same old new race e = record {
   same_order = ap (λ (r : Race Sail). r.order) e;
   same_held = λ boat. ap (λ (r : Race Sail). r.held boat) e;
@@ -72,4 +98,5 @@ pub races_are_apart : RacesAreApart
 races_are_apart journal entry race other named apart =
     let boats = same_entered journal entry (enters_none race entry.command named) in
     let cs = same_commands journal entry other (not_named race other entry.command named apart) in
-    says_the_same journal (journal ++ entry ∷ []) other (same_race journal (journal ++ entry ∷ []) other boats cs)
+    says_the_same journal (journal ++ entry ∷ []) other
+    (same_race journal (journal ++ entry ∷ []) other boats cs)

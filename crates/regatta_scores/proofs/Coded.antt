@@ -1,6 +1,10 @@
 -- A boat that is given a code leaves the finishing order.
-use Rattle.std.proofs.Common.{◌≡◌, ℕ, ◌+◌, ◌-◌, ◌≤◌, Bool, true, false, cond, not, List, [], ◌∷◌, ◌++◌, refl, ap, ◌∙◌, arith, length, length-append, drop, filter, filter_map, count_by, sum_by, Option, Some, None, is_none, find, unwrap_or}
-use Rattle.std.specs.List.{after_last, suffix_len, prefix_len, last_or, before_first, position_or_len}
+use Rattle.std.proofs.Common.{◌≡◌, ℕ, ◌+◌, ◌-◌, ◌≤◌, Bool, true, false, cond, not, List, [], ◌∷◌}
+use Rattle.std.proofs.Common.{◌++◌, refl, ap, ◌∙◌, arith, length, length-append, drop, filter}
+use Rattle.std.proofs.Common.{filter_map, count_by, sum_by, Option, Some, None, is_none, find}
+use Rattle.std.proofs.Common.{unwrap_or}
+use Rattle.std.specs.List.{after_last, suffix_len, prefix_len, last_or, before_first}
+use Rattle.std.specs.List.{position_or_len}
 use Rattle.std.proofs.lemmas.List.{reverse-append, drop-append-le, append-nil}
 use Rattle.std.proofs.lemmas.List.Elements.{filter-append, filter_map-append}
 use Rattle.std.proofs.lemmas.List.Sums.{fold_push, sum_by-take-le}
@@ -12,48 +16,79 @@ use Rattle.regatta_terms.specs.declared.command.Code.{Code}
 use Rattle.regatta_terms.specs.declared.command.Command.TheVariants.{Mark}
 use Rattle.regatta_scores.specs.declared.sheet.Held.{Held}
 use Rattle.regatta_scores.specs.Order.{in_group, stands_in}
-use Rattle.regatta_scores.specs.Journal.{Journal, same_sail, race_commands, order, order_by, order_after, held, held_by, decides, is_clear, code_marked, last_item}
-use Rattle.regatta_scores.specs.RacePoints.{Status, Finished, Coded, journal_race, status, status_by, finishers, groups_ahead, her_group}
+use Rattle.regatta_scores.specs.Journal.{Journal, same_sail, race_commands, order, order_by}
+use Rattle.regatta_scores.specs.Journal.{order_after, held, held_by, decides, is_clear, code_marked}
+use Rattle.regatta_scores.specs.Journal.{last_item}
+use Rattle.regatta_scores.specs.RacePoints.{Finished, Coded, journal_race, status}
+use Rattle.regatta_scores.specs.RacePoints.{status_by, finishers, groups_ahead, her_group}
 use Rattle.regatta_scores.specs.RaceLaws.{CodedBoatsLeaveTheOrder}
 use Rattle.regatta_scores.proofs.Apart.{race_commands_more}
 use Rattle.regatta_scores.proofs.Counts.{count_split, sum_split, count_one, sum_one, found_le}
 
 -- what stands after the last element that passes, where one more comes that doesn't
-pub after_last_push : {X : Type 0} (p : X → Bool) (xs : List X) (x : X) → p x ≡ false → after_last p (xs ++ x ∷ []) ≡ after_last p xs ++ x ∷ []
+pub after_last_push : {X : Type 0} (p : X → Bool) (xs : List X) (x : X) → p x ≡ false →
+    after_last p (xs ++ x ∷ []) ≡ after_last p xs ++ x ∷ []
 after_last_push p xs x h =
     let n = suffix_len (λ y. not (p y)) xs in
-    let more : suffix_len (λ y. not (p y)) (xs ++ x ∷ []) ≡ 1 + n = ap (prefix_len (λ y. not (p y))) (reverse-append xs (x ∷ [])) ∙ rw h refl in
-    let cut : length (xs ++ x ∷ []) - suffix_len (λ y. not (p y)) (xs ++ x ∷ []) ≡ length xs - n = omega (arith, length-append xs (x ∷ []), more) in
+    let more : suffix_len (λ y. not (p y)) (xs ++ x ∷ []) ≡ 1 + n =
+    ap (prefix_len (λ y. not (p y))) (reverse-append xs (x ∷ [])) ∙ rw h refl in
+    let cut : length (xs ++ x ∷ []) - suffix_len (λ y. not (p y)) (xs ++ x ∷ []) ≡ length xs - n =
+    omega (arith, length-append xs (x ∷ []), more) in
     ap (λ k. drop k (xs ++ x ∷ [])) cut ∙ drop-append-le (length xs - n) xs (x ∷ []) (omega arith)
 
-pub last_push : {X : Type 0} (o : Option X) (xs : List X) (x : X) → last_or o (xs ++ x ∷ []) ≡ Some x
+pub last_push : {X : Type 0} (o : Option X) (xs : List X) (x : X) →
+    last_or o (xs ++ x ∷ []) ≡ Some x
 last_push o [] x = refl
 last_push o (y ∷ ys) x = last_push (Some y) ys x
 
 -- ---- the race after the Mark
 
-module _ (journal : Journal) (entry : EntryParts) (race : ℕ) (coded : Sail) (code : Code) (is_mark : entry.command ≡ Mark race coded code) where
-  commands_after : race_commands (journal ++ entry ∷ []) race ≡ race_commands journal race ++ Mark race coded code ∷ []
+module _ (journal : Journal) (entry : EntryParts) (race : ℕ) (coded : Sail) (code : Code)
+    (is_mark : entry.command ≡ Mark race coded code) where
+  commands_after : race_commands (journal ++ entry ∷ []) race
+      ≡ race_commands journal race ++ Mark race coded code ∷ []
   commands_after = race_commands_more journal entry race ∙ rw is_mark (rw (eq-eqb race race refl))
 
   order_stays : order (journal ++ entry ∷ []) race ≡ order journal race
-  order_stays = ap order_by commands_after ∙ fold_push order_after [] (race_commands journal race) (Mark race coded code)
+  order_stays =
+      ap order_by commands_after ∙ fold_push order_after [] (race_commands journal race)
+      (Mark race coded code)
 
-  decisions_by : (boat : Sail) (b : Bool) → same_sail boat coded ≡ b → filter (decides boat) (race_commands (journal ++ entry ∷ []) race) ≡ filter (decides boat) (race_commands journal race) ++ cond b (Mark race coded code ∷ []) []
-  decisions_by boat b e = ap (filter (decides boat)) commands_after ∙ filter-append (decides boat) (race_commands journal race) (Mark race coded code ∷ []) ∙ rw e refl
+  decisions_by : (boat : Sail) (b : Bool) → same_sail boat coded ≡ b →
+      filter (decides boat) (race_commands (journal ++ entry ∷ []) race)
+      ≡ filter (decides boat) (race_commands journal race) ++ cond b (Mark race coded code ∷ []) []
+  decisions_by boat b e =
+      ap (filter (decides boat)) commands_after
+      ∙ filter-append (decides boat) (race_commands journal race) (Mark race coded code ∷ [])
+      ∙ rw e refl
 
-  held_stays : (boat : Sail) → same_sail boat coded ≡ false → held (journal ++ entry ∷ []) race boat ≡ held journal race boat
-  held_stays boat e = ap (λ ds. held_by (after_last is_clear ds)) (decisions_by boat false e ∙ append-nil _)
+  held_stays : (boat : Sail) → same_sail boat coded ≡ false →
+      held (journal ++ entry ∷ []) race boat ≡ held journal race boat
+  held_stays boat e =
+      ap (λ ds. held_by (after_last is_clear ds)) (decisions_by boat false e ∙ append-nil _)
 
-  code_given : (boat : Sail) → same_sail boat coded ≡ true → (held (journal ++ entry ∷ []) race boat).code ≡ Some code
+  code_given : (boat : Sail) → same_sail boat coded ≡ true →
+      (held (journal ++ entry ∷ []) race boat).code ≡ Some code
   code_given boat e =
       let ds = filter (decides boat) (race_commands journal race) in
-      let now : after_last is_clear (filter (decides boat) (race_commands (journal ++ entry ∷ []) race)) ≡ after_last is_clear ds ++ Mark race coded code ∷ [] = ap (after_last is_clear) (decisions_by boat true e) ∙ after_last_push is_clear ds (Mark race coded code) refl in
-      ap (λ cs. last_item (filter_map code_marked cs)) now ∙ ap last_item (filter_map-append code_marked (after_last is_clear ds) (Mark race coded code ∷ [])) ∙ last_push None (filter_map code_marked (after_last is_clear ds)) code
+      let now : after_last is_clear (filter (decides boat)
+      (race_commands (journal ++ entry ∷ []) race))
+      ≡ after_last is_clear ds ++ Mark race coded code ∷ [] =
+      ap (after_last is_clear) (decisions_by boat true e)
+      ∙ after_last_push is_clear ds (Mark race coded code) refl in
+      ap (λ cs. last_item (filter_map code_marked cs)) now
+      ∙ ap last_item (filter_map-append code_marked (after_last is_clear ds)
+      (Mark race coded code ∷ [])) ∙ last_push None
+      (filter_map code_marked (after_last is_clear ds)) code
 
-  status_after : (boat : Sail) (b : Bool) → same_sail boat coded ≡ b → status same_sail (journal_race (journal ++ entry ∷ []) race) boat ≡ cond b (Coded code) (status same_sail (journal_race journal race) boat)
-  status_after boat true e = ap (λ o. status_by o (stands_in same_sail boat (order (journal ++ entry ∷ []) race))) (code_given boat e)
-  status_after boat false e = λ i. status_by (held_stays boat e i).code (stands_in same_sail boat (order_stays i))
+  status_after : (boat : Sail) (b : Bool) → same_sail boat coded ≡ b →
+      status same_sail (journal_race (journal ++ entry ∷ []) race) boat
+      ≡ cond b (Coded code) (status same_sail (journal_race journal race) boat)
+  status_after boat true e =
+      ap (λ o. status_by o (stands_in same_sail boat (order (journal ++ entry ∷ []) race)))
+      (code_given boat e)
+  status_after boat false e =
+      λ i. status_by (held_stays boat e i).code (stands_in same_sail boat (order_stays i))
 
 finished_codeless : (o : Option Code) (placed : Bool) → status_by o placed ≡ Finished → o ≡ None
 finished_codeless None placed e = refl
@@ -61,19 +96,30 @@ finished_codeless (Some code) placed e = cc
 
 -- ---- the law
 
-module _ (journal : Journal) (entry : EntryParts) (race : ℕ) (coded : Sail) (code : Code) (is_mark : entry.command ≡ Mark race coded code)
+module _ (journal : Journal) (entry : EntryParts) (race : ℕ) (coded : Sail) (code : Code)
+    (is_mark : entry.command ≡ Mark race coded code)
     (was_finished : status same_sail (journal_race journal race) coded ≡ Finished) where
-  each_boat : (boat : Sail) (b : Bool) → same_sail boat coded ≡ b → ◌≡◌ {A = ℕ} (cond (is_none (held journal race boat).code) 1 0) (cond (is_none (held (journal ++ entry ∷ []) race boat).code) 1 0 + cond b 1 0)
+  each_boat : (boat : Sail) (b : Bool) → same_sail boat coded ≡ b →
+      ◌≡◌ {A = ℕ} (cond (is_none (held journal race boat).code) 1 0)
+      (cond (is_none (held (journal ++ entry ∷ []) race boat).code) 1 0 + cond b 1 0)
   each_boat boat true e =
       let one : boat ≡ coded = (bytes_decides boat coded).0 e in
-      let before : (held journal race boat).code ≡ None = ap (λ s. (held journal race s).code) one ∙ finished_codeless _ _ was_finished in
+      let before : (held journal race boat).code ≡ None =
+      ap (λ s. (held journal race s).code) one ∙ finished_codeless _ _ was_finished in
       rw (before, code_given journal entry race coded code is_mark boat e) (omega arith)
   each_boat boat false e =
-      let same : (held (journal ++ entry ∷ []) race boat).code ≡ (held journal race boat).code = ap (λ (h : Held). h.code) (held_stays journal entry race coded code is_mark boat e) in
+      let same : (held (journal ++ entry ∷ []) race boat).code ≡ (held journal race boat).code =
+      ap (λ (h : Held). h.code) (held_stays journal entry race coded code is_mark boat e) in
       rw same (omega arith)
 
-  group_split : (group : List Sail) → finishers (journal_race journal race) group ≡ finishers (journal_race (journal ++ entry ∷ []) race) group + count_by (λ other. same_sail other coded) group
-  group_split group = count_split (λ boat. is_none (held journal race boat).code) (λ boat. is_none (held (journal ++ entry ∷ []) race boat).code) (λ other. same_sail other coded) (λ boat. each_boat boat (same_sail boat coded) refl) group
+  group_split : (group : List Sail) →
+      finishers (journal_race journal race) group
+      ≡ finishers (journal_race (journal ++ entry ∷ []) race) group
+      + count_by (λ other. same_sail other coded) group
+  group_split group =
+      count_split (λ boat. is_none (held journal race boat).code)
+      (λ boat. is_none (held (journal ++ entry ∷ []) race boat).code)
+      (λ other. same_sail other coded) (λ boat. each_boat boat (same_sail boat coded) refl) group
 
 pub coded_boats_leave : CodedBoatsLeaveTheOrder
 coded_boats_leave journal entry race coded code is_mark once was_finished boat =
@@ -83,14 +129,28 @@ coded_boats_leave journal entry race coded code is_mark once was_finished boat =
     let stays = order_stays journal entry race coded code is_mark in
     let ahead = groups_ahead same_sail old boat in
     let hers = her_group same_sail old boat in
-    let same_ahead : groups_ahead same_sail new boat ≡ ahead = ap (before_first (in_group same_sail boat)) stays in
-    let same_hers : her_group same_sail new boat ≡ hers = ap (λ gs. unwrap_or (find (in_group same_sail boat) gs) []) stays in
-    let split = sum_split (finishers old) (finishers new) (count_by p) (group_split journal entry race coded code is_mark was_finished) ahead in
-    let few_ahead : sum_by (count_by p) ahead ≤ 1 = omega (arith, sum_by-take-le (count_by p) (order journal race) (position_or_len (in_group same_sail boat) (order journal race)), once coded) in
-    let few_hers : count_by p hers ≤ 1 = omega (arith, found_le p (in_group same_sail boat) (order journal race), once coded) in
+    let same_ahead : groups_ahead same_sail new boat ≡ ahead =
+    ap (before_first (in_group same_sail boat)) stays in
+    let same_hers : her_group same_sail new boat ≡ hers =
+    ap (λ gs. unwrap_or (find (in_group same_sail boat) gs) []) stays in
+    let split =
+    sum_split (finishers old) (finishers new) (count_by p)
+    (group_split journal entry race coded code is_mark was_finished) ahead in
+    let few_ahead : sum_by (count_by p) ahead ≤ 1 =
+    omega (
+      arith,
+      sum_by-take-le (count_by p) (order journal race)
+          (position_or_len (in_group same_sail boat) (order journal race)),
+      once coded,
+    ) in
+    let few_hers : count_by p hers ≤ 1 =
+    omega (arith, found_le p (in_group same_sail boat) (order journal race), once coded) in
     let one_ahead = sum_one p ahead few_ahead in
     let one_hers = count_one p hers few_hers in
     let new_ahead = ap (sum_by (finishers new)) same_ahead in
     let new_hers = ap (finishers new) same_hers in
-    let split_hers = group_split journal entry race coded code is_mark was_finished hers in
-    (status_after journal entry race coded code is_mark boat (same_sail boat coded) refl, omega (arith, split, one_ahead, new_ahead), omega (arith, split_hers, one_hers, new_hers))
+    let split_hers = group_split journal entry race coded code is_mark was_finished hers in (
+      status_after journal entry race coded code is_mark boat (same_sail boat coded) refl,
+      omega (arith, split, one_ahead, new_ahead),
+      omega (arith, split_hers, one_hers, new_hers),
+    )

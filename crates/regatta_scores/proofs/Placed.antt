@@ -1,5 +1,7 @@
--- What is kept of each boat's place makes the definitions' number of boats that came, and their points.
-use Rattle.std.proofs.Common.{◌≡◌, ℕ, Bool, true, false, cond, List, refl, ap, ◌∙◌, sym, length, count_by, Option, Some, None, is_some, unwrap_or, nat_eq, get_or}
+-- What is kept of each boat's place makes the definitions' number of boats that came, and their
+-- points.
+use Rattle.std.proofs.Common.{◌≡◌, ℕ, Bool, true, false, cond, List, refl, ap, ◌∙◌, sym, length}
+use Rattle.std.proofs.Common.{count_by, Option, Some, None, is_some, unwrap_or, nat_eq, get_or}
 use Rattle.std.specs.List.{range_with_len}
 use Rattle.std.proofs.lemmas.List.FromFn.{length-range_with_len}
 use Rattle.regatta_terms.specs.Rules.{RulesParts}
@@ -8,35 +10,59 @@ use Rattle.regatta_terms.specs.declared.command.Code.TheVariants as code
 use Rattle.regatta_scores.specs.declared.sheet.Held.{Held}
 use Rattle.regatta_scores.specs.Order.{stands_in}
 use Rattle.regatta_scores.specs.Sheet.{nothing_held}
-use Rattle.regatta_scores.specs.RacePoints.{race_of, status, status_by, came, place_points, number_came, dnf_by, base_by, plain, penalised, penalty_points}
-use Rattle.regatta_scores.specs.PlacedPoints.{HasPlacedPoints, placed_points, came_with, number_came_with, plain_with}
+use Rattle.regatta_scores.specs.RacePoints.{race_of, status, status_by, came, place_points}
+use Rattle.regatta_scores.specs.RacePoints.{number_came, dnf_by, base_by, plain, penalised}
+use Rattle.regatta_scores.specs.RacePoints.{penalty_points}
+use Rattle.regatta_scores.specs.PlacedPoints.{HasPlacedPoints, placed_points, came_with}
+use Rattle.regatta_scores.specs.PlacedPoints.{number_came_with, plain_with}
 
 is_some_by : (b : Bool) (n : ℕ) → is_some (cond b (Some n) None) ≡ b
 is_some_by true n = refl
 is_some_by false n = refl
 
-base_by_placed : (o : Option Code) (b : Bool) (n entered dnf : ℕ) → base_by (status_by o b) n entered dnf ≡ base_by (status_by o (is_some (cond b (Some n) None))) (unwrap_or (cond b (Some n) None) 0) entered dnf
+base_by_placed : (o : Option Code) (b : Bool) (n entered dnf : ℕ) →
+    base_by (status_by o b) n entered dnf
+    ≡ base_by (status_by o (is_some (cond b (Some n) None))) (unwrap_or (cond b (Some n) None) 0)
+    entered dnf
 base_by_placed (Some code.Dnc) b n entered dnf = refl
 base_by_placed (Some other) b n entered dnf = refl
 base_by_placed None true n entered dnf = refl
 base_by_placed None false n entered dnf = refl
 
-module _ (order : List (List ℕ)) (held : List Held) (placed : List (Option ℕ)) (is : HasPlacedPoints order held placed) where
-  came_is : (boat : ℕ) → came_with (get_or held boat nothing_held) (get_or placed boat None) ≡ came (status nat_eq (race_of order held) boat)
-  came_is boat = ap (λ o. came_with (get_or held boat nothing_held) o) (is.by_number boat) ∙ ap (λ b. came (status_by (get_or held boat nothing_held).code b)) (is_some_by (stands_in nat_eq boat order) (place_points nat_eq (race_of order held) boat))
+module _ (order : List (List ℕ)) (held : List Held) (placed : List (Option ℕ))
+    (is : HasPlacedPoints order held placed) where
+  came_is : (boat : ℕ) → came_with (get_or held boat nothing_held) (get_or placed boat None)
+      ≡ came (status nat_eq (race_of order held) boat)
+  came_is boat =
+      ap (λ o. came_with (get_or held boat nothing_held) o) (is.by_number boat)
+      ∙ ap (λ b. came (status_by (get_or held boat nothing_held).code b))
+      (is_some_by (stands_in nat_eq boat order) (place_points nat_eq (race_of order held) boat))
 
   pub number_came_is : number_came_with held placed ≡ number_came nat_eq (race_of order held)
   number_came_is i = count_by (λ boat. came_is boat i) (range_with_len 0 (length held))
 
-  pub plain_is : (rules : RulesParts) (boat : ℕ) → plain nat_eq rules (race_of order held) boat ≡ plain_with rules (get_or held boat nothing_held) (get_or placed boat None) (length held) (dnf_by rules.absent (length held) (number_came_with held placed))
+  pub plain_is : (rules : RulesParts) (boat : ℕ) →
+      plain nat_eq rules (race_of order held) boat
+      ≡ plain_with rules (get_or held boat nothing_held) (get_or placed boat None) (length held)
+      (dnf_by rules.absent (length held) (number_came_with held placed))
   plain_is rules boat =
       let hers = get_or held boat nothing_held in
       let stands = stands_in nat_eq boat order in
       let points = place_points nat_eq (race_of order held) boat in
-      let by_place : plain nat_eq rules (race_of order held) boat ≡ plain_with rules hers (placed_points (race_of order held) boat) (length held) (dnf_by rules.absent (length held) (number_came nat_eq (race_of order held)))
-      = (λ i. (let entered = length-range_with_len 0 (length held) i in let dnf = dnf_by rules.absent entered (number_came nat_eq (race_of order held)) in penalised (base_by_placed hers.code stands points entered dnf i) (penalty_points rules dnf hers) dnf)) in
-      by_place ∙ sym (λ i. plain_with rules hers (is.by_number boat i) (length held) (dnf_by rules.absent (length held) (number_came_is i)))
+      let by_place : plain nat_eq rules (race_of order held) boat
+      ≡ plain_with rules hers (placed_points (race_of order held) boat) (length held)
+      (dnf_by rules.absent (length held) (number_came nat_eq (race_of order held)))
+      = (λ i. (let entered = length-range_with_len 0 (length held) i in let dnf =
+      dnf_by rules.absent entered (number_came nat_eq (race_of order held)) in
+      penalised (base_by_placed hers.code stands points entered dnf i)
+      (penalty_points rules dnf hers) dnf)) in
+      by_place ∙ sym (λ i. plain_with rules hers (is.by_number boat i) (length held)
+      (dnf_by rules.absent (length held) (number_came_is i)))
 
 -- her points for a place tell whether she stands in the order
-pub stands_is : (order : List (List ℕ)) (held : List Held) (placed : List (Option ℕ)) → HasPlacedPoints order held placed → (boat : ℕ) → is_some (get_or placed boat None) ≡ stands_in nat_eq boat order
-stands_is order held placed is boat = ap is_some (is.by_number boat) ∙ is_some_by (stands_in nat_eq boat order) (place_points nat_eq (race_of order held) boat)
+pub stands_is : (order : List (List ℕ)) (held : List Held) (placed : List (Option ℕ)) →
+    HasPlacedPoints order held placed → (boat : ℕ) →
+    is_some (get_or placed boat None) ≡ stands_in nat_eq boat order
+stands_is order held placed is boat =
+    ap is_some (is.by_number boat)
+    ∙ is_some_by (stands_in nat_eq boat order) (place_points nat_eq (race_of order held) boat)

@@ -12,9 +12,11 @@ use Rattle.regatta_scores.specs.Ranking.{Line, better, places}
 
 -- ---- exclusions (A2.1, 90.3(b))
 
+-- a score that may be excluded
 abbrev pub score : ℕ → Scored
 score points = record { points = points; dne = false }
 
+-- a score that may not: a DNE (90.3(b))
 abbrev pub dne : ℕ → Scored
 dne points = record { points = points; dne = true }
 
@@ -93,15 +95,19 @@ first_rank_is_shared_without_a_race = refl
 
 -- ---- redress (A9)
 
+-- a score without redress
 abbrev pub item : ℕ → RowItem
 item plain = record { plain = plain; redress = None }
 
+-- a score with points handed in as redress (A9 (c))
 abbrev pub handed_in : ℕ → ℕ → RowItem
 handed_in plain award = record { plain = plain; redress = Some (Points award) }
 
+-- a score with the average of all other races as redress (A9 (a))
 abbrev pub average_of_all : ℕ → RowItem
 average_of_all plain = record { plain = plain; redress = Some AllRaces }
 
+-- a score with the average of the races before as redress (A9 (b))
 abbrev pub average_of_before : ℕ → RowItem
 average_of_before plain = record { plain = plain; redress = Some RacesBefore }
 

@@ -1,5 +1,5 @@
 -- Worked examples of race points, by computation.
-use Rattle.std.specs.Prelude.{◌≡◌, refl, ℕ, List, [], ◌∷◌, Option, Some, None}
+use Rattle.std.specs.Prelude.{◌≡◌, refl, ℕ, [], ◌∷◌, Option, Some, None}
 use Rattle.regatta_terms.specs.Rules.{RulesParts}
 use Rattle.regatta_terms.specs.declared.rules.Absent.TheVariants.{A52, A53}
 use Rattle.regatta_terms.specs.declared.command.Code.{Code}
@@ -10,17 +10,19 @@ use Rattle.regatta_scores.specs.Sheet.{Sheet, nothing_held, empty_sheet}
 use Rattle.regatta_scores.specs.Changes.{after}
 use Rattle.regatta_scores.specs.RacePoints.{race_points}
 
--- what a boat holds: penalties, or a code
+-- a boat holds so many ZFP and so many SCP
 abbrev pub penalties : ℕ → ℕ → Held
 penalties zfp scp = record { code = None; zfp = zfp; scp = scp; redress = None }
 
+-- a boat holds a code
 abbrev pub coded : Code → Held
 coded code = record { code = Some code; zfp = 0; scp = 0; redress = None }
 
--- a score of N + 1 for every code (A5.2), or by who came to the starting area (A5.3)
+-- a score of N + 1 for every code (A5.2)
 abbrev pub by_entries : Option ℕ → RulesParts
 by_entries scp = record { absent = A52; scp = scp; thresholds = 2 ∷ [] }
 
+-- a score by who came to the starting area (A5.3)
 abbrev pub by_who_came : RulesParts
 by_who_came = record { absent = A53; scp = None; thresholds = 2 ∷ [] }
 

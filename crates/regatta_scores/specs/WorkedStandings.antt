@@ -1,7 +1,6 @@
 -- Worked examples of standings, each computed from its journal.
-use Rattle.std.specs.Prelude.{◌≡◌, refl, ℕ, ◌+◌, Bool, true, false, List, [], ◌∷◌, ◌++◌, Option}
+use Rattle.std.specs.Prelude.{◌≡◌, refl, ℕ, ◌+◌, Bool, true, false, List, [], ◌∷◌, ◌++◌}
 use Rattle.std.specs.Prelude.{Some, None}
-use Rattle.regatta_terms.specs.Entries.{EntryParts}
 use Rattle.regatta_terms.specs.Rules.{RulesParts}
 use Rattle.regatta_terms.specs.declared.rules.Absent.TheVariants.{A52}
 use Rattle.regatta_terms.specs.declared.sail.Sail.{Sail}
@@ -33,10 +32,11 @@ c = 67 ∷ []
 abbrev pub d : Sail
 d = 68 ∷ []
 
--- who gives a command
+-- a command that the scorer gives
 abbrev pub scorer : Command → Role × Command
 scorer command = (Scorer, command)
 
+-- a command that the protest committee gives
 abbrev pub jury : Command → Role × Command
 jury command = (Jury, command)
 
@@ -47,30 +47,36 @@ entries_from nth (given ∷ rest) =
     record { seat = 1; nth = nth; role = given.0; command = given.1 }
     ∷ entries_from (nth + 1) rest
 
+-- the same, numbered from 1
 abbrev pub journal : List (Role × Command) → Journal
 journal given = entries_from 1 given
 
--- one score is excluded from two races on; or none ever is
+-- one score is excluded from two races on
 abbrev pub default_rules : RulesParts
 default_rules = record { absent = A52; scp = None; thresholds = 2 ∷ [] }
 
+-- no score is excluded
 abbrev pub no_exclusions : RulesParts
 no_exclusions = record { absent = A52; scp = None; thresholds = [] }
 
--- points in a cell, without and with an abbreviation
+-- points in a cell without an abbreviation
 abbrev pub scored : ℕ → Cell
 scored points = record { points = points; mark = None; dropped = false }
 
+-- points in a cell with an abbreviation
 abbrev pub marked : ℕ → Abbrev → Cell
 marked points mark = record { points = points; mark = Some mark; dropped = false }
 
+-- points in a cell that are excluded
 abbrev pub excluded : ℕ → Cell
 excluded points = record { points = points; mark = None; dropped = true }
 
+-- a row of the standing
 abbrev pub row : Sail → ℕ → Bool → ℕ → List Cell → Row
 row sail rank tied net cells =
     record { sail = sail; rank = rank; tied = tied; net = net; cells = cells }
 
+-- a standing of these races and rows
 abbrev pub table : List ℕ → List Row → Standing
 table races rows = record { races = races; rows = rows }
 

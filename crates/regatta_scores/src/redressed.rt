@@ -6,16 +6,9 @@ ghost use Rattle.regatta_scores.specs.Averages.{counted, total, average_over, re
 
 use crate::boats::RowItem;
 use crate::items::{Items, Points};
+use crate::points::tenths;
 use regatta_terms::{Redress, Tenths};
 use std::alloc::{AllocError, Global};
-
-/// A number of tenths that is in range.
-fn in_tenths(points: u32) -> Tenths
-    requires { points ≤ 65535 }
-    ensures { result ≡ points }
-{
-    Tenths::new(points).unwrap()
-}
 
 /// Whether she has an average as redress.
 fn has_average(redress: Option<Redress>) -> bool
@@ -29,7 +22,7 @@ fn own_points(item: &RowItem) -> Tenths
     ensures { result ≡ own_points item.now item.now.redress }
 {
     match item.redress {
-        Some(Redress::Points(points)) => in_tenths(points.get()),
+        Some(Redress::Points(points)) => tenths(points.get()),
         _ => item.plain,
     }
 }
@@ -74,7 +67,7 @@ fn average(number: u32, sum: u32) -> Tenths
     requires small { sum ≤ 65535 * number }
     ensures { result ≡ average number sum }
 {
-    in_tenths((2 * sum + number) / (2 * number))
+    tenths((2 * sum + number) / (2 * number))
 }
 
 /// The average, or her score without redress where no race is counted.
@@ -111,7 +104,7 @@ fn redressed(row: &[RowItem], i: usize, item: &RowItem) -> Tenths
     let plain = item.plain;
     match item.redress {
         None => plain,
-        Some(Redress::Points(award)) => in_tenths(award.get()),
+        Some(Redress::Points(award)) => tenths(award.get()),
         Some(Redress::AllRaces) => average_over(&row[..i], &row[i + 1..], plain),
         Some(Redress::RacesBefore) => average_over(&row[..i], &[], plain),
     }

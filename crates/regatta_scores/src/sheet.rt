@@ -27,7 +27,7 @@ pub struct Held {
 }
 
 /// Nothing is held.
-pub const NOTHING: Held = Held {
+pub(crate) const NOTHING: Held = Held {
     code: None,
     zfp: 0,
     scp: 0,
@@ -55,7 +55,9 @@ impl Model for RaceSheet {
 }
 
 impl RaceSheet {
-    /// A sheet on which nobody is placed and nothing is held.
+    /// A sheet of at most 200 boats, on which nobody is placed and nothing is held.
+    ///
+    /// The one error is want of memory.
     #[tactic(auto, using(crate::proofs::Fresh::fresh_sheet))]
     pub fn new(alloc: Global, boats: u16) -> Result<RaceSheet, AllocError>
         requires { boats ≤ 200 }
@@ -67,7 +69,7 @@ impl RaceSheet {
         })
     }
 
-    /// Whether the boat stands in the finishing order, with a code or without.
+    /// Whether the boat, one of the sheet's, stands in the finishing order, with a code or without.
     pub fn placed(&self, boat: u16) -> bool
         requires { boat < boats self.now }
         ensures { result ≡ stands_in nat_eq boat self.now.order }
@@ -77,7 +79,7 @@ impl RaceSheet {
             .any(|group| group.as_slice().contains(&boat))
     }
 
-    /// What the boat holds.
+    /// What the boat, one of the sheet's, holds.
     pub fn held(&self, boat: u16) -> Held
         requires { boat < boats self.now }
         ensures value { slice_get self.now.held boat ≡ Some result }
@@ -93,7 +95,10 @@ impl RaceSheet {
         self.order.is_empty()
     }
 
-    /// The sheet after a change.
+    /// A copy of the sheet after a change that the sheet allows.
+    ///
+    /// Boats that the change names are among the sheet's, which are at most 200. An other boat, and
+    /// one that goes out, stand in the order. The one error is want of memory.
     pub fn after(&self, change: Change) -> Result<RaceSheet, AllocError>
         requires { Allows self.now change }
         ensures { IfOk result (λ sheet. sheet ≡ after self.now change) }

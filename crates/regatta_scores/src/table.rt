@@ -28,9 +28,9 @@ pub enum Abbrev {
     Dne,
     /// A 20% penalty under RRS 30.2.
     Zfp,
-    /// A Scoring Penalty.
+    /// A Scoring Penalty under RRS 44.3.
     Scp,
-    /// Redress was given.
+    /// Redress was given (RRS A9).
     Rdg,
 }
 
@@ -73,6 +73,7 @@ pub type Cells = Items<Cell>;
 /// One boat's line of the standing.
 #[derive(Drop)]
 pub struct Row {
+    /// The boat's sail, as it was entered.
     pub sail: Sail,
     /// One more than the number of boats that beat her.
     pub rank: u16,
@@ -80,6 +81,7 @@ pub struct Row {
     pub tied: bool,
     /// The series score, in tenths (RRS A2.1).
     pub net: u32,
+    /// Her scores, one for each scored race, in order of races.
     pub cells: Cells,
 }
 
@@ -92,7 +94,9 @@ pub type Races = Items<RaceNo>;
 /// The standing: the scored races, and one row for each boat entered.
 #[derive(Drop)]
 pub struct Standing {
+    /// The races that are scored, in order.
     pub races: Races,
+    /// One row for each boat entered, in order of rank and then sail.
     pub rows: Rows,
 }
 

@@ -49,15 +49,6 @@ fn points(alloc: Global, sheet: &RaceSheet, rules: &Rules) -> Result<Vec<u32>, A
         .collect(alloc)
 }
 
-/// What the boat holds, if she is one of the sheet's.
-fn held(sheet: &RaceSheet, boat: u16) -> Option<Held> {
-    if usize::from(boat) < sheet.all_held().len() {
-        Some(sheet.held(boat))
-    } else {
-        None
-    }
-}
-
 fn penalties(zfp: u8, scp: u8) -> Held {
     Held {
         zfp,
@@ -144,6 +135,8 @@ fn ties_codes_and_strikes_move_places(rt: HostRuntime) -> Result<(), Fail> {
         points(rt.alloc(), &sheet, &rules)?.as_slice(),
         struck.as_slice()
     );
+    let placed = all_placed(rt.alloc(), &sheet)?;
+    assert_eq!(rt; placed.as_slice(), [true, true, false, true].as_slice());
     Ok(())
 }
 

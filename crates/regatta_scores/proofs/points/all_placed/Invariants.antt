@@ -5,4 +5,5 @@ use Rattle.regatta_scores.proofs.points.all_placed.Given as goal
 
 -- the boats so far
 abbrev pub invariant-loop-boat : goal.invariant-loop-boat
-invariant-loop-boat l = l.flags.items ≡ map (λ boat. stands_in nat_eq boat l.sheet.order) (range_with_len 0 l.boat)
+invariant-loop-boat l =
+    l.flags.items ≡ map (λ boat. stands_in nat_eq boat l.sheet.order) (range_with_len 0 l.boat)

@@ -7,6 +7,8 @@ use Rattle.regatta_scores.proofs.points.number_came.Given as goal
 -- those so far who came are counted
 abbrev pub invariant-loop-boat : goal.invariant-loop-boat
 invariant-loop-boat l = record {
-  counted : l.count ≡ count_by (λ boat. came_with (slice_index_or l.held boat nothing_held) (slice_index_or l.placed boat None)) (range_with_len 0 l.boat);
+  counted : l.count ≡ count_by (λ boat.
+      came_with (slice_index_or l.held boat nothing_held) (slice_index_or l.placed boat None))
+      (range_with_len 0 l.boat);
   bound : l.count ≤ l.boat;
 }

@@ -1,4 +1,5 @@
-use Rattle.std.proofs.Common.{◌≡◌, ℕ, ◌+◌, length, nat_eq, sum_by, arith, take, get_or, cond, ap, ◌∙◌, Some, None}
+use Rattle.std.proofs.Common.{◌≡◌, ℕ, ◌+◌, length, nat_eq, sum_by, arith, take, get_or, cond, ap}
+use Rattle.std.proofs.Common.{◌∙◌, Some, None}
 use Rattle.std.proofs.lemmas.List.Sums.{sum_by_more}
 use Rattle.regatta_scores.specs.Order.{in_group}
 use Rattle.regatta_scores.specs.RacePoints.{race_of, finishers, shared_points}
@@ -18,13 +19,30 @@ loop-group-preserved c =
     let few = sum_by_more (length {A = ℕ}) order i group (omega arith) in
     let here = c.as_slice.ensures ∙ c.group-item.is in
     let given_to = c.as_slice-in-loop-group.ensures in
-    let sharing : c.finishers-sharing.result ≡ finishers (race_of order held) (get_or order i group) = c.finishers-sharing.ensures.value ∙ ap (finishers (race_of order held)) here in
-    let shared : c.shared_points.result ≡ shared_points (1 + sum_by (finishers (race_of order held)) (take i order)) (finishers (race_of order held) (get_or order i group)) = c.shared_points.ensures.value ∙ (λ j. shared_points (c.loop-group.invariant.next_place j) (sharing j)) in
-    let given : (boat : ℕ) → get_or new boat None ≡ cond (in_group nat_eq boat group) (Some c.shared_points.result) (get_or c.loop-group.placed.items boat None) = λ boat. c.give.ensures.given boat ∙ (λ j. cond (in_group nat_eq boat (given_to j)) (Some c.shared_points.result) (get_or (c.deref_mut.ensures.value j) boat None)) in
+    let sharing : c.finishers-sharing.result
+    ≡ finishers (race_of order held) (get_or order i group) =
+    c.finishers-sharing.ensures.value ∙ ap (finishers (race_of order held)) here in
+    let shared : c.shared_points.result
+    ≡ shared_points (1 + sum_by (finishers (race_of order held)) (take i order))
+    (finishers (race_of order held) (get_or order i group)) =
+    c.shared_points.ensures.value ∙ (λ j.
+    shared_points (c.loop-group.invariant.next_place j) (sharing j)) in
+    let given : (boat : ℕ) → get_or new boat None
+    ≡ cond (in_group nat_eq boat group) (Some c.shared_points.result)
+    (get_or c.loop-group.placed.items boat None) =
+    λ boat. c.give.ensures.given boat
+    ∙ (λ j. cond (in_group nat_eq boat (given_to j)) (Some c.shared_points.result)
+    (get_or (c.deref_mut.ensures.value j) boat None)) in
     record {
       one_each = rw back (omega arith);
       next_place = omega (arith, more, sharing);
       bound = omega (arith, few, ap length here);
-      given = λ boat. rw back (given_more order held i group (omega arith) c.requires.once boat c.shared_points.result (get_or c.loop-group.placed.items boat None) (get_or new boat None) shared (c.loop-group.invariant.given boat) (given boat ∙ (λ j. cond (in_group nat_eq boat (c.group-item.is j)) (Some c.shared_points.result) (get_or c.loop-group.placed.items boat None))));
-      few = λ boat. rw back (few_more (in_group nat_eq boat group) c.shared_points.result (get_or c.loop-group.placed.items boat None) (get_or new boat None) (given boat) (omega arith) (c.loop-group.invariant.few boat));
+      given = λ boat. rw back (given_more order held i group (omega arith) c.requires.once boat
+          c.shared_points.result (get_or c.loop-group.placed.items boat None) (get_or new boat None)
+          shared (c.loop-group.invariant.given boat)
+          (given boat ∙ (λ j. cond (in_group nat_eq boat (c.group-item.is j))
+          (Some c.shared_points.result) (get_or c.loop-group.placed.items boat None))));
+      few = λ boat. rw back (few_more (in_group nat_eq boat group) c.shared_points.result
+          (get_or c.loop-group.placed.items boat None) (get_or new boat None) (given boat)
+          (omega arith) (c.loop-group.invariant.few boat));
     }

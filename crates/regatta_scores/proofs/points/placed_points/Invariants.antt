@@ -1,4 +1,5 @@
-use Rattle.std.proofs.Common.{◌≡◌, ◌≤◌, ℕ, ◌+◌, length, take, get_or, sum_by, nat_eq, unwrap_or, cond, Some, None}
+use Rattle.std.proofs.Common.{◌≡◌, ◌≤◌, ℕ, ◌+◌, length, take, get_or, sum_by, nat_eq, unwrap_or}
+use Rattle.std.proofs.Common.{cond, Some, None}
 use Rattle.regatta_scores.specs.Order.{stands_in}
 use Rattle.regatta_scores.specs.RacePoints.{race_of, finishers, place_points}
 use Rattle.regatta_scores.proofs.points.placed_points.Given as goal
@@ -7,8 +8,11 @@ use Rattle.regatta_scores.proofs.points.placed_points.Given as goal
 abbrev pub invariant-loop-group : goal.invariant-loop-group
 invariant-loop-group l = record {
   one_each : length l.placed.items ≡ length l.held;
-  next_place : l.place ≡ 1 + sum_by (finishers (race_of l.order l.held)) (take l.group-index l.order);
+  next_place : l.place ≡ 1 + sum_by (finishers (race_of l.order l.held))
+      (take l.group-index l.order);
   bound : l.place ≤ 1 + sum_by length (take l.group-index l.order);
-  given : (boat : ℕ) → get_or l.placed.items boat None ≡ cond (stands_in nat_eq boat (take l.group-index l.order)) (Some (place_points nat_eq (race_of l.order l.held) boat)) None;
+  given : (boat : ℕ) → get_or l.placed.items boat None
+      ≡ cond (stands_in nat_eq boat (take l.group-index l.order))
+      (Some (place_points nat_eq (race_of l.order l.held) boat)) None;
   few : (boat : ℕ) → unwrap_or (get_or l.placed.items boat None) 0 ≤ 5000;
 }

@@ -16,8 +16,18 @@ loop-boat-preserved c =
     let placed = c.in_ok-placed.placed.items in
     let boat = c.loop-boat.boat in
     let is = rw c.order-order.ensures.value at c.in_ok-placed.ensures in
-    let dnf_is : c.dnf-dnf.result ≡ dnf_by rules.absent (length held) (number_came_with held placed) = c.dnf-dnf.ensures.value ∙ ap (λ points. dnf_by rules.absent (length held) (number_came_with held points)) c.deref.ensures.value in
-    let held_is = get_or_read_under held boat (length held) c.index-held-boat.result nothing_held c.index-held-boat.is (omega arith) refl in
-    let placed_is = get_or_read_under placed boat (length held) c.index.result.now None c.index.ensures (omega arith) (sym is.one_each) in
-    let scored : c.plain.result ≡ plain nat_eq rules (race_of order held) boat = c.plain.ensures ∙ (λ i. plain_with rules (held_is i) (placed_is i) (length held) (dnf_is i)) ∙ sym (plain_is order held placed is rules boat) in
-    c.in_ok-push.ensures.items ∙ (λ i. c.loop-boat.invariant i ++ scored i ∷ []) ∙ sym (map_range_more (plain nat_eq rules (race_of order held)) boat)
+    let dnf_is : c.dnf-dnf.result ≡ dnf_by rules.absent (length held)
+    (number_came_with held placed) =
+    c.dnf-dnf.ensures.value ∙ ap (λ points.
+    dnf_by rules.absent (length held) (number_came_with held points)) c.deref.ensures.value in
+    let held_is =
+    get_or_read_under held boat (length held) c.index-held-boat.result nothing_held
+    c.index-held-boat.is (omega arith) refl in
+    let placed_is =
+    get_or_read_under placed boat (length held) c.index.result.now None c.index.ensures
+    (omega arith) (sym is.one_each) in
+    let scored : c.plain.result ≡ plain nat_eq rules (race_of order held) boat =
+    c.plain.ensures ∙ (λ i. plain_with rules (held_is i) (placed_is i) (length held) (dnf_is i))
+    ∙ sym (plain_is order held placed is rules boat) in
+    c.in_ok-push.ensures.items ∙ (λ i. c.loop-boat.invariant i ++ scored i ∷ [])
+    ∙ sym (map_range_more (plain nat_eq rules (race_of order held)) boat)
