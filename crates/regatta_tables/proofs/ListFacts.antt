@@ -2,6 +2,7 @@
 use Rattle.std.proofs.Common.{◌≡◌, ℕ, zero, suc, ◌+◌, ◌<◌, ◌≤◌, Bool, true, false, not, cond, List, [], ◌∷◌, ◌++◌, length, take, drop, map, filter, filter_map, get_or, Option, Some, None, option_map, inl, inr, ◌⊎◌, refl, ap, ◌∙◌, sym, arith}
 use Rattle.std.specs.List.{list_all, position, slice_get, position_or_len}
 use Rattle.std.specs.Prelude.{Ok, Err}
+use Rattle.std.specs.Option.{option_or}
 use Rattle.std.proofs.lemmas.List.{take_more, take_all, get_or-map, drop_all, length-map, length-take}
 use Rattle.std.proofs.lemmas.List.Elements.{filter-append, filter_map-append}
 use Rattle.std.proofs.lemmas.List.Folds.{list_all-map}
@@ -15,7 +16,7 @@ use Rattle.csv.specs.Records.{Row, field_at, fields_of}
 use Rattle.regatta_terms.specs.Words.{is_space}
 use Rattle.regatta_terms.specs.declared.sail.Sail.{Sail}
 use Rattle.regatta_tables.specs.declared.entries.EntriesFault.{EntriesFault}
-use Rattle.regatta_tables.specs.EntryLists.{Record, entries_under, fault_in, fault_of, fault_or, first_fault, is_blank, is_sail_heading, sail_in, sails_in, unless_faulty}
+use Rattle.regatta_tables.specs.EntryLists.{Record, entries_under, fault_in, fault_of, first_fault, is_blank, is_sail_heading, sail_in, sails_in, unless_faulty}
 
 -- a field more
 pub field_more : (fields : List (List ℕ)) (i : ℕ) (field : List ℕ) → field_at fields i ≡ Some field → take (i + 1) fields ≡ take i fields ++ field ∷ []
@@ -80,23 +81,23 @@ fault_here column rows i number row sails below counts so_far =
     λ j. fault_in column (same j) (so_far j) (fields_of row)
 
 -- the first fault is that of the row in turn, or of those behind it
-in_turn : (column : ℕ) (rows : List Row) (i : ℕ) (row : Row) → i < length rows → row ≡ get_or rows i row → first_fault column (take i (map fields_of rows)) (drop i (map fields_of rows)) ≡ fault_or (fault_of column (take i (map fields_of rows)) (fields_of row)) (first_fault column (take (i + 1) (map fields_of rows)) (drop (i + 1) (map fields_of rows)))
+in_turn : (column : ℕ) (rows : List Row) (i : ℕ) (row : Row) → i < length rows → row ≡ get_or rows i row → first_fault column (take i (map fields_of rows)) (drop i (map fields_of rows)) ≡ option_or (fault_of column (take i (map fields_of rows)) (fields_of row)) (first_fault column (take (i + 1) (map fields_of rows)) (drop (i + 1) (map fields_of rows)))
 in_turn column rows i row below here =
     ap (first_fault column (take i (map fields_of rows))) (rows_from rows i row below here)
-    ∙ ap (λ (before : List Record). fault_or (fault_of column (take i (map fields_of rows)) (fields_of row)) (first_fault column before (drop (i + 1) (map fields_of rows)))) (sym (rows_to rows i row below here))
+    ∙ ap (λ (before : List Record). option_or (fault_of column (take i (map fields_of rows)) (fields_of row)) (first_fault column before (drop (i + 1) (map fields_of rows)))) (sym (rows_to rows i row below here))
 
 -- a row without a fault
 pub sound_more : (column : ℕ) (rows : List Row) (i number : ℕ) (row : Row) (sails : List Sail) → i < length rows → row ≡ get_or rows i row → number ≡ i + 2 → sails ≡ sails_in column (take i (map fields_of rows)) → fault_in column number sails (fields_of row) ≡ None → first_fault column (take i (map fields_of rows)) (drop i (map fields_of rows)) ≡ first_fault column (take (i + 1) (map fields_of rows)) (drop (i + 1) (map fields_of rows))
 sound_more column rows i number row sails below here counts so_far sound =
     in_turn column rows i row below here
-    ∙ ap (λ (o : Option EntriesFault). fault_or o (first_fault column (take (i + 1) (map fields_of rows)) (drop (i + 1) (map fields_of rows)))) (sym (fault_here column rows i number row sails below counts so_far) ∙ sound)
+    ∙ ap (λ (o : Option EntriesFault). option_or o (first_fault column (take (i + 1) (map fields_of rows)) (drop (i + 1) (map fields_of rows)))) (sym (fault_here column rows i number row sails below counts so_far) ∙ sound)
 
 -- a row with a fault
 pub faulty_row : (column : ℕ) (rows : List Row) (i number : ℕ) (row : Row) (sails : List Sail) (fault : EntriesFault) → i < length rows → row ≡ get_or rows i row → number ≡ i + 2 → sails ≡ sails_in column (take i (map fields_of rows)) → first_fault column [] (map fields_of rows) ≡ first_fault column (take i (map fields_of rows)) (drop i (map fields_of rows)) → fault_in column number sails (fields_of row) ≡ Some fault → entries_under (Some column) (map fields_of rows) ≡ Err fault
 faulty_row column rows i number row sails fault below here counts so_far all faulty =
     ap (λ (o : Option EntriesFault). unless_faulty o (sails_in column (map fields_of rows)))
     (all ∙ in_turn column rows i row below here
-    ∙ ap (λ (o : Option EntriesFault). fault_or o (first_fault column (take (i + 1) (map fields_of rows)) (drop (i + 1) (map fields_of rows)))) (sym (fault_here column rows i number row sails below counts so_far) ∙ faulty))
+    ∙ ap (λ (o : Option EntriesFault). option_or o (first_fault column (take (i + 1) (map fields_of rows)) (drop (i + 1) (map fields_of rows)))) (sym (fault_here column rows i number row sails below counts so_far) ∙ faulty))
 
 -- every row is without a fault
 pub all_sound : (column : ℕ) (rows : List Row) (i : ℕ) (sails : List Sail) → length rows ≤ i → sails ≡ sails_in column (take i (map fields_of rows)) → first_fault column [] (map fields_of rows) ≡ first_fault column (take i (map fields_of rows)) (drop i (map fields_of rows)) → entries_under (Some column) (map fields_of rows) ≡ Ok sails

@@ -1,6 +1,7 @@
 -- What holds of every entry list that is read: no sail stands twice, and there are no more than may be.
 use Rattle.std.proofs.Common.{◌≡◌, ℕ, ◌+◌, ◌≤◌, Bool, true, false, not, cond, ◌||◌, List, [], ◌∷◌, ◌++◌, length, filter_map, Option, Some, None, refl, sym, subst, arith, append_assoc, length-append}
 use Rattle.std.specs.Prelude.{Ok, nat_le, option_and_then}
+use Rattle.std.specs.Option.{option_or}
 use Rattle.std.specs.List.{AllByRecursion, IsDistinct, cons_option, list_any, slice_get}
 use Rattle.std.proofs.lemmas.Bool.{leb-false}
 use Rattle.std.proofs.lemmas.List.{append-nil}
@@ -9,7 +10,7 @@ use Rattle.regatta_terms.specs.declared.sail.Sail.{Sail}
 use Rattle.regatta_scores.specs.Journal.{same_sail}
 use Rattle.regatta_tables.specs.declared.entries.EntriesFault.{EntriesFault}
 use Rattle.regatta_tables.specs.declared.entries.EntriesFault.TheVariants.{Twice, TooMany}
-use Rattle.regatta_tables.specs.EntryLists.{Field, Record, entries_under, fault_of, fault_of_field, fault_of_sail, fault_or, first_fault, is_blank, most_boats, sail_in, sails_in, unless_faulty, without_spaces}
+use Rattle.regatta_tables.specs.EntryLists.{Field, Record, entries_under, fault_of, fault_of_field, fault_of_sail, first_fault, is_blank, most_boats, sail_in, sails_in, unless_faulty, without_spaces}
 use Rattle.regatta_tables.proofs.ListFacts.{sails-append}
 
 all_more : {X : Type 0} (P : X → Type 0) (xs : List X) (x : X) → AllByRecursion P xs → P x → AllByRecursion P (xs ++ x ∷ [])
@@ -66,7 +67,7 @@ kept_behind column before (fields ∷ records) kept sound =
     subst (λ (rs : List Record). Kept (sails_in column rs)) (append_assoc before (fields ∷ []) records)
     (kept_behind column (before ++ fields ∷ []) records (kept_more column before fields kept both.0) both.1)
   where
-    by : (o p : Option EntriesFault) → fault_or o p ≡ None → (o ≡ None) × (p ≡ None)
+    by : (o p : Option EntriesFault) → option_or o p ≡ None → (o ≡ None) × (p ≡ None)
     by None p h = (refl, h)
     by (Some fault) p h = cc
 
@@ -80,7 +81,7 @@ kept_all column records sails read = by (first_fault column [] records) refl rea
         subst Kept same (kept_behind column [] records (record { few = omega arith; once = tt }) sound)
     by (Some fault) sound h = cc
 
-pub few_sails : (column : ℕ) (records : List Record) (sails : List Sail) → entries_under (Some column) records ≡ Ok sails → length sails ≤ 200
+pub few_sails : (column : ℕ) (records : List Record) (sails : List Sail) → entries_under (Some column) records ≡ Ok sails → length sails ≤ most_boats
 few_sails column records sails read = (kept_all column records sails read).few
 
 pub sails_once : (column : ℕ) (records : List Record) (sails : List Sail) → entries_under (Some column) records ≡ Ok sails → IsDistinct same_sail sails

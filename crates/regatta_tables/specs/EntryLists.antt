@@ -1,13 +1,19 @@
 -- Entry lists.
-use Rattle.std.specs.Prelude.{ℕ, ◌+◌, Bool, not, ◌||◌, List, [], ◌∷◌, ◌++◌, length, nat_le, filter, filter_map, position, slice_get, Option, Some, None, option_and_then, Result, Ok, Err, codes, if◌then◌else◌}
+use Rattle.std.specs.Prelude.{ℕ, ◌+◌, Bool, not, ◌||◌, List, [], ◌∷◌, ◌++◌, length, nat_le, filter}
+use Rattle.std.specs.Prelude.{filter_map, position, slice_get, Option, Some, None, option_and_then}
+use Rattle.std.specs.Prelude.{Result, Ok, Err, codes, if◌then◌else◌}
+use Rattle.std.specs.Option.{option_or}
 use Rattle.std.specs.List.{list_all, list_any}
 use Rattle.csv.specs.Reading.{default_config, records, strip_bom}
 use Rattle.regatta_terms.specs.Sails.{sail_of}
 use Rattle.regatta_terms.specs.Words.{is_space, says}
 use Rattle.regatta_terms.specs.declared.sail.Sail.{Sail}
 use Rattle.regatta_scores.specs.Journal.{same_sail}
+use Rattle.regatta_tables.specs.declared.limits.TheConstants.{MAX_BOATS}
 use Rattle.regatta_tables.specs.declared.entries.EntriesFault.{EntriesFault}
-use Rattle.regatta_tables.specs.declared.entries.EntriesFault.TheVariants.{NoColumn, BadRow, BadSail, Twice, TooMany, NoMemory}
+use Rattle.regatta_tables.specs.declared.entries.EntriesFault.TheVariants.{NoColumn, BadRow}
+use Rattle.regatta_tables.specs.declared.entries.EntriesFault.TheVariants.{BadSail, Twice, TooMany}
+use Rattle.regatta_tables.specs.declared.entries.EntriesFault.TheVariants.{NoMemory}
 
 -- a field is its bytes
 abbrev pub Field : Type 0
@@ -19,13 +25,13 @@ Record = List Field
 
 -- how many boats an entry list may name
 abbrev pub most_boats : ℕ
-most_boats = 200
+most_boats = MAX_BOATS
 
 -- spaces don't matter, wherever they stand in a field
 abbrev pub without_spaces : Field → List ℕ
 without_spaces field = filter (λ b. not (is_space b)) field
 
--- whether a field of the header heads a column of sails
+-- whether a field of the header heads a column of sails: it says so in letters of either case
 abbrev pub is_sail_heading : Field → Bool
 is_sail_heading field =
     says (without_spaces field) (codes "SAIL") || says (without_spaces field) (codes "SAILNO")
@@ -45,7 +51,8 @@ abbrev pub sails_in : ℕ → List Record → List Sail
 sails_in column records =
     filter_map (sail_in column) (filter (λ fields. not (is_blank fields)) records)
 
--- what is wrong with a sail in that row, given the sails of the rows before it
+-- what is wrong with the sail in that row, given the sails of the rows before it: it can't be read,
+-- it stands among them, or there are as many of them as may be; the first of these counts
 abbrev pub fault_of_sail : ℕ → List Sail → Option Sail → Option EntriesFault
 fault_of_sail row sails None = Some (BadSail row)
 fault_of_sail row sails (Some sail) =
@@ -68,16 +75,11 @@ abbrev pub fault_of : ℕ → List Record → Record → Option EntriesFault
 fault_of column before fields =
     fault_in column (length before + 2) (sails_in column before) fields
 
--- the first of two faults
-abbrev pub fault_or : Option EntriesFault → Option EntriesFault → Option EntriesFault
-fault_or None later = later
-fault_or (Some fault) later = Some fault
-
 -- the first fault of the records behind those before them
 abbrev pub first_fault : ℕ → List Record → List Record → Option EntriesFault
 first_fault column before [] = None
 first_fault column before (fields ∷ records) =
-    fault_or (fault_of column before fields) (first_fault column (before ++ fields ∷ []) records)
+    option_or (fault_of column before fields) (first_fault column (before ++ fields ∷ []) records)
 
 -- the sails, unless there is a fault
 abbrev pub unless_faulty : Option EntriesFault → List Sail → Result (List Sail) EntriesFault
@@ -100,7 +102,7 @@ entries_of (header ∷ records) = entries_under (position is_sail_heading header
 abbrev pub entries_of_text : List ℕ → Result (List Sail) EntriesFault
 entries_of_text text = entries_of (records default_config (strip_bom text))
 
--- the number of a fault
+-- the number by which a fault is told
 abbrev pub number_of_entries_fault : EntriesFault → ℕ
 number_of_entries_fault NoColumn = 1
 number_of_entries_fault (BadRow row) = 2

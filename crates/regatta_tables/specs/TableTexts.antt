@@ -1,5 +1,6 @@
 -- The text of a table: the standing of a series.
-use Rattle.std.specs.Prelude.{ℕ, Bool, true, false, List, [], ◌∷◌, ◌++◌, length, map, flat_map, Option, Some, None, codes, decimal}
+use Rattle.std.specs.Prelude.{ℕ, Bool, true, false, List, [], ◌∷◌, ◌++◌, length, map, flat_map}
+use Rattle.std.specs.Prelude.{Option, Some, None, codes, decimal}
 use Rattle.regatta_terms.specs.Entries.{points_text}
 use Rattle.regatta_scores.specs.declared.table.Abbrev.{Abbrev}
 use Rattle.regatta_scores.specs.Abbreviations.{abbrev_text}
@@ -13,6 +14,7 @@ abbrev pub tie_sign : Bool → List ℕ
 tie_sign true = codes "="
 tie_sign false = []
 
+-- a rank, and whether it is shared
 abbrev pub rank_text : ℕ → Bool → List ℕ
 rank_text rank tied = decimal rank ++ tie_sign tied
 
@@ -26,16 +28,21 @@ abbrev pub shown : Bool → List ℕ → List ℕ
 shown true score = codes "(" ++ score ++ codes ")"
 shown false score = score
 
+-- a score in one race: points, abbreviation (A10), and whether it counts
 abbrev pub cell_text : Cell → List ℕ
 cell_text cell = shown cell.dropped (points_text cell.points ++ mark_text cell.mark)
 
 -- a boat's rank, sail, net and score in each race that counts
 abbrev pub row_words : Row → List (List ℕ)
-row_words row = rank_text row.rank row.tied ∷ row.sail ∷ points_text row.net ∷ map cell_text row.cells
+row_words row =
+    rank_text row.rank row.tied ∷ row.sail ∷ points_text row.net ∷ map cell_text row.cells
 
 -- how many boats there are, and which races count
 abbrev pub head_words : Standing → List (List ℕ)
-head_words standing = codes "TABLE" ∷ decimal (length standing.rows) ∷ codes "RACES" ∷ map decimal standing.races
+head_words standing =
+    codes "TABLE" ∷ decimal (length standing.rows) ∷ codes "RACES" ∷ map decimal standing.races
 
+-- the head line, and a line for each boat
 abbrev pub table_text : Standing → List ℕ
-table_text standing = line (head_words standing) ++ flat_map (λ row. line (row_words row)) standing.rows
+table_text standing =
+    line (head_words standing) ++ flat_map (λ row. line (row_words row)) standing.rows

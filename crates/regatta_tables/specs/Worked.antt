@@ -1,8 +1,10 @@
 -- Worked examples of replies and tables.
-use Rattle.std.specs.Prelude.{◌≡◌, refl, ℕ, Bool, true, false, List, [], ◌∷◌, ◌++◌, flat_map, Some, None, codes}
+use Rattle.std.specs.Prelude.{◌≡◌, refl, ℕ, Bool, true, false, List, [], ◌∷◌, ◌++◌, flat_map, Some}
+use Rattle.std.specs.Prelude.{None, codes}
 use Rattle.std.specs.Fmt.{digits}
 use Rattle.regatta_terms.specs.declared.reply.Reply.{Reply}
-use Rattle.regatta_terms.specs.declared.reply.Reply.TheVariants.{Done, Refused, Fault, RoleSet, Ranked, Bye, Busy, Closed}
+use Rattle.regatta_terms.specs.declared.reply.Reply.TheVariants.{Done, Refused, Fault, RoleSet}
+use Rattle.regatta_terms.specs.declared.reply.Reply.TheVariants.{Ranked, Bye, Busy, Closed}
 use Rattle.regatta_terms.specs.declared.reply.Refusal.TheVariants.{OldNumber, NotEntered}
 use Rattle.regatta_terms.specs.declared.line.LineFault.TheVariants.{BadNumber}
 use Rattle.regatta_terms.specs.declared.command.Role.TheVariants as role
@@ -21,7 +23,11 @@ lines texts = flat_map (λ text. text ++ 10 ∷ []) texts
 -- ---- replies
 
 abbrev pub done : ℕ → ℕ → Bool → ℕ → Reply
-done place rank tied net = Done (record { place = place; touched = Some (record { rank = rank; tied = tied; net = net }) })
+done place rank tied net =
+    Done (record {
+      place = place;
+      touched = Some (record { rank = rank; tied = tied; net = net });
+    })
 
 pub first_boat : reply_text (done 1 1 false 0) ≡ lines (codes "OK 1 1 0.0" ∷ [])
 unfolding digits
@@ -35,7 +41,8 @@ pub disqualified_boat : reply_text (done 8 3 false 40) ≡ lines (codes "OK 8 3 
 unfolding digits
 disqualified_boat = refl
 
-pub no_boat_named : reply_text (Done (record { place = 7; touched = None })) ≡ lines (codes "OK 7" ∷ [])
+pub no_boat_named : reply_text (Done (record { place = 7; touched = None }))
+    ≡ lines (codes "OK 7" ∷ [])
 unfolding digits
 no_boat_named = refl
 
@@ -58,7 +65,8 @@ bad_number = refl
 pub role_of_the_jury : reply_text (RoleSet role.Jury) ≡ lines (codes "ROLE JURY" ∷ [])
 role_of_the_jury = refl
 
-pub rank_of_a_boat : reply_text (Ranked (record { rank = 1; tied = false; net = 20 })) ≡ lines (codes "RANK 1 2.0" ∷ [])
+pub rank_of_a_boat : reply_text (Ranked (record { rank = 1; tied = false; net = 20 }))
+    ≡ lines (codes "RANK 1 2.0" ∷ [])
 unfolding digits
 rank_of_a_boat = refl
 
@@ -83,7 +91,8 @@ abbrev pub dropped : ℕ → Cell
 dropped points = record { points = points; mark = None; dropped = true }
 
 abbrev pub row : List ℕ → ℕ → Bool → ℕ → List Cell → Row
-row sail rank tied net cells = record { sail = sail; rank = rank; tied = tied; net = net; cells = cells }
+row sail rank tied net cells =
+    record { sail = sail; rank = rank; tied = tied; net = net; cells = cells }
 
 abbrev pub standing : List ℕ → List Row → Standing
 standing races rows = record { races = races; rows = rows }
@@ -94,43 +103,94 @@ unfolding digits
 empty_table = refl
 
 -- three boats and no race
-pub no_race : table_text (standing [] (row (codes "A") 1 true 0 [] ∷ row (codes "B") 1 true 0 [] ∷ row (codes "C") 1 true 0 [] ∷ []))
+abbrev pub all_equal : Standing
+all_equal =
+    standing []
+    (row (codes "A") 1 true 0 []
+    ∷ row (codes "B") 1 true 0 []
+    ∷ row (codes "C") 1 true 0 []
+    ∷ [])
+
+pub no_race : table_text all_equal
     ≡ lines (codes "TABLE 3 RACES" ∷ codes "1= A 0.0" ∷ codes "1= B 0.0" ∷ codes "1= C 0.0" ∷ [])
 unfolding digits
 no_race = refl
 
 -- two boats tied at the finish (A7)
-pub tied_finish : table_text (standing (1 ∷ []) (row (codes "A") 1 true 15 (cell 15 ∷ []) ∷ row (codes "B") 1 true 15 (cell 15 ∷ []) ∷ row (codes "C") 3 false 30 (cell 30 ∷ []) ∷ []))
-    ≡ lines (codes "TABLE 3 RACES 1" ∷ codes "1= A 1.5 1.5" ∷ codes "1= B 1.5 1.5" ∷ codes "3 C 3.0 3.0" ∷ [])
+abbrev pub two_tied : Standing
+two_tied =
+    standing (1 ∷ [])
+    (row (codes "A") 1 true 15 (cell 15 ∷ [])
+    ∷ row (codes "B") 1 true 15 (cell 15 ∷ [])
+    ∷ row (codes "C") 3 false 30 (cell 30 ∷ [])
+    ∷ [])
+
+pub tied_finish : table_text two_tied
+    ≡ lines
+    (codes "TABLE 3 RACES 1"
+    ∷ codes "1= A 1.5 1.5"
+    ∷ codes "1= B 1.5 1.5"
+    ∷ codes "3 C 3.0 3.0"
+    ∷ [])
 unfolding digits
 tied_finish = refl
 
 -- the first of them disqualified (A6.1)
 abbrev pub one_disqualified : Standing
-one_disqualified = standing (1 ∷ []) (row (codes "B") 1 false 10 (cell 10 ∷ []) ∷ row (codes "C") 2 false 20 (cell 20 ∷ []) ∷ row (codes "A") 3 false 40 (marked 40 Dsq ∷ []) ∷ [])
+one_disqualified =
+    standing (1 ∷ [])
+    (row (codes "B") 1 false 10 (cell 10 ∷ [])
+    ∷ row (codes "C") 2 false 20 (cell 20 ∷ [])
+    ∷ row (codes "A") 3 false 40 (marked 40 Dsq ∷ [])
+    ∷ [])
 
 pub disqualified : table_text one_disqualified
-    ≡ lines (codes "TABLE 3 RACES 1" ∷ codes "1 B 1.0 1.0" ∷ codes "2 C 2.0 2.0" ∷ codes "3 A 4.0 4.0/DSQ" ∷ [])
+    ≡ lines
+    (codes "TABLE 3 RACES 1"
+    ∷ codes "1 B 1.0 1.0"
+    ∷ codes "2 C 2.0 2.0"
+    ∷ codes "3 A 4.0 4.0/DSQ"
+    ∷ [])
 unfolding digits
 disqualified = refl
 
 -- two finishers
-pub two_finishers : table_text (standing (1 ∷ []) (row (codes "B") 1 false 10 (cell 10 ∷ []) ∷ row (codes "A") 2 false 20 (cell 20 ∷ []) ∷ []))
+abbrev pub one_behind : Standing
+one_behind =
+    standing (1 ∷ [])
+    (row (codes "B") 1 false 10 (cell 10 ∷ []) ∷ row (codes "A") 2 false 20 (cell 20 ∷ []) ∷ [])
+
+pub two_finishers : table_text one_behind
     ≡ lines (codes "TABLE 2 RACES 1" ∷ codes "1 B 1.0 1.0" ∷ codes "2 A 2.0 2.0" ∷ [])
 unfolding digits
 two_finishers = refl
 
 -- a boat that did not come to the starting area (A5)
-pub absent_boat : table_text (standing (1 ∷ []) (row (codes "A") 1 false 10 (cell 10 ∷ []) ∷ row (codes "B") 2 false 30 (marked 30 Dnc ∷ []) ∷ []))
+abbrev pub one_absent : Standing
+one_absent =
+    standing (1 ∷ [])
+    (row (codes "A") 1 false 10 (cell 10 ∷ [])
+    ∷ row (codes "B") 2 false 30 (marked 30 Dnc ∷ [])
+    ∷ [])
+
+pub absent_boat : table_text one_absent
     ≡ lines (codes "TABLE 2 RACES 1" ∷ codes "1 A 1.0 1.0" ∷ codes "2 B 3.0 3.0/DNC" ∷ [])
 unfolding digits
 absent_boat = refl
 
 -- an excluded score each (A2.1), and redress
 abbrev pub one_excluded : Standing
-one_excluded = standing (1 ∷ 2 ∷ []) (row (codes "A") 1 false 10 (dropped 10 ∷ marked 10 Rdg ∷ []) ∷ row (codes "B") 2 false 10 (dropped 20 ∷ cell 10 ∷ []) ∷ [])
+one_excluded =
+    standing (1 ∷ 2 ∷ [])
+    (row (codes "A") 1 false 10 (dropped 10 ∷ marked 10 Rdg ∷ [])
+    ∷ row (codes "B") 2 false 10 (dropped 20 ∷ cell 10 ∷ [])
+    ∷ [])
 
 pub excluded : table_text one_excluded
-    ≡ lines (codes "TABLE 2 RACES 1 2" ∷ codes "1 A 1.0 (1.0) 1.0/RDG" ∷ codes "2 B 1.0 (2.0) 1.0" ∷ [])
+    ≡ lines
+    (codes "TABLE 2 RACES 1 2"
+    ∷ codes "1 A 1.0 (1.0) 1.0/RDG"
+    ∷ codes "2 B 1.0 (2.0) 1.0"
+    ∷ [])
 unfolding digits
 excluded = refl

@@ -4,11 +4,13 @@ use Rattle.std.specs.List.{range_with_len}
 use Rattle.std.specs.Fmt.{digits}
 use Rattle.csv.specs.Machine.{next_record}
 use Rattle.csv.specs.Reading.{records_from, strip_bom}
-use Rattle.regatta_tables.specs.declared.entries.EntriesFault.TheVariants.{NoColumn, BadRow, BadSail, Twice, TooMany}
+use Rattle.regatta_tables.specs.declared.entries.EntriesFault.TheVariants.{NoColumn, BadRow}
+use Rattle.regatta_tables.specs.declared.entries.EntriesFault.TheVariants.{BadSail, Twice, TooMany}
 use Rattle.regatta_tables.specs.EntryLists.{entries_of_text}
 
 -- small letters are raised, spaces don't matter, and a field in quotes may hold a comma
-pub two_boats : entries_of_text (codes "Boat,Sail,Club\nWind,gbr 12,X\n\"A, B\",NED7") ≡ Ok (codes "GBR12" ∷ codes "NED7" ∷ [])
+pub two_boats : entries_of_text (codes "Boat,Sail,Club\nWind,gbr 12,X\n\"A, B\",NED7")
+    ≡ Ok (codes "GBR12" ∷ codes "NED7" ∷ [])
 unfolding next_record records_from strip_bom
 two_boats = refl
 
@@ -22,15 +24,19 @@ pub nobody_by_number : entries_of_text (codes "Sail No") ≡ Ok []
 unfolding next_record records_from strip_bom
 nobody_by_number = refl
 
-pub first_of_two_columns : entries_of_text (codes "Boat, sail number ,SailNo\nX,A,B") ≡ Ok (codes "A" ∷ [])
+pub first_of_two_columns : entries_of_text (codes "Boat, sail number ,SailNo\nX,A,B")
+    ≡ Ok (codes "A" ∷ [])
 unfolding next_record records_from strip_bom
 first_of_two_columns = refl
 
-pub one_byte_order_mark : entries_of_text (0xEF ∷ 0xBB ∷ 0xBF ∷ codes "Sail\nA") ≡ Ok (codes "A" ∷ [])
+pub one_byte_order_mark : entries_of_text (0xEF ∷ 0xBB ∷ 0xBF ∷ codes "Sail\nA")
+    ≡ Ok (codes "A" ∷ [])
 unfolding next_record records_from strip_bom
 one_byte_order_mark = refl
 
-pub two_byte_order_marks : entries_of_text (0xEF ∷ 0xBB ∷ 0xBF ∷ 0xEF ∷ 0xBB ∷ 0xBF ∷ codes "Sail\nA") ≡ Err NoColumn
+pub two_byte_order_marks :
+    entries_of_text (0xEF ∷ 0xBB ∷ 0xBF ∷ 0xEF ∷ 0xBB ∷ 0xBF ∷ codes "Sail\nA")
+    ≡ Err NoColumn
 unfolding next_record records_from strip_bom
 two_byte_order_marks = refl
 
@@ -44,7 +50,8 @@ no_column = refl
 
 -- ---- rows
 
--- a line without a byte is no record; records of spaces, quotes and commas are passed over, and count
+-- a line without a byte is no record; records of spaces, quotes and commas are passed over, and
+-- count
 pub blank_records : entries_of_text (codes "Boat,Sail\n\n  \n\"\"\n , \nX,A\nY,a") ≡ Err (Twice 6)
 unfolding next_record records_from strip_bom
 blank_records = refl

@@ -1,13 +1,18 @@
 //! Entry lists, as race offices keep them: comma-separated values with a column of sails.
 
-ghost use Rattle.std.specs.Prelude.{◌≡◌, ◌≤◌, ◌⊎◌, ◌++◌, ◌∷◌, [], Ok, Err, None, Some, length, map, position, IfOk, IfErr, OnOk};
+ghost use Rattle.std.specs.Prelude.{◌≡◌, ◌≤◌, ◌⊎◌, ◌++◌, ◌∷◌, [], Ok, Err, None, Some, length, map};
+ghost use Rattle.std.specs.Prelude.{position, IfOk, IfErr, OnOk};
 ghost use Rattle.std.specs.List.{IsDistinct, list_all};
 ghost use Rattle.csv.specs.Records.{fields_of};
 ghost use Rattle.regatta_terms.specs.Sails.{sail_of};
 ghost use Rattle.regatta_terms.specs.Words.{is_space};
 ghost use Rattle.regatta_scores.specs.Journal.{same_sail};
-ghost use Rattle.regatta_tables.specs.EntryLists.{entries_of_text, entries_under, fault_in, fault_of_field, is_blank, is_sail_heading, number_of_entries_fault, row_of_entries_fault, sails_in, without_spaces};
+ghost use Rattle.regatta_tables.specs.EntryLists.{entries_of_text, entries_under, fault_in};
+ghost use Rattle.regatta_tables.specs.EntryLists.{fault_of_field, is_blank, is_sail_heading};
+ghost use Rattle.regatta_tables.specs.EntryLists.{most_boats, number_of_entries_fault};
+ghost use Rattle.regatta_tables.specs.EntryLists.{row_of_entries_fault, sails_in, without_spaces};
 
+use crate::limits::MAX_BOATS;
 use crate::records::{fields_in, records_of, without_spaces};
 use csv::ByteRecord;
 use regatta_scores::Items;
@@ -18,9 +23,6 @@ use thiserror::Error;
 /// The sails of an entry list, in the order of its rows.
 pub type Sails = Items<Sail>;
 
-/// The boats that an entry list names at most.
-const MOST_BOATS: usize = 200;
-
 /// Why an entry list can't be read: the first that applies. Rows count the records of the list from
 /// 1, which is the header.
 #[derive(Clone, Copy, Debug, PartialEq, Eq, Error)]
@@ -30,16 +32,28 @@ pub enum EntriesFault {
     NoColumn,
     /// A record has no field in the column of sails.
     #[error("entries fault 2: no sail in row {row}")]
-    BadRow { row: usize },
+    BadRow {
+        /// The row of the record.
+        row: usize,
+    },
     /// The field in the column of sails isn't a sail number.
     #[error("entries fault 3: bad sail in row {row}")]
-    BadSail { row: usize },
+    BadSail {
+        /// The row of the field.
+        row: usize,
+    },
     /// The sail stood in an earlier row.
     #[error("entries fault 4: sail in row {row} for the second time")]
-    Twice { row: usize },
-    /// 200 sails stood in earlier rows.
+    Twice {
+        /// The row where it stands again.
+        row: usize,
+    },
+    /// As many sails as an entry list may name stood in earlier rows: 200.
     #[error("entries fault 5: more than 200 sails, from row {row}")]
-    TooMany { row: usize },
+    TooMany {
+        /// The row of the first sail too many.
+        row: usize,
+    },
     /// Memory was refused.
     #[error("entries fault 6: no memory")]
     NoMemory,
@@ -81,7 +95,7 @@ impl EntriesFault {
 /// records are passed over. The records are those that `csv` reads by default, so any bytes do.
 pub fn read_entries(alloc: Global, text: &[u8]) -> Result<Sails, EntriesFault>
     ensures ok { IfOk result (λ sails. entries_of_text text.now ≡ Ok sails) }
-    ensures few { IfOk result (λ sails. length sails ≤ 200) }
+    ensures few { IfOk result (λ sails. length sails ≤ most_boats) }
     ensures once { IfOk result (λ sails. IsDistinct same_sail sails) }
     ensures fault { IfErr result (λ fault.
         (fault ≡ EntriesFault.NoMemory) ⊎ (entries_of_text text.now ≡ Err fault)) }
@@ -134,7 +148,7 @@ fn is_sail_heading(alloc: Global, field: &[u8]) -> Result<bool, AllocError>
 fn read_sails(alloc: Global, column: usize, records: &[ByteRecord]) -> Result<Sails, EntriesFault>
     ensures ok { IfOk result (λ sails.
         entries_under (Some column) (map fields_of records.now) ≡ Ok sails) }
-    ensures few { IfOk result (λ sails. length sails ≤ 200) }
+    ensures few { IfOk result (λ sails. length sails ≤ most_boats) }
     ensures once { IfOk result (λ sails. IsDistinct same_sail sails) }
     ensures fault { IfErr result (λ fault. (fault ≡ EntriesFault.NoMemory)
         ⊎ (entries_under (Some column) (map fields_of records.now) ≡ Err fault)) }
@@ -215,7 +229,7 @@ fn read_sail(alloc: Global, row: usize, field: &[u8], sails: &[Sail]) -> Result<
     if sails.contains(&sail) {
         return Err(EntriesFault::Twice { row });
     }
-    if sails.len() >= MOST_BOATS {
+    if sails.len() >= MAX_BOATS {
         return Err(EntriesFault::TooMany { row });
     }
     Ok(sail)

@@ -3,6 +3,7 @@
 
 mod entries;
 mod journals;
+mod limits;
 mod pieces;
 mod records;
 mod replies;

@@ -9,8 +9,8 @@ use csv::{ByteRecord, ErrorKind, ReaderBuilder};
 use std::alloc::{AllocError, Global};
 
 /// Every record of a text, of any lengths and with no header set apart. A byte order mark at the
-/// very start is dropped. An error is of the device or of memory: neither the lengths of records nor
-/// bytes that are no text are one.
+/// very start is dropped. An error is of the device or of memory: neither the lengths of records
+/// nor bytes that are no text are one.
 pub(crate) fn records_of(alloc: Global, text: &[u8]) -> Result<Vec<ByteRecord>, ErrorKind>
     ensures ok { IfOk result (λ rows.
         map fields_of rows.items ≡ records default_config (strip_bom text.now)) }

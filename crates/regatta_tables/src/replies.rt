@@ -1,16 +1,19 @@
 //! Replies as text.
 
-ghost use Rattle.std.specs.Prelude.{◌≡◌, ◌≤◌, ◌++◌, ◌+◌, vec_len, vec_capacity, length, codes, OnOk, OnErr, IsOk};
+ghost use Rattle.std.specs.Prelude.{◌≡◌, ◌≤◌, ◌++◌, ◌+◌, vec_len, vec_capacity, length, codes};
+ghost use Rattle.std.specs.Prelude.{OnOk, OnErr, IsOk};
 ghost use Rattle.regatta_terms.specs.Entries.{role_text};
 ghost use Rattle.regatta_tables.specs.Lines.{line};
-ghost use Rattle.regatta_tables.specs.ReplyTexts.{reply_text, answer_words, ranked_words, refused_words};
+ghost use Rattle.regatta_tables.specs.ReplyTexts.{reply_text, answer_words, ranked_words};
+ghost use Rattle.regatta_tables.specs.ReplyTexts.{refused_words};
 
 use crate::pieces::{append, points_word, rank_word};
 use itoa::Buffer;
 use regatta_terms::{Answer, Reply, Role, Touched};
 use std::alloc::AllocError;
 
-/// Appends a reply, a line that ends in a line feed. It never fails where 64 bytes of room are free.
+/// Appends a reply, a line that ends in a line feed. It never fails where 64 bytes of room are
+/// free.
 pub fn write_reply(reply: &Reply, out: &mut Vec<u8>) -> Result<(), AllocError>
     ensures ok { OnOk result (out.new.items ≡ out.old.items ++ reply_text reply.now) }
     ensures err { OnErr result (out.new.items ≡ out.old.items) }

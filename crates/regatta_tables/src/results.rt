@@ -1,6 +1,7 @@
 //! The standing as CSV.
 
-ghost use Rattle.std.specs.Prelude.{◌≡◌, ◌≢◌, ◌≤◌, ◌++◌, Some, true, false, IfOk, OnOk, OnErr, map, flat_map, vec_capacity};
+ghost use Rattle.std.specs.Prelude.{◌≡◌, ◌≢◌, ◌≤◌, ◌++◌, Some, true, false, IfOk, OnOk, OnErr, map};
+ghost use Rattle.std.specs.Prelude.{flat_map, vec_capacity};
 ghost use Rattle.std.specs.Io.KnownBytes.{Appends};
 ghost use Rattle.csv.specs.Writing as written;
 ghost use Rattle.csv.specs.Writing.{row_text};
