@@ -76,11 +76,12 @@ impl From<ReadFault> for Complaint {
 
 impl From<JournalFault> for Complaint {
     fn from(fault: JournalFault) -> Complaint {
-        let number = fault.number();
-        match fault {
-            JournalFault::BadLine { line, .. } => Complaint::Journal { number, line },
-            JournalFault::TooMany => Complaint::Journal { number, line: 4097 },
-            JournalFault::NoMemory => Complaint::NoMemory,
+        match fault.line() {
+            Some(line) => Complaint::Journal {
+                number: fault.number(),
+                line,
+            },
+            None => Complaint::NoMemory,
         }
     }
 }
