@@ -1,32 +1,54 @@
--- Known bytes over several reads and writes.
-use Rattle.std.proofs.Common.{sym, ap, ◌∙◌, ◌≡◌, ℕ, List, ◌++◌, Option, Some, None, length, take, drop, ◌-◌}
-use Rattle.std.proofs.lemmas.List.{append_assoc, length-drop, take-append-drop}
+-- Known bytes over several reads and writes, here and in a run.
+use Rattle.std.proofs.Common.{refl, sym, ap, ◌∙◌, ◌≡◌, ℕ, List, [], ◌++◌, Option, Some, None}
+use Rattle.std.proofs.Common.{length, take, drop, ◌-◌}
+use Rattle.std.proofs.lemmas.List.{append-nil, append_assoc, length-drop, take-append-drop}
 use Rattle.std.proofs.Math.Seq.{take-length, take-append_seam}
 use Rattle.std.specs.Io.KnownBytes.{Appends, Consumes, Keeps}
 use Rattle.regatta_streams.specs.Texts.{AppendsPrefix}
 
-pub appends-then : (a b c : Option (List ℕ)) (x y : List ℕ) → Appends a b x → Appends b c y → Appends a c (x ++ y)
+pub appends-none : (a : Option (List ℕ)) → Appends a a []
+appends-none None = tt
+appends-none (Some xs) = sym (append-nil xs)
+
+pub appends-then : (a b c : Option (List ℕ)) (x y : List ℕ) → Appends a b x → Appends b c y
+    → Appends a c (x ++ y)
 appends-then None b c x y h k = tt
 appends-then (Some xs) None c x y h k = absurd h
 appends-then (Some xs) (Some ys) None x y h k = k
 appends-then (Some xs) (Some ys) (Some zs) x y h k = k ∙ ap (λ t. t ++ y) h ∙ append_assoc xs x y
 
-pub appends-kept : (a b c : Option (List ℕ)) (x : List ℕ) → Appends a b x → Keeps b c → Appends a c x
+pub appends-kept : (a b c : Option (List ℕ)) (x : List ℕ) → Appends a b x → Keeps b c
+    → Appends a c x
 appends-kept None b c x h k = tt
 appends-kept (Some xs) None c x h k = absurd h
 appends-kept (Some xs) (Some ys) None x h k = k
 appends-kept (Some xs) (Some ys) (Some zs) x h k = k ∙ h
 
-pub consumes-then : (a b c : Option (List ℕ)) (x y : List ℕ) → Consumes a b x → Consumes b c y → Consumes a c (x ++ y)
+pub consumes-none : (a : Option (List ℕ)) → Consumes a a []
+consumes-none None = tt
+consumes-none (Some xs) = refl
+
+pub consumes-kept : (a b c : Option (List ℕ)) (x : List ℕ) → Consumes a b x → Keeps b c
+    → Consumes a c x
+consumes-kept None b c x h k = tt
+consumes-kept (Some xs) None c x h k = absurd h
+consumes-kept (Some xs) (Some ys) None x h k = k
+consumes-kept (Some xs) (Some ys) (Some zs) x h k = h ∙ ap (λ t. x ++ t) (sym k)
+
+pub consumes-then : (a b c : Option (List ℕ)) (x y : List ℕ) → Consumes a b x → Consumes b c y
+    → Consumes a c (x ++ y)
 consumes-then None b c x y h k = tt
 consumes-then (Some xs) None c x y h k = absurd h
 consumes-then (Some xs) (Some ys) None x y h k = k
-consumes-then (Some xs) (Some ys) (Some zs) x y h k = h ∙ ap (λ t. x ++ t) k ∙ sym (append_assoc x y zs)
+consumes-then (Some xs) (Some ys) (Some zs) x y h k = h ∙ ap (λ t. x ++ t) k
+    ∙ sym (append_assoc x y zs)
 
 pub rest_split : (n : ℕ) (xs : List ℕ) → xs ≡ take n xs ++ take (length xs - n) (drop n xs)
 rest_split n xs =
-    sym (take-append-drop n xs) ∙ ap (λ t. take n xs ++ t) (sym (take-length (drop n xs)) ∙ ap (λ k. take k (drop n xs)) (length-drop n xs))
+    sym (take-append-drop n xs) ∙ ap (λ t. take n xs ++ t)
+    (sym (take-length (drop n xs)) ∙ ap (λ k. take k (drop n xs)) (length-drop n xs))
 
 -- a front of the bytes was written
-pub front-written : (a b : Option (List ℕ)) (bytes done rest : List ℕ) → bytes ≡ done ++ rest → Appends a b done → AppendsPrefix a b bytes
+pub front-written : (a b : Option (List ℕ)) (bytes done rest : List ℕ) → bytes ≡ done ++ rest
+    → Appends a b done → AppendsPrefix a b bytes
 front-written a b bytes done rest e h = (length done, rw (e, take-append_seam done rest) h)
