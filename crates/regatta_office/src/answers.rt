@@ -2,7 +2,11 @@
 ghost use Rattle.std.specs.Prelude.{◌≡◌, ◌++◌, Ok, Err, IfOk, OnOk};
 ghost use Rattle.regatta_scores.specs.Standing.{standing};
 ghost use Rattle.regatta_tables.specs.SheetTexts.{sheet_text};
-ghost use Rattle.regatta_office.specs.Transcript.{is_quit as is_quit_of, is_want_of_memory as is_want_of_memory_by, journal_after, next_entry as next_entry_of, ranked as ranked_by, reply_to, talk_after, talk_for, text_after, text_for};
+ghost use Rattle.regatta_office.specs.Transcript.{is_quit as is_quit_of};
+ghost use Rattle.regatta_office.specs.Transcript.{is_want_of_memory as is_want_of_memory_by};
+ghost use Rattle.regatta_office.specs.Transcript.{journal_after, next_entry as next_entry_of};
+ghost use Rattle.regatta_office.specs.Transcript.{ranked as ranked_by, reply_to, talk_after};
+ghost use Rattle.regatta_office.specs.Transcript.{talk_for, text_after, text_for};
 
 use regatta_board::Board;
 use regatta_tables::{write_reply, write_sheet};

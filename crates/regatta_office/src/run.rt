@@ -1,16 +1,21 @@
 //! A run over two streams.
-ghost use Rattle.std.specs.Prelude.{◌≡◌, ◌≢◌, ◌+◌, ◌<◌, ◌≤◌, ◌++◌, ℕ, List, length, take, None, OnOk, IfOk, IfErr, IfSome, IsErrOf, false, true};
+ghost use Rattle.std.specs.Prelude.{◌≡◌, ◌≢◌, ◌+◌, ◌<◌, ◌≤◌, ◌++◌, ℕ, List, length, take, None};
+ghost use Rattle.std.specs.Prelude.{OnOk, IfOk, IfErr, IfSome, IsErrOf, false, true};
 ghost use Rattle.std.specs.Io.KnownBytes.{Appends, Keeps};
 ghost use Rattle.regatta_streams.specs.Texts.{AppendsPrefix, GaveAtMost};
 ghost use Rattle.regatta_board.specs.Refusals.{limits, is_lawful};
 ghost use Rattle.regatta_board.specs.Replays.{first_refused};
 ghost use Rattle.regatta_office.specs.declared.run.TheConstants.{INPUT_LIMIT};
-ghost use Rattle.regatta_office.specs.Coming.{Cuts, IsTooLong, IsWithin, ReadSome, Stops, Talked, coming};
-ghost use Rattle.regatta_office.specs.Faults.{IsDeviceFault, IsRunFaultOf, scribe_fault as scribe_fault_of, start_fault as start_fault_of};
+ghost use Rattle.regatta_office.specs.Coming.{Cuts, IsTooLong, IsWithin, ReadSome, Stops, Talked};
+ghost use Rattle.regatta_office.specs.Coming.{coming};
+ghost use Rattle.regatta_office.specs.Faults.{IsDeviceFault, IsRunFaultOf};
+ghost use Rattle.regatta_office.specs.Faults.{scribe_fault as scribe_fault_of};
+ghost use Rattle.regatta_office.specs.Faults.{start_fault as start_fault_of};
 ghost use Rattle.regatta_office.specs.Lines.{ended_lines};
 ghost use Rattle.regatta_office.specs.Scribes.{point};
 ghost use Rattle.regatta_office.specs.Starts.{IsRunFault};
-ghost use Rattle.regatta_office.specs.Transcript.{EndsWithin, WroteSome, final_text, has_quit, run_text, transcript_so_far};
+ghost use Rattle.regatta_office.specs.Transcript.{EndsWithin, WroteSome, final_text, has_quit};
+ghost use Rattle.regatta_office.specs.Transcript.{run_text, transcript_so_far};
 
 use crate::form::Form;
 use crate::opening::opened;

@@ -1,5 +1,6 @@
 -- Texts put together piece by piece.
-use Rattle.std.proofs.Common.{◌≡◌, ℕ, ◌+◌, ◌<◌, ◌≤◌, List, [], ◌∷◌, ◌++◌, length, take, map, get_or, ap, ◌∙◌, sym, append_assoc, append-nil, length-append, arith, codes}
+use Rattle.std.proofs.Common.{◌≡◌, ℕ, ◌+◌, ◌<◌, ◌≤◌, List, [], ◌∷◌, ◌++◌, length, take, map, get_or}
+use Rattle.std.proofs.Common.{ap, ◌∙◌, sym, append_assoc, append-nil, length-append, arith, codes}
 use Rattle.std.specs.List.{join_with_byte, flat_map}
 use Rattle.std.proofs.Math.Seq.{take-append_seam}
 use Rattle.std.proofs.lemmas.List.{map_more, flat_map_more, take-take}
@@ -9,23 +10,38 @@ use Rattle.regatta_tables.specs.Lines.{line}
 use denote.Ref.{Bor}
 
 -- joined words are the first, and each other behind a space
-pub joined : (first : List ℕ) (words : List (List ℕ)) → join_with_byte 32 (first ∷ words) ≡ first ++ spaced words
+pub joined : (first : List ℕ) (words : List (List ℕ))
+    → join_with_byte 32 (first ∷ words) ≡ first ++ spaced words
 joined first [] = sym (append-nil first)
 joined first (w ∷ ws) = ap (λ (t : List ℕ). first ++ 32 ∷ t) (joined w ws)
 
 -- where the next piece has no room, there was none for all of them
-pub no_room : (pieces : List (Bor (List ℕ))) (i : ℕ) (d : Bor (List ℕ)) (before text : List ℕ) (room cap old len : ℕ) → i < length pieces → text ≡ before ++ flat_map (λ piece. piece.now) (take i pieces) → old ≡ length before → len ≡ length text → room ≤ cap → cap < len + length (get_or pieces i d).now → room < old + length (flat_map (λ piece. piece.now) pieces)
+pub no_room : (pieces : List (Bor (List ℕ))) (i : ℕ) (d : Bor (List ℕ)) (before text : List ℕ)
+    (room cap old len : ℕ) → i < length pieces
+    → text ≡ before ++ flat_map (λ piece. piece.now) (take i pieces) → old ≡ length before
+    → len ≡ length text → room ≤ cap → cap < len + length (get_or pieces i d).now
+    → room < old + length (flat_map (λ piece. piece.now) pieces)
 no_room pieces i d before text room cap old len below so_far start end grown full =
-    omega (arith, length-flat_map-take (λ (piece : Bor (List ℕ)). piece.now) pieces i d below, ap length so_far, length-append before (flat_map (λ piece. piece.now) (take i pieces)))
+    omega (
+      arith,
+      length-flat_map-take (λ (piece : Bor (List ℕ)). piece.now) pieces i d below,
+      ap length so_far,
+      length-append before (flat_map (λ piece. piece.now) (take i pieces)),
+    )
 
 -- what begins with a longer text begins with its beginning
-pub kept : (old more longer text : List ℕ) (a b : ℕ) → a ≡ length old → b ≡ length longer → longer ≡ old ++ more → take b text ≡ longer → take a text ≡ old
+pub kept : (old more longer text : List ℕ) (a b : ℕ) → a ≡ length old → b ≡ length longer
+    → longer ≡ old ++ more → take b text ≡ longer → take a text ≡ old
 kept old more longer text a b first second is begins =
     let short : a ≤ b = omega (arith, ap length is, length-append old more) in
-    sym (take-take a b text short) ∙ ap (take a) (begins ∙ is) ∙ ap (λ (n : ℕ). take n (old ++ more)) first ∙ take-append_seam old more
+    sym (take-take a b text short) ∙ ap (take a) (begins ∙ is)
+    ∙ ap (λ (n : ℕ). take n (old ++ more)) first ∙ take-append_seam old more
 
 -- a space and the next word make the text of one word more
-pub spaced_more : {X : Type 0} (f : X → List ℕ) (xs : List X) (i : ℕ) (x : X) (start text gap new : List ℕ) → i < length xs → x ≡ get_or xs i x → text ≡ start ++ spaced (map f (take i xs)) → gap ≡ text ++ 32 ∷ [] → new ≡ gap ++ f x → new ≡ start ++ spaced (map f (take (i + 1) xs))
+pub spaced_more : {X : Type 0} (f : X → List ℕ) (xs : List X) (i : ℕ) (x : X)
+    (start text gap new : List ℕ) → i < length xs → x ≡ get_or xs i x
+    → text ≡ start ++ spaced (map f (take i xs)) → gap ≡ text ++ 32 ∷ [] → new ≡ gap ++ f x
+    → new ≡ start ++ spaced (map f (take (i + 1) xs))
 spaced_more f xs i x start text gap new below item so_far space word =
     word ∙ ap (λ (t : List ℕ). t ++ f x) (space ∙ ap (λ (t : List ℕ). t ++ 32 ∷ []) so_far)
     ∙ append_assoc (start ++ spaced (map f (take i xs))) (32 ∷ []) (f x)
@@ -34,10 +50,16 @@ spaced_more f xs i x start text gap new below item so_far space word =
     ∙ ap (λ (ws : List (List ℕ)). start ++ spaced ws) (sym (map_more f xs i x below))
 
 -- a first text, words behind spaces, and a line feed
-ended : (old first start text new : List ℕ) (words : List (List ℕ)) → start ≡ old ++ first → text ≡ start ++ spaced words → new ≡ text ++ 10 ∷ [] → new ≡ ((old ++ first) ++ spaced words) ++ 10 ∷ []
-ended old first start text new words begins goes ends = ends ∙ ap (λ (t : List ℕ). t ++ 10 ∷ []) (goes ∙ ap (λ (t : List ℕ). t ++ spaced words) begins)
+ended : (old first start text new : List ℕ) (words : List (List ℕ)) → start ≡ old ++ first
+    → text ≡ start ++ spaced words → new ≡ text ++ 10 ∷ []
+    → new ≡ ((old ++ first) ++ spaced words) ++ 10 ∷ []
+ended old first start text new words begins goes ends = ends
+    ∙ ap (λ (t : List ℕ). t ++ 10 ∷ []) (goes ∙ ap (λ (t : List ℕ). t ++ spaced words) begins)
 
 -- a line whose first three words are pieces
-pub line_of_pieces : (old a b c start text new : List ℕ) (words : List (List ℕ)) → start ≡ old ++ (a ++ (codes " " ++ (b ++ (codes " " ++ (c ++ []))))) → text ≡ start ++ spaced words → new ≡ text ++ 10 ∷ [] → new ≡ old ++ line (a ∷ b ∷ c ∷ words)
+pub line_of_pieces : (old a b c start text new : List ℕ) (words : List (List ℕ))
+    → start ≡ old ++ (a ++ (codes " " ++ (b ++ (codes " " ++ (c ++ [])))))
+    → text ≡ start ++ spaced words → new ≡ text ++ 10 ∷ [] → new ≡ old ++ line (a ∷ b ∷ c ∷ words)
 line_of_pieces old a b c start text new words begins goes ends =
-    rw (joined c words) (ended old _ start text new words begins goes ends ∙ simp (append_assoc, append-nil))
+    rw (joined c words) (ended old _ start text new words begins goes ends
+    ∙ simp (append_assoc, append-nil))

@@ -3,7 +3,9 @@ use Rattle.std.proofs.Common.{◌≡◌, ℕ, List, [], ◌++◌, Option, Some, 
 use Rattle.std.specs.Io.KnownBytes.{Appends, Keeps}
 
 -- a header and rows, one behind the other
-pub all_written : (empty headed full : Option (List ℕ)) (text header rows : List ℕ) → empty ≡ Some [] → Appends empty headed header → Appends headed full rows → Keeps full (Some text) → text ≡ header ++ rows
+pub all_written : (empty headed full : Option (List ℕ)) (text header rows : List ℕ)
+    → empty ≡ Some [] → Appends empty headed header → Appends headed full rows
+    → Keeps full (Some text) → text ≡ header ++ rows
 all_written None headed full text header rows start first more kept = cc
 all_written (Some x) None full text header rows start first more kept = absurd first
 all_written (Some x) (Some y) None text header rows start first more kept = absurd more

@@ -9,7 +9,9 @@ use Rattle.regatta_terms.specs.declared.command.Role.TheVariants.{Jury}
 use Rattle.regatta_terms.specs.declared.line.Line.{Line}
 use Rattle.regatta_terms.specs.declared.line.Line.TheVariants.{Do, SetRole, Rank, Show, Quit}
 use Rattle.regatta_terms.specs.declared.line.LineFault.{LineFault}
-use Rattle.regatta_terms.specs.declared.line.LineFault.TheVariants.{TooLong, NoSuchWord, WrongCount, BadSail, BadRace, BadPoints, BadCode, BadRole}
+use Rattle.regatta_terms.specs.declared.line.LineFault.TheVariants.{TooLong, NoSuchWord, WrongCount}
+use Rattle.regatta_terms.specs.declared.line.LineFault.TheVariants.{BadSail, BadRace, BadPoints}
+use Rattle.regatta_terms.specs.declared.line.LineFault.TheVariants.{BadCode, BadRole}
 use Rattle.regatta_terms.specs.Lines.{line_of, line_of_words, command_of_words, command_after}
 use Rattle.regatta_terms.specs.Replies.{number_of_fault}
 

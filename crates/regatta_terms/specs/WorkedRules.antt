@@ -1,9 +1,12 @@
 -- Worked examples of the rules of a series and their texts, by computation.
-use Rattle.std.specs.Prelude.{◌≡◌, refl, List, ℕ, Option, Some, None, Result, Ok, Err, ◌∷◌, [], codes}
+use Rattle.std.specs.Prelude.{◌≡◌, refl, List, ℕ, Option, Some, None, Result, Ok, Err, ◌∷◌, []}
+use Rattle.std.specs.Prelude.{codes}
 use Rattle.regatta_terms.specs.declared.rules.Absent.{Absent}
 use Rattle.regatta_terms.specs.declared.rules.Absent.TheVariants.{A52, A53}
 use Rattle.regatta_terms.specs.declared.rules.RulesFault.{RulesFault}
-use Rattle.regatta_terms.specs.declared.rules.RulesFault.TheVariants.{ScpOutOfRange, TooMany, NotRising, BelowTwo, AboveForty, BadText}
+use Rattle.regatta_terms.specs.declared.rules.RulesFault.TheVariants.{ScpOutOfRange, TooMany}
+use Rattle.regatta_terms.specs.declared.rules.RulesFault.TheVariants.{NotRising, BelowTwo}
+use Rattle.regatta_terms.specs.declared.rules.RulesFault.TheVariants.{AboveForty, BadText}
 use Rattle.regatta_terms.specs.Rules.{RulesParts, rules_of, rules_of_texts, exclusions_of}
 
 -- rules, by their parts

@@ -11,5 +11,10 @@ returns-then-is_err-clause-taken g c =
     let room : length c.read.new.buf ≡ c.min-room.result = search rules in (
       so_far ++ piece,
       consumes-then _ _ _ so_far piece c.loop-buffer.invariant.took c.in-Ok.ensures.bytes.0,
-      (let bound : length (so_far ++ piece) ≤ c.args.limit + 1 = omega (arith, length-append so_far piece, length-take c.in-Ok.count c.read.new.buf, c.in-Ok.ensures.bound) in bound),
+      (let bound : length (so_far ++ piece) ≤ c.args.limit + 1 = omega (
+        arith,
+        length-append so_far piece,
+        length-take c.in-Ok.count c.read.new.buf,
+        c.in-Ok.ensures.bound,
+      ) in bound),
     )

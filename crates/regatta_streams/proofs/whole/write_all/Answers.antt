@@ -6,7 +6,8 @@ use Rattle.regatta_streams.proofs.whole.write_all.Goals as goal
 pub returns-in_default-clause-cut : goal.returns-in_default-clause-cut
 returns-in_default-clause-cut g c =
     let (done, split, wrote, same) = c.loop-rest.invariant in
-    front-written _ _ c.args.bytes.now done c.loop-rest.rest.now split (appends-kept _ _ _ done wrote c.in_default.ensures.bytes)
+    front-written _ _ c.args.bytes.now done c.loop-rest.rest.now split
+    (appends-kept _ _ _ done wrote c.in_default.ensures.bytes)
 
 pub loop-rest-preserved : goal.loop-rest-preserved
 loop-rest-preserved g c =

@@ -5,7 +5,8 @@ use Rattle.regatta_streams.proofs.whole.write_all.Given as goal
 -- what is written so far is a front of the bytes, and the rest of them is left
 abbrev pub invariant-loop-rest : goal.invariant-loop-rest
 invariant-loop-rest g l =
-    (done : List ℕ) × (l.bytes ≡ done ++ l.rest) × Appends (g.W.Sink.contents l.fn.output) (g.W.Sink.contents l.output) done
+    (done : List ℕ) × (l.bytes ≡ done ++ l.rest)
+    × Appends (g.W.Sink.contents l.fn.output) (g.W.Sink.contents l.output) done
     × (g.W.Device.failures l.output ≡ g.W.Device.failures l.fn.output)
 
 abbrev pub decreases-loop-rest : goal.decreases-loop-rest

@@ -5,4 +5,5 @@ use Rattle.regatta_tables.proofs.entries.is_blank.Given as goal
 
 -- the fields so far are empty, but for spaces
 abbrev pub invariant-loop-field : goal.invariant-loop-field
-invariant-loop-field l = list_all (λ field. list_all is_space field.now) (take l.field-index l.fields) ≡ true
+invariant-loop-field l = list_all (λ field. list_all is_space field.now)
+    (take l.field-index l.fields) ≡ true

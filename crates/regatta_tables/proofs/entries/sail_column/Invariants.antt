@@ -5,4 +5,5 @@ use Rattle.regatta_tables.proofs.entries.sail_column.Given as goal
 
 -- no field so far is a heading
 abbrev pub invariant-loop-place : goal.invariant-loop-place
-invariant-loop-place l = (k : ℕ) (d : List ℕ) → k < l.place → is_sail_heading (get_or (fields_of l.header) k d) ≡ false
+invariant-loop-place l = (k : ℕ) (d : List ℕ) → k < l.place
+    → is_sail_heading (get_or (fields_of l.header) k d) ≡ false

@@ -5,6 +5,9 @@ use Rattle.regatta_tables.proofs.pieces.push_pieces.Goals as goal
 
 pub returns-in_err-extend_from_slice-clause-full : goal.returns-in_err-extend_from_slice-clause-full
 returns-in_err-extend_from_slice-clause-full c =
-    let full : vec_capacity c.args.out.now < vec_len c.args.out.now + length (flat_map (λ piece. piece.now) c.args.pieces.now) =
-    no_room _ _ _ _ _ _ _ _ _ c.loop-piece-test.true c.loop-piece.invariant.text c.args.out.now.ok.0 c.loop-piece.out.ok.0 c.loop-piece.invariant.room c.in_err-extend_from_slice.ensures.full in
+    let full : vec_capacity c.args.out.now < vec_len c.args.out.now + length
+    (flat_map (λ piece. piece.now) c.args.pieces.now) =
+    no_room _ _ _ _ _ _ _ _ _ c.loop-piece-test.true c.loop-piece.invariant.text
+    c.args.out.now.ok.0 c.loop-piece.out.ok.0 c.loop-piece.invariant.room
+    c.in_err-extend_from_slice.ensures.full in
     search rules

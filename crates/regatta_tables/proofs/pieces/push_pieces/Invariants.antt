@@ -5,6 +5,7 @@ use Rattle.regatta_tables.proofs.pieces.push_pieces.Given as goal
 -- the pieces so far stand in the text
 abbrev pub invariant-loop-piece : goal.invariant-loop-piece
 invariant-loop-piece l = record {
-  text : l.out.items ≡ l.fn.out.items ++ flat_map (λ piece. piece.now) (take l.piece-index l.pieces);
+  text : l.out.items ≡ l.fn.out.items ++ flat_map (λ piece. piece.now)
+      (take l.piece-index l.pieces);
   room : vec_capacity l.fn.out ≤ vec_capacity l.out;
 }

@@ -3,4 +3,8 @@ use Rattle.std.proofs.lemmas.Fmt.{length-decimal-le}
 use Rattle.regatta_tables.proofs.pieces.rank_word.Goals as goal
 
 pub write_digits-start-requires : goal.write_digits-start-requires
-write_digits-start-requires c = (length-decimal-le 5 c.from.result (omega arith) (omega arith) (omega arith), omega arith)
+write_digits-start-requires c = (
+  length-decimal-le 5 c.from.result (omega arith) (omega arith)
+      (omega arith),
+  omega arith,
+)

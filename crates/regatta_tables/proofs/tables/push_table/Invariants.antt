@@ -7,6 +7,7 @@ use Rattle.regatta_tables.proofs.tables.push_table.Given as goal
 -- the rows so far stand in the text
 abbrev pub invariant-loop-row : goal.invariant-loop-row
 invariant-loop-row l = record {
-  text : l.out.items ≡ l.fn.out.items ++ (line (head_words l.fn.standing) ++ flat_map (λ row. line (row_words row)) (take l.row-index l.fn.standing.rows));
+  text : l.out.items ≡ l.fn.out.items ++ (line (head_words l.fn.standing) ++ flat_map
+      (λ row. line (row_words row)) (take l.row-index l.fn.standing.rows));
   room : vec_capacity l.fn.out ≤ vec_capacity l.out;
 }
