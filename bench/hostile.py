@@ -4,8 +4,9 @@
     bench/hostile.py PROGRAM [SEED]
 
 Random bytes, junk up to the limit and past it, long lines, lines of known words in random order,
-and start files of all these kinds. A run may end with status 0 to 3 and nothing else: a crash, a
-signal or another status is told, and the script then ends with status 1.
+and start files of all these kinds. A run may end with status 0 or 1, and with nothing on standard
+error but the program's own words: a crash, a signal or another status is told, and the script then
+ends with status 1.
 """
 import os
 import random

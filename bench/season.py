@@ -4,7 +4,7 @@
     bench/season.py [--write FILE] [PROGRAM [WORD..]]
 
 The season has 200 boats, 40 races and 4,096 commands, all of them accepted: the boats enter; of
-each race every command is a finish, a tie, a code, a penalty or redress, and its last one scores
+each race every command is a finish, a tie, a code, a penalty or redress, and one of the last scores
 it. With PROGRAM (the built `regatta`) the season is run `PROGRAM replay WORD..` and the time, the
 commands per second and the peak memory are printed; with --write the lines are written to FILE.
 """

@@ -119,7 +119,7 @@ strike_refusal journal race boat =
     else if not (is_placed journal race boat) then Some NotPlaced
     else None
 
--- of Mark and Redress: a decision of the protest committee stands (RRS A5.1)
+-- of Mark and Redress: a decision of the protest committee stands (our choice)
 abbrev pub decision_refusal : Journal → ℕ → Sail → Option Refusal
 decision_refusal journal race boat =
     if not (is_entered journal boat) then Some NotEntered
@@ -134,7 +134,7 @@ penalty_refusal journal race boat kind =
     else if nat_le 9 (penalties kind (held journal race boat)) then Some PenaltyLimit
     else None
 
--- of Clear: a decision of the protest committee is cleared by the jury alone (RRS A5.1)
+-- of Clear: a decision of the protest committee is cleared by the jury alone (our choice)
 abbrev pub clear_refusal : Journal → Role → ℕ → Sail → Option Refusal
 clear_refusal journal role race boat =
     if not (is_entered journal boat) then Some NotEntered
@@ -142,7 +142,8 @@ clear_refusal journal role race boat =
     else if holds_nothing (held journal race boat) then Some NothingToClear
     else None
 
--- of Score: a race counts once, and not before a boat has finished
+-- of Score: a race counts once, and not while nobody stands in its order; a boat with a code that
+-- stands there is enough
 abbrev pub score_refusal : Journal → ℕ → Option Refusal
 score_refusal journal race =
     if is_scored journal race then Some AlreadyScored

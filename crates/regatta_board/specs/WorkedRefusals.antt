@@ -17,8 +17,13 @@ use Rattle.regatta_scores.specs.declared.table.Abbrev.TheVariants as abbreviatio
 use Rattle.regatta_scores.specs.Standing.{standing}
 use Rattle.regatta_scores.specs.WorkedStandings.{a, b, scorer, jury, default_rules, table, row}
 use Rattle.regatta_scores.specs.WorkedStandings.{marked}
+use Rattle.regatta_board.specs.Refusals.{limits}
 use Rattle.regatta_board.specs.Runs.{replies, journal_after}
 use Rattle.regatta_board.specs.Worked.{ok, ok_alone}
+
+-- how large a series may grow
+pub limits_are : (limits.boats ≡ 200) × (limits.entries ≡ 4096)
+limits_are = (refl, refl)
 
 -- each refusal that one boat and one race can meet
 abbrev pub each_refusal_commands : List (Role × Command)

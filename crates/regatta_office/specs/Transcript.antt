@@ -51,6 +51,7 @@ abbrev pub reply_by : RulesParts → Journal → EntryParts → Option Refusal �
 reply_by rules journal entry None = Done (answer rules journal entry)
 reply_by rules journal entry (Some why) = Refused why
 
+-- the journal after it: the longer one where it is accepted
 abbrev pub journal_by : Journal → EntryParts → Option Refusal → Journal
 journal_by journal entry None = journal ++ entry ∷ []
 journal_by journal entry (Some why) = journal
@@ -98,6 +99,7 @@ abbrev pub text_after : RulesParts → Talk → Result Line LineFault → List �
 text_after rules talk (Ok line) = text_for rules talk line
 text_after rules talk (Err fault) = reply_text (Fault fault)
 
+-- where the run stands after it
 abbrev pub talk_after : RulesParts → Talk → Result Line LineFault → Talk
 talk_after rules talk (Ok line) = talk_for rules talk line
 talk_after rules talk (Err fault) = talk

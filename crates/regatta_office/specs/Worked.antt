@@ -4,18 +4,26 @@ use Rattle.std.specs.Fmt.{digits}
 use Rattle.regatta_terms.specs.Lines.{line_of, line_of_words, command_of_words, command_after}
 use Rattle.regatta_terms.specs.Rules.{RulesParts}
 use Rattle.regatta_terms.specs.declared.rules.Absent.TheVariants.{A52}
+use Rattle.regatta_office.specs.declared.files.TheConstants.{FILE_LIMIT}
 use Rattle.regatta_office.specs.declared.form.Form.TheVariants.{Table, Journal}
+use Rattle.regatta_office.specs.declared.run.TheConstants.{INPUT_LIMIT}
 use Rattle.regatta_office.specs.Transcript.{replies, talk_at_end, up_to_quit, run_text}
 
--- A5.2, 20% for a Scoring Penalty, one score excluded from the second race on, and none at all
+-- A5.2, 20% for a Scoring Penalty, one score excluded from the second race on
 abbrev default_rules : RulesParts
 default_rules = record { absent = A52; scp = None; thresholds = 2 ∷ [] }
 
+-- the same with no score excluded
 abbrev no_exclusions : RulesParts
 no_exclusions = record { absent = A52; scp = None; thresholds = [] }
 
+-- what a run from no start writes, under the default rules
 abbrev run : List ℕ → List ℕ
 run text = run_text default_rules [] Table text
+
+-- how many bytes of an input are answered, and how many a start file may have
+pub bytes_at_most : (INPUT_LIMIT ≡ 1048576) × (FILE_LIMIT ≡ 1048576)
+bytes_at_most = (refl, refl)
 
 -- nobody is entered
 pub empty_sheet : run (codes "SHOW") ≡ codes "JOURNAL 0\nTABLE 0 RACES\nEND\nTABLE 0 RACES\n"

@@ -1,4 +1,4 @@
-//! The words of the program.
+//! The options of the program.
 ghost use Rattle.std.specs.Option.{option_copied};
 ghost use Rattle.regatta_office.specs.Asked.{Asked};
 

@@ -210,7 +210,7 @@ pub fn replay<R: Source, W: Sink>(
     ensures answered { OnOk result (IfSome (R.remaining input.old) (λ text. Appends
         (W.contents output.old) (W.contents output.new)
         (run_text rules.now start.now form text))) }
-    // No more than the limit is answered, and no more is taken than tells that.
+    // A run that ends well has answered no more than the limit; none takes more than tells that.
     ensures within { OnOk result (IfSome (R.remaining input.old) (EndsWithin INPUT_LIMIT)) }
     ensures taken { GaveAtMost (INPUT_LIMIT + 1) (R.remaining input.old)
         (R.remaining input.new) }

@@ -87,9 +87,9 @@ fn run<H: Files + AllocGlobal, R: Source, W: Sink>(
 /// `--absent`, `--scp` and `--exclude` are the series rules (RRS A5.2 and A5.3, 44.3(c), A2.1),
 /// `--journal` and `--entries` name files to start from, `--print` the form of the final part.
 ///
-/// The status is 0 once all is written, 1 where a file, the start or the input is at fault, 2 where
-/// the words or the rules are, and 3 where a device fails or memory is wanting. All but 0 say why on
-/// `errors`.
+/// The status is 0 once all is written, 1 where a file, the start or the input is at fault, 2
+/// where the words or the rules are, and 3 where a device fails or memory is wanting. All but 0 say
+/// why on `errors`.
 pub fn program<H: Files + AllocGlobal, R: Source, W: Sink, E: Sink>(
     rt: &H,
     words: &[&str],
@@ -97,8 +97,8 @@ pub fn program<H: Files + AllocGlobal, R: Source, W: Sink, E: Sink>(
     output: &mut W,
     errors: &mut E,
 ) -> u8
-    // All of a run as it was asked for is written, or the input wasn't read: the words asked for
-    // help.
+    // All of a run is written, as some options ask for it, or the input wasn't read: the words
+    // asked for help.
     ensures done { result ≡ 0 → (input.new ≡ input.old) ⊎ ((asked : Asked) × IsRunOf asked
         (R.remaining input.old) (W.contents output.old) (W.contents output.new)) }
 {
@@ -110,6 +110,7 @@ pub fn program<H: Files + AllocGlobal, R: Source, W: Sink, E: Sink>(
         Ok(matches) => matches,
         Err(error) => return answer_words(alloc, &error, output, errors),
     };
+    // `clap` lets no words pass that have no subcommand.
     let Some(options) = options_of(&matches) else {
         let _ = write_all(errors, b"error: no command\n");
         return BAD_WORDS;

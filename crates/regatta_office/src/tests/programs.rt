@@ -59,8 +59,12 @@ fn options_are_the_rules_and_the_form(rt: HostRuntime) -> Result<(), Fail> {
 
 #[test]
 fn rules_are_refused_by_number(rt: HostRuntime) -> Result<(), Fail> {
-    let cases: [(&[&str], &str); 8] = [
+    let cases: [(&[&str], &str); 9] = [
         (&["replay", "--scp", "0"], "regatta: rules fault 1\n"),
+        (
+            &["replay", "--scp", "0", "--journal", "/no/such/file"],
+            "regatta: rules fault 1\n",
+        ),
         (&["replay", "--scp", "100"], "regatta: rules fault 1\n"),
         (
             &["replay", "--exclude", "2,3,4,5,6"],
@@ -187,7 +191,7 @@ fn start_files_are_read(rt: HostRuntime) -> Result<(), Fail> {
         "--entries",
         boats.as_str(),
     ];
-    let cases: [(&str, &str, &str, &str, u8); 9] = [
+    let cases: [(&str, &str, &str, &str, u8); 10] = [
         (
             "1 1 SCORER ENTER A\n2 1 JURY REDRESS 1 A 7.5\n",
             "Sail\nb\n",
@@ -228,6 +232,13 @@ fn start_files_are_read(rt: HostRuntime) -> Result<(), Fail> {
         ),
         (
             "1 1 JURY ENTER A\n",
+            "Boat\nX\n",
+            "regatta: entries fault 1 row 1\n",
+            "",
+            1,
+        ),
+        (
+            "1 1 JURY ENTER A\n",
             "Sail\nB\n",
             "regatta: start refused 4 at 1\n",
             "",
@@ -257,6 +268,13 @@ fn start_files_are_read(rt: HostRuntime) -> Result<(), Fail> {
     fs::write(&rt, journal.as_str(), &long)?;
     let (status, _, errors) = run(&rt, &words, "ENTER C\n")?;
     assert_eq!(rt; errors.written(), b"regatta: input too long\n".as_slice());
+    assert_eq!(rt; status, 1);
+    fs::write(&rt, journal.as_str(), &long[..1_048_576])?;
+    let (status, _, errors) = run(&rt, &words, "ENTER C\n")?;
+    assert_eq!(rt;
+        errors.written(),
+        b"regatta: journal fault 1 line 1\n".as_slice()
+    );
     assert_eq!(rt; status, 1);
     fs::remove_dir_all(&rt, folder.as_str())?;
     Ok(())
