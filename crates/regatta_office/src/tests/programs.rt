@@ -269,8 +269,17 @@ fn start_files_are_read(rt: HostRuntime) -> Result<(), Fail> {
     let (status, _, errors) = run(&rt, &words, "ENTER C\n")?;
     assert_eq!(rt; errors.written(), b"regatta: input too long\n".as_slice());
     assert_eq!(rt; status, 1);
-    fs::write(&rt, journal.as_str(), &long[..1_048_576])?;
-    let (status, _, errors) = run(&rt, &words, "ENTER C\n")?;
+    fs::remove_dir_all(&rt, folder.as_str())?;
+    Ok(())
+}
+
+#[test]
+fn the_longest_start_file_is_read(rt: HostRuntime) -> Result<(), Fail> {
+    let folder = new_folder(&rt)?;
+    let journal = format!(in rt.alloc(); "{folder}/journal.txt")?;
+    let blank = vec![in rt.alloc(); b'\n'; 1_048_576]?;
+    fs::write(&rt, journal.as_str(), &blank)?;
+    let (status, _, errors) = run(&rt, &["replay", "--journal", journal.as_str()], "")?;
     assert_eq!(rt;
         errors.written(),
         b"regatta: journal fault 1 line 1\n".as_slice()
