@@ -120,7 +120,7 @@ pub fn averages(alloc: Global, row: &[RowItem]) -> Result<Points, AllocError>
     requires { length row.now ≤ 40 }
     ensures { IfOk result (λ found. found ≡ points row.now) }
 {
-    let mut found = Vec::new(alloc);
+    let mut found = Vec::with_capacity(alloc, row.len())?;
     for (i, item) in row.iter().enumerate() {
         found.push(redressed(row, i, item))?;
     }

@@ -7,7 +7,7 @@ ghost use Rattle.regatta_scores.specs.Changes.{after};
 ghost use Rattle.regatta_scores.specs.declared.sheet.Change.TheVariants.{AddBoat, Last, Join};
 ghost use Rattle.regatta_scores.specs.declared.sheet.Change.TheVariants.{Ahead, Out, Hold as Holds};
 
-use crate::items::Items;
+use crate::groups::Groups;
 use crate::orders;
 use regatta_terms::{Code, Redress};
 use std::alloc::{AllocError, Global};
@@ -38,7 +38,7 @@ pub(crate) const NOTHING: Held = Held {
 /// Boats are numbers from 0, their places in the entry list, and at most 200.
 #[derive(Drop)]
 pub struct RaceSheet {
-    order: Vec<Items<u16>>,
+    order: Groups,
     held: Vec<Held>,
 }
 
@@ -47,11 +47,11 @@ impl Model for RaceSheet {
 
     ghost Value = { Sheet };
 
-    ghost view = { λ s. record { order = s.order.items; held = s.held.items } };
+    ghost view = { λ s. record { order = s.order; held = s.held.items } };
 
     ghost use Rattle.regatta_scores.specs.SheetFacts.{IsSheet};
 
-    ghost invariant = { λ s. IsSheet s.order.items s.held.items };
+    ghost invariant = { λ s. IsSheet s.order s.held.items };
 }
 
 impl RaceSheet {
@@ -64,7 +64,7 @@ impl RaceSheet {
         ensures { IfOk result (λ sheet. sheet ≡ empty_sheet boats) }
     {
         Ok(RaceSheet {
-            order: Vec::new(alloc),
+            order: Groups::new(alloc),
             held: vec![in alloc; NOTHING; boats as usize]?,
         })
     }
@@ -74,9 +74,7 @@ impl RaceSheet {
         requires { boat < boats self.now }
         ensures { result ≡ stands_in nat_eq boat self.now.order }
     {
-        self.order
-            .iter()
-            .any(|group| group.as_slice().contains(&boat))
+        self.order.contains(boat)
     }
 
     /// What the boat, one of the sheet's, holds.
@@ -120,7 +118,7 @@ impl RaceSheet {
         ensures { IfOk result (λ sheet. sheet ≡ after self.now AddBoat) }
     {
         let alloc = self.allocator();
-        let order = orders::copied_order(alloc, &self.order)?;
+        let order = self.order.copy(alloc)?;
         let mut held = Vec::from_slice(alloc, &self.held)?;
         held.push(NOTHING)?;
         Ok(RaceSheet { order, held })
@@ -181,7 +179,7 @@ impl RaceSheet {
         ensures { IfOk result (λ sheet. sheet ≡ after self.now (Holds boat now)) }
     {
         let alloc = self.allocator();
-        let order = orders::copied_order(alloc, &self.order)?;
+        let order = self.order.copy(alloc)?;
         let mut held = Vec::from_slice(alloc, &self.held)?;
         held[boat as usize] = now;
         Ok(RaceSheet { order, held })
@@ -193,7 +191,7 @@ impl RaceSheet {
     }
 
     /// The finishing order.
-    pub(crate) fn order(&self) -> &[Items<u16>]
+    pub(crate) fn order(&self) -> &Groups
         ensures value { result.now ≡ self.now.order }
         ensures sheet { IsSheet self.now.order self.now.held }
     {

@@ -5,14 +5,14 @@ use Rattle.regatta_scores.specs.RacePoints.{race_of, finishers, place_points}
 use Rattle.regatta_scores.proofs.points.placed_points.Given as goal
 
 -- the boats of the groups so far have their points, and the others none
-abbrev pub invariant-loop-group : goal.invariant-loop-group
-invariant-loop-group l = record {
+abbrev pub invariant-loop-i : goal.invariant-loop-i
+invariant-loop-i l = record {
   one_each : length l.placed.items ≡ length l.held;
   next_place : l.place ≡ 1 + sum_by (finishers (race_of l.order l.held))
-      (take l.group-index l.order);
-  bound : l.place ≤ 1 + sum_by length (take l.group-index l.order);
+      (take l.i l.order);
+  bound : l.place ≤ 1 + sum_by length (take l.i l.order);
   given : (boat : ℕ) → get_or l.placed.items boat None
-      ≡ cond (stands_in nat_eq boat (take l.group-index l.order))
+      ≡ cond (stands_in nat_eq boat (take l.i l.order))
       (Some (place_points nat_eq (race_of l.order l.held) boat)) None;
   few : (boat : ℕ) → unwrap_or (get_or l.placed.items boat None) 0 ≤ 5000;
 }

@@ -1,0 +1,108 @@
+//! A finishing order as one list of boats, and where each group of it ends (RRS A3, A7).
+ghost use Rattle.std.specs.Prelude.{◌≡◌, ◌<◌, ◌++◌, ◌∷◌, [], length, nat_eq, slice_index_or, true};
+ghost use Rattle.std.specs.Prelude.{IsTrue, ◌↔◌, IfOk, OnOk};
+ghost use Rattle.regatta_scores.specs.Order.{stands_in};
+ghost use Rattle.regatta_scores.specs.Groups.{begin, cut, Rises};
+
+use std::alloc::{AllocError, Global};
+use std::marker::Model;
+
+/// A finishing order: groups of tied boats, best first.
+#[derive(Drop)]
+pub struct Groups {
+    boats: Vec<u16>,
+    ends: Vec<usize>,
+}
+
+impl Model for Groups {
+    ghost use Rattle.std.specs.Prelude.{List, ℕ, length};
+    ghost use Rattle.regatta_scores.specs.Groups.{cut, Rises};
+
+    ghost Value = { List (List ℕ) };
+
+    ghost view = { λ g. cut g.boats.items 0 g.ends.items };
+
+    ghost invariant = { λ g. Rises 0 g.ends.items (length g.boats.items) };
+}
+
+/// Where the group begins among the boats, by the ends of the groups.
+fn begin(ends: &[usize], at: usize) -> usize
+    requires { at < length ends.now }
+    ensures { result ≡ begin ends.now at }
+{
+    if at == 0 { 0 } else { ends[at - 1] }
+}
+
+/// The boats of a group.
+#[tactic(auto, using(crate::proofs::Cut::group_is, crate::proofs::Cut::group_bounds))]
+fn group_in<'a>(boats: &'a [u16], ends: &[usize], at: usize) -> &'a [u16]
+    requires rises { Rises 0 ends.now (length boats.now) }
+    requires at { at < length ends.now }
+    ensures { result.now ≡ slice_index_or (cut boats.now 0 ends.now) at [] }
+{
+    &boats[begin(ends, at)..ends[at]]
+}
+
+impl Groups {
+    /// Nobody.
+    pub(crate) fn new(alloc: Global) -> Groups
+        ensures { result ≡ [] }
+    {
+        Groups {
+            boats: Vec::new(alloc),
+            ends: Vec::new(alloc),
+        }
+    }
+
+    /// How many groups there are.
+    #[tactic(auto, using(crate::proofs::Cut::many_groups))]
+    pub(crate) fn len(&self) -> usize
+        ensures { result ≡ length self.now }
+    {
+        self.ends.len()
+    }
+
+    /// Whether there is no group.
+    #[tactic(auto, using(crate::proofs::Cut::no_groups))]
+    pub(crate) fn is_empty(&self) -> bool
+        ensures { IsTrue result ↔ (self.now ≡ []) }
+    {
+        self.len() == 0
+    }
+
+    /// The boats of a group.
+    #[tactic(auto, using(crate::proofs::Cut::many_groups))]
+    pub(crate) fn group(&self, at: usize) -> &[u16]
+        requires { at < length self.now }
+        ensures { result.now ≡ slice_index_or self.now at [] }
+    {
+        group_in(&self.boats, &self.ends, at)
+    }
+
+    /// Whether the boat stands in the order.
+    pub(crate) fn contains(&self, boat: u16) -> bool
+        ensures { result ≡ stands_in nat_eq boat self.now }
+    {
+        self.boats.contains(&boat)
+    }
+
+    /// One more group, last.
+    pub(crate) fn push(&mut self, group: &[u16]) -> Result<(), AllocError>
+        ensures { OnOk result (self.new ≡ self.old ++ group.now ∷ []) }
+    {
+        self.ends.reserve(1)?;
+        self.boats.extend_from_slice(group)?;
+        self.ends.push_reserved(self.boats.len());
+        Ok(())
+    }
+
+    /// A copy.
+    pub(crate) fn copy(&self, alloc: Global) -> Result<Groups, AllocError>
+        ensures { IfOk result (λ copy. copy ≡ self.now) }
+    {
+        Ok(Groups {
+            boats: Vec::from_slice(alloc, &self.boats)?,
+            ends: Vec::from_slice(alloc, &self.ends)?,
+        })
+    }
+}
