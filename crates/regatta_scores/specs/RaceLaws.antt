@@ -13,29 +13,31 @@ use Rattle.regatta_scores.specs.RacePoints.{Race, Status, Finished, Coded, journ
 use Rattle.regatta_scores.specs.RacePoints.{shared_points, groups_ahead, her_group, finishing_place}
 use Rattle.regatta_scores.specs.RacePoints.{sharing, dnf, plain}
 
--- two journals say the same of a race
-pub record SaysTheSame (old new : Journal) (race : ℕ) : Type 0 where
-  pub same_order : order new race ≡ order old race
+-- under the rules of the series two journals say the same of a race
+pub record SaysTheSame (rules : RulesParts) (old new : Journal) (race : ℕ) : Type 0 where
+  pub same_order : order rules new race ≡ order rules old race
   pub same_held : (boat : Sail) → held new race boat ≡ held old race boat
   pub same_status : (boat : Sail) →
-      status same_sail (journal_race new race) boat ≡ status same_sail (journal_race old race) boat
-  pub same_dnf : (rules : RulesParts) →
-      dnf same_sail rules (journal_race new race) ≡ dnf same_sail rules (journal_race old race)
-  pub same_plain : (rules : RulesParts) (boat : Sail) →
-      plain same_sail rules (journal_race new race) boat
-      ≡ plain same_sail rules (journal_race old race) boat
+      status same_sail (journal_race rules new race) boat
+      ≡ status same_sail (journal_race rules old race) boat
+  pub same_dnf :
+      dnf same_sail rules (journal_race rules new race)
+      ≡ dnf same_sail rules (journal_race rules old race)
+  pub same_plain : (boat : Sail) →
+      plain same_sail rules (journal_race rules new race) boat
+      ≡ plain same_sail rules (journal_race rules old race) boat
 
--- A command of one race changes no other race.
+-- Under whatever rules, a command of one race changes no other race.
 abbrev pub RacesAreApart : Type 0
-RacesAreApart = (journal : Journal) (entry : EntryParts) (race other : ℕ) →
+RacesAreApart = (rules : RulesParts) (journal : Journal) (entry : EntryParts) (race other : ℕ) →
     names_race race entry.command ≡ true → other ≢ race →
-    SaysTheSame journal (journal ++ entry ∷ []) other
+    SaysTheSame rules journal (journal ++ entry ∷ []) other
 
--- Enter changes no finishing order and nothing that is held.
+-- Under whatever rules, Enter changes no finishing order and nothing that is held.
 abbrev pub EnterKeepsRaces : Type 0
-EnterKeepsRaces = (journal : Journal) (entry : EntryParts) (sail : Sail) →
+EnterKeepsRaces = (rules : RulesParts) (journal : Journal) (entry : EntryParts) (sail : Sail) →
     entry.command ≡ Enter sail → (race : ℕ) →
-    (order (journal ++ entry ∷ []) race ≡ order journal race)
+    (order rules (journal ++ entry ∷ []) race ≡ order rules journal race)
     × ((boat : Sail) → held (journal ++ entry ∷ []) race boat ≡ held journal race boat)
 
 -- no boat stands twice in the race's order (A3)
@@ -47,13 +49,14 @@ NobodyTwice race = (boat : Sail) → times_placed same_sail race.order boat ≤ 
 -- less, and every other place and number of sharers stays.
 abbrev pub CodedBoatsLeaveTheOrder : Type 0
 CodedBoatsLeaveTheOrder =
-    (journal : Journal) (entry : EntryParts) (race : ℕ) (coded : Sail) (code : Code) →
+    (rules : RulesParts) (journal : Journal) (entry : EntryParts) (race : ℕ) (coded : Sail)
+    (code : Code) →
     entry.command ≡ Mark race coded code →
-    NobodyTwice (journal_race journal race) →
-    status same_sail (journal_race journal race) coded ≡ Finished →
+    NobodyTwice (journal_race rules journal race) →
+    status same_sail (journal_race rules journal race) coded ≡ Finished →
     (boat : Sail) →
-    let old = journal_race journal race in
-    let new = journal_race (journal ++ entry ∷ []) race in
+    let old = journal_race rules journal race in
+    let new = journal_race rules (journal ++ entry ∷ []) race in
     let is_behind = stands_in same_sail coded (groups_ahead same_sail old boat) in
     let is_tied = in_group same_sail coded (her_group same_sail old boat) in
     (status same_sail new boat
