@@ -30,17 +30,17 @@ use Rattle.regatta_board.specs.KeptJournal.{sheet_of, kept_of, IsOrderly}
 use Rattle.regatta_board.specs.BoardFacts.{BoardValue, IsBoard}
 use Rattle.regatta_board.proofs.TableOf.{table_is}
 
-kept_of_is : (journal : Journal) → IsOrderly journal → IsKept (kept_of journal)
-kept_of_is journal orderly = record {
+kept_of_is : (rules : RulesParts) (journal : Journal) → IsOrderly rules journal → IsKept (kept_of rules journal)
+kept_of_is rules journal orderly = record {
   few = orderly.few;
-  sheets = length-map-range_with_len (sheet_of journal) 1 40;
+  sheets = length-map-range_with_len (sheet_of rules journal) 1 40;
   counts = length-map-range_with_len (is_scored journal) 1 40;
-  same = All-map (λ sheet. boats sheet ≡ length (entered journal)) (sheet_of journal)
+  same = All-map (λ sheet. boats sheet ≡ length (entered journal)) (sheet_of rules journal)
       (range_with_len 1 40) (λ k d h. length-map (entered journal) (held journal _));
 }
 
-empty_orderly : IsOrderly []
-empty_orderly = record {
+empty_orderly : (rules : RulesParts) → IsOrderly rules []
+empty_orderly rules = record {
   few = omega arith;
   apart = λ i j d h k. absurd (omega arith);
   known = λ race boat h. cc;
@@ -58,7 +58,7 @@ empty_board rules =
     record {
       few = omega arith;
       lawful = refl;
-      orderly = empty_orderly;
+      orderly = empty_orderly rules;
       keeps = refl;
       stands = refl;
     }
@@ -74,7 +74,7 @@ sheet_long kept is race within =
 module _ (rules : RulesParts) (entries : Journal) (kept : Kept) (made : Standing)
     (is : IsBoard rules entries kept made) where
   pub board_kept : IsKept kept
-  board_kept = subst IsKept (sym is.keeps) (kept_of_is entries is.orderly)
+  board_kept = subst IsKept (sym is.keeps) (kept_of_is rules entries is.orderly)
 
   pub board_standing : table rules kept ≡ standing rules entries
   board_standing = ap (table rules) is.keeps ∙ table_is rules entries is.orderly
@@ -90,24 +90,24 @@ module _ (rules : RulesParts) (entries : Journal) (kept : Kept) (made : Standing
   pub staged : (before : BoardValue) → before ≡ record { rules = rules; entries = entries }
       → (e : EntryParts) (revision : Revision) (found : Standing)
       → IsBoard rules (entries ++ e ∷ []) (revised kept revision) found
-      → IsBoard before.rules (before.entries ++ e ∷ []) (revised (kept_of before.entries) revision)
+      → IsBoard before.rules (before.entries ++ e ∷ []) (revised (kept_of before.rules before.entries) revision)
       found
   staged before b e revision found more =
-      let here : IsBoard rules (entries ++ e ∷ []) (revised (kept_of entries) revision) found =
+      let here : IsBoard rules (entries ++ e ∷ []) (revised (kept_of rules entries) revision) found =
       subst (λ k. IsBoard rules (entries ++ e ∷ []) (revised k revision) found) is.keeps more in
       subst (λ (v : BoardValue). IsBoard v.rules (v.entries ++ e ∷ [])
-      (revised (kept_of v.entries) revision) found) (sym b) here
+      (revised (kept_of v.rules v.entries) revision) found) (sym b) here
 
   pub committed : (before : BoardValue) → before ≡ record { rules = rules; entries = entries }
       → (e : EntryParts) (revision : Revision) (found : Standing)
-      → IsBoard before.rules (before.entries ++ e ∷ []) (revised (kept_of before.entries) revision)
+      → IsBoard before.rules (before.entries ++ e ∷ []) (revised (kept_of before.rules before.entries) revision)
       found → (items : Journal) → items ≡ entries ++ e ∷ [] → (new : Kept)
       → new ≡ revised kept revision → IsBoard rules items new found
   committed before b e revision found more items i new n =
-      let here : IsBoard rules (entries ++ e ∷ []) (revised (kept_of entries) revision) found =
+      let here : IsBoard rules (entries ++ e ∷ []) (revised (kept_of rules entries) revision) found =
       subst (λ (v : BoardValue). IsBoard v.rules (v.entries ++ e ∷ [])
-      (revised (kept_of v.entries) revision) found) b more in
-      let kept_is : revised (kept_of entries) revision ≡ new =
+      (revised (kept_of v.rules v.entries) revision) found) b more in
+      let kept_is : revised (kept_of rules entries) revision ≡ new =
       ap (λ k. revised k revision) (sym is.keeps) ∙ sym n in
       subst (λ js. IsBoard rules js new found) (sym i)
       (subst (λ k. IsBoard rules (entries ++ e ∷ []) k found) kept_is here)
@@ -122,19 +122,19 @@ module _ (rules : RulesParts) (entries : Journal) (kept : Kept) (made : Standing
     may = may_step rules entries e.role c race accepted
 
     pub board_fits : Fits kept c
-    board_fits = fits entries is.orderly kept is.keeps rules e.role c race accepted
+    board_fits = fits rules entries is.orderly kept is.keeps e.role c race accepted
 
-    orderly : IsOrderly (entries ++ e ∷ [])
-    orderly = orderly_more entries is.orderly e c (sym named) may
+    orderly : IsOrderly rules (entries ++ e ∷ [])
+    orderly = orderly_more rules entries is.orderly e c (sym named) may
         (has_room rules entries e.role c accepted)
 
-    next_is : (new : Kept) → new ≡ step kept c → new ≡ kept_of (entries ++ e ∷ [])
+    next_is : (new : Kept) → new ≡ step kept c → new ≡ kept_of rules (entries ++ e ∷ [])
     next_is new now = now ∙ ap (λ k. step k c) is.keeps
-        ∙ step_is entries is.orderly e c (sym named) may
+        ∙ step_is rules entries is.orderly e c (sym named) may
 
     pub next_kept : (new : Kept) → new ≡ step kept c → IsKept new
     next_kept new now =
-        subst IsKept (sym (next_is new now)) (kept_of_is (entries ++ e ∷ []) orderly)
+        subst IsKept (sym (next_is new now)) (kept_of_is rules (entries ++ e ∷ []) orderly)
 
     -- the board after an accepted entry: what is kept takes one step
     pub board_more : (new : Kept) (found : Standing) → new ≡ step kept c → found ≡ table rules new

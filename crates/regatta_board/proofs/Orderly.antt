@@ -6,6 +6,7 @@ use Rattle.std.specs.List.{list_any}
 use Rattle.std.proofs.lemmas.List.{append-nil}
 use Rattle.std.proofs.lemmas.List.Sums.{fold_push}
 use Rattle.regatta_terms.specs.Entries.{EntryParts}
+use Rattle.regatta_terms.specs.Rules.{RulesParts}
 use Rattle.regatta_terms.specs.declared.sail.Sail.{Sail}
 use Rattle.regatta_terms.specs.declared.command.Command.{Command}
 use Rattle.regatta_terms.specs.declared.command.Command.TheVariants.{Enter, Finish, Tie, Before}
@@ -127,39 +128,39 @@ entered_one : (boats : List Sail) (s b : Sail) → list_any (same_sail s) boats 
     → same_sail s b ≡ true → list_any (same_sail b) boats ≡ true
 entered_one boats s b h e = ap (λ x. list_any (same_sail x) boats) (sym (same_is s b e)) ∙ h
 
-order_more : (journal : Journal) (entry : EntryParts) (c : Command) (race : ℕ) → entry.command ≡ c
-    → order (journal ++ entry ∷ []) race
-    ≡ cond (names_race race c) (order_after (order journal race) c) (order journal race)
-order_more journal entry c race is = ap order_by (race_commands_more journal entry race)
-    ∙ ap (λ d. order_by (race_commands journal race ++ cond (names_race race d) (d ∷ []) [])) is
+order_more : (rules : RulesParts) (journal : Journal) (entry : EntryParts) (c : Command) (race : ℕ) → entry.command ≡ c
+    → order rules (journal ++ entry ∷ []) race
+    ≡ cond (names_race race c) (order_after rules (order rules journal race) c) (order rules journal race)
+order_more rules journal entry c race is = ap (order_by rules) (race_commands_more journal entry race)
+    ∙ ap (λ d. order_by rules (race_commands journal race ++ cond (names_race race d) (d ∷ []) [])) is
     ∙ by (names_race race c)
   where
-    by : (t : Bool) → order_by (race_commands journal race ++ cond t (c ∷ []) [])
-        ≡ cond t (order_after (order journal race) c) (order journal race)
-    by true = fold_push order_after [] (race_commands journal race) c
-    by false = ap order_by (append-nil (race_commands journal race))
+    by : (t : Bool) → order_by rules (race_commands journal race ++ cond t (c ∷ []) [])
+        ≡ cond t (order_after rules (order rules journal race) c) (order rules journal race)
+    by true = fold_push (order_after rules) [] (race_commands journal race) c
+    by false = ap (order_by rules) (append-nil (race_commands journal race))
 
 -- who stands in an order after the command is entered
-stands_entered : (journal : Journal) → IsOrderly journal → (c : Command) (race : ℕ)
-    → MayStep journal c → (b : Sail) → stands_in same_sail b (order_after (order journal race) c)
+stands_entered : (rules : RulesParts) (journal : Journal) → IsOrderly rules journal → (c : Command) (race : ℕ)
+    → MayStep journal c → (b : Sail) → stands_in same_sail b (order_after rules (order rules journal race) c)
     ≡ true → is_entered journal b ≡ true
-stands_entered journal o (Finish r s) race may b h =
-    in_last b s (order journal race) _ (o.known race b) (entered_one (entered journal) s b may.1) h
-stands_entered journal o (Tie r s other) race may b h =
-    in_joined b s other (order journal race) _ (o.known race b)
+stands_entered rules journal o (Finish r s) race may b h =
+    in_last b s (order rules journal race) _ (o.known race b) (entered_one (entered journal) s b may.1) h
+stands_entered rules journal o (Tie r s other) race may b h =
+    in_joined b s other (order rules journal race) _ (o.known race b)
     (entered_one (entered journal) s b may.1) h
-stands_entered journal o (Before r s other) race may b h =
-    in_ahead b s other (order journal race) _ (o.known race b)
+stands_entered rules journal o (Before r s other) race may b h =
+    in_ahead b s other (order rules journal race) _ (o.known race b)
     (entered_one (entered journal) s b may.1) h
-stands_entered journal o (Strike r s) race may b h =
-    o.known race b (in_without b s (order journal race) h)
-stands_entered journal o (Enter s) race may b h = o.known race b h
-stands_entered journal o (Mark r s code) race may b h = o.known race b h
-stands_entered journal o (Penalise r s kind) race may b h = o.known race b h
-stands_entered journal o (Redress r s redress) race may b h = o.known race b h
-stands_entered journal o (Clear r s) race may b h = o.known race b h
-stands_entered journal o (Score r) race may b h = o.known race b h
-stands_entered journal o (Unscore r) race may b h = o.known race b h
+stands_entered rules journal o (Strike r s) race may b h =
+    o.known race b (in_without b s (order rules journal race) h)
+stands_entered rules journal o (Enter s) race may b h = o.known race b h
+stands_entered rules journal o (Mark r s code) race may b h = o.known race b h
+stands_entered rules journal o (Penalise r s kind) race may b h = o.known race b h
+stands_entered rules journal o (Redress r s redress) race may b h = o.known race b h
+stands_entered rules journal o (Clear r s) race may b h = o.known race b h
+stands_entered rules journal o (Score r) race may b h = o.known race b h
+stands_entered rules journal o (Unscore r) race may b h = o.known race b h
 
 -- nobody else is decided about
 not_about : (boats : List Sail) (s b : Sail) (t : Bool) → list_any (same_sail s) boats ≡ true
@@ -195,9 +196,9 @@ held_more journal entry c race b is none =
     by true = others_hold (race_commands journal race) c b none
     by false = ap (λ cs. held_from cs b) (append-nil (race_commands journal race))
 
-module _ (journal : Journal) (o : IsOrderly journal) (entry : EntryParts) (c : Command)
+module _ (rules : RulesParts) (journal : Journal) (o : IsOrderly rules journal) (entry : EntryParts) (c : Command)
     (is : entry.command ≡ c) (may : MayStep journal c) where
-  orderly_same : sail_entered c ≡ None → IsOrderly (journal ++ entry ∷ [])
+  orderly_same : sail_entered c ≡ None → IsOrderly rules (journal ++ entry ∷ [])
   orderly_same none =
       let boats : entered (journal ++ entry ∷ []) ≡ entered journal = entered_more journal entry
       ∙ rw (is, none) (append-nil _) in
@@ -209,7 +210,7 @@ module _ (journal : Journal) (o : IsOrderly journal) (entry : EntryParts) (c : C
             ∙ o.apart i j d h (omega (arith, long));
         known = λ race b h. ap (λ xs. list_any (same_sail b) xs) boats
             ∙ by race b (names_race race c)
-            (sym (ap (stands_in same_sail b) (order_more journal entry c race is)) ∙ h);
+            (sym (ap (stands_in same_sail b) (order_more rules journal entry c race is)) ∙ h);
         nothing = λ race b out. (let before : is_entered journal b
             ≡ false = sym (ap (λ xs. list_any (same_sail b) xs) boats) ∙ out in
             held_more journal entry c race b is (undecided journal c may b before)
@@ -217,9 +218,9 @@ module _ (journal : Journal) (o : IsOrderly journal) (entry : EntryParts) (c : C
       }
     where
       by : (race : ℕ) (b : Sail) (t : Bool)
-          → stands_in same_sail b (cond t (order_after (order journal race) c) (order journal race))
+          → stands_in same_sail b (cond t (order_after rules (order rules journal race) c) (order rules journal race))
           ≡ true → is_entered journal b ≡ true
-      by race b true h = stands_entered journal o c race may b h
+      by race b true h = stands_entered rules journal o c race may b h
       by race b false h = o.known race b h
 
 each_push : (xs : List Sail) (s x : Sail)
@@ -260,10 +261,10 @@ any_push p (x ∷ xs) s = ap (λ t. p x || t) (any_push p xs s)
     assoc true b d = refl
     assoc false b d = refl
 
-orderly_enter : (journal : Journal) → IsOrderly journal → (entry : EntryParts) (s : Sail)
+orderly_enter : (rules : RulesParts) (journal : Journal) → IsOrderly rules journal → (entry : EntryParts) (s : Sail)
     → entry.command ≡ Enter s → is_entered journal s ≡ false
-    → length (entered journal) < limits.boats → IsOrderly (journal ++ entry ∷ [])
-orderly_enter journal o entry s is out room =
+    → length (entered journal) < limits.boats → IsOrderly rules (journal ++ entry ∷ [])
+orderly_enter rules journal o entry s is out room =
     let boats : entered (journal ++ entry ∷ []) ≡ entered journal ++ s ∷ [] =
     entered_more journal entry ∙ rw is refl in
     let long : length (entered (journal ++ entry ∷ [])) ≡ length (entered journal) + 1 =
@@ -278,7 +279,7 @@ orderly_enter journal o entry s is out room =
           ∙ any_push (same_sail b) (entered journal) s
           ∙ or_left (is_entered journal b) _
           (o.known race b
-          (sym (ap (stands_in same_sail b) (order_more journal entry (Enter s) race is)) ∙ h));
+          (sym (ap (stands_in same_sail b) (order_more rules journal entry (Enter s) race is)) ∙ h));
       nothing = λ race b h. (let before : is_entered journal b
           ≡ false = (or_false (is_entered journal b) _
           (sym (ap (λ xs. list_any (same_sail b) xs) boats
@@ -286,29 +287,29 @@ orderly_enter journal o entry s is out room =
           held_more journal entry (Enter s) race b is refl ∙ o.nothing race b before);
     }
 
-pub orderly_more : (journal : Journal) → IsOrderly journal → (entry : EntryParts) (c : Command)
+pub orderly_more : (rules : RulesParts) (journal : Journal) → IsOrderly rules journal → (entry : EntryParts) (c : Command)
     → entry.command ≡ c → MayStep journal c
     → (sail_entered c ≢ None → length (entered journal) < limits.boats)
-    → IsOrderly (journal ++ entry ∷ [])
-orderly_more journal o entry (Enter s) is may room =
-    orderly_enter journal o entry s is may (room (λ h. cc))
-orderly_more journal o entry (Finish r s) is may room =
-    orderly_same journal o entry (Finish r s) is may refl
-orderly_more journal o entry (Tie r s other) is may room =
-    orderly_same journal o entry (Tie r s other) is may refl
-orderly_more journal o entry (Before r s other) is may room =
-    orderly_same journal o entry (Before r s other) is may refl
-orderly_more journal o entry (Strike r s) is may room =
-    orderly_same journal o entry (Strike r s) is may refl
-orderly_more journal o entry (Mark r s code) is may room =
-    orderly_same journal o entry (Mark r s code) is may refl
-orderly_more journal o entry (Penalise r s kind) is may room =
-    orderly_same journal o entry (Penalise r s kind) is may refl
-orderly_more journal o entry (Redress r s redress) is may room =
-    orderly_same journal o entry (Redress r s redress) is may refl
-orderly_more journal o entry (Clear r s) is may room =
-    orderly_same journal o entry (Clear r s) is may refl
-orderly_more journal o entry (Score r) is may room =
-    orderly_same journal o entry (Score r) is may refl
-orderly_more journal o entry (Unscore r) is may room =
-    orderly_same journal o entry (Unscore r) is may refl
+    → IsOrderly rules (journal ++ entry ∷ [])
+orderly_more rules journal o entry (Enter s) is may room =
+    orderly_enter rules journal o entry s is may (room (λ h. cc))
+orderly_more rules journal o entry (Finish r s) is may room =
+    orderly_same rules journal o entry (Finish r s) is may refl
+orderly_more rules journal o entry (Tie r s other) is may room =
+    orderly_same rules journal o entry (Tie r s other) is may refl
+orderly_more rules journal o entry (Before r s other) is may room =
+    orderly_same rules journal o entry (Before r s other) is may refl
+orderly_more rules journal o entry (Strike r s) is may room =
+    orderly_same rules journal o entry (Strike r s) is may refl
+orderly_more rules journal o entry (Mark r s code) is may room =
+    orderly_same rules journal o entry (Mark r s code) is may refl
+orderly_more rules journal o entry (Penalise r s kind) is may room =
+    orderly_same rules journal o entry (Penalise r s kind) is may refl
+orderly_more rules journal o entry (Redress r s redress) is may room =
+    orderly_same rules journal o entry (Redress r s redress) is may refl
+orderly_more rules journal o entry (Clear r s) is may room =
+    orderly_same rules journal o entry (Clear r s) is may refl
+orderly_more rules journal o entry (Score r) is may room =
+    orderly_same rules journal o entry (Score r) is may refl
+orderly_more rules journal o entry (Unscore r) is may room =
+    orderly_same rules journal o entry (Unscore r) is may refl

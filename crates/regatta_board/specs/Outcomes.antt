@@ -72,9 +72,9 @@ row rules boat place outcomes = row_by boat place (line rules outcomes) outcomes
 abbrev pub outcome : RulesParts → Journal → ℕ → Sail → Outcome
 outcome rules journal race boat =
     record {
-      plain = plain same_sail rules (journal_race journal race) boat;
+      plain = plain same_sail rules (journal_race rules journal race) boat;
       held = held journal race boat;
-      placed = stands_in same_sail boat (order journal race);
+      placed = stands_in same_sail boat (order rules journal race);
     }
 
 -- the same in each race that counts

@@ -53,7 +53,7 @@ impl Board {
     /// Whether an entered boat stands in the race's finishing order.
     fn is_placed(&self, race: RaceNo, boat: Sail) -> bool
         requires { refusals.is_entered self.now.entries boat ≡ true }
-        ensures { result ≡ refusals.is_placed self.now.entries race boat }
+        ensures { result ≡ refusals.is_placed self.now.rules self.now.entries race boat }
     {
         self.kept.is_placed(race, boat)
     }
@@ -75,7 +75,7 @@ impl Board {
 
     /// Whether nobody stands in the race's finishing order.
     fn has_no_finisher(&self, race: RaceNo) -> bool
-        ensures { result ≡ is_empty (order self.now.entries race) }
+        ensures { result ≡ is_empty (order self.now.rules self.now.entries race) }
     {
         self.kept.has_no_finisher(race)
     }
@@ -95,7 +95,7 @@ impl Board {
 
     /// Of Finish.
     fn place_refusal(&self, race: RaceNo, boat: Sail) -> Option<Refusal>
-        ensures { result ≡ refusals.place_refusal self.now.entries race boat }
+        ensures { result ≡ refusals.place_refusal self.now.rules self.now.entries race boat }
     {
         if !self.is_entered(boat) {
             Some(Refusal::NotEntered)
@@ -108,7 +108,7 @@ impl Board {
 
     /// Of Tie and Before.
     fn place_by_refusal(&self, race: RaceNo, boat: Sail, other: Sail) -> Option<Refusal>
-        ensures { result ≡ refusals.place_by_refusal self.now.entries race boat other }
+        ensures { result ≡ refusals.place_by_refusal self.now.rules self.now.entries race boat other }
     {
         if !(self.is_entered(boat) && self.is_entered(other)) {
             Some(Refusal::NotEntered)
@@ -123,7 +123,7 @@ impl Board {
 
     /// Of Strike.
     fn strike_refusal(&self, race: RaceNo, boat: Sail) -> Option<Refusal>
-        ensures { result ≡ refusals.strike_refusal self.now.entries race boat }
+        ensures { result ≡ refusals.strike_refusal self.now.rules self.now.entries race boat }
     {
         if !self.is_entered(boat) {
             Some(Refusal::NotEntered)
@@ -183,7 +183,7 @@ impl Board {
 
     /// Of Score.
     fn score_refusal(&self, race: RaceNo) -> Option<Refusal>
-        ensures { result ≡ refusals.score_refusal self.now.entries race }
+        ensures { result ≡ refusals.score_refusal self.now.rules self.now.entries race }
     {
         if self.is_scored(race) {
             Some(Refusal::AlreadyScored)
