@@ -10,14 +10,16 @@ use Rattle.regatta_terms.specs.Entries.{EntryParts}
 use Rattle.regatta_terms.specs.Rules.{RulesParts}
 use Rattle.regatta_terms.specs.declared.sail.Sail.{Sail}
 use Rattle.regatta_terms.specs.declared.command.Command.{Command}
+use Rattle.regatta_terms.specs.declared.limits.TheConstants.{MAX_RACES}
 use Rattle.regatta_scores.specs.declared.table.Row.{Row}
 use Rattle.regatta_scores.specs.Sheet.{boats, empty_sheet}
 use Rattle.regatta_scores.specs.Journal.{Journal, same_sail, entered, held, is_scored, scored}
 use Rattle.regatta_scores.specs.declared.table.Standing.{Standing}
 use Rattle.regatta_scores.specs.Standing.{standing}
+use Rattle.regatta_terms.specs.Entries.{IsRace}
 use Rattle.regatta_board.specs.Refusals.{limits, refusal, command_refusal}
 use Rattle.regatta_board.specs.Answers.{touched_by, rank_of}
-use Rattle.regatta_board.specs.Step.{sheet_in, step, IsRace, NamesRace, MayStep, Fits}
+use Rattle.regatta_board.specs.Step.{sheet_in, step, NamesRace, MayStep, Fits}
 use Rattle.regatta_board.proofs.Lawful.{lawful_more, no_command_refusal, may_step, has_room}
 use Rattle.regatta_board.proofs.Lawful.{not_full}
 use Rattle.regatta_board.proofs.KeptFacts.{fits}
@@ -33,10 +35,10 @@ use Rattle.regatta_board.proofs.TableOf.{table_is}
 kept_of_is : (rules : RulesParts) (journal : Journal) → IsOrderly rules journal → IsKept (kept_of rules journal)
 kept_of_is rules journal orderly = record {
   few = orderly.few;
-  sheets = length-map-range_with_len (sheet_of rules journal) 1 40;
-  counts = length-map-range_with_len (is_scored journal) 1 40;
+  sheets = length-map-range_with_len (sheet_of rules journal) 1 MAX_RACES;
+  counts = length-map-range_with_len (is_scored journal) 1 MAX_RACES;
   same = All-map (λ sheet. boats sheet ≡ length (entered journal)) (sheet_of rules journal)
-      (range_with_len 1 40) (λ k d h. length-map (entered journal) (held journal _));
+      (range_with_len 1 MAX_RACES) (λ k d h. length-map (entered journal) (held journal _));
 }
 
 empty_orderly : (rules : RulesParts) → IsOrderly rules []
@@ -52,7 +54,7 @@ no_standing = record { races = []; rows = [] }
 
 pub empty_board : (rules : RulesParts)
     → IsBoard rules []
-    (record { sails = []; sheets = replicate 40 (empty_sheet 0); counts = replicate 40 false })
+    (record { sails = []; sheets = replicate MAX_RACES (empty_sheet 0); counts = replicate MAX_RACES false })
     no_standing
 empty_board rules =
     record {

@@ -11,15 +11,17 @@ use Rattle.regatta_terms.specs.declared.command.Command.{Command}
 use Rattle.regatta_terms.specs.declared.command.Command.TheVariants.{Enter, Finish, Tie, Before}
 use Rattle.regatta_terms.specs.declared.command.Command.TheVariants.{Strike, Mark, Penalise}
 use Rattle.regatta_terms.specs.declared.command.Command.TheVariants.{Redress, Clear, Score, Unscore}
+use Rattle.regatta_terms.specs.declared.limits.TheConstants.{MAX_RACES, MAX_PENALTIES}
 use Rattle.regatta_scores.specs.Order.{stands_in, is_empty}
 use Rattle.regatta_scores.specs.Sheet.{Sheet, boats, nothing_held, empty_sheet}
 use Rattle.regatta_scores.specs.SheetFacts.{IsPlaced, IsUnplaced}
 use Rattle.regatta_scores.specs.Journal.{Journal, same_sail, entered, order, held, is_scored}
+use Rattle.regatta_terms.specs.Entries.{IsRace}
 use Rattle.regatta_board.specs.Refusals.{limits, is_entered, is_placed, is_decided, penalties}
 use Rattle.regatta_board.specs.Refusals.{command_refusal, place_refusal, place_by_refusal}
 use Rattle.regatta_board.specs.Refusals.{decision_refusal}
 use Rattle.regatta_board.specs.KeptJournal.{number, sheet_of, kept_of, IsOrderly}
-use Rattle.regatta_board.specs.Step.{number_in, sheet_in, held_in, IsRace, NamesRace, IsKnown, IsOn}
+use Rattle.regatta_board.specs.Step.{number_in, sheet_in, held_in, NamesRace, IsKnown, IsOn}
 use Rattle.regatta_board.specs.Step.{Fits}
 use Rattle.regatta_board.specs.Table.{Kept}
 use Rattle.regatta_board.proofs.Allowed.{place_below, number_below, placed_same, unplaced, placed}
@@ -30,16 +32,16 @@ sheet_is : (rules : RulesParts) (journal : Journal) (race : ℕ) → IsRace race
     → sheet_in (kept_of rules journal) race ≡ sheet_of rules journal race
 sheet_is rules journal race r =
     let low : 1 ≤ race = r.0 in
-    let high : race ≤ 40 = r.1 in
-    get_or-map-range_with_len (sheet_of rules journal) 1 40 (race - 1) race (empty_sheet 0) (omega arith)
+    let high : race ≤ MAX_RACES = r.1 in
+    get_or-map-range_with_len (sheet_of rules journal) 1 MAX_RACES (race - 1) race (empty_sheet 0) (omega arith)
     (omega arith)
 
 counts_are : (rules : RulesParts) (journal : Journal) (race : ℕ) → IsRace race
     → get_or (kept_of rules journal).counts (race - 1) false ≡ is_scored journal race
 counts_are rules journal race r =
     let low : 1 ≤ race = r.0 in
-    let high : race ≤ 40 = r.1 in
-    get_or-map-range_with_len (is_scored journal) 1 40 (race - 1) race false (omega arith)
+    let high : race ≤ MAX_RACES = r.1 in
+    get_or-map-range_with_len (is_scored journal) 1 MAX_RACES (race - 1) race false (omega arith)
     (omega arith)
 
 same_emptiness : {X Y : Type 0} (f : X → Y) (xs : List X) → is_empty (map f xs) ≡ is_empty xs
@@ -155,10 +157,10 @@ module _ (rules : RulesParts) (journal : Journal) (o : IsOrderly rules journal) 
     fits role (Penalise race s kind) r none =
         let first = no_test (not (is_entered journal s)) _ _ none in
         let second = no_test (is_decided (held journal race s)) _ _ first.1 in
-        let third = no_test (nat_le 9 (penalties kind (held journal race s))) _ _ second.1 in (
+        let third = no_test (nat_le MAX_PENALTIES (penalties kind (held journal race s))) _ _ second.1 in (
           on race r s (is_so (is_entered journal s) first.0),
-          subst (λ h. penalties kind h < 9) (sym (held_is race r s))
-              (leb-false 9 (penalties kind (held journal race s)) third.0),
+          subst (λ h. penalties kind h < MAX_PENALTIES) (sym (held_is race r s))
+              (leb-false MAX_PENALTIES (penalties kind (held journal race s)) third.0),
         )
     fits role (Redress race s redress) r none = decision_fits race r s none
     fits role (Clear race s) r none =

@@ -6,6 +6,7 @@ use Rattle.std.proofs.lemmas.List.{length-map, get_or-map}
 use Rattle.std.proofs.lemmas.List.FromFn.{get_or-map-range_with_len}
 use Rattle.regatta_terms.specs.Rules.{RulesParts, exclusions_of}
 use Rattle.regatta_terms.specs.declared.sail.Sail.{Sail}
+use Rattle.regatta_terms.specs.declared.limits.TheConstants.{MAX_RACES}
 use Rattle.regatta_scores.specs.declared.boats.Scored.{Scored}
 use Rattle.regatta_scores.specs.declared.table.Row.{Row}
 use Rattle.regatta_scores.specs.Sheet.{boats, nothing_held, empty_sheet}
@@ -95,7 +96,6 @@ line_is rules journal boat i =
 
 mark_is : (rules : RulesParts) (journal : Journal) (race : ℕ) (boat : Sail)
     → one.mark (one.outcome rules journal race boat) ≡ by_journal.mark rules journal race boat
-unfolding one.mark
 mark_is rules journal race boat = refl
 
 cells_are : (rules : RulesParts) (journal : Journal) (boat : Sail)
@@ -195,28 +195,28 @@ module _ (rules : RulesParts) (journal : Journal) (orderly : IsOrderly rules jou
   -- ---- the races that count
 
   races_are : all.races (kept_of rules journal).counts ≡ scored journal
-  races_are = filter_known (λ r. (1 ≤ r) × (r < 1 + 40))
+  races_are = filter_known (λ r. (1 ≤ r) × (r < 1 + MAX_RACES))
       (λ race. get_or (kept_of rules journal).counts (race - 1) false) (is_scored journal)
-      (λ race h. get_or-map-range_with_len (is_scored journal) 1 40 (race - 1) race false
-      (let k : 1 ≤ race = h.0 in let l : race < 1 + 40 = h.1 in
-      omega arith) (let k : 1 ≤ race = h.0 in omega arith)) (range_with_len 1 40) (in_range 1 40)
+      (λ race h. get_or-map-range_with_len (is_scored journal) 1 MAX_RACES (race - 1) race false
+      (let k : 1 ≤ race = h.0 in let l : race < 1 + MAX_RACES = h.1 in
+      omega arith) (let k : 1 ≤ race = h.0 in omega arith)) (range_with_len 1 MAX_RACES) (in_range 1 MAX_RACES)
 
-  scored_in_range : AllByRecursion (λ r. (1 ≤ r) × (r < 1 + 40)) (scored journal)
+  scored_in_range : AllByRecursion (λ r. (1 ≤ r) × (r < 1 + MAX_RACES)) (scored journal)
   scored_in_range =
-      all_kept (λ r. (1 ≤ r) × (r < 1 + 40)) (is_scored journal) (range_with_len 1 40)
-      (in_range 1 40)
+      all_kept (λ r. (1 ≤ r) × (r < 1 + MAX_RACES)) (is_scored journal) (range_with_len 1 MAX_RACES)
+      (in_range 1 MAX_RACES)
 
-  sheet_at : (race : ℕ) → (1 ≤ race) × (race < 1 + 40)
+  sheet_at : (race : ℕ) → (1 ≤ race) × (race < 1 + MAX_RACES)
       → get_or (kept_of rules journal).sheets (race - 1) (empty_sheet 0) ≡ sheet_of rules journal race
   sheet_at race h =
-      get_or-map-range_with_len (sheet_of rules journal) 1 40 (race - 1) race (empty_sheet 0)
-      (let k : 1 ≤ race = h.0 in let l : race < 1 + 40 = h.1 in
+      get_or-map-range_with_len (sheet_of rules journal) 1 MAX_RACES (race - 1) race (empty_sheet 0)
+      (let k : 1 ≤ race = h.0 in let l : race < 1 + MAX_RACES = h.1 in
       omega arith) (let k : 1 ≤ race = h.0 in omega arith)
 
   columns_are : all.columns rules (kept_of rules journal).sheets (scored journal)
       ≡ map (λ race. map (one.outcome rules journal race) (entered journal)) (scored journal)
   columns_are =
-      map_known (λ r. (1 ≤ r) × (r < 1 + 40))
+      map_known (λ r. (1 ≤ r) × (r < 1 + MAX_RACES))
       (λ race. all.column rules (get_or (kept_of rules journal).sheets (race - 1) (empty_sheet 0)))
       (λ race. map (one.outcome rules journal race) (entered journal))
       (λ race h. ap (all.column rules) (sheet_at race h) ∙ column_is race) (scored journal)
@@ -229,7 +229,7 @@ module _ (rules : RulesParts) (journal : Journal) (orderly : IsOrderly rules jou
   by_boat b h =
       map_map (λ (column : List Outcome). get_or column b all.no_outcome)
       (λ race. map (one.outcome rules journal race) (entered journal)) (scored journal)
-      ∙ map_known (λ r. (1 ≤ r) × (r < 1 + 40))
+      ∙ map_known (λ r. (1 ≤ r) × (r < 1 + MAX_RACES))
       (λ race. get_or (map (one.outcome rules journal race) (entered journal)) b all.no_outcome)
       (λ race. one.outcome rules journal race (get_or (entered journal) b []))
       (λ race k. get_or-map (one.outcome rules journal race) (entered journal) b []

@@ -42,7 +42,7 @@ abbrev pub line : RulesParts → List Outcome → Line
 line rules outcomes = record { points = points outcomes; excluded = flags rules outcomes }
 
 -- the abbreviation that the table shows beside the points, if any (RRS A10)
-unfoldable pub mark : Outcome → Option Abbrev
+abbrev pub mark : Outcome → Option Abbrev
 mark o = mark_by o.held.redress (status_by o.held.code o.placed) o.held
 
 -- a cell of the table: points, abbreviation (RRS A10), and whether it is excluded (RRS A2.1)

@@ -3,6 +3,7 @@ use Rattle.std.specs.Prelude.{◌≡◌, ℕ, ◌+◌, min, Bool, true, false, n
 use Rattle.std.specs.Prelude.{List, [], ◌∷◌, ◌++◌, length, filter, map, unwrap_or, Option, Some}
 use Rattle.std.specs.Prelude.{None, is_some, is_none, if◌then◌else◌}
 use Rattle.std.specs.List.{list_any}
+use Rattle.regatta_terms.specs.declared.limits.TheConstants.{MAX_BOATS, MAX_ENTRIES, MAX_PENALTIES}
 use Rattle.regatta_terms.specs.Entries.{EntryParts}
 use Rattle.regatta_terms.specs.Rules.{RulesParts}
 use Rattle.regatta_terms.specs.Roles.{may_send, is_jury_code}
@@ -28,7 +29,6 @@ use Rattle.regatta_scores.specs.declared.sheet.Held.{Held}
 use Rattle.regatta_scores.specs.Journal.{Journal, same_sail, entered, order, held, is_scored}
 use Rattle.regatta_scores.specs.Journal.{last_item}
 use Rattle.regatta_scores.specs.Order.{stands_in, is_empty}
-use Rattle.regatta_board.specs.declared.limits.TheConstants.{MAX_BOATS, MAX_ENTRIES}
 
 -- how many boats may be entered, and how many entries a journal may hold
 pub record Limits : Type 0 where
@@ -132,12 +132,13 @@ decision_refusal journal race boat =
     else if is_decided (held journal race boat) then Some Decided
     else None
 
--- of Penalise: at most nine ZFP (RRS 30.2) and nine SCP (RRS 44.3(c)), and none after a decision
+-- of Penalise: so many ZFP (RRS 30.2) and so many SCP (RRS 44.3(c)) at most, and none after a
+-- decision
 abbrev pub penalty_refusal : Journal → ℕ → Sail → PenaltyKind → Option Refusal
 penalty_refusal journal race boat kind =
     if not (is_entered journal boat) then Some NotEntered
     else if is_decided (held journal race boat) then Some Decided
-    else if nat_le 9 (penalties kind (held journal race boat)) then Some PenaltyLimit
+    else if nat_le MAX_PENALTIES (penalties kind (held journal race boat)) then Some PenaltyLimit
     else None
 
 -- of Clear: a decision of the protest committee is cleared by the jury alone (our choice)

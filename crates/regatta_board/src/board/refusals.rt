@@ -7,9 +7,10 @@ ghost use Rattle.regatta_board.specs.Refusals as refusals;
 ghost use Rattle.regatta_board.specs.Refusals.{limits};
 
 use crate::board::Board;
-use crate::limits::{MAX_BOATS, MAX_ENTRIES};
 use regatta_scores::Held;
-use regatta_terms::{Code, Command, Entry, PenaltyKind, RaceNo, Refusal, Role, Sail, may};
+use regatta_terms::{
+    Code, Command, Entry, MAX_BOATS, MAX_ENTRIES, MAX_PENALTIES, PenaltyKind, RaceNo, Refusal, Role, Sail, may,
+};
 
 /// Whether she holds a decision of the protest committee.
 fn is_decided(held: &Held) -> bool
@@ -157,7 +158,7 @@ impl Board {
         let held = self.held(race, boat);
         if is_decided(&held) {
             Some(Refusal::Decided)
-        } else if penalties(kind, &held) >= 9 {
+        } else if penalties(kind, &held) >= MAX_PENALTIES {
             Some(Refusal::PenaltyLimit)
         } else {
             None
