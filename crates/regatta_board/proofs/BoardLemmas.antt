@@ -17,6 +17,7 @@ use Rattle.regatta_scores.specs.Journal.{Journal, same_sail, entered, held, is_s
 use Rattle.regatta_scores.specs.declared.table.Standing.{Standing}
 use Rattle.regatta_scores.specs.Standing.{standing}
 use Rattle.regatta_terms.specs.Entries.{IsRace}
+use Rattle.regatta_scores.proofs.Fresh.{fresh_sheet}
 use Rattle.regatta_board.specs.Refusals.{limits, refusal, command_refusal}
 use Rattle.regatta_board.specs.Answers.{touched_by, rank_of}
 use Rattle.regatta_board.specs.Step.{sheet_in, step, NamesRace, MayStep, Fits}
@@ -41,29 +42,40 @@ kept_of_is rules journal orderly = record {
       (range_with_len 1 MAX_RACES) (λ k d h. length-map (entered journal) (held journal _));
 }
 
-empty_orderly : (rules : RulesParts) → IsOrderly rules []
+pub empty_orderly : (rules : RulesParts) → IsOrderly rules []
 empty_orderly rules = record {
   few = omega arith;
   apart = λ i j d h k. absurd (omega arith);
   known = λ race boat h. cc;
   nothing = λ race boat h. refl;
+  once = λ race. fresh_sheet 0 (omega arith);
 }
 
-abbrev pub no_standing : Standing
-no_standing = record { races = []; rows = [] }
+-- what is kept of the empty journal
+abbrev pub empty_kept : Kept
+empty_kept = record {
+  sails = [];
+  sheets = replicate MAX_RACES (empty_sheet 0);
+  counts = replicate MAX_RACES false;
+}
 
-pub empty_board : (rules : RulesParts)
-    → IsBoard rules []
-    (record { sails = []; sheets = replicate MAX_RACES (empty_sheet 0); counts = replicate MAX_RACES false })
-    no_standing
-empty_board rules =
-    record {
+-- the board of the empty journal
+pub empty_board : (rules : RulesParts) (entries : Journal) (kept : Kept) (counted : List ℕ)
+    (rows : List Row) → entries ≡ []
+    → kept ≡ empty_kept → counted ≡ [] → rows ≡ []
+    → IsBoard rules entries kept (record { races = counted; rows = rows })
+empty_board rules entries kept counted rows e k r s =
+    subst (λ es. IsBoard rules es kept (record { races = counted; rows = rows })) (sym e)
+    (subst (λ ks. IsBoard rules [] ks (record { races = counted; rows = rows })) (sym k)
+    (subst (λ rs. IsBoard rules [] empty_kept (record { races = rs; rows = rows })) (sym r)
+    (subst (λ rs. IsBoard rules [] empty_kept (record { races = []; rows = rs })) (sym s)
+    (record {
       few = omega arith;
       lawful = refl;
       orderly = empty_orderly rules;
       keeps = refl;
       stands = refl;
-    }
+    }))))
 
 -- each sheet has a line for each boat
 pub sheet_long : (kept : Kept) → IsKept kept → (race : ℕ) → IsRace race
@@ -120,8 +132,8 @@ module _ (rules : RulesParts) (entries : Journal) (kept : Kept) (made : Standing
     accepted = ap (λ d. command_refusal limits rules entries e.role d) named
         ∙ no_command_refusal rules entries e none
 
-    may : MayStep entries c
-    may = may_step rules entries e.role c race accepted
+    may : MayStep rules entries c
+    may = may_step rules entries e.role c accepted
 
     pub board_fits : Fits kept c
     board_fits = fits rules entries is.orderly kept is.keeps e.role c race accepted
@@ -132,7 +144,7 @@ module _ (rules : RulesParts) (entries : Journal) (kept : Kept) (made : Standing
 
     next_is : (new : Kept) → new ≡ step kept c → new ≡ kept_of rules (entries ++ e ∷ [])
     next_is new now = now ∙ ap (λ k. step k c) is.keeps
-        ∙ step_is rules entries is.orderly e c (sym named) may
+        ∙ step_is rules entries is.orderly e c (sym named) race may
 
     pub next_kept : (new : Kept) → new ≡ step kept c → IsKept new
     next_kept new now =

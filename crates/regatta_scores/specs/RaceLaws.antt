@@ -44,19 +44,12 @@ EnterKeepsRaces = (rules : RulesParts) (journal : Journal) (entry : EntryParts) 
 abbrev pub NobodyTwice : Race Sail → Type 0
 NobodyTwice race = (boat : Sail) → times_placed same_sail race.order boat ≤ 1
 
--- When a boat that finished is given a code (A6.1), she is scored by it and every other boat's
--- status stays; each boat in a later group moves up one place, each in her group shares with one
--- less, and every other place and number of sharers stays.
-abbrev pub CodedBoatsLeaveTheOrder : Type 0
-CodedBoatsLeaveTheOrder =
-    (rules : RulesParts) (journal : Journal) (entry : EntryParts) (race : ℕ) (coded : Sail)
-    (code : Code) →
-    entry.command ≡ Mark race coded code →
-    NobodyTwice (journal_race rules journal race) →
-    status same_sail (journal_race rules journal race) coded ≡ Finished →
+-- A boat leaves the order (A6.1): she is scored by her code and every other boat's status stays;
+-- each boat in a later group moves up one place, each in her group shares with one less, and every
+-- other place and number of sharers stays.
+abbrev pub LeavesTheOrder : Race Sail → Race Sail → Sail → Code → Type 0
+LeavesTheOrder old new coded code =
     (boat : Sail) →
-    let old = journal_race rules journal race in
-    let new = journal_race rules (journal ++ entry ∷ []) race in
     let is_behind = stands_in same_sail coded (groups_ahead same_sail old boat) in
     let is_tied = in_group same_sail coded (her_group same_sail old boat) in
     (status same_sail new boat
@@ -64,6 +57,17 @@ CodedBoatsLeaveTheOrder =
     × (finishing_place same_sail old boat
     ≡ finishing_place same_sail new boat + (if is_behind then 1 else 0))
     × (sharing same_sail old boat ≡ sharing same_sail new boat + (if is_tied then 1 else 0))
+
+-- When a boat that finished is given a code, she leaves the order (A6.1).
+abbrev pub CodedBoatsLeaveTheOrder : Type 0
+CodedBoatsLeaveTheOrder =
+    (rules : RulesParts) (journal : Journal) (entry : EntryParts) (race : ℕ) (coded : Sail)
+    (code : Code) →
+    entry.command ≡ Mark race coded code →
+    NobodyTwice (journal_race rules journal race) →
+    status same_sail (journal_race rules journal race) coded ≡ Finished →
+    LeavesTheOrder (journal_race rules journal race)
+    (journal_race rules (journal ++ entry ∷ []) race) coded code
 
 -- The points of so many places from one place on, in tenths: 1 point for first, 2 for second, and
 -- so on (A4).
@@ -87,9 +91,13 @@ finish_points race boat =
     then shared_points (finishing_place same_sail race boat) (sharing same_sail race boat)
     else 0
 
--- The points for the places of the boats that finished, ties shared, are those of places 1 to their
--- number (A4, A7).
-abbrev pub PlacesAreSharedOut : Type 0
-PlacesAreSharedOut = (race : Race Sail) → NobodyTwice race →
+-- the points for the places of the boats that finished, ties shared, are those of places 1 to their
+-- number (A4, A7)
+abbrev pub IsSharedOut : Race Sail → Type 0
+IsSharedOut race =
     let number = sum_by (count_by (λ boat. is_finished (status same_sail race boat))) race.order in
     sum_by (sum_by (finish_points race)) race.order ≡ points_of_places 1 number
+
+-- The places of a race in which nobody stands twice are shared out (A4, A7).
+abbrev pub PlacesAreSharedOut : Type 0
+PlacesAreSharedOut = (race : Race Sail) → NobodyTwice race → IsSharedOut race
