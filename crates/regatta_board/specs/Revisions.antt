@@ -4,7 +4,7 @@ use Rattle.regatta_board.specs.declared.kept.Revision.{Revision}
 use Rattle.regatta_board.specs.declared.kept.Revision.TheVariants.{Enter, Sheet, Counts}
 use Rattle.regatta_board.specs.Table.{Kept}
 
--- what is kept once the parts of a revision have taken the place of the old ones
+-- what is kept once the parts of a revision have replaced the old ones
 abbrev pub revised : Kept → Revision → Kept
 revised kept (Enter boats sheets) = record kept { sails = boats; sheets = sheets.items }
 revised kept (Sheet race sheet) = record kept { sheets = slice_set kept.sheets (race - 1) sheet }

@@ -6,6 +6,7 @@ use Rattle.std.proofs.lemmas.List.{map-append, append-nil}
 use Rattle.std.proofs.lemmas.List.Elements.{filter-append, filter_map-append}
 use borrow.Author.Tests.{eqb-true}
 use Rattle.regatta_terms.specs.Entries.{EntryParts}
+use Rattle.regatta_terms.specs.Rules.{RulesParts}
 use Rattle.regatta_terms.specs.declared.sail.Sail.{Sail}
 use Rattle.regatta_terms.specs.declared.command.Command.{Command}
 use Rattle.regatta_terms.specs.declared.command.Command.TheVariants.{Enter, Finish, Tie, Before}
@@ -75,28 +76,29 @@ pub same_entered : (journal : Journal) (entry : EntryParts) → sail_entered ent
 same_entered journal entry h = entered_more journal entry ∙ rw h (append-nil _)
 
 -- a race is made of the entry list and its own commands
-pub same_race : (old new : Journal) (race : ℕ) → entered new ≡ entered old →
-    race_commands new race ≡ race_commands old race → journal_race new race ≡ journal_race old race
-same_race old new race boats cs i =
+pub same_race : (rules : RulesParts) (old new : Journal) (race : ℕ) → entered new ≡ entered old →
+    race_commands new race ≡ race_commands old race →
+    journal_race rules new race ≡ journal_race rules old race
+same_race rules old new race boats cs i =
     record {
       entered = boats i;
-      order = order_by (cs i);
+      order = order_by rules (cs i);
       held = λ boat. held_by (standing_decisions (cs i) boat);
     }
 
-says_the_same : (old new : Journal) (race : ℕ) → journal_race new race ≡ journal_race old race →
-    SaysTheSame old new race
-says_the_same old new race e = record {
+says_the_same : (rules : RulesParts) (old new : Journal) (race : ℕ) →
+    journal_race rules new race ≡ journal_race rules old race → SaysTheSame rules old new race
+says_the_same rules old new race e = record {
   same_order = ap (λ (r : Race Sail). r.order) e;
   same_held = λ boat. ap (λ (r : Race Sail). r.held boat) e;
   same_status = λ boat. ap (λ r. status same_sail r boat) e;
-  same_dnf = λ rules. ap (dnf same_sail rules) e;
-  same_plain = λ rules boat. ap (λ r. plain same_sail rules r boat) e;
+  same_dnf = ap (dnf same_sail rules) e;
+  same_plain = λ boat. ap (λ r. plain same_sail rules r boat) e;
 }
 
 pub races_are_apart : RacesAreApart
-races_are_apart journal entry race other named apart =
+races_are_apart rules journal entry race other named apart =
     let boats = same_entered journal entry (enters_none race entry.command named) in
     let cs = same_commands journal entry other (not_named race other entry.command named apart) in
-    says_the_same journal (journal ++ entry ∷ []) other
-    (same_race journal (journal ++ entry ∷ []) other boats cs)
+    says_the_same rules journal (journal ++ entry ∷ []) other
+    (same_race rules journal (journal ++ entry ∷ []) other boats cs)

@@ -11,6 +11,7 @@ use Rattle.std.proofs.lemmas.List.Sums.{fold_push, sum_by-take-le}
 use Rattle.std.specs.Cmp.Lexicographic.{bytes_decides}
 use borrow.Author.Tests.{eq-eqb}
 use Rattle.regatta_terms.specs.Entries.{EntryParts}
+use Rattle.regatta_terms.specs.Rules.{RulesParts}
 use Rattle.regatta_terms.specs.declared.sail.Sail.{Sail}
 use Rattle.regatta_terms.specs.declared.command.Code.{Code}
 use Rattle.regatta_terms.specs.declared.command.Command.TheVariants.{Mark}
@@ -43,16 +44,16 @@ last_push o (y ∷ ys) x = last_push (Some y) ys x
 
 -- ---- the race after the Mark
 
-module _ (journal : Journal) (entry : EntryParts) (race : ℕ) (coded : Sail) (code : Code)
-    (is_mark : entry.command ≡ Mark race coded code) where
+module _ (rules : RulesParts) (journal : Journal) (entry : EntryParts) (race : ℕ) (coded : Sail)
+    (code : Code) (is_mark : entry.command ≡ Mark race coded code) where
   commands_after : race_commands (journal ++ entry ∷ []) race
       ≡ race_commands journal race ++ Mark race coded code ∷ []
   commands_after = race_commands_more journal entry race ∙ rw is_mark (rw (eq-eqb race race refl))
 
-  order_stays : order (journal ++ entry ∷ []) race ≡ order journal race
+  order_stays : order rules (journal ++ entry ∷ []) race ≡ order rules journal race
   order_stays =
-      ap order_by commands_after ∙ fold_push order_after [] (race_commands journal race)
-      (Mark race coded code)
+      ap (order_by rules) commands_after
+      ∙ fold_push (order_after rules) [] (race_commands journal race) (Mark race coded code)
 
   decisions_by : (boat : Sail) (b : Bool) → same_sail boat coded ≡ b →
       filter (decides boat) (race_commands (journal ++ entry ∷ []) race)
@@ -82,10 +83,10 @@ module _ (journal : Journal) (entry : EntryParts) (race : ℕ) (coded : Sail) (c
       (filter_map code_marked (after_last is_clear ds)) code
 
   status_after : (boat : Sail) (b : Bool) → same_sail boat coded ≡ b →
-      status same_sail (journal_race (journal ++ entry ∷ []) race) boat
-      ≡ cond b (Coded code) (status same_sail (journal_race journal race) boat)
+      status same_sail (journal_race rules (journal ++ entry ∷ []) race) boat
+      ≡ cond b (Coded code) (status same_sail (journal_race rules journal race) boat)
   status_after boat true e =
-      ap (λ o. status_by o (stands_in same_sail boat (order (journal ++ entry ∷ []) race)))
+      ap (λ o. status_by o (stands_in same_sail boat (order rules (journal ++ entry ∷ []) race)))
       (code_given boat e)
   status_after boat false e =
       λ i. status_by (held_stays boat e i).code (stands_in same_sail boat (order_stays i))
@@ -96,9 +97,9 @@ finished_codeless (Some code) placed e = cc
 
 -- ---- the law
 
-module _ (journal : Journal) (entry : EntryParts) (race : ℕ) (coded : Sail) (code : Code)
-    (is_mark : entry.command ≡ Mark race coded code)
-    (was_finished : status same_sail (journal_race journal race) coded ≡ Finished) where
+module _ (rules : RulesParts) (journal : Journal) (entry : EntryParts) (race : ℕ) (coded : Sail)
+    (code : Code) (is_mark : entry.command ≡ Mark race coded code)
+    (was_finished : status same_sail (journal_race rules journal race) coded ≡ Finished) where
   each_boat : (boat : Sail) (b : Bool) → same_sail boat coded ≡ b →
       ◌≡◌ {A = ℕ} (cond (is_none (held journal race boat).code) 1 0)
       (cond (is_none (held (journal ++ entry ∷ []) race boat).code) 1 0 + cond b 1 0)
@@ -106,15 +107,15 @@ module _ (journal : Journal) (entry : EntryParts) (race : ℕ) (coded : Sail) (c
       let one : boat ≡ coded = (bytes_decides boat coded).0 e in
       let before : (held journal race boat).code ≡ None =
       ap (λ s. (held journal race s).code) one ∙ finished_codeless _ _ was_finished in
-      rw (before, code_given journal entry race coded code is_mark boat e) (omega arith)
+      rw (before, code_given rules journal entry race coded code is_mark boat e) (omega arith)
   each_boat boat false e =
       let same : (held (journal ++ entry ∷ []) race boat).code ≡ (held journal race boat).code =
-      ap (λ (h : Held). h.code) (held_stays journal entry race coded code is_mark boat e) in
+      ap (λ (h : Held). h.code) (held_stays rules journal entry race coded code is_mark boat e) in
       rw same (omega arith)
 
   group_split : (group : List Sail) →
-      finishers (journal_race journal race) group
-      ≡ finishers (journal_race (journal ++ entry ∷ []) race) group
+      finishers (journal_race rules journal race) group
+      ≡ finishers (journal_race rules (journal ++ entry ∷ []) race) group
       + count_by (λ other. same_sail other coded) group
   group_split group =
       count_split (λ boat. is_none (held journal race boat).code)
@@ -122,11 +123,11 @@ module _ (journal : Journal) (entry : EntryParts) (race : ℕ) (coded : Sail) (c
       (λ other. same_sail other coded) (λ boat. each_boat boat (same_sail boat coded) refl) group
 
 pub coded_boats_leave : CodedBoatsLeaveTheOrder
-coded_boats_leave journal entry race coded code is_mark once was_finished boat =
-    let old = journal_race journal race in
-    let new = journal_race (journal ++ entry ∷ []) race in
+coded_boats_leave rules journal entry race coded code is_mark once was_finished boat =
+    let old = journal_race rules journal race in
+    let new = journal_race rules (journal ++ entry ∷ []) race in
     let p : Sail → Bool = λ other. same_sail other coded in
-    let stays = order_stays journal entry race coded code is_mark in
+    let stays = order_stays rules journal entry race coded code is_mark in
     let ahead = groups_ahead same_sail old boat in
     let hers = her_group same_sail old boat in
     let same_ahead : groups_ahead same_sail new boat ≡ ahead =
@@ -135,22 +136,22 @@ coded_boats_leave journal entry race coded code is_mark once was_finished boat =
     ap (λ gs. unwrap_or (find (in_group same_sail boat) gs) []) stays in
     let split =
     sum_split (finishers old) (finishers new) (count_by p)
-    (group_split journal entry race coded code is_mark was_finished) ahead in
+    (group_split rules journal entry race coded code is_mark was_finished) ahead in
     let few_ahead : sum_by (count_by p) ahead ≤ 1 =
     omega (
       arith,
-      sum_by-take-le (count_by p) (order journal race)
-          (position_or_len (in_group same_sail boat) (order journal race)),
+      sum_by-take-le (count_by p) (order rules journal race)
+          (position_or_len (in_group same_sail boat) (order rules journal race)),
       once coded,
     ) in
     let few_hers : count_by p hers ≤ 1 =
-    omega (arith, found_le p (in_group same_sail boat) (order journal race), once coded) in
+    omega (arith, found_le p (in_group same_sail boat) (order rules journal race), once coded) in
     let one_ahead = sum_one p ahead few_ahead in
     let one_hers = count_one p hers few_hers in
     let new_ahead = ap (sum_by (finishers new)) same_ahead in
     let new_hers = ap (finishers new) same_hers in
-    let split_hers = group_split journal entry race coded code is_mark was_finished hers in (
-      status_after journal entry race coded code is_mark boat (same_sail boat coded) refl,
+    let split_hers = group_split rules journal entry race coded code is_mark was_finished hers in (
+      status_after rules journal entry race coded code is_mark boat (same_sail boat coded) refl,
       omega (arith, split, one_ahead, new_ahead),
       omega (arith, split_hers, one_hers, new_hers),
     )

@@ -54,8 +54,11 @@ rises_more start (end ∷ ends) last more rises upto =
 
 pub no_groups : {X : Type 0} (xs : List X) → IsTrue (nat_eq (length xs) 0) ↔ (xs ≡ [])
 no_groups [] = (λ h. refl, λ h. refl)
-no_groups (x ∷ xs) = (λ h. let wrong : true ≡ false =
-    sym h ∙ apart_eq_back (length (x ∷ xs)) 0 (omega arith) in cc, λ h. let same : length (x ∷ xs) ≡ 0 = ap length h in absurd (omega (arith, same)))
+no_groups (x ∷ xs) = (
+  λ h. let wrong : true ≡ false =
+      sym h ∙ apart_eq_back (length (x ∷ xs)) 0 (omega arith) in cc,
+  λ h. let same : length (x ∷ xs) ≡ 0 = ap length h in absurd (omega (arith, same)),
+)
 
 -- ---- one group
 

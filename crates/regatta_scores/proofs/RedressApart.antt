@@ -48,7 +48,7 @@ module _ (race : Race Sail) (redress : Sail → Option redress_type.Redress) whe
 
 -- ---- the journal after the redress
 
-module _ (journal : Journal) (entry : EntryParts) (race : ℕ) (boat : Sail)
+module _ (rules : RulesParts) (journal : Journal) (entry : EntryParts) (race : ℕ) (boat : Sail)
     (redress : redress_type.Redress) (is : entry.command ≡ Redress race boat redress) where
   commands_after : (r : ℕ) → race_commands (journal ++ entry ∷ []) r
       ≡ race_commands journal r ++ cond (nat_eq r race) (Redress race boat redress ∷ []) []
@@ -58,13 +58,14 @@ module _ (journal : Journal) (entry : EntryParts) (race : ℕ) (boat : Sail)
   entered_stays = same_entered journal entry (ap sail_entered is)
 
   order_by_more : (cs : List Command) (b : Bool) →
-      order_by (cs ++ cond b (Redress race boat redress ∷ []) []) ≡ order_by cs
-  order_by_more cs true = fold_push order_after [] cs (Redress race boat redress)
-  order_by_more cs false = ap order_by (append-nil cs)
+      order_by rules (cs ++ cond b (Redress race boat redress ∷ []) []) ≡ order_by rules cs
+  order_by_more cs true = fold_push (order_after rules) [] cs (Redress race boat redress)
+  order_by_more cs false = ap (order_by rules) (append-nil cs)
 
-  order_stays : (r : ℕ) → order (journal ++ entry ∷ []) r ≡ order journal r
+  order_stays : (r : ℕ) → order rules (journal ++ entry ∷ []) r ≡ order rules journal r
   order_stays r =
-      ap order_by (commands_after r) ∙ order_by_more (race_commands journal r) (nat_eq r race)
+      ap (order_by rules) (commands_after r)
+      ∙ order_by_more (race_commands journal r) (nat_eq r race)
 
   scored_by_more : (cs : List Command) (b : Bool) →
       filter_map counting (cs ++ cond b (Redress race boat redress ∷ []) [])
@@ -152,8 +153,8 @@ module _ (journal : Journal) (entry : EntryParts) (race : ℕ) (boat : Sail)
       (nat_eq r race && same_sail other boat)
 
   -- the race is what it was but for redress
-  race_after : (r : ℕ) → journal_race (journal ++ entry ∷ []) r
-      ≡ with_redress (journal_race journal r) (λ o. (held (journal ++ entry ∷ []) r o).redress)
+  race_after : (r : ℕ) → journal_race rules (journal ++ entry ∷ []) r
+      ≡ with_redress (journal_race rules journal r) (λ o. (held (journal ++ entry ∷ []) r o).redress)
   race_after r i =
       record {
         entered = entered_stays i;
@@ -166,12 +167,12 @@ module _ (journal : Journal) (entry : EntryParts) (race : ℕ) (boat : Sail)
         };
       }
 
-  plain_stays : (rules : RulesParts) (r : ℕ) (other : Sail) →
-      plain same_sail rules (journal_race (journal ++ entry ∷ []) r) other
-      ≡ plain same_sail rules (journal_race journal r) other
-  plain_stays rules r other =
+  plain_stays : (r : ℕ) (other : Sail) →
+      plain same_sail rules (journal_race rules (journal ++ entry ∷ []) r) other
+      ≡ plain same_sail rules (journal_race rules journal r) other
+  plain_stays r other =
       ap (λ m. plain same_sail rules m other) (race_after r)
-      ∙ plain_reads_none (journal_race journal r) (λ o. (held (journal ++ entry ∷ []) r o).redress)
+      ∙ plain_reads_none (journal_race rules journal r) (λ o. (held (journal ++ entry ∷ []) r o).redress)
       rules other
 
   -- another boat
@@ -188,24 +189,21 @@ module _ (journal : Journal) (entry : EntryParts) (race : ℕ) (boat : Sail)
         ap (λ cs. held_by (standing_decisions cs other)) (commands_after r)
         ∙ ap held_by (decisions_stay (race_commands journal r) (nat_eq r race))
 
-    items_stay : (rules : RulesParts) →
-        row_items rules (journal ++ entry ∷ []) other ≡ row_items rules journal other
-    items_stay rules i =
+    items_stay : row_items rules (journal ++ entry ∷ []) other ≡ row_items rules journal other
+    items_stay i =
         map (λ r. record {
-          plain = plain_stays rules r other i;
+          plain = plain_stays r other i;
           redress = (held_stays r i).redress;
         }) (scored_stays i)
 
-    points_stay : (rules : RulesParts) →
-        points rules (journal ++ entry ∷ []) other ≡ points rules journal other
-    points_stay rules = ap averages.points (items_stay rules)
+    points_stay : points rules (journal ++ entry ∷ []) other ≡ points rules journal other
+    points_stay = ap averages.points items_stay
 
-    excluded_stay : (rules : RulesParts) →
-        excluded rules (journal ++ entry ∷ []) other ≡ excluded rules journal other
-    excluded_stay rules i =
+    excluded_stay : excluded rules (journal ++ entry ∷ []) other ≡ excluded rules journal other
+    excluded_stay i =
         exclusion.excluded (exclusions_of rules.thresholds (length (scored_stays i)))
         (map (λ r. record { points = r.1; dne = is_dne (held_stays r.0 i).code })
-        (zip (scored_stays i) (points_stay rules i)))
+        (zip (scored_stays i) (points_stay i)))
 
 not_same : (a b : Sail) (t : Bool) → a ≢ b → same_sail a b ≡ t → t ≡ false
 not_same a b true apart e = absurd (apart ((bytes_decides a b).0 e))
@@ -215,6 +213,6 @@ pub redress_leaves_others : RedressLeavesOthers
 redress_leaves_others rules journal entry race boat other redress is apart =
     let another : same_sail other boat ≡ false =
     not_same other boat (same_sail other boat) apart refl in (
-      points_stay journal entry race boat redress is other another rules,
-      excluded_stay journal entry race boat redress is other another rules,
+      points_stay rules journal entry race boat redress is other another,
+      excluded_stay rules journal entry race boat redress is other another,
     )
