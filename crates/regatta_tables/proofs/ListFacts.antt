@@ -50,7 +50,7 @@ pub blank_fields : (fields : List (Bor (List ℕ)))
     ≡ list_all (λ field. list_all is_space field.now) fields
 blank_fields fields = list_all-map (list_all is_space) (λ field. field.now) fields
 
--- the field of a place, seen through its reference
+-- the field of a column, seen through its reference
 pub get_seen : (fields : List (Bor (List ℕ))) (i : ℕ)
     → slice_get (map (λ field. field.now) fields) i
     ≡ option_map (λ field. field.now) (slice_get fields i)
