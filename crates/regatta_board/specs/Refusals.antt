@@ -56,6 +56,11 @@ number_after last = min (last + 1) 4294967295
 abbrev pub next_number : Journal → ℕ → ℕ
 next_number journal seat = number_after (last_number journal seat)
 
+-- the next entry of a seat whose last number is this one
+abbrev pub next_entry : ℕ → ℕ → Role → Command → EntryParts
+next_entry seat last role command =
+    record { seat = seat; nth = number_after last; role = role; command = command }
+
 -- the boat is in the entry list (RRS A2.2)
 abbrev pub is_entered : Journal → Sail → Bool
 is_entered journal boat = list_any (same_sail boat) (entered journal)
@@ -187,13 +192,18 @@ abbrev pub IsRefusal : Option Refusal → Refusal → Type 0
 IsRefusal (Some due) why = why ≡ due
 IsRefusal None why = why ≡ NoMemory
 
--- each entry is accepted by those before it
-abbrev pub accepts_all : Limits → RulesParts → Journal → List EntryParts → Bool
-accepts_all most rules before [] = true
-accepts_all most rules before (entry ∷ entries) =
-    is_none (refusal most rules before entry) &&
-    accepts_all most rules (before ++ entry ∷ []) entries
+-- a refusal at this place, or what comes after it
+abbrev pub refused_or : Option Refusal → ℕ → Option (ℕ × Refusal) → Option (ℕ × Refusal)
+refused_or (Some why) at rest = Some (at, why)
+refused_or None at rest = rest
 
--- a journal that a board may hold: each entry was accepted when it came
+-- the first entry refused where those before it stand already: its place, counted from 1, and why
+abbrev pub refused_from : Limits → RulesParts → Journal → List EntryParts → Option (ℕ × Refusal)
+refused_from most rules before [] = None
+refused_from most rules before (entry ∷ entries) =
+    refused_or (refusal most rules before entry) (length before + 1)
+    (refused_from most rules (before ++ entry ∷ []) entries)
+
+-- a journal that a board may hold: no entry of it is refused by those before it
 abbrev pub is_lawful : Limits → RulesParts → Journal → Bool
-is_lawful most rules journal = accepts_all most rules [] journal
+is_lawful most rules journal = is_none (refused_from most rules [] journal)

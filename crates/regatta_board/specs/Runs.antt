@@ -7,13 +7,14 @@ use Rattle.regatta_terms.specs.declared.command.Command.{Command}
 use Rattle.regatta_terms.specs.declared.reply.Answer.{Answer}
 use Rattle.regatta_terms.specs.declared.reply.Refusal.{Refusal}
 use Rattle.regatta_scores.specs.Journal.{Journal}
-use Rattle.regatta_board.specs.Refusals.{limits, refusal, next_number}
+use Rattle.regatta_board.specs.Refusals.{limits, refusal, last_number, next_entry}
 use Rattle.regatta_board.specs.Answers.{answer}
+use Rattle.regatta_board.specs.declared.journal.TheConstants.{REPLAY_SEAT}
 
--- the next entry of seat 1
-abbrev pub next_entry : Journal → Role → Command → EntryParts
-next_entry journal role command =
-    record { seat = 1; nth = next_number journal 1; role = role; command = command }
+-- the next entry of the seat that all commands of a run come from
+abbrev pub sent : Journal → Role → Command → EntryParts
+sent journal role command =
+    next_entry REPLAY_SEAT (last_number journal REPLAY_SEAT) role command
 
 -- the reply to an entry: the refusal that is due, or else the answer
 abbrev pub reply_by : RulesParts → Journal → EntryParts → Option Refusal → Result Answer Refusal
@@ -29,7 +30,7 @@ journal_by journal entry (Some why) = journal
 abbrev pub replies : RulesParts → Journal → List (Role × Command) → List (Result Answer Refusal)
 replies rules journal [] = []
 replies rules journal (c ∷ cs) =
-    let entry = next_entry journal c.0 c.1 in
+    let entry = sent journal c.0 c.1 in
     let why = refusal limits rules journal entry in
     reply_by rules journal entry why ∷ replies rules (journal_by journal entry why) cs
 
@@ -37,5 +38,5 @@ replies rules journal (c ∷ cs) =
 abbrev pub journal_after : RulesParts → Journal → List (Role × Command) → Journal
 journal_after rules journal [] = journal
 journal_after rules journal (c ∷ cs) =
-    let entry = next_entry journal c.0 c.1 in
+    let entry = sent journal c.0 c.1 in
     journal_after rules (journal_by journal entry (refusal limits rules journal entry)) cs
