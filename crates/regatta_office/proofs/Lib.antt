@@ -1,5 +1,5 @@
+pub mod Asking
 pub mod Entering
-pub mod KeptLines
 pub mod Refused
 pub mod Results
 pub mod Saying

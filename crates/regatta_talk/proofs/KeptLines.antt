@@ -1,0 +1,157 @@
+-- What is kept of each line tells as much as the line: its lines are the text's.
+use Rattle.std.proofs.Common.{◌≡◌, ℕ, ◌-◌, ◌<◌, ◌≤◌, Bool, true, false, cond, List, [], ◌∷◌, ◌++◌}
+use Rattle.std.proofs.Common.{length, take, map, Err, refl, sym, ap, ◌∙◌, arith, append-nil}
+use Rattle.std.proofs.Common.{append_assoc}
+use Rattle.std.specs.Prelude.{nat_le, nat_lt}
+use Rattle.std.specs.List.{slice_split, onto_first}
+use Rattle.std.specs.Str.Lines.{strip_carriage_return}
+use Rattle.std.proofs.lemmas.Bool.{cond-false, lt-leb, le-ltb, ltb-false, ltb-true}
+use Rattle.std.proofs.lemmas.List.{length-append, length-take-le, take-append-le, take_all}
+use Rattle.std.proofs.lemmas.List.Splits.{slice_split-cons_yes, slice_split-cons_no}
+use Rattle.std.proofs.lemmas.List.Splits.{length-slice_split}
+use Rattle.regatta_terms.specs.Lines.{line_of, line_of_words}
+use Rattle.regatta_terms.specs.Words.{words}
+use Rattle.regatta_terms.specs.declared.line.LineFault.TheVariants.{TooLong}
+use Rattle.regatta_talk.specs.Lines.{is_line_end, last_line, lines_of_pieces, lines_by}
+use Rattle.regatta_talk.specs.KeptLines.{keep, kept_lines}
+
+-- ---- a line of more than 81 bytes is too long, and so is what is kept of it
+
+stays_long : (ends : Bool) (line : List ℕ) → 81 < length line
+    → 80 < length (cond ends (take (length line - 1) line) line)
+stays_long true line long = omega (
+  arith,
+  long,
+  length-take-le (length line - 1) line (omega (arith, long)),
+)
+stays_long false line long = omega (arith, long)
+
+too_long : (line : List ℕ) → 81 < length line → line_of line ≡ Err TooLong
+unfolding line_of
+too_long line long =
+    cond-false (nat_le (length (strip_carriage_return line)) 80)
+    (line_of_words (words (strip_carriage_return line))) (Err TooLong)
+    (lt-leb (length (strip_carriage_return line)) 80 (stays_long _ line long))
+
+pub kept_reads : (line : List ℕ) → line_of (take 82 line) ≡ line_of line
+kept_reads line = by (nat_lt 82 (length line)) refl
+  where
+    by : (b : Bool) → nat_lt 82 (length line) ≡ b → line_of (take 82 line) ≡ line_of line
+    by true is =
+        let long : 82 < length line = ltb-true 82 (length line) is in
+        too_long (take 82 line) (omega (arith, long, length-take-le 82 line (omega (arith, long))))
+        ∙ sym (too_long line (omega (arith, long)))
+    by false is = ap line_of (take_all 82 line (ltb-false 82 (length line) is))
+
+-- ---- what is kept, byte by byte
+
+kept_more : (line : List ℕ) (byte : ℕ) → keep (take 82 line) byte ≡ take 82 (line ++ byte ∷ [])
+kept_more line byte = by (nat_lt (length line) 82) refl
+  where
+    by : (b : Bool) → nat_lt (length line) 82 ≡ b
+        → keep (take 82 line) byte ≡ take 82 (line ++ byte ∷ [])
+    by true is =
+        let short : length line < 82 = ltb-true (length line) 82 is in
+        let whole : take 82 line ≡ line = take_all 82 line (omega (arith, short)) in
+        ap (λ l. keep l byte) whole
+        ∙ ap (λ b. cond b (line ++ byte ∷ []) line) is
+        ∙ sym (take_all 82 (line ++ byte ∷ [])
+        (omega (arith, short, length-append line (byte ∷ []))))
+    by false is =
+        let full : 82 ≤ length line = ltb-false (length line) 82 is in
+        let size : length (take 82 line) ≡ 82 = length-take-le 82 line full in
+        ap (λ b. cond b (take 82 line ++ byte ∷ []) (take 82 line))
+        (le-ltb (length (take 82 line)) 82 (omega (arith, size)))
+        ∙ sym (take-append-le 82 line (byte ∷ []) full)
+
+-- the pieces of a text that goes on from a line at hand
+abbrev onto : List ℕ → List (List ℕ) → List (List ℕ)
+onto line [] = line ∷ []
+onto line (piece ∷ pieces) = (line ++ piece) ∷ pieces
+
+onto-none : (pieces : List (List ℕ)) → 0 < length pieces → onto [] pieces ≡ pieces
+onto-none [] some = absurd (omega (arith, some))
+onto-none (piece ∷ pieces) some = refl
+
+onto-more : (line : List ℕ) (byte : ℕ) (pieces : List (List ℕ))
+    → onto (line ++ byte ∷ []) pieces ≡ onto line (onto_first byte pieces)
+onto-more line byte [] = refl
+onto-more line byte (piece ∷ pieces) = ap (λ p. p ∷ pieces) (append_assoc line (byte ∷ []) piece)
+
+some_piece : (text : List ℕ) → 0 < length (slice_split is_line_end text)
+some_piece text = omega (arith, length-slice_split is_line_end text)
+
+lines-cons : (counts : Bool) (piece : List ℕ) (pieces : List (List ℕ)) → 0 < length pieces
+    → lines_of_pieces counts (piece ∷ pieces) ≡ piece ∷ lines_of_pieces counts pieces
+lines-cons counts piece [] some = absurd (omega (arith, some))
+lines-cons counts piece (next ∷ pieces) some = refl
+
+kept_last : (counts : Bool) (line : List ℕ) → last_line counts (take 82 line)
+    ≡ map (take 82) (last_line counts line)
+kept_last true [] = refl
+kept_last true (byte ∷ line) = refl
+kept_last false [] = refl
+kept_last false (byte ∷ line) = refl
+
+kept_none : (counts : Bool) (line : List ℕ) → kept_lines counts line [] ≡ last_line counts line
+unfolding kept_lines
+kept_none counts line = refl
+
+pub kept_end : (counts : Bool) (line : List ℕ) (byte : ℕ) (text : List ℕ) → is_line_end byte ≡ true
+    → kept_lines counts line (byte ∷ text) ≡ line ∷ kept_lines counts [] text
+unfolding kept_lines
+kept_end counts line byte text is = ap (λ b. cond b (line ∷ kept_lines counts [] text)
+    (kept_lines counts (keep line byte) text)) is
+
+pub kept_byte : (counts : Bool) (line : List ℕ) (byte : ℕ) (text : List ℕ)
+    → is_line_end byte ≡ false
+    → kept_lines counts line (byte ∷ text) ≡ kept_lines counts (keep line byte) text
+unfolding kept_lines
+kept_byte counts line byte text is = ap (λ b. cond b (line ∷ kept_lines counts [] text)
+    (kept_lines counts (keep line byte) text)) is
+
+kept_from : (counts : Bool) (line text : List ℕ)
+    → kept_lines counts (take 82 line) text ≡ map (take 82)
+    (lines_of_pieces counts (onto line (slice_split is_line_end text)))
+kept_from counts line [] =
+    kept_none counts (take 82 line) ∙ kept_last counts line
+    ∙ ap (λ (l : List ℕ). map (take 82) (last_line counts l)) (sym (append-nil line))
+kept_from counts line (byte ∷ text) = by (is_line_end byte) refl (kept_from counts [] text)
+    (kept_from counts (line ++ byte ∷ []) text)
+  where
+    by : (b : Bool) → is_line_end byte ≡ b
+        → kept_lines counts [] text ≡ map (take 82)
+        (lines_of_pieces counts (onto [] (slice_split is_line_end text)))
+        → kept_lines counts (take 82 (line ++ byte ∷ [])) text
+        ≡ map (take 82) (lines_of_pieces counts
+        (onto (line ++ byte ∷ []) (slice_split is_line_end text)))
+        → kept_lines counts (take 82 line) (byte ∷ text)
+        ≡ map (take 82) (lines_of_pieces counts
+        (onto line (slice_split is_line_end (byte ∷ text))))
+    by true is next more =
+        let pieces = slice_split is_line_end text in
+        kept_end counts (take 82 line) byte text is
+        ∙ ap (λ (ls : List (List ℕ)). take 82 line ∷ ls)
+        (next ∙ ap (λ (ps : List (List ℕ)). map (take 82) (lines_of_pieces counts ps))
+        (onto-none pieces (some_piece text)))
+        ∙ sym (ap (map (take 82)) (
+        ap (λ (ps : List (List ℕ)). lines_of_pieces counts (onto line ps))
+        (slice_split-cons_yes is_line_end byte text is)
+        ∙ ap (λ (l : List ℕ). lines_of_pieces counts (l ∷ pieces)) (append-nil line)
+        ∙ lines-cons counts line pieces (some_piece text)))
+    by false is next more =
+        let pieces = slice_split is_line_end text in
+        kept_byte counts (take 82 line) byte text is
+        ∙ ap (λ (l : List ℕ). kept_lines counts l text) (kept_more line byte)
+        ∙ more
+        ∙ ap (λ (ps : List (List ℕ)). map (take 82) (lines_of_pieces counts ps))
+        (onto-more line byte pieces ∙ ap (onto line)
+        (sym (slice_split-cons_no is_line_end byte text is)))
+
+-- the lines of a whole text, of each what is kept
+pub kept_of_text : (counts : Bool) (text : List ℕ)
+    → kept_lines counts [] text ≡ map (take 82) (lines_by counts text)
+kept_of_text counts text =
+    kept_from counts [] text
+    ∙ ap (λ (ps : List (List ℕ)). map (take 82) (lines_of_pieces counts ps))
+    (onto-none (slice_split is_line_end text) (some_piece text))
