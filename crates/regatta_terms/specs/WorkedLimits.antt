@@ -1,6 +1,5 @@
 -- The limits as numbers.
-use Rattle.std.specs.Prelude.{◌≡◌, ℕ}
-use Rattle.std.proofs.Common.{refl}
+use Rattle.std.specs.Prelude.{◌≡◌, refl}
 use Rattle.regatta_terms.specs.declared.limits.TheConstants.{MAX_BOATS, MAX_RACES, MAX_ENTRIES}
 use Rattle.regatta_terms.specs.declared.limits.TheConstants.{MAX_PENALTIES, MAX_LINE, MAX_SEATS}
 
