@@ -5,7 +5,8 @@ ghost use Rattle.regatta_board.specs.Outcomes.{flags as flags_of, line as line_o
 ghost use Rattle.regatta_board.specs.Outcomes.{cell as cell_of, cells_by};
 
 use regatta_scores::{
-    BoatLine, Cell, Held, Items, Place, Points, Row, RowItem, Scored, averages, excluded, is_dne, mark,
+    BoatLine, Cell, Held, Items, Place, Points, Row, RowItem, Scored, averages, excluded, is_dne,
+    mark,
 };
 use regatta_terms::{MAX_RACES, Rules, Sail, Tenths};
 use std::alloc::{AllocError, Global};

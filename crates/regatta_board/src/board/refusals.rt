@@ -9,7 +9,8 @@ ghost use Rattle.regatta_board.specs.Refusals.{limits};
 use crate::board::Board;
 use regatta_scores::Held;
 use regatta_terms::{
-    Code, Command, Entry, MAX_BOATS, MAX_ENTRIES, MAX_PENALTIES, PenaltyKind, RaceNo, Refusal, Role, Sail, may,
+    Code, Command, Entry, MAX_BOATS, MAX_ENTRIES, MAX_PENALTIES, PenaltyKind, RaceNo, Refusal,
+    Role, Sail, may,
 };
 
 /// Whether she holds a decision of the protest committee.
