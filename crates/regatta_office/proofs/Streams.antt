@@ -11,7 +11,7 @@ use Rattle.std.specs.Io.KnownBytes.{Appends, Consumes, IsAtEnd, Keeps}
 use Rattle.regatta_terms.specs.Lines.{line_of}
 use Rattle.regatta_streams.proofs.KnownBytes.{appends-none, appends-then, consumes-kept}
 use Rattle.regatta_streams.proofs.KnownBytes.{consumes-then}
-use Rattle.regatta_talk.specs.Lines.{is_line_end, last_line}
+use Rattle.regatta_terms.specs.TextLines.{is_line_end, last_line}
 use Rattle.regatta_office.specs.Coming.{Cuts, Stops, Finished, IsTooLong, IsWithin, Point, ReadSome}
 use Rattle.regatta_office.specs.Coming.{Said, Talked, Went, said, ahead, coming, ended, unless}
 use Rattle.regatta_talk.specs.KeptLines.{keep, kept_lines}

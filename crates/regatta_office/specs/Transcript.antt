@@ -27,7 +27,7 @@ use Rattle.regatta_tables.specs.SheetTexts.{sheet_text}
 use Rattle.regatta_tables.specs.TableTexts.{table_text}
 use Rattle.regatta_office.specs.declared.form.Form.{Form}
 use Rattle.regatta_office.specs.declared.form.Form.TheVariants as form
-use Rattle.regatta_talk.specs.Lines.{lines, ended_lines}
+use Rattle.regatta_terms.specs.TextLines.{lines, ended_lines}
 use Rattle.regatta_talk.specs.Replies.{ranked, reply_apart, reply_of}
 
 -- where a run stands: the role of the lines to come, and the journal so far
