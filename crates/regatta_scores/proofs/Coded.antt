@@ -5,9 +5,9 @@ use Rattle.std.proofs.Common.{filter_map, count_by, sum_by, Option, Some, None, 
 use Rattle.std.proofs.Common.{unwrap_or}
 use Rattle.std.specs.List.{after_last, suffix_len, prefix_len, last_or, before_first}
 use Rattle.std.specs.List.{position_or_len}
-use Rattle.std.proofs.lemmas.List.{reverse-append, drop-append-le, append-nil}
+use Rattle.std.proofs.lemmas.List.{reverse-append, drop-append-le}
 use Rattle.std.proofs.lemmas.List.Elements.{filter-append, filter_map-append}
-use Rattle.std.proofs.lemmas.List.Sums.{fold_push, sum_by-take-le}
+use Rattle.std.proofs.lemmas.List.Sums.{sum_by-take-le}
 use Rattle.std.specs.Cmp.Lexicographic.{bytes_decides}
 use borrow.Author.Tests.{eq-eqb}
 use Rattle.regatta_terms.specs.Entries.{EntryParts}
@@ -17,13 +17,13 @@ use Rattle.regatta_terms.specs.declared.command.Code.{Code}
 use Rattle.regatta_terms.specs.declared.command.Command.TheVariants.{Mark}
 use Rattle.regatta_scores.specs.declared.sheet.Held.{Held}
 use Rattle.regatta_scores.specs.Order.{in_group, stands_in}
-use Rattle.regatta_scores.specs.Journal.{Journal, same_sail, race_commands, order, order_by}
-use Rattle.regatta_scores.specs.Journal.{order_after, held, held_by, decides, is_clear, code_marked}
+use Rattle.regatta_scores.specs.Journal.{Journal, same_sail, race_commands, order}
+use Rattle.regatta_scores.specs.Journal.{order_after, held, decides, is_clear, code_marked}
 use Rattle.regatta_scores.specs.Journal.{last_item}
 use Rattle.regatta_scores.specs.RacePoints.{Finished, Coded, journal_race, status}
 use Rattle.regatta_scores.specs.RacePoints.{status_by, finishers, groups_ahead, her_group}
 use Rattle.regatta_scores.specs.RaceLaws.{CodedBoatsLeaveTheOrder}
-use Rattle.regatta_scores.proofs.Apart.{race_commands_more}
+use Rattle.regatta_scores.proofs.Apart.{race_commands_more, order_stays, held_stays}
 use Rattle.regatta_scores.proofs.Counts.{count_split, sum_split, count_one, sum_one, found_le}
 
 -- what stands after the last element that passes, where one more comes that doesn't
@@ -50,10 +50,8 @@ module _ (rules : RulesParts) (journal : Journal) (entry : EntryParts) (race : �
       ≡ race_commands journal race ++ Mark race coded code ∷ []
   commands_after = race_commands_more journal entry race ∙ rw is_mark (rw (eq-eqb race race refl))
 
-  order_stays : order rules (journal ++ entry ∷ []) race ≡ order rules journal race
-  order_stays =
-      ap (order_by rules) commands_after
-      ∙ fold_push (order_after rules) [] (race_commands journal race) (Mark race coded code)
+  order_is : order rules (journal ++ entry ∷ []) race ≡ order rules journal race
+  order_is = order_stays rules journal entry (λ o. ap (order_after rules o) is_mark) race
 
   decisions_by : (boat : Sail) (b : Bool) → same_sail boat coded ≡ b →
       filter (decides boat) (race_commands (journal ++ entry ∷ []) race)
@@ -63,10 +61,9 @@ module _ (rules : RulesParts) (journal : Journal) (entry : EntryParts) (race : �
       ∙ filter-append (decides boat) (race_commands journal race) (Mark race coded code ∷ [])
       ∙ rw e refl
 
-  held_stays : (boat : Sail) → same_sail boat coded ≡ false →
+  held_is : (boat : Sail) → same_sail boat coded ≡ false →
       held (journal ++ entry ∷ []) race boat ≡ held journal race boat
-  held_stays boat e =
-      ap (λ ds. held_by (after_last is_clear ds)) (decisions_by boat false e ∙ append-nil _)
+  held_is boat e = held_stays journal entry boat (ap (decides boat) is_mark ∙ e) race
 
   code_given : (boat : Sail) → same_sail boat coded ≡ true →
       (held (journal ++ entry ∷ []) race boat).code ≡ Some code
@@ -89,7 +86,7 @@ module _ (rules : RulesParts) (journal : Journal) (entry : EntryParts) (race : �
       ap (λ o. status_by o (stands_in same_sail boat (order rules (journal ++ entry ∷ []) race)))
       (code_given boat e)
   status_after boat false e =
-      λ i. status_by (held_stays boat e i).code (stands_in same_sail boat (order_stays i))
+      λ i. status_by (held_is boat e i).code (stands_in same_sail boat (order_is i))
 
 finished_codeless : (o : Option Code) (placed : Bool) → status_by o placed ≡ Finished → o ≡ None
 finished_codeless None placed e = refl
@@ -110,7 +107,7 @@ module _ (rules : RulesParts) (journal : Journal) (entry : EntryParts) (race : �
       rw (before, code_given rules journal entry race coded code is_mark boat e) (omega arith)
   each_boat boat false e =
       let same : (held (journal ++ entry ∷ []) race boat).code ≡ (held journal race boat).code =
-      ap (λ (h : Held). h.code) (held_stays rules journal entry race coded code is_mark boat e) in
+      ap (λ (h : Held). h.code) (held_is rules journal entry race coded code is_mark boat e) in
       rw same (omega arith)
 
   group_split : (group : List Sail) →
@@ -127,7 +124,7 @@ coded_boats_leave rules journal entry race coded code is_mark once was_finished 
     let old = journal_race rules journal race in
     let new = journal_race rules (journal ++ entry ∷ []) race in
     let p : Sail → Bool = λ other. same_sail other coded in
-    let stays = order_stays rules journal entry race coded code is_mark in
+    let stays = order_is rules journal entry race coded code is_mark in
     let ahead = groups_ahead same_sail old boat in
     let hers = her_group same_sail old boat in
     let same_ahead : groups_ahead same_sail new boat ≡ ahead =

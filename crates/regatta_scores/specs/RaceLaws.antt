@@ -7,7 +7,7 @@ use Rattle.regatta_terms.specs.Rules.{RulesParts}
 use Rattle.regatta_terms.specs.declared.sail.Sail.{Sail}
 use Rattle.regatta_terms.specs.declared.command.Code.{Code}
 use Rattle.regatta_terms.specs.declared.command.Command.TheVariants.{Enter, Mark}
-use Rattle.regatta_scores.specs.Order.{in_group, stands_in, times_placed}
+use Rattle.regatta_scores.specs.Order.{HasNoEmptyGroup, in_group, stands_in, times_placed}
 use Rattle.regatta_scores.specs.Journal.{Journal, same_sail, names_race, order, held}
 use Rattle.regatta_scores.specs.RacePoints.{Race, Status, Finished, Coded, journal_race, status}
 use Rattle.regatta_scores.specs.RacePoints.{shared_points, groups_ahead, her_group, finishing_place}
@@ -39,6 +39,11 @@ EnterKeepsRaces = (rules : RulesParts) (journal : Journal) (entry : EntryParts) 
     entry.command ≡ Enter sail → (race : ℕ) →
     (order rules (journal ++ entry ∷ []) race ≡ order rules journal race)
     × ((boat : Sail) → held (journal ++ entry ∷ []) race boat ≡ held journal race boat)
+
+-- Under whatever rules and for whatever journal, no finishing order has an empty group (A3, A7).
+abbrev pub OrdersHaveNoEmptyGroup : Type 0
+OrdersHaveNoEmptyGroup = (rules : RulesParts) (journal : Journal) (race : ℕ) →
+    HasNoEmptyGroup (order rules journal race)
 
 -- no boat stands twice in the race's order (A3)
 abbrev pub NobodyTwice : Race Sail → Type 0

@@ -121,7 +121,7 @@ module _ {B : Type 0} (same : B → B → Bool) where
 
 -- ---- the race on a sheet, and in the journal
 
--- on a sheet the boats are numbers, their places in the entry list
+-- on a sheet the boats are numbers, in the order of the entry list
 abbrev pub race_of : List (List ℕ) → List Held → Race ℕ
 race_of order held =
     record {

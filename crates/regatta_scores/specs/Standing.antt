@@ -121,7 +121,7 @@ row rules journal lines boat =
       cells = cells rules journal boat;
     }
 
--- whether a row stands ahead of another, or is the same: by rank, then by sail (A8)
+-- whether a row comes first of two, by rank and then by sail: true, too, of a row and itself (A8)
 abbrev pub comes_first : Row → Row → Bool
 comes_first a b = is_le (ordering_then (nat_cmp a.rank b.rank) (slice_cmp nat_cmp a.sail b.sail))
 

@@ -33,8 +33,8 @@ pub fn code_mark(code: Code) -> Abbrev
 }
 
 /// The abbreviation in the cell of a boat that holds this in a race, and stands in its finishing
-/// order or doesn't (RRS A10): RDG with redress, else the code, DNC where she has neither a code nor
-/// a place, else ZFP, else SCP, else none.
+/// order or doesn't (RRS A10): RDG with redress, else the code, or DNC where she has neither a code
+/// nor a place, else ZFP, else SCP, else none.
 pub fn mark(held: &Held, placed: bool) -> Option<Abbrev>
     ensures { result ≡ mark_by held.now.redress (status_by held.now.code placed) held.now }
 {

@@ -1,5 +1,3 @@
-use Rattle.std.proofs.Common.{◌∙◌, sym, ap, nat_eq}
-use Rattle.std.specs.List.{list_any}
 use Rattle.regatta_scores.proofs.Cut.{stands_is}
 use Rattle.regatta_scores.proofs.groups.Groups.contains.Goals as goal
 
