@@ -1,3 +1,4 @@
+use Rattle.std.proofs.Common.{ℕ, List, Bor, map}
 use Rattle.clap.specs.Words.{app_of}
 use Rattle.regatta_office.proofs.Asking.{helped, matched}
 use Rattle.regatta_office.proofs.options.options_of.Goals as goal
@@ -18,5 +19,7 @@ returns-in-Err-clause-help c = λ is.
     let app = c.in-Ok.ensures in (
       app.0,
       app.1,
-      helped (app_of c.in-Ok.command) app.0 _ c.in-Err.error app.2 c.in-Err.ensures.kinds is,
+      helped (app_of c.in-Ok.command) app.0
+          (map {A = Bor (List ℕ)} {B = List ℕ} (λ word. word.now) c.args.words.now)
+          c.in-Err.error app.2 c.in-Err.ensures.kinds is,
     )
