@@ -6,8 +6,8 @@ use Rattle.regatta_terms.specs.Rules.{RulesParts}
 use Rattle.regatta_scores.specs.Journal.{Journal}
 use Rattle.regatta_board.specs.BoardFacts.{BoardValue}
 use Rattle.regatta_streams.specs.Texts.{AppendsPrefix}
-use Rattle.regatta_office.proofs.Streams.{prefix-behind, prefix-longer}
-use Rattle.regatta_streams.proofs.KnownBytes.{appends-none, appends-then}
+use Rattle.regatta_office.proofs.Streams.{prefix-longer}
+use Rattle.regatta_streams.proofs.KnownBytes.{appends-none}
 use Rattle.regatta_office.specs.declared.form.Form.{Form}
 use Rattle.regatta_office.specs.Coming.{Cuts, IsTooLong, IsWithin, Stops, Point, ReadSome, Said}
 use Rattle.regatta_office.specs.Coming.{coming, said}

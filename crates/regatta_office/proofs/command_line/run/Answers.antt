@@ -1,4 +1,4 @@
-use Rattle.std.proofs.Common.{◌≡◌, subst, true, IfSome, List, ℕ}
+use Rattle.std.proofs.Common.{◌≡◌, subst, true, IfSome}
 use Rattle.std.specs.Io.KnownBytes.{Appends}
 use Rattle.regatta_scores.specs.Journal.{Journal}
 use Rattle.regatta_board.specs.Refusals.{limits, is_lawful}

@@ -1,4 +1,4 @@
-use Rattle.std.proofs.Common.{◌≡◌, ap, rules, ◌∙◌}
+use Rattle.std.proofs.Common.{ap, rules, ◌∙◌}
 use Rattle.clap.specs.Words.{rule_of}
 use Rattle.regatta_office.proofs.options.form_option.Goals as goal
 

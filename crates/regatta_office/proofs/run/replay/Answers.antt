@@ -1,4 +1,4 @@
-use Rattle.std.proofs.Common.{◌≡◌, ◌+◌, IfSome, List, ℕ, Err, sym, ap, ◌∙◌, subst}
+use Rattle.std.proofs.Common.{IfSome, Err, sym, ap, ◌∙◌, subst}
 use Rattle.std.specs.Io.KnownBytes.{Appends}
 use Rattle.regatta_office.specs.Transcript.{WroteSome}
 use Rattle.regatta_office.specs.declared.run.TheConstants.{INPUT_LIMIT}
