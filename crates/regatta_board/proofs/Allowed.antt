@@ -16,7 +16,8 @@ use Rattle.regatta_board.proofs.Numbers.{place_in}
 use Rattle.regatta_board.proofs.Renumbered.{group_numbered}
 
 -- on the sheet as in the journal
-pub placed_same : (rules : RulesParts) (journal : Journal) (race : ℕ) (boat : Sail) → is_entered journal boat ≡ true
+pub placed_same : (rules : RulesParts) (journal : Journal) (race : ℕ) (boat : Sail)
+    → is_entered journal boat ≡ true
     → stands_in nat_eq (number journal boat) (sheet_of rules journal race).order
     ≡ is_placed rules journal race boat
 placed_same rules journal race boat known = by (order rules journal race)
@@ -38,7 +39,8 @@ place_below (z ∷ zs) x h = by (same_sail x z) refl (place_below zs x)
     by true e rest = rw e (omega arith)
     by false e rest = let below : place_in zs x < length zs = rest (rw e at h) in rw e (omega arith)
 
-pub number_below : (rules : RulesParts) (journal : Journal) (race : ℕ) (boat : Sail) → is_entered journal boat ≡ true
+pub number_below : (rules : RulesParts) (journal : Journal) (race : ℕ) (boat : Sail)
+    → is_entered journal boat ≡ true
     → number journal boat < boats (sheet_of rules journal race)
 number_below rules journal race boat known =
     omega (
@@ -48,12 +50,16 @@ number_below rules journal race boat known =
     )
 
 -- the conditions of changes
-pub unplaced : (rules : RulesParts) (journal : Journal) (race : ℕ) (boat : Sail) → is_entered journal boat ≡ true
-    → is_placed rules journal race boat ≡ false → IsUnplaced (sheet_of rules journal race) (number journal boat)
+pub unplaced : (rules : RulesParts) (journal : Journal) (race : ℕ) (boat : Sail)
+    → is_entered journal boat ≡ true
+    → is_placed rules journal race boat ≡ false
+        → IsUnplaced (sheet_of rules journal race) (number journal boat)
 unplaced rules journal race boat known out =
     (number_below rules journal race boat known, placed_same rules journal race boat known ∙ out)
 
-pub placed : (rules : RulesParts) (journal : Journal) (race : ℕ) (boat : Sail) → is_entered journal boat ≡ true
-    → is_placed rules journal race boat ≡ true → IsPlaced (sheet_of rules journal race) (number journal boat)
+pub placed : (rules : RulesParts) (journal : Journal) (race : ℕ) (boat : Sail)
+    → is_entered journal boat ≡ true
+    → is_placed rules journal race boat ≡ true
+        → IsPlaced (sheet_of rules journal race) (number journal boat)
 placed rules journal race boat known in_it =
     (number_below rules journal race boat known, placed_same rules journal race boat known ∙ in_it)

@@ -33,7 +33,8 @@ use Rattle.regatta_board.specs.KeptJournal.{sheet_of, kept_of, IsOrderly}
 use Rattle.regatta_board.specs.BoardFacts.{BoardValue, IsBoard}
 use Rattle.regatta_board.proofs.TableOf.{table_is}
 
-kept_of_is : (rules : RulesParts) (journal : Journal) → IsOrderly rules journal → IsKept (kept_of rules journal)
+kept_of_is : (rules : RulesParts) (journal : Journal) → IsOrderly rules journal
+    → IsKept (kept_of rules journal)
 kept_of_is rules journal orderly = record {
   few = orderly.few;
   sheets = length-map-range_with_len (sheet_of rules journal) 1 MAX_RACES;
@@ -104,21 +105,25 @@ module _ (rules : RulesParts) (entries : Journal) (kept : Kept) (made : Standing
   pub staged : (before : BoardValue) → before ≡ record { rules = rules; entries = entries }
       → (e : EntryParts) (revision : Revision) (found : Standing)
       → IsBoard rules (entries ++ e ∷ []) (revised kept revision) found
-      → IsBoard before.rules (before.entries ++ e ∷ []) (revised (kept_of before.rules before.entries) revision)
+      → IsBoard before.rules (before.entries ++ e ∷ []) (revised
+          (kept_of before.rules before.entries) revision)
       found
   staged before b e revision found more =
-      let here : IsBoard rules (entries ++ e ∷ []) (revised (kept_of rules entries) revision) found =
+      let here : IsBoard rules (entries ++ e ∷ []) (revised
+          (kept_of rules entries) revision) found =
       subst (λ k. IsBoard rules (entries ++ e ∷ []) (revised k revision) found) is.keeps more in
       subst (λ (v : BoardValue). IsBoard v.rules (v.entries ++ e ∷ [])
       (revised (kept_of v.rules v.entries) revision) found) (sym b) here
 
   pub committed : (before : BoardValue) → before ≡ record { rules = rules; entries = entries }
       → (e : EntryParts) (revision : Revision) (found : Standing)
-      → IsBoard before.rules (before.entries ++ e ∷ []) (revised (kept_of before.rules before.entries) revision)
+      → IsBoard before.rules (before.entries ++ e ∷ []) (revised
+          (kept_of before.rules before.entries) revision)
       found → (items : Journal) → items ≡ entries ++ e ∷ [] → (new : Kept)
       → new ≡ revised kept revision → IsBoard rules items new found
   committed before b e revision found more items i new n =
-      let here : IsBoard rules (entries ++ e ∷ []) (revised (kept_of rules entries) revision) found =
+      let here : IsBoard rules (entries ++ e ∷ []) (revised
+          (kept_of rules entries) revision) found =
       subst (λ (v : BoardValue). IsBoard v.rules (v.entries ++ e ∷ [])
       (revised (kept_of v.rules v.entries) revision) found) b more in
       let kept_is : revised (kept_of rules entries) revision ≡ new =

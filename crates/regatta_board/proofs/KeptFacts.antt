@@ -33,7 +33,8 @@ sheet_is : (rules : RulesParts) (journal : Journal) (race : ℕ) → IsRace race
 sheet_is rules journal race r =
     let low : 1 ≤ race = r.0 in
     let high : race ≤ MAX_RACES = r.1 in
-    get_or-map-range_with_len (sheet_of rules journal) 1 MAX_RACES (race - 1) race (empty_sheet 0) (omega arith)
+    get_or-map-range_with_len (sheet_of rules journal) 1 MAX_RACES (race - 1) race (empty_sheet 0)
+        (omega arith)
     (omega arith)
 
 counts_are : (rules : RulesParts) (journal : Journal) (race : ℕ) → IsRace race
@@ -48,7 +49,8 @@ same_emptiness : {X Y : Type 0} (f : X → Y) (xs : List X) → is_empty (map f 
 same_emptiness f [] = refl
 same_emptiness f (x ∷ xs) = refl
 
-module _ (rules : RulesParts) (journal : Journal) (o : IsOrderly rules journal) (kept : Kept) (e : kept ≡ kept_of rules journal)
+module _ (rules : RulesParts) (journal : Journal) (o : IsOrderly rules journal) (kept : Kept)
+    (e : kept ≡ kept_of rules journal)
   where
     sheet_kept : (race : ℕ) → IsRace race → sheet_in kept race ≡ sheet_of rules journal race
     sheet_kept race r = ap (λ k. sheet_in k race) e ∙ sheet_is rules journal race r
@@ -87,7 +89,8 @@ module _ (rules : RulesParts) (journal : Journal) (o : IsOrderly rules journal) 
 
     pub scored_is : (race : ℕ) → IsRace race
         → get_or kept.counts (race - 1) false ≡ is_scored journal race
-    scored_is race r = ap (λ k. get_or k.counts (race - 1) false) e ∙ counts_are rules journal race r
+    scored_is race r = ap (λ k. get_or k.counts (race - 1) false) e
+        ∙ counts_are rules journal race r
 
     pub empty_is : (race : ℕ) → IsRace race
         → is_empty (sheet_in kept race).order ≡ is_empty (order rules journal race)
@@ -99,7 +102,8 @@ module _ (rules : RulesParts) (journal : Journal) (o : IsOrderly rules journal) 
     on : (race : ℕ) → IsRace race → (boat : Sail) → is_entered journal boat ≡ true
         → IsOn kept race boat
     on race r boat h =
-        (known_is boat h, moved race r boat (λ s n. n < boats s) (number_below rules journal race boat h))
+        (known_is boat h, moved race r boat (λ s n. n < boats s)
+            (number_below rules journal race boat h))
 
     out : (race : ℕ) → IsRace race → (boat : Sail) → is_entered journal boat ≡ true
         → is_placed rules journal race boat ≡ false
@@ -107,10 +111,12 @@ module _ (rules : RulesParts) (journal : Journal) (o : IsOrderly rules journal) 
     out race r boat h k = moved race r boat IsUnplaced (unplaced rules journal race boat h k)
 
     in_it : (race : ℕ) → IsRace race → (boat : Sail) → is_entered journal boat ≡ true
-        → is_placed rules journal race boat ≡ true → IsPlaced (sheet_in kept race) (number_in kept boat)
+        → is_placed rules journal race boat ≡ true
+            → IsPlaced (sheet_in kept race) (number_in kept boat)
     in_it race r boat h k = moved race r boat IsPlaced (placed rules journal race boat h k)
 
-    place_fits : (race : ℕ) → IsRace race → (boat : Sail) → place_refusal rules journal race boat ≡ None
+    place_fits : (race : ℕ) → IsRace race → (boat : Sail) → place_refusal rules journal race boat
+        ≡ None
         → IsUnplaced (sheet_in kept race) (number_in kept boat)
     place_fits race r boat none =
         let first = no_test (not (is_entered journal boat)) _ _ none in
@@ -157,7 +163,8 @@ module _ (rules : RulesParts) (journal : Journal) (o : IsOrderly rules journal) 
     fits role (Penalise race s kind) r none =
         let first = no_test (not (is_entered journal s)) _ _ none in
         let second = no_test (is_decided (held journal race s)) _ _ first.1 in
-        let third = no_test (nat_le MAX_PENALTIES (penalties kind (held journal race s))) _ _ second.1 in (
+        let third = no_test (nat_le MAX_PENALTIES (penalties kind
+            (held journal race s))) _ _ second.1 in (
           on race r s (is_so (is_entered journal s) first.0),
           subst (λ h. penalties kind h < MAX_PENALTIES) (sym (held_is race r s))
               (leb-false MAX_PENALTIES (penalties kind (held journal race s)) third.0),

@@ -14,7 +14,8 @@ use Rattle.regatta_terms.specs.declared.command.Command.TheVariants.{Redress, Cl
 use Rattle.regatta_scores.specs.Order.{stands_in, with_last, joined, with_ahead, without}
 use Rattle.regatta_scores.specs.Sheet.{nothing_held}
 use Rattle.regatta_scores.specs.SheetFacts.{IsSheet}
-use Rattle.regatta_scores.specs.Journal.{Journal, same_sail, names_race, entered, order, order_after}
+use Rattle.regatta_scores.specs.Journal.{Journal, same_sail, names_race, entered, order}
+use Rattle.regatta_scores.specs.Journal.{order_after}
 use Rattle.regatta_scores.proofs.Sheets.{last_sheet, joined_sheet, ahead_sheet, without_sheet}
 use Rattle.regatta_scores.proofs.Sheets.{more_sheet, copied_sheet}
 use Rattle.regatta_board.specs.Refusals.{limits, is_entered, is_placed}
@@ -46,7 +47,8 @@ on_more boats s o is known room =
 
 module _ (rules : RulesParts) (journal : Journal) (race : ℕ)
     (is : IsOnSheet (entered journal) (order rules journal race)) where
-  below : (s : Sail) → is_entered journal s ≡ true → number journal s < length (blank (entered journal))
+  below : (s : Sail) → is_entered journal s ≡ true
+      → number journal s < length (blank (entered journal))
   below s known =
       omega (
         arith,
@@ -83,7 +85,8 @@ module _ (rules : RulesParts) (journal : Journal) (race : ℕ)
       (joined nat_eq (map (map (number journal)) (order rules journal race)) (number journal s)
       (number journal other))
       (joined_numbered (entered journal) (order rules journal race) s other may.1)
-      (joined_sheet (map (map (number journal)) (order rules journal race)) (blank (entered journal))
+      (joined_sheet (map (map (number journal)) (order rules journal race)) (blank
+          (entered journal))
       (number journal s) (number journal other) is (below s may.0) (out s r named may.0 may.2))
   on_after (Before r s other) named may =
       renumbered (with_ahead same_sail (order rules journal race) s other)

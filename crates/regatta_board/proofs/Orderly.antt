@@ -129,11 +129,15 @@ entered_one : (boats : List Sail) (s b : Sail) → list_any (same_sail s) boats 
     → same_sail s b ≡ true → list_any (same_sail b) boats ≡ true
 entered_one boats s b h e = ap (λ x. list_any (same_sail x) boats) (sym (same_is s b e)) ∙ h
 
-order_more : (rules : RulesParts) (journal : Journal) (entry : EntryParts) (c : Command) (race : ℕ) → entry.command ≡ c
+order_more : (rules : RulesParts) (journal : Journal) (entry : EntryParts) (c : Command)
+    (race : ℕ) → entry.command ≡ c
     → order rules (journal ++ entry ∷ []) race
-    ≡ cond (names_race race c) (order_after rules (order rules journal race) c) (order rules journal race)
-order_more rules journal entry c race is = ap (order_by rules) (race_commands_more journal entry race)
-    ∙ ap (λ d. order_by rules (race_commands journal race ++ cond (names_race race d) (d ∷ []) [])) is
+    ≡ cond (names_race race c) (order_after rules (order rules journal race) c)
+        (order rules journal race)
+order_more rules journal entry c race is =
+    ap (order_by rules) (race_commands_more journal entry race)
+    ∙ ap (λ d. order_by rules (race_commands journal race ++ cond (names_race race d)
+        (d ∷ []) [])) is
     ∙ by (names_race race c)
   where
     by : (t : Bool) → order_by rules (race_commands journal race ++ cond t (c ∷ []) [])
@@ -142,11 +146,14 @@ order_more rules journal entry c race is = ap (order_by rules) (race_commands_mo
     by false = ap (order_by rules) (append-nil (race_commands journal race))
 
 -- who stands in an order after the command is entered
-stands_entered : (rules : RulesParts) (journal : Journal) → IsOrderly rules journal → (c : Command) (race : ℕ)
-    → MayStep rules journal c → (b : Sail) → stands_in same_sail b (order_after rules (order rules journal race) c)
+stands_entered : (rules : RulesParts) (journal : Journal) → IsOrderly rules journal
+    → (c : Command) (race : ℕ)
+    → MayStep rules journal c → (b : Sail)
+        → stands_in same_sail b (order_after rules (order rules journal race) c)
     ≡ true → is_entered journal b ≡ true
 stands_entered rules journal o (Finish r s) race may b h =
-    in_last b s (order rules journal race) _ (o.known race b) (entered_one (entered journal) s b may.0) h
+    in_last b s (order rules journal race) _ (o.known race b) (entered_one
+        (entered journal) s b may.0) h
 stands_entered rules journal o (Tie r s other) race may b h =
     in_joined b s other (order rules journal race) _ (o.known race b)
     (entered_one (entered journal) s b may.0) h
@@ -170,11 +177,14 @@ not_about boats s b true h out e = let in_it : list_any (same_sail b) boats ≡ 
     ap (λ x. list_any (same_sail x) boats) (same_is b s e) ∙ h in absurd (cc)
 not_about boats s b false h out e = refl
 
-undecided : (rules : RulesParts) (journal : Journal) (c : Command) → MayStep rules journal c → (b : Sail)
+undecided : (rules : RulesParts) (journal : Journal) (c : Command) → MayStep rules journal c
+    → (b : Sail)
     → is_entered journal b ≡ false → decides b c ≡ false
 undecided rules journal (Mark r s code) may b out = not_about (entered journal) s b _ may out refl
-undecided rules journal (Penalise r s kind) may b out = not_about (entered journal) s b _ may out refl
-undecided rules journal (Redress r s redress) may b out = not_about (entered journal) s b _ may out refl
+undecided rules journal (Penalise r s kind) may b out =
+    not_about (entered journal) s b _ may out refl
+undecided rules journal (Redress r s redress) may b out =
+    not_about (entered journal) s b _ may out refl
 undecided rules journal (Clear r s) may b out = not_about (entered journal) s b _ may out refl
 undecided rules journal (Enter s) may b out = refl
 undecided rules journal (Finish r s) may b out = refl
@@ -197,7 +207,8 @@ held_more journal entry c race b is none =
     by true = others_hold (race_commands journal race) c b none
     by false = ap (λ cs. held_from cs b) (append-nil (race_commands journal race))
 
-module _ (rules : RulesParts) (journal : Journal) (o : IsOrderly rules journal) (entry : EntryParts) (c : Command)
+module _ (rules : RulesParts) (journal : Journal) (o : IsOrderly rules journal)
+    (entry : EntryParts) (c : Command)
     (is : entry.command ≡ c) (may : MayStep rules journal c) where
   orderly_same : sail_entered c ≡ None → IsOrderly rules (journal ++ entry ∷ [])
   orderly_same none =
@@ -228,7 +239,8 @@ module _ (rules : RulesParts) (journal : Journal) (o : IsOrderly rules journal) 
       on race false named = o.once race
 
       by : (race : ℕ) (b : Sail) (t : Bool)
-          → stands_in same_sail b (cond t (order_after rules (order rules journal race) c) (order rules journal race))
+          → stands_in same_sail b (cond t (order_after rules (order rules journal race) c)
+              (order rules journal race))
           ≡ true → is_entered journal b ≡ true
       by race b true h = stands_entered rules journal o c race may b h
       by race b false h = o.known race b h
@@ -271,7 +283,8 @@ any_push p (x ∷ xs) s = ap (λ t. p x || t) (any_push p xs s)
     assoc true b d = refl
     assoc false b d = refl
 
-orderly_enter : (rules : RulesParts) (journal : Journal) → IsOrderly rules journal → (entry : EntryParts) (s : Sail)
+orderly_enter : (rules : RulesParts) (journal : Journal) → IsOrderly rules journal
+    → (entry : EntryParts) (s : Sail)
     → entry.command ≡ Enter s → is_entered journal s ≡ false
     → length (entered journal) < limits.boats → IsOrderly rules (journal ++ entry ∷ [])
 orderly_enter rules journal o entry s is out room =
@@ -289,7 +302,8 @@ orderly_enter rules journal o entry s is out room =
           ∙ any_push (same_sail b) (entered journal) s
           ∙ or_left (is_entered journal b) _
           (o.known race b
-          (sym (ap (stands_in same_sail b) (order_more rules journal entry (Enter s) race is)) ∙ h));
+          (sym (ap (stands_in same_sail b) (order_more rules journal entry (Enter s) race is))
+              ∙ h));
       nothing = λ race b h. (let before : is_entered journal b
           ≡ false = (or_false (is_entered journal b) _
           (sym (ap (λ xs. list_any (same_sail b) xs) boats
@@ -298,10 +312,12 @@ orderly_enter rules journal o entry s is out room =
       once = λ race. on_same (entered journal ++ s ∷ []) (entered (journal ++ entry ∷ []))
           (order rules journal race) (order rules (journal ++ entry ∷ []) race) boats
           (order_more rules journal entry (Enter s) race is)
-          (on_more (entered journal) s (order rules journal race) (o.once race) (o.known race) room);
+          (on_more (entered journal) s (order rules journal race) (o.once race)
+              (o.known race) room);
     }
 
-pub orderly_more : (rules : RulesParts) (journal : Journal) → IsOrderly rules journal → (entry : EntryParts) (c : Command)
+pub orderly_more : (rules : RulesParts) (journal : Journal) → IsOrderly rules journal
+    → (entry : EntryParts) (c : Command)
     → entry.command ≡ c → MayStep rules journal c
     → (sail_entered c ≢ None → length (entered journal) < limits.boats)
     → IsOrderly rules (journal ++ entry ∷ [])

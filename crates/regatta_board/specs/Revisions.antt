@@ -10,7 +10,8 @@ revised kept (Enter boats sheets) = record kept { sails = boats; sheets = sheets
 revised kept (Sheet race sheet) = record kept { sheets = slice_set kept.sheets (race - 1) sheet }
 revised kept (Counts race counts) = record kept { counts = slice_set kept.counts (race - 1) counts }
 
--- whether a revision may change the standing: all do but that of the sheet of a race that doesn't count
+-- whether a revision may change the standing: all do but that of the sheet of a race that doesn't
+-- count
 abbrev pub touches : Kept → Revision → Bool
 touches kept (Enter boats sheets) = true
 touches kept (Sheet race sheet) = slice_index_or kept.counts (race - 1) false

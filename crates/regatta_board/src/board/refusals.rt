@@ -110,7 +110,8 @@ impl Board {
 
     /// Of Tie and Before.
     fn place_by_refusal(&self, race: RaceNo, boat: Sail, other: Sail) -> Option<Refusal>
-        ensures { result ≡ refusals.place_by_refusal self.now.rules self.now.entries race boat other }
+        ensures { result
+            ≡ refusals.place_by_refusal self.now.rules self.now.entries race boat other }
     {
         if !(self.is_entered(boat) && self.is_entered(other)) {
             Some(Refusal::NotEntered)

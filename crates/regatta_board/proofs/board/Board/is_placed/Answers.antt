@@ -24,5 +24,5 @@ returns c =
     let known : is_entered b.entries.items c.args.boat ≡ true =
     rw (← c.self.view_is) at c.requires in
     rw (← c.self.view_is) (c.is_placed.ensures.value
-    ∙ placed_is b.rules b.entries.items is.orderly b.kept is.keeps c.args.race c.is_placed.ensures.range
-    c.args.boat known)
+    ∙ placed_is b.rules b.entries.items is.orderly b.kept is.keeps c.args.race
+    c.is_placed.ensures.range c.args.boat known)
