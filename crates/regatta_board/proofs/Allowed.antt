@@ -53,13 +53,13 @@ number_below rules journal race boat known =
 pub unplaced : (rules : RulesParts) (journal : Journal) (race : ℕ) (boat : Sail)
     → is_entered journal boat ≡ true
     → is_placed rules journal race boat ≡ false
-        → IsUnplaced (sheet_of rules journal race) (number journal boat)
+    → IsUnplaced (sheet_of rules journal race) (number journal boat)
 unplaced rules journal race boat known out =
     (number_below rules journal race boat known, placed_same rules journal race boat known ∙ out)
 
 pub placed : (rules : RulesParts) (journal : Journal) (race : ℕ) (boat : Sail)
     → is_entered journal boat ≡ true
     → is_placed rules journal race boat ≡ true
-        → IsPlaced (sheet_of rules journal race) (number journal boat)
+    → IsPlaced (sheet_of rules journal race) (number journal boat)
 placed rules journal race boat known in_it =
     (number_below rules journal race boat known, placed_same rules journal race boat known ∙ in_it)

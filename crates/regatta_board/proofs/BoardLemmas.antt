@@ -106,11 +106,11 @@ module _ (rules : RulesParts) (entries : Journal) (kept : Kept) (made : Standing
       → (e : EntryParts) (revision : Revision) (found : Standing)
       → IsBoard rules (entries ++ e ∷ []) (revised kept revision) found
       → IsBoard before.rules (before.entries ++ e ∷ []) (revised
-          (kept_of before.rules before.entries) revision)
+      (kept_of before.rules before.entries) revision)
       found
   staged before b e revision found more =
       let here : IsBoard rules (entries ++ e ∷ []) (revised
-          (kept_of rules entries) revision) found =
+      (kept_of rules entries) revision) found =
       subst (λ k. IsBoard rules (entries ++ e ∷ []) (revised k revision) found) is.keeps more in
       subst (λ (v : BoardValue). IsBoard v.rules (v.entries ++ e ∷ [])
       (revised (kept_of v.rules v.entries) revision) found) (sym b) here
@@ -118,12 +118,12 @@ module _ (rules : RulesParts) (entries : Journal) (kept : Kept) (made : Standing
   pub committed : (before : BoardValue) → before ≡ record { rules = rules; entries = entries }
       → (e : EntryParts) (revision : Revision) (found : Standing)
       → IsBoard before.rules (before.entries ++ e ∷ []) (revised
-          (kept_of before.rules before.entries) revision)
+      (kept_of before.rules before.entries) revision)
       found → (items : Journal) → items ≡ entries ++ e ∷ [] → (new : Kept)
       → new ≡ revised kept revision → IsBoard rules items new found
   committed before b e revision found more items i new n =
       let here : IsBoard rules (entries ++ e ∷ []) (revised
-          (kept_of rules entries) revision) found =
+      (kept_of rules entries) revision) found =
       subst (λ (v : BoardValue). IsBoard v.rules (v.entries ++ e ∷ [])
       (revised (kept_of v.rules v.entries) revision) found) b more in
       let kept_is : revised (kept_of rules entries) revision ≡ new =

@@ -34,7 +34,7 @@ sheet_is rules journal race r =
     let low : 1 ≤ race = r.0 in
     let high : race ≤ MAX_RACES = r.1 in
     get_or-map-range_with_len (sheet_of rules journal) 1 MAX_RACES (race - 1) race (empty_sheet 0)
-        (omega arith)
+    (omega arith)
     (omega arith)
 
 counts_are : (rules : RulesParts) (journal : Journal) (race : ℕ) → IsRace race
@@ -101,9 +101,11 @@ module _ (rules : RulesParts) (journal : Journal) (o : IsOrderly rules journal) 
 
     on : (race : ℕ) → IsRace race → (boat : Sail) → is_entered journal boat ≡ true
         → IsOn kept race boat
-    on race r boat h =
-        (known_is boat h, moved race r boat (λ s n. n < boats s)
-            (number_below rules journal race boat h))
+    on race r boat h = (
+      known_is boat h,
+      moved race r boat (λ s n. n < boats s)
+          (number_below rules journal race boat h),
+    )
 
     out : (race : ℕ) → IsRace race → (boat : Sail) → is_entered journal boat ≡ true
         → is_placed rules journal race boat ≡ false
@@ -112,7 +114,7 @@ module _ (rules : RulesParts) (journal : Journal) (o : IsOrderly rules journal) 
 
     in_it : (race : ℕ) → IsRace race → (boat : Sail) → is_entered journal boat ≡ true
         → is_placed rules journal race boat ≡ true
-            → IsPlaced (sheet_in kept race) (number_in kept boat)
+        → IsPlaced (sheet_in kept race) (number_in kept boat)
     in_it race r boat h k = moved race r boat IsPlaced (placed rules journal race boat h k)
 
     place_fits : (race : ℕ) → IsRace race → (boat : Sail) → place_refusal rules journal race boat
@@ -164,7 +166,7 @@ module _ (rules : RulesParts) (journal : Journal) (o : IsOrderly rules journal) 
         let first = no_test (not (is_entered journal s)) _ _ none in
         let second = no_test (is_decided (held journal race s)) _ _ first.1 in
         let third = no_test (nat_le MAX_PENALTIES (penalties kind
-            (held journal race s))) _ _ second.1 in (
+        (held journal race s))) _ _ second.1 in (
           on race r s (is_so (is_entered journal s) first.0),
           subst (λ h. penalties kind h < MAX_PENALTIES) (sym (held_is race r s))
               (leb-false MAX_PENALTIES (penalties kind (held journal race s)) third.0),

@@ -86,7 +86,7 @@ module _ (rules : RulesParts) (journal : Journal) (race : ℕ)
       (number journal other))
       (joined_numbered (entered journal) (order rules journal race) s other may.1)
       (joined_sheet (map (map (number journal)) (order rules journal race)) (blank
-          (entered journal))
+      (entered journal))
       (number journal s) (number journal other) is (below s may.0) (out s r named may.0 may.2))
   on_after (Before r s other) named may =
       renumbered (with_ahead same_sail (order rules journal race) s other)

@@ -133,11 +133,11 @@ order_more : (rules : RulesParts) (journal : Journal) (entry : EntryParts) (c : 
     (race : ℕ) → entry.command ≡ c
     → order rules (journal ++ entry ∷ []) race
     ≡ cond (names_race race c) (order_after rules (order rules journal race) c)
-        (order rules journal race)
+    (order rules journal race)
 order_more rules journal entry c race is =
     ap (order_by rules) (race_commands_more journal entry race)
     ∙ ap (λ d. order_by rules (race_commands journal race ++ cond (names_race race d)
-        (d ∷ []) [])) is
+    (d ∷ []) [])) is
     ∙ by (names_race race c)
   where
     by : (t : Bool) → order_by rules (race_commands journal race ++ cond t (c ∷ []) [])
@@ -149,11 +149,11 @@ order_more rules journal entry c race is =
 stands_entered : (rules : RulesParts) (journal : Journal) → IsOrderly rules journal
     → (c : Command) (race : ℕ)
     → MayStep rules journal c → (b : Sail)
-        → stands_in same_sail b (order_after rules (order rules journal race) c)
+    → stands_in same_sail b (order_after rules (order rules journal race) c)
     ≡ true → is_entered journal b ≡ true
 stands_entered rules journal o (Finish r s) race may b h =
     in_last b s (order rules journal race) _ (o.known race b) (entered_one
-        (entered journal) s b may.0) h
+    (entered journal) s b may.0) h
 stands_entered rules journal o (Tie r s other) race may b h =
     in_joined b s other (order rules journal race) _ (o.known race b)
     (entered_one (entered journal) s b may.0) h
@@ -240,7 +240,7 @@ module _ (rules : RulesParts) (journal : Journal) (o : IsOrderly rules journal)
 
       by : (race : ℕ) (b : Sail) (t : Bool)
           → stands_in same_sail b (cond t (order_after rules (order rules journal race) c)
-              (order rules journal race))
+          (order rules journal race))
           ≡ true → is_entered journal b ≡ true
       by race b true h = stands_entered rules journal o c race may b h
       by race b false h = o.known race b h
@@ -303,7 +303,7 @@ orderly_enter rules journal o entry s is out room =
           ∙ or_left (is_entered journal b) _
           (o.known race b
           (sym (ap (stands_in same_sail b) (order_more rules journal entry (Enter s) race is))
-              ∙ h));
+          ∙ h));
       nothing = λ race b h. (let before : is_entered journal b
           ≡ false = (or_false (is_entered journal b) _
           (sym (ap (λ xs. list_any (same_sail b) xs) boats
@@ -313,7 +313,7 @@ orderly_enter rules journal o entry s is out room =
           (order rules journal race) (order rules (journal ++ entry ∷ []) race) boats
           (order_more rules journal entry (Enter s) race is)
           (on_more (entered journal) s (order rules journal race) (o.once race)
-              (o.known race) room);
+          (o.known race) room);
     }
 
 pub orderly_more : (rules : RulesParts) (journal : Journal) → IsOrderly rules journal

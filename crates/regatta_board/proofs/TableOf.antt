@@ -174,13 +174,13 @@ module _ (rules : RulesParts) (journal : Journal) (orderly : IsOrderly rules jou
     plain = plain_same same_sail nat_eq (λ b. is_entered journal b ≡ true) (number journal)
         (journal_race rules journal race)
         (race_of (sheet_of rules journal race).order (sheet_of rules journal race).held)
-            (renamed race) rules
+        (renamed race) rules
         boat h i;
     held = held_under race boat i;
     placed = order_same same_sail nat_eq (λ b. is_entered journal b ≡ true) (number journal)
         (journal_race rules journal race)
         (race_of (sheet_of rules journal race).order (sheet_of rules journal race).held)
-            (renamed race) boat h
+        (renamed race) boat h
         i;
   }
 
@@ -190,7 +190,7 @@ module _ (rules : RulesParts) (journal : Journal) (orderly : IsOrderly rules jou
   column_is race =
       ap (map (all.outcome_on rules (sheet_of rules journal race))) (boats_numbered race)
       ∙ map_map (all.outcome_on rules (sheet_of rules journal race)) (number journal)
-          (entered journal)
+      (entered journal)
       ∙ map_known (λ boat. is_entered journal boat ≡ true)
       (λ boat. all.outcome_on rules (sheet_of rules journal race) (number journal boat))
       (one.outcome rules journal race) (outcome_is race) (entered journal) known_all
@@ -203,7 +203,7 @@ module _ (rules : RulesParts) (journal : Journal) (orderly : IsOrderly rules jou
       (λ race h. get_or-map-range_with_len (is_scored journal) 1 MAX_RACES (race - 1) race false
       (let k : 1 ≤ race = h.0 in let l : race < 1 + MAX_RACES = h.1 in
       omega arith) (let k : 1 ≤ race =
-          h.0 in omega arith)) (range_with_len 1 MAX_RACES) (in_range 1 MAX_RACES)
+      h.0 in omega arith)) (range_with_len 1 MAX_RACES) (in_range 1 MAX_RACES)
 
   scored_in_range : AllByRecursion (λ r. (1 ≤ r) × (r < 1 + MAX_RACES)) (scored journal)
   scored_in_range =
@@ -212,7 +212,7 @@ module _ (rules : RulesParts) (journal : Journal) (orderly : IsOrderly rules jou
 
   sheet_at : (race : ℕ) → (1 ≤ race) × (race < 1 + MAX_RACES)
       → get_or (kept_of rules journal).sheets (race - 1) (empty_sheet 0)
-          ≡ sheet_of rules journal race
+      ≡ sheet_of rules journal race
   sheet_at race h =
       get_or-map-range_with_len (sheet_of rules journal) 1 MAX_RACES (race - 1) race (empty_sheet 0)
       (let k : 1 ≤ race = h.0 in let l : race < 1 + MAX_RACES = h.1 in
