@@ -1,5 +1,4 @@
 pub mod Entering
-pub mod KeptLines
 pub mod Refused
 pub mod Results
 pub mod Saying

@@ -5,12 +5,13 @@ use Rattle.regatta_terms.specs.Lines.{line_of}
 use Rattle.regatta_terms.specs.Rules.{RulesParts}
 use Rattle.regatta_terms.specs.declared.line.Line.{Line}
 use Rattle.regatta_terms.specs.declared.line.LineFault.{LineFault}
-use Rattle.regatta_office.specs.Lines.{is_line_end, lines_by}
-use Rattle.regatta_office.specs.Coming.{Point, Said, ahead, coming, ended, keep, kept_lines, said}
+use Rattle.regatta_talk.specs.Lines.{is_line_end, lines_by}
+use Rattle.regatta_office.specs.Coming.{Point, Said, ahead, coming, ended, said}
+use Rattle.regatta_talk.specs.KeptLines.{keep, kept_lines}
 use Rattle.regatta_office.specs.Coming.{unless}
 use Rattle.regatta_office.specs.Transcript.{Talk, has_quit, is_quit, replies, talk_after}
 use Rattle.regatta_office.specs.Transcript.{talk_at_end, text_after, up_to_quit}
-use Rattle.regatta_office.proofs.KeptLines.{kept_byte, kept_end, kept_of_text, kept_reads}
+use Rattle.regatta_talk.proofs.KeptLines.{kept_byte, kept_end, kept_of_text, kept_reads}
 
 -- a line, by what it reads as, and what is said to the lines behind it
 abbrev next_said : RulesParts → Talk → Result Line LineFault → List (List ℕ) → Said
@@ -121,9 +122,6 @@ line_none point none = ap (said point.rules point.talk) (none_kept point.line no
     ∙ said-none point.rules point.talk
 
 -- ---- a text ahead
-
-pub ahead-none : (s : Said) → ahead [] s ≡ s
-ahead-none s = refl
 
 pub ahead-ahead : (a b : List ℕ) (s : Said) → ahead (a ++ b) s ≡ ahead a (ahead b s)
 ahead-ahead a b s = ap (λ (t : List ℕ). record { text = t; journal = s.journal; quit = s.quit })

@@ -11,10 +11,10 @@ use Rattle.std.specs.Io.KnownBytes.{Appends, Consumes, IsAtEnd, Keeps}
 use Rattle.regatta_terms.specs.Lines.{line_of}
 use Rattle.regatta_streams.proofs.KnownBytes.{appends-none, appends-then, consumes-kept}
 use Rattle.regatta_streams.proofs.KnownBytes.{consumes-none, consumes-then}
-use Rattle.regatta_office.specs.Lines.{is_line_end, last_line}
+use Rattle.regatta_talk.specs.Lines.{is_line_end, last_line}
 use Rattle.regatta_office.specs.Coming.{Cuts, Stops, Finished, IsTooLong, IsWithin, Point, ReadSome}
-use Rattle.regatta_office.specs.Coming.{Said, Talked, Went, said, kept_lines, ahead, coming, ended}
-use Rattle.regatta_office.specs.Coming.{keep, unless}
+use Rattle.regatta_office.specs.Coming.{Said, Talked, Went, said, ahead, coming, ended, unless}
+use Rattle.regatta_talk.specs.KeptLines.{keep, kept_lines}
 use Rattle.regatta_office.specs.Transcript.{is_quit, talk_after, text_after}
 use Rattle.regatta_office.proofs.Saying.{ahead-ahead, line_ends, line_goes, line_last, line_none}
 use Rattle.regatta_office.proofs.Saying.{said-none}

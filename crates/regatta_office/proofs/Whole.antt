@@ -11,7 +11,7 @@ use Rattle.regatta_streams.proofs.KnownBytes.{appends-none, appends-then}
 use Rattle.regatta_office.specs.declared.form.Form.{Form}
 use Rattle.regatta_office.specs.Coming.{Cuts, IsTooLong, IsWithin, Stops, Point, ReadSome, Said}
 use Rattle.regatta_office.specs.Coming.{coming, said}
-use Rattle.regatta_office.specs.Lines.{ended_lines, lines_by}
+use Rattle.regatta_talk.specs.Lines.{ended_lines, lines_by}
 use Rattle.regatta_office.specs.Transcript.{EndsWithin, WroteSome, final_journal, final_text}
 use Rattle.regatta_office.specs.Transcript.{has_quit, opening, replies, run_text, up_to_quit}
 use Rattle.regatta_office.specs.Transcript.{transcript, transcript_so_far}

@@ -6,7 +6,7 @@ use Rattle.regatta_scores.specs.Journal.{Journal}
 use Rattle.regatta_board.specs.Refusals.{limits, is_lawful}
 use Rattle.regatta_tables.specs.EntryLists.{entries_of_text}
 use Rattle.regatta_tables.specs.JournalFiles.{journal_of}
-use Rattle.regatta_office.specs.declared.files.TheConstants.{FILE_LIMIT}
+use Rattle.regatta_office.specs.declared.start_files.TheConstants.{FILE_LIMIT}
 use Rattle.regatta_office.specs.declared.form.Form.{Form}
 use Rattle.regatta_office.specs.Starts.{start_of}
 use Rattle.regatta_office.specs.Transcript.{run_text}

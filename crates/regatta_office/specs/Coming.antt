@@ -1,23 +1,12 @@
 -- What is still to come of a run, at any point of its text.
-use Rattle.std.specs.Prelude.{ℕ, Bool, true, false, ◌≡◌, List, [], ◌∷◌, ◌++◌, length, take, ◌<◌}
-use Rattle.std.specs.Prelude.{◌≤◌, ◌⊎◌, nat_lt, Option, Some, None, IfSome, if◌then◌else◌}
+use Rattle.std.specs.Prelude.{ℕ, Bool, true, false, ◌≡◌, List, [], ◌++◌, length, take, ◌<◌}
+use Rattle.std.specs.Prelude.{◌≤◌, ◌⊎◌, Option, Some, None, IfSome, if◌then◌else◌}
 use Rattle.std.specs.Io.KnownBytes.{Appends, Consumes}
 use Rattle.regatta_streams.specs.Texts.{AppendsPrefix}
 use Rattle.regatta_terms.specs.Rules.{RulesParts}
 use Rattle.regatta_scores.specs.Journal.{Journal}
-use Rattle.regatta_office.specs.Lines.{is_line_end, last_line}
+use Rattle.regatta_talk.specs.KeptLines.{kept_lines}
 use Rattle.regatta_office.specs.Transcript.{Talk, has_quit, up_to_quit, replies, talk_at_end}
-
--- the bytes that are kept of a line, with one more: no more than 82 of them
-abbrev pub keep : List ℕ → ℕ → List ℕ
-keep line byte = if nat_lt (length line) 82 then line ++ byte ∷ [] else line
-
--- the lines of a text that goes on from the line at hand, of each what is kept
-unfoldable pub kept_lines : Bool → List ℕ → List ℕ → List (List ℕ)
-kept_lines counts line [] = last_line counts line
-kept_lines counts line (byte ∷ text) =
-    if is_line_end byte then line ∷ kept_lines counts [] text
-    else kept_lines counts (keep line byte) text
 
 -- a point of a run: the series rules, where it stands, and what is kept of the line at hand
 pub record Point : Type 0 where

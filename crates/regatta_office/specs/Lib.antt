@@ -1,7 +1,6 @@
 pub mod Asked
 pub mod Coming
 pub mod Faults
-pub mod Lines
 pub mod Scribes
 pub mod Starts
 pub mod Transcript

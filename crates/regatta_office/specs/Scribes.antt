@@ -7,5 +7,5 @@ abbrev pub point : Scribe → Point
 point scribe = record {
   rules = scribe.board.rules;
   talk = record { role = scribe.role; journal = scribe.board.entries };
-  line = scribe.cutter.kept.items;
+  line = scribe.cutter;
 }

@@ -1,18 +1,19 @@
--- Where a run starts.
+-- The entries that a series starts with, and a run that fails at them.
 use Rattle.std.specs.Prelude.{◌≡◌, ℕ, List, [], ◌∷◌, ◌++◌, Option, Some, None}
 use Rattle.regatta_terms.specs.Entries.{EntryParts}
 use Rattle.regatta_terms.specs.declared.command.Command.TheVariants.{Enter}
 use Rattle.regatta_terms.specs.declared.command.Role.TheVariants.{Scorer}
 use Rattle.regatta_terms.specs.declared.reply.Refusal.{Refusal}
 use Rattle.regatta_scores.specs.Journal.{Journal}
-use Rattle.regatta_board.specs.Refusals.{next_number}
+use Rattle.regatta_board.specs.Refusals.{last_number, next_entry}
+use Rattle.regatta_board.specs.declared.journal.TheConstants.{REPLAY_SEAT}
 use Rattle.regatta_office.specs.declared.run.RunFault.{RunFault}
 use Rattle.regatta_office.specs.declared.run.RunFault.TheVariants as fault
 
--- the entry by which the scorer in seat 1 enters a boat, with the seat's next number
+-- the entry by which the scorer in the seat of a replay enters a boat
 abbrev pub entering : Journal → List ℕ → EntryParts
 entering journal sail =
-    record { seat = 1; nth = next_number journal 1; role = Scorer; command = Enter sail }
+    next_entry REPLAY_SEAT (last_number journal REPLAY_SEAT) Scorer (Enter sail)
 
 -- the entries, and then an Enter for each sail
 unfoldable pub start_of : Journal → List (List ℕ) → Journal

@@ -12,15 +12,14 @@ use Rattle.regatta_terms.specs.declared.line.Line.{Line}
 use Rattle.regatta_terms.specs.declared.line.Line.TheVariants.{Do, SetRole, Rank, Show, Quit}
 use Rattle.regatta_terms.specs.declared.line.LineFault.{LineFault}
 use Rattle.regatta_terms.specs.declared.reply.Refusal.{Refusal}
-use Rattle.regatta_terms.specs.declared.reply.Refusal.TheVariants.{NoMemory, NotEntered}
-use Rattle.regatta_terms.specs.declared.reply.Touched.{Touched}
+use Rattle.regatta_terms.specs.declared.reply.Answer.{Answer}
+use Rattle.regatta_terms.specs.declared.reply.Refusal.TheVariants.{NoMemory}
 use Rattle.regatta_terms.specs.declared.reply.Reply.{Reply}
-use Rattle.regatta_terms.specs.declared.reply.Reply.TheVariants.{Done, Refused, Fault, RoleSet}
-use Rattle.regatta_terms.specs.declared.reply.Reply.TheVariants.{Ranked, Bye}
 use Rattle.regatta_scores.specs.Journal.{Journal}
 use Rattle.regatta_scores.specs.Standing.{standing}
 use Rattle.regatta_board.specs.Answers.{answer, rank_of}
-use Rattle.regatta_board.specs.Refusals.{limits, is_lawful, refusal, next_number}
+use Rattle.regatta_board.specs.Refusals.{limits, refusal, last_number, next_entry}
+use Rattle.regatta_board.specs.declared.journal.TheConstants.{REPLAY_SEAT}
 use Rattle.regatta_tables.specs.CsvTexts.{csv_text}
 use Rattle.regatta_tables.specs.JournalTexts.{journal_text}
 use Rattle.regatta_tables.specs.ReplyTexts.{reply_text}
@@ -28,7 +27,8 @@ use Rattle.regatta_tables.specs.SheetTexts.{sheet_text}
 use Rattle.regatta_tables.specs.TableTexts.{table_text}
 use Rattle.regatta_office.specs.declared.form.Form.{Form}
 use Rattle.regatta_office.specs.declared.form.Form.TheVariants as form
-use Rattle.regatta_office.specs.Lines.{lines, ended_lines}
+use Rattle.regatta_talk.specs.Lines.{lines, ended_lines}
+use Rattle.regatta_talk.specs.Replies.{ranked, reply_apart, reply_of}
 
 -- where a run stands: the role of the lines to come, and the journal so far
 pub record Talk : Type 0 where
@@ -41,15 +41,15 @@ opening start = record { role = Scorer; journal = start }
 
 -- ---- one line
 
--- the entry that a command makes: of seat 1, in the role at hand, with the seat's next number
-abbrev pub next_entry : Talk → Command → EntryParts
-next_entry talk command =
-    record { seat = 1; nth = next_number talk.journal 1; role = talk.role; command = command }
+-- the entry that a command makes: of the seat of a replay, in the role at hand
+abbrev pub entry_of : Talk → Command → EntryParts
+entry_of talk command =
+    next_entry REPLAY_SEAT (last_number talk.journal REPLAY_SEAT) talk.role command
 
--- the reply to an entry, and the journal after it, by why the entry is refused
-abbrev pub reply_by : RulesParts → Journal → EntryParts → Option Refusal → Reply
-reply_by rules journal entry None = Done (answer rules journal entry)
-reply_by rules journal entry (Some why) = Refused why
+-- what the board answers to an entry, by why the entry is refused
+abbrev pub answered : RulesParts → Journal → EntryParts → Option Refusal → Result Answer Refusal
+answered rules journal entry None = Ok (answer rules journal entry)
+answered rules journal entry (Some why) = Err why
 
 -- the journal after it: the longer one where it is accepted
 abbrev pub journal_by : Journal → EntryParts → Option Refusal → Journal
@@ -63,41 +63,38 @@ is_want_of_memory _ = false
 
 -- why a command is refused
 abbrev pub refusal_of : RulesParts → Talk → Command → Option Refusal
-refusal_of rules talk command = refusal limits rules talk.journal (next_entry talk command)
+refusal_of rules talk command = refusal limits rules talk.journal (entry_of talk command)
 
 -- the reply to a command
 abbrev pub reply_to : RulesParts → Talk → Command → Reply
 reply_to rules talk command =
-    reply_by rules talk.journal (next_entry talk command) (refusal_of rules talk command)
+    reply_of (answered rules talk.journal (entry_of talk command) (refusal_of rules talk command))
 
 -- the journal after a command
 abbrev pub journal_after : RulesParts → Talk → Command → Journal
 journal_after rules talk command =
-    journal_by talk.journal (next_entry talk command) (refusal_of rules talk command)
-
--- the reply to RANK: a boat that has no row isn't entered
-abbrev pub ranked : Option Touched → Reply
-ranked (Some touched) = Ranked touched
-ranked None = Refused NotEntered
+    journal_by talk.journal (entry_of talk command) (refusal_of rules talk command)
 
 -- what is written for what a line reads as
 abbrev pub text_for : RulesParts → Talk → Line → List ℕ
 text_for rules talk (Do command) = reply_text (reply_to rules talk command)
-text_for rules talk (SetRole role) = reply_text (RoleSet role)
+text_for rules talk (SetRole role) = reply_text (reply_apart (Ok (SetRole role)))
 text_for rules talk (Rank sail) = reply_text (ranked (rank_of rules talk.journal sail))
 text_for rules talk Show = sheet_text talk.journal (standing rules talk.journal)
-text_for rules talk Quit = reply_text Bye
+text_for rules talk Quit = reply_text (reply_apart (Ok Quit))
 
 -- where the run stands after it
 abbrev pub talk_for : RulesParts → Talk → Line → Talk
 talk_for rules talk (Do command) = record talk { journal = journal_after rules talk command }
 talk_for rules talk (SetRole role) = record talk { role = role }
-talk_for _ talk _ = talk
+talk_for rules talk (Rank sail) = talk
+talk_for rules talk Show = talk
+talk_for rules talk Quit = talk
 
 -- the same of a line that may have a fault
 abbrev pub text_after : RulesParts → Talk → Result Line LineFault → List ℕ
 text_after rules talk (Ok line) = text_for rules talk line
-text_after rules talk (Err fault) = reply_text (Fault fault)
+text_after rules talk (Err fault) = reply_text (reply_apart (Err fault))
 
 -- where the run stands after it
 abbrev pub talk_after : RulesParts → Talk → Result Line LineFault → Talk

@@ -1,29 +1,30 @@
-//! What a line asks for, done and answered.
-ghost use Rattle.std.specs.Prelude.{◌≡◌, ◌++◌, Ok, Err, IfOk, OnOk};
+//! What a line of a replay asks for, done and answered.
+ghost use Rattle.std.specs.Prelude.{◌≡◌, ◌++◌, IfOk, OnOk};
 ghost use Rattle.regatta_scores.specs.Standing.{standing};
+ghost use Rattle.regatta_board.specs.Answers.{rank_of};
+ghost use Rattle.regatta_tables.specs.ReplyTexts.{reply_text};
 ghost use Rattle.regatta_tables.specs.SheetTexts.{sheet_text};
-ghost use Rattle.regatta_office.specs.Transcript.{is_quit as is_quit_of};
+ghost use Rattle.regatta_talk.specs.Replies.{ranked as ranked_by};
+ghost use Rattle.regatta_office.specs.Transcript.{entry_of as entry_by, is_quit as is_quit_of};
 ghost use Rattle.regatta_office.specs.Transcript.{is_want_of_memory as is_want_of_memory_by};
-ghost use Rattle.regatta_office.specs.Transcript.{journal_after, next_entry as next_entry_of};
-ghost use Rattle.regatta_office.specs.Transcript.{ranked as ranked_by, reply_to, talk_after};
-ghost use Rattle.regatta_office.specs.Transcript.{talk_for, text_after, text_for};
+ghost use Rattle.regatta_office.specs.Transcript.{journal_after, reply_to, talk_after, text_after};
 
-use regatta_board::Board;
-use regatta_tables::{write_reply, write_sheet};
-use regatta_terms::{Command, Entry, Line, LineFault, Refusal, Reply, Role, Touched};
+use regatta_board::{Board, REPLAY_SEAT, next_entry};
+use regatta_tables::write_sheet;
+use regatta_talk::{answer_apart, make_room, ranked, reply_of, write_fitting};
+use regatta_terms::{Command, Entry, Line, LineFault, Refusal, Reply, Role, Sail};
 use std::alloc::AllocError;
 
-/// The entry that a command makes on this board, in this role: of seat 1, with its next number.
-fn next_entry(board: &Board, role: Role, command: Command) -> Entry
+/// The entry that a command makes on this board, in this role.
+fn entry_of(board: &Board, role: Role, command: Command) -> Entry
     ensures { result
-        ≡ next_entry_of (record { role = role; journal = board.now.entries }) command }
+        ≡ entry_by (record { role = role; journal = board.now.entries }) command }
 {
-    let nth = board.last_of(1).saturating_add(1);
-    Entry::new(1, nth, role, command).unwrap()
+    next_entry(REPLAY_SEAT, board.last_of(REPLAY_SEAT), role, command)
 }
 
 /// Whether a refusal is want of memory.
-pub(crate) fn is_want_of_memory(why: Refusal) -> bool
+fn is_want_of_memory(why: Refusal) -> bool
     ensures { result ≡ is_want_of_memory_by why }
 {
     matches!(why, Refusal::NoMemory)
@@ -38,25 +39,46 @@ fn do_command(board: &mut Board, role: Role, command: Command) -> Result<Reply, 
           board.old.rules (record { role = role; journal = board.old.entries }) command;
     }) }
 {
-    match board.apply(next_entry(board, role, command)) {
-        Ok(answer) => Ok(Reply::Done(answer)),
+    match board.apply(entry_of(board, role, command)) {
+        Ok(answer) => Ok(reply_of(Ok(answer))),
         Err(why) => {
             if is_want_of_memory(why) {
                 return Err(AllocError);
             }
-            Ok(Reply::Refused(why))
+            Ok(reply_of(Err(why)))
         }
     }
 }
 
-/// The reply to a boat's row of the standing.
-fn ranked(row: Option<Touched>) -> Reply
-    ensures { result ≡ ranked_by row }
+/// Does a command, once there is room for its reply, and appends that.
+fn answer_command(
+    board: &mut Board,
+    role: Role,
+    command: Command,
+    out: &mut Vec<u8>,
+) -> Result<(), AllocError>
+    ensures text { OnOk result (out.new.items ≡ out.old.items ++ reply_text
+        (reply_to board.old.rules
+        (record { role = role; journal = board.old.entries }) command)) }
+    ensures journal { OnOk result (board.new ≡ record board.old {
+      entries = journal_after
+          board.old.rules (record { role = role; journal = board.old.entries }) command;
+    }) }
 {
-    match row {
-        Some(touched) => Reply::Ranked(touched),
-        None => Reply::Refused(Refusal::NotEntered),
-    }
+    make_room(out)?;
+    let reply = do_command(board, role, command)?;
+    write_fitting(&reply, out);
+    Ok(())
+}
+
+/// Appends the reply to a boat's rank.
+fn answer_rank(board: &Board, sail: Sail, out: &mut Vec<u8>) -> Result<(), AllocError>
+    ensures { OnOk result (out.new.items ≡ out.old.items
+        ++ reply_text (ranked_by (rank_of board.now.rules board.now.entries sail))) }
+{
+    make_room(out)?;
+    write_fitting(&ranked(board.rank(sail)), out);
+    Ok(())
 }
 
 /// Appends the sheet of the board: its journal and its standing.
@@ -66,33 +88,6 @@ fn show(board: &Board, out: &mut Vec<u8>) -> Result<(), AllocError>
 {
     let standing = board.standing()?;
     write_sheet(board.entries(), &standing, out)
-}
-
-/// Does what a line asks for, and appends what is written for it.
-fn answer_line(
-    board: &mut Board,
-    role: &mut Role,
-    line: Line,
-    out: &mut Vec<u8>,
-) -> Result<(), AllocError>
-    ensures text { OnOk result (out.new.items ≡ out.old.items ++ text_for board.old.rules
-        (record { role = role.old; journal = board.old.entries }) line) }
-    ensures talk { OnOk result ((record { role = role.new; journal = board.new.entries })
-        ≡ talk_for board.old.rules
-        (record { role = role.old; journal = board.old.entries }) line) }
-    ensures rules { OnOk result (board.new.rules ≡ board.old.rules) }
-{
-    let reply = match line {
-        Line::Do(command) => do_command(board, *role, command)?,
-        Line::SetRole(next) => {
-            *role = next;
-            Reply::RoleSet(next)
-        }
-        Line::Rank(sail) => ranked(board.rank(sail)),
-        Line::Show => return show(board, out),
-        Line::Quit => Reply::Bye,
-    };
-    write_reply(&reply, out)
 }
 
 /// Does what a line asks for, if it can be read, and appends what is written for it.
@@ -110,8 +105,10 @@ pub(crate) fn answer(
     ensures rules { OnOk result (board.new.rules ≡ board.old.rules) }
 {
     match asked {
-        Ok(line) => answer_line(board, role, line, out),
-        Err(fault) => write_reply(&Reply::Fault(fault), out),
+        Ok(Line::Do(command)) => answer_command(board, *role, command, out),
+        Ok(Line::Rank(sail)) => answer_rank(board, sail, out),
+        Ok(Line::Show) => show(board, out),
+        Ok(Line::SetRole(_) | Line::Quit) | Err(_) => answer_apart(role, asked, out),
     }
 }
 

@@ -2,22 +2,21 @@
 #![tactic(auto)]
 
 mod answers;
+mod command_line;
 mod complaint;
-mod cutter;
-mod files;
+mod final_part;
 mod form;
-mod opening;
 mod options;
 mod run;
 mod scribe;
-mod start;
-mod words;
+mod start_files;
+mod start_list;
 
+pub use command_line::program;
 pub use form::Form;
 pub use regatta_streams::{Device, Foreign, Sink, Source, StreamFault, Tape, write_all};
 pub use run::{INPUT_LIMIT, RunFault, replay};
-pub use start::start_of;
-pub use words::program;
+pub use start_list::start_of;
 
 #[cfg(test)]
 mod tests;

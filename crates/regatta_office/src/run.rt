@@ -1,5 +1,5 @@
 //! A run over two streams.
-ghost use Rattle.std.specs.Prelude.{◌≡◌, ◌≢◌, ◌+◌, ◌<◌, ◌≤◌, ◌++◌, ℕ, List, length, take, None};
+ghost use Rattle.std.specs.Prelude.{◌≡◌, ◌≢◌, ◌+◌, ◌<◌, ◌≤◌, ℕ, List, length, take, None};
 ghost use Rattle.std.specs.Prelude.{OnOk, IfOk, IfErr, IfSome, IsErrOf, false, true};
 ghost use Rattle.std.specs.Io.KnownBytes.{Appends, Keeps};
 ghost use Rattle.regatta_streams.specs.Texts.{AppendsPrefix, GaveAtMost};
@@ -11,20 +11,19 @@ ghost use Rattle.regatta_office.specs.Coming.{coming};
 ghost use Rattle.regatta_office.specs.Faults.{IsDeviceFault, IsRunFaultOf};
 ghost use Rattle.regatta_office.specs.Faults.{scribe_fault as scribe_fault_of};
 ghost use Rattle.regatta_office.specs.Faults.{start_fault as start_fault_of};
-ghost use Rattle.regatta_office.specs.Lines.{ended_lines};
+ghost use Rattle.regatta_talk.specs.Lines.{ended_lines};
 ghost use Rattle.regatta_office.specs.Scribes.{point};
 ghost use Rattle.regatta_office.specs.Starts.{IsRunFault};
-ghost use Rattle.regatta_office.specs.Transcript.{EndsWithin, WroteSome, final_text, has_quit};
-ghost use Rattle.regatta_office.specs.Transcript.{run_text, transcript_so_far};
+ghost use Rattle.regatta_office.specs.Transcript.{EndsWithin, WroteSome, has_quit, run_text};
+ghost use Rattle.regatta_office.specs.Transcript.{transcript_so_far};
 
+use crate::final_part::print_final;
 use crate::form::Form;
-use crate::opening::opened;
 use crate::scribe::{Scribe, ScribeFault};
-use regatta_board::{Board, ReplayFault};
-use regatta_streams::{Sink, Source, write_all};
-use regatta_tables::{write_csv, write_journal, write_table};
+use regatta_board::{ReplayFault, replayed};
+use regatta_streams::{Sink, Source};
 use regatta_terms::{Entry, Refusal, Rules};
-use std::alloc::{AllocError, Global};
+use std::alloc::Global;
 use thiserror::Error;
 
 /// The most bytes of an input whose lines are answered.
@@ -167,23 +166,6 @@ fn answer_all<R: Source, W: Sink>(
     }
 }
 
-/// Appends the final part of a run: the journal of the board in the form asked for.
-fn write_final(
-    alloc: Global,
-    board: &Board,
-    form: Form,
-    out: &mut Vec<u8>,
-) -> Result<(), AllocError>
-    ensures { OnOk result (out.new.items ≡ out.old.items
-        ++ final_text board.now.rules form board.now.entries) }
-{
-    match form {
-        Form::Table => write_table(&board.standing()?, out),
-        Form::Csv => write_csv(alloc, &board.standing()?, out),
-        Form::Journal => write_journal(board.entries(), out),
-    }
-}
-
 /// Answers the lines of a text, as seat 1 and first in the role of the scorer, on a board that
 /// holds the start: the writer gets what is due for each line up to QUIT or the end of the text,
 /// and then the final journal in the form asked for. The series is scored under the rules handed
@@ -245,7 +227,7 @@ pub fn replay<R: Source, W: Sink>(
     ensures stopped { IsErrOf result RunFault.NoMemory → IfSome (R.remaining input.old)
         (WroteSome rules.now start.now (W.contents output.old) (W.contents output.new)) }
 {
-    let board = match opened(alloc, rules, start) {
+    let board = match replayed(alloc, rules, start) {
         Ok(board) => board,
         Err(fault) => return Err(start_fault(fault)),
     };
@@ -253,12 +235,8 @@ pub fn replay<R: Source, W: Sink>(
     if let Err(fault) = answer_all(&mut scribe, input, output) {
         return Err(fault);
     }
-    let mut text = Vec::new(alloc);
-    if write_final(alloc, scribe.board(), form, &mut text).is_err() {
-        return Err(RunFault::NoMemory);
+    match print_final(alloc, scribe.board(), form, output) {
+        Ok(()) => Ok(()),
+        Err(fault) => Err(scribe_fault(fault)),
     }
-    if write_all(output, &text).is_err() {
-        return Err(RunFault::Write);
-    }
-    Ok(())
 }

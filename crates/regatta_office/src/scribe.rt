@@ -10,9 +10,9 @@ ghost use Rattle.regatta_office.specs.Transcript.{is_quit as is_quit_of, talk_af
 ghost use Rattle.regatta_terms.specs.declared.command.Role.TheVariants.{Scorer};
 
 use crate::answers::{answer, is_quit};
-use crate::cutter::Cutter;
 use regatta_board::Board;
 use regatta_streams::{Sink, write_all};
+use regatta_talk::Cutter;
 use regatta_terms::{Role, read_line};
 use std::alloc::Global;
 

@@ -1,7 +1,7 @@
 use Rattle.std.proofs.Common.{◌≡◌, false, true, sym, ◌∙◌}
 use Rattle.std.proofs.lemmas.Bool.{cond-true, cond-false}
-use Rattle.regatta_office.specs.Coming.{keep}
-use Rattle.regatta_office.specs.Lines.{is_line_end}
+use Rattle.regatta_talk.specs.KeptLines.{keep}
+use Rattle.regatta_talk.specs.Lines.{is_line_end}
 use Rattle.regatta_office.specs.Scribes.{point}
 use Rattle.regatta_office.proofs.Streams.{byte_kept, line_cut, line_ended_ok}
 use Rattle.regatta_office.proofs.scribe.Scribe.take.Goals as goal
@@ -20,7 +20,7 @@ pub returns-clause-went : goal.returns-clause-went
 returns-clause-went g c =
     let before = point c.args.self.now in
     let ends : is_line_end c.args.byte ≡ true = sym c.take.ensures.ended ∙ c.if-not-take.false in
-    line_ended_ok _ _ before _ c.take.new.self.kept.items c.args.byte c.end_line.result ends
+    line_ended_ok _ _ before _ c.take.new.self c.args.byte c.end_line.result ends
     (c.take.ensures.kept ∙ cond-true (is_line_end c.args.byte) before.line
     (keep before.line c.args.byte) ends)
     c.end_line.ensures.quit c.end_line.ensures.wrote c.end_line.ensures.after
@@ -30,6 +30,6 @@ pub returns-clause-cut : goal.returns-clause-cut
 returns-clause-cut g c = λ is rest.
     let before = point c.args.self.now in
     let ends : is_line_end c.args.byte ≡ true = sym c.take.ensures.ended ∙ c.if-not-take.false in
-    let kept : c.take.new.self.kept.items ≡ before.line = c.take.ensures.kept
+    let kept : c.take.new.self ≡ before.line = c.take.ensures.kept
     ∙ cond-true (is_line_end c.args.byte) before.line (keep before.line c.args.byte) ends in
     line_cut _ _ before c.args.byte rest ends (rw kept at (c.end_line.ensures.cut is))

@@ -2,7 +2,7 @@
 ghost use Rattle.std.specs.Prelude.{◌≤◌, IfOk, length};
 ghost use Rattle.std.specs.Option.{option_copied};
 ghost use Rattle.regatta_office.specs.Asked.{AreSailsAt, IsJournalAt};
-ghost use Rattle.regatta_office.specs.declared.files.TheConstants.{FILE_LIMIT};
+ghost use Rattle.regatta_office.specs.declared.start_files.TheConstants.{FILE_LIMIT};
 
 use crate::complaint::Complaint;
 use regatta_scores::Items;

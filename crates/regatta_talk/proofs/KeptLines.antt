@@ -12,8 +12,8 @@ use Rattle.std.proofs.lemmas.List.Splits.{length-slice_split}
 use Rattle.regatta_terms.specs.Lines.{line_of, line_of_words}
 use Rattle.regatta_terms.specs.Words.{words}
 use Rattle.regatta_terms.specs.declared.line.LineFault.TheVariants.{TooLong}
-use Rattle.regatta_office.specs.Lines.{is_line_end, last_line, lines_of_pieces, lines_by}
-use Rattle.regatta_office.specs.Coming.{keep, kept_lines}
+use Rattle.regatta_talk.specs.Lines.{is_line_end, last_line, lines_of_pieces, lines_by}
+use Rattle.regatta_talk.specs.KeptLines.{keep, kept_lines}
 
 -- ---- a line of more than 81 bytes is too long, and so is what is kept of it
 

@@ -1,6 +1,6 @@
 use Rattle.std.proofs.Common.{arith, sym, ◌∙◌}
 use Rattle.regatta_office.proofs.Entering.{last_more, start_more, start_done}
-use Rattle.regatta_office.proofs.start.start_of.Goals as goal
+use Rattle.regatta_office.proofs.start_list.start_of.Goals as goal
 
 pub loop-sail-preserved : goal.loop-sail-preserved
 loop-sail-preserved c =

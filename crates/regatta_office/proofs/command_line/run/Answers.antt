@@ -5,7 +5,7 @@ use Rattle.regatta_board.specs.Refusals.{limits, is_lawful}
 use Rattle.regatta_office.specs.Asked.{Asked, IsRunOf}
 use Rattle.regatta_office.specs.Starts.{start_of}
 use Rattle.regatta_office.specs.Transcript.{run_text}
-use Rattle.regatta_office.proofs.words.run.Goals as goal
+use Rattle.regatta_office.proofs.command_line.run.Goals as goal
 
 pub returns : goal.returns
 returns g c =

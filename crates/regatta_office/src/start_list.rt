@@ -5,19 +5,17 @@ ghost use Rattle.regatta_terms.specs.declared.command.Command.TheVariants.{Enter
 ghost use Rattle.regatta_terms.specs.declared.command.Role.TheVariants.{Scorer};
 ghost use Rattle.regatta_office.specs.Starts.{start_of as start_of_both};
 
+use regatta_board::{REPLAY_SEAT, next_entry};
 use regatta_scores::Items;
 use regatta_tables::Journal;
 use regatta_terms::{Command, Entry, Role, Sail};
 use std::alloc::{AllocError, Global};
 
-/// The seat that enters the boats of an entry list.
-const SEAT: u8 = 1;
-
 /// The seat's number of an entry, or else the number before it.
 fn number_with(entry: &Entry, last: u32) -> u32
-    ensures { result ≡ (if nat_eq entry.now.seat 1 then entry.now.nth else last) }
+    ensures { result ≡ (if nat_eq entry.now.seat REPLAY_SEAT then entry.now.nth else last) }
 {
-    if entry.seat() == SEAT {
+    if entry.seat() == REPLAY_SEAT {
         entry.nth()
     } else {
         last
@@ -26,26 +24,13 @@ fn number_with(entry: &Entry, last: u32) -> u32
 
 /// The last number of the seat, or 0.
 fn last_number(entries: &[Entry]) -> u32
-    ensures { result ≡ last_number_in entries.now 1 }
+    ensures { result ≡ last_number_in entries.now REPLAY_SEAT }
 {
     let mut last = 0;
     for entry in entries {
         last = number_with(entry, last);
     }
     last
-}
-
-/// The entry by which the scorer in seat 1 enters a boat, behind the seat's last number.
-fn entering(last: u32, sail: Sail) -> Entry
-    ensures { result ≡ record {
-      seat = 1;
-      nth = number_after last;
-      role = Scorer;
-      command = Enter sail;
-    } }
-{
-    let nth = last.saturating_add(1);
-    Entry::new(SEAT, nth, Role::Scorer, Command::Enter { sail }).unwrap()
 }
 
 /// The entries, and then an Enter for each sail, sent by seat 1 as scorer and numbered on: so a
@@ -60,7 +45,12 @@ pub fn start_of(alloc: Global, entries: &[Entry], sails: &[Sail]) -> Result<Jour
     let mut start = Vec::from_slice(alloc, entries)?;
     let mut last = last_number(entries);
     for sail in sails {
-        let entry = entering(last, *sail);
+        let entry = next_entry(
+            REPLAY_SEAT,
+            last,
+            Role::Scorer,
+            Command::Enter { sail: *sail },
+        );
         last = entry.nth();
         start.push(entry)?;
     }

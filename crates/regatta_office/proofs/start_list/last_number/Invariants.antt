@@ -1,6 +1,6 @@
 use Rattle.std.proofs.Common.{◌≡◌, take}
 use Rattle.regatta_board.specs.Refusals.{last_number}
-use Rattle.regatta_office.proofs.start.last_number.Given as goal
+use Rattle.regatta_office.proofs.start_list.last_number.Given as goal
 
 -- the entries so far
 abbrev pub invariant-loop-entry : goal.invariant-loop-entry

@@ -1,7 +1,7 @@
 use Rattle.std.proofs.Common.{◌≡◌, drop}
 use Rattle.regatta_board.specs.Refusals.{last_number}
 use Rattle.regatta_office.specs.Starts.{start_of}
-use Rattle.regatta_office.proofs.start.start_of.Given as goal
+use Rattle.regatta_office.proofs.start_list.start_of.Given as goal
 
 -- the boats so far are entered, and the others are to come
 abbrev pub invariant-loop-sail : goal.invariant-loop-sail

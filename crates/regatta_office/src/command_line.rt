@@ -4,10 +4,10 @@ ghost use Rattle.std.specs.Io.KnownBytes.{Appends};
 ghost use Rattle.regatta_office.specs.Asked.{Asked, IsRunOf};
 
 use crate::complaint::Complaint;
-use crate::files::{journal_at, sails_at};
 use crate::options::{Options, options_of, regatta};
 use crate::run::replay;
-use crate::start::start_of;
+use crate::start_files::{journal_at, sails_at};
+use crate::start_list::start_of;
 use clap::error::ErrorKind;
 use regatta_streams::{Sink, Source, write_all};
 use regatta_terms::Rules;

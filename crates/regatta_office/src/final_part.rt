@@ -1,0 +1,60 @@
+//! The final part of a run.
+ghost use Rattle.std.specs.Prelude.{◌≡◌, ◌+◌, ◌++◌, OnOk, IsErrOf};
+ghost use Rattle.std.specs.Io.KnownBytes.{Appends};
+ghost use Rattle.regatta_streams.specs.Texts.{AppendsPrefix};
+ghost use Rattle.regatta_office.specs.Transcript.{final_text};
+
+use crate::form::Form;
+use crate::scribe::ScribeFault;
+use regatta_board::Board;
+use regatta_streams::{Sink, write_all};
+use regatta_tables::{write_csv, write_journal, write_table};
+use std::alloc::{AllocError, Global};
+
+/// Appends the journal of the board in the form asked for.
+fn write_final(
+    alloc: Global,
+    board: &Board,
+    form: Form,
+    out: &mut Vec<u8>,
+) -> Result<(), AllocError>
+    ensures { OnOk result (out.new.items ≡ out.old.items
+        ++ final_text board.now.rules form board.now.entries) }
+{
+    match form {
+        Form::Table => write_table(&board.standing()?, out),
+        Form::Csv => write_csv(alloc, &board.standing()?, out),
+        Form::Journal => write_journal(board.entries(), out),
+    }
+}
+
+/// Prints the journal of the board in the form asked for: it is made whole, and then written.
+///
+/// # Errors
+///
+/// `Write` where the write fails: some first part of it stands there then. `NoMemory` where memory
+/// is wanting to make it: nothing is written then.
+pub(crate) fn print_final<W: Sink>(
+    alloc: Global,
+    board: &Board,
+    form: Form,
+    output: &mut W,
+) -> Result<(), ScribeFault>
+    ensures wrote { OnOk result (Appends (W.contents output.old) (W.contents output.new)
+        (final_text board.now.rules form board.now.entries)) }
+    ensures well { OnOk result (W.failures output.new ≡ W.failures output.old) }
+    ensures write { IsErrOf result ScribeFault.Write →
+        W.failures output.new ≡ W.failures output.old + 1 }
+    ensures cut { IsErrOf result ScribeFault.Write → AppendsPrefix (W.contents output.old)
+        (W.contents output.new) (final_text board.now.rules form board.now.entries) }
+    ensures silent { IsErrOf result ScribeFault.NoMemory → output.new ≡ output.old }
+{
+    let mut text = Vec::new(alloc);
+    if write_final(alloc, board, form, &mut text).is_err() {
+        return Err(ScribeFault::NoMemory);
+    }
+    if write_all(output, &text).is_err() {
+        return Err(ScribeFault::Write);
+    }
+    Ok(())
+}

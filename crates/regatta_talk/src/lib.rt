@@ -1,0 +1,11 @@
+//! Lines and replies, apart from who runs them: the lines of a text that comes in pieces, room for
+//! a reply, and replies.
+#![tactic(auto)]
+
+mod cutter;
+mod replies;
+mod room;
+
+pub use cutter::Cutter;
+pub use replies::{answer_apart, ranked, reply_of};
+pub use room::{REPLY_ROOM, make_room, write_fitting};

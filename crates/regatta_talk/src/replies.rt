@@ -1,0 +1,59 @@
+//! Replies, made apart from the doing of what a line asks for.
+ghost use Rattle.std.specs.Prelude.{◌≡◌, ◌++◌, false, OnOk, OnErr};
+ghost use Rattle.regatta_tables.specs.ReplyTexts.{reply_text};
+ghost use Rattle.regatta_talk.specs.Replies.{asks_board, ranked as ranked_by, reply_apart};
+ghost use Rattle.regatta_talk.specs.Replies.{reply_of as reply_by, role_after};
+
+use crate::room::{make_room, write_fitting};
+use regatta_terms::{Answer, Line, LineFault, Refusal, Reply, Role, Touched};
+use std::alloc::AllocError;
+
+/// The reply to a command, by what the board answers to its entry.
+pub fn reply_of(answered: Result<Answer, Refusal>) -> Reply
+    ensures { result ≡ reply_by answered }
+{
+    match answered {
+        Ok(answer) => Reply::Done(answer),
+        Err(refusal) => Reply::Refused(refusal),
+    }
+}
+
+/// The reply to RANK, by the boat's row of the standing: a boat that has none isn't entered.
+pub fn ranked(row: Option<Touched>) -> Reply
+    ensures { result ≡ ranked_by row }
+{
+    match row {
+        Some(touched) => Reply::Ranked(touched),
+        None => Reply::Refused(Refusal::NotEntered),
+    }
+}
+
+/// Answers a line that asks nothing of the board: a role, QUIT, or a line with a fault. The role
+/// of the lines to come changes only once there is room for the reply.
+///
+/// # Errors
+///
+/// Where memory is wanting for the reply. Nothing has changed then.
+pub fn answer_apart(
+    role: &mut Role,
+    asked: Result<Line, LineFault>,
+    out: &mut Vec<u8>,
+) -> Result<(), AllocError>
+    requires { asks_board asked ≡ false }
+    ensures text { OnOk result (out.new.items ≡ out.old.items ++ reply_text (reply_apart asked)) }
+    ensures role { OnOk result (role.new ≡ role_after asked role.old) }
+    ensures err { OnErr result ((role.new ≡ role.old) × (out.new ≡ out.old)) }
+{
+    make_room(out)?;
+    let reply = match asked {
+        Ok(Line::SetRole(next)) => {
+            *role = next;
+            Reply::RoleSet(next)
+        }
+        Ok(Line::Quit) => Reply::Bye,
+        Ok(Line::Do(_) | Line::Rank(_) | Line::Show) => unreachable!(),
+        Err(fault) => Reply::Fault(fault),
+    };
+    write_fitting(&reply, out);
+    Ok(())
+}

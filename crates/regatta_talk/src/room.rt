@@ -1,0 +1,31 @@
+//! Room for a reply.
+ghost use Rattle.std.specs.Prelude.{◌≡◌, ◌+◌, ◌≤◌, ◌++◌, OnOk, OnErr, vec_len, vec_capacity};
+ghost use Rattle.regatta_tables.specs.ReplyTexts.{reply_text};
+
+use regatta_tables::write_reply;
+use regatta_terms::Reply;
+use std::alloc::AllocError;
+
+/// The bytes that a reply has at most, with its LF.
+pub const REPLY_ROOM: usize = 64;
+
+/// Makes room for a reply behind what is written already.
+///
+/// # Errors
+///
+/// Where memory is wanting. Nothing has changed then.
+pub fn make_room(out: &mut Vec<u8>) -> Result<(), AllocError>
+    ensures room { OnOk result (vec_len out.new + REPLY_ROOM ≤ vec_capacity out.new) }
+    ensures same { OnOk result (out.new.items ≡ out.old.items) }
+    ensures err { OnErr result (out.new ≡ out.old) }
+{
+    out.reserve(REPLY_ROOM)
+}
+
+/// Appends a reply where there is room for it.
+pub fn write_fitting(reply: &Reply, out: &mut Vec<u8>)
+    requires { vec_len out.old + REPLY_ROOM ≤ vec_capacity out.old }
+    ensures { out.new.items ≡ out.old.items ++ reply_text reply.now }
+{
+    write_reply(reply, out).unwrap();
+}
