@@ -53,3 +53,6 @@ fn main(rt: HostRuntime) -> ExitCode {
     let status = program(&rt, &texts, &mut input, &mut output, &mut errors);
     ExitCode::from(status)
 }
+
+#[cfg(test)]
+mod tests;

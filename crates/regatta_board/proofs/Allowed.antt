@@ -4,6 +4,7 @@ use Rattle.std.proofs.Common.{◌≡◌, ℕ, ◌+◌, ◌<◌, Bool, true, fals
 use Rattle.std.proofs.Common.{refl, ◌∙◌, arith, length, map, nat_eq}
 use Rattle.std.specs.List.{list_any}
 use Rattle.std.proofs.lemmas.List.{length-map}
+use Rattle.regatta_terms.specs.Rules.{RulesParts}
 use Rattle.regatta_terms.specs.declared.sail.Sail.{Sail}
 use Rattle.regatta_scores.specs.Order.{stands_in}
 use Rattle.regatta_scores.specs.Sheet.{boats}
@@ -15,10 +16,11 @@ use Rattle.regatta_board.proofs.Numbers.{place_in}
 use Rattle.regatta_board.proofs.Renumbered.{group_numbered}
 
 -- on the sheet as in the journal
-pub placed_same : (journal : Journal) (race : ℕ) (boat : Sail) → is_entered journal boat ≡ true
-    → stands_in nat_eq (number journal boat) (sheet_of journal race).order
-    ≡ is_placed journal race boat
-placed_same journal race boat known = by (order journal race)
+pub placed_same : (rules : RulesParts) (journal : Journal) (race : ℕ) (boat : Sail)
+    → is_entered journal boat ≡ true
+    → stands_in nat_eq (number journal boat) (sheet_of rules journal race).order
+    ≡ is_placed rules journal race boat
+placed_same rules journal race boat known = by (order rules journal race)
   where
     by : (gs : List (List Sail))
         → stands_in nat_eq (number journal boat) (map (map (number journal)) gs)
@@ -37,9 +39,10 @@ place_below (z ∷ zs) x h = by (same_sail x z) refl (place_below zs x)
     by true e rest = rw e (omega arith)
     by false e rest = let below : place_in zs x < length zs = rest (rw e at h) in rw e (omega arith)
 
-pub number_below : (journal : Journal) (race : ℕ) (boat : Sail) → is_entered journal boat ≡ true
-    → number journal boat < boats (sheet_of journal race)
-number_below journal race boat known =
+pub number_below : (rules : RulesParts) (journal : Journal) (race : ℕ) (boat : Sail)
+    → is_entered journal boat ≡ true
+    → number journal boat < boats (sheet_of rules journal race)
+number_below rules journal race boat known =
     omega (
       arith,
       place_below (entered journal) boat known,
@@ -47,12 +50,16 @@ number_below journal race boat known =
     )
 
 -- the conditions of changes
-pub unplaced : (journal : Journal) (race : ℕ) (boat : Sail) → is_entered journal boat ≡ true
-    → is_placed journal race boat ≡ false → IsUnplaced (sheet_of journal race) (number journal boat)
-unplaced journal race boat known out =
-    (number_below journal race boat known, placed_same journal race boat known ∙ out)
+pub unplaced : (rules : RulesParts) (journal : Journal) (race : ℕ) (boat : Sail)
+    → is_entered journal boat ≡ true
+    → is_placed rules journal race boat ≡ false
+    → IsUnplaced (sheet_of rules journal race) (number journal boat)
+unplaced rules journal race boat known out =
+    (number_below rules journal race boat known, placed_same rules journal race boat known ∙ out)
 
-pub placed : (journal : Journal) (race : ℕ) (boat : Sail) → is_entered journal boat ≡ true
-    → is_placed journal race boat ≡ true → IsPlaced (sheet_of journal race) (number journal boat)
-placed journal race boat known in_it =
-    (number_below journal race boat known, placed_same journal race boat known ∙ in_it)
+pub placed : (rules : RulesParts) (journal : Journal) (race : ℕ) (boat : Sail)
+    → is_entered journal boat ≡ true
+    → is_placed rules journal race boat ≡ true
+    → IsPlaced (sheet_of rules journal race) (number journal boat)
+placed rules journal race boat known in_it =
+    (number_below rules journal race boat known, placed_same rules journal race boat known ∙ in_it)

@@ -10,14 +10,17 @@ use Rattle.regatta_terms.specs.Entries.{EntryParts}
 use Rattle.regatta_terms.specs.Rules.{RulesParts}
 use Rattle.regatta_terms.specs.declared.sail.Sail.{Sail}
 use Rattle.regatta_terms.specs.declared.command.Command.{Command}
+use Rattle.regatta_terms.specs.declared.limits.TheConstants.{MAX_RACES}
 use Rattle.regatta_scores.specs.declared.table.Row.{Row}
 use Rattle.regatta_scores.specs.Sheet.{boats, empty_sheet}
 use Rattle.regatta_scores.specs.Journal.{Journal, same_sail, entered, held, is_scored, scored}
 use Rattle.regatta_scores.specs.declared.table.Standing.{Standing}
 use Rattle.regatta_scores.specs.Standing.{standing}
+use Rattle.regatta_terms.specs.Entries.{IsRace}
+use Rattle.regatta_scores.proofs.Fresh.{fresh_sheet}
 use Rattle.regatta_board.specs.Refusals.{limits, refusal, command_refusal}
 use Rattle.regatta_board.specs.Answers.{touched_by, rank_of}
-use Rattle.regatta_board.specs.Step.{sheet_in, step, IsRace, NamesRace, MayStep, Fits}
+use Rattle.regatta_board.specs.Step.{sheet_in, step, NamesRace, MayStep, Fits}
 use Rattle.regatta_board.proofs.Lawful.{lawful_more, no_command_refusal, may_step, has_room}
 use Rattle.regatta_board.proofs.Lawful.{not_full}
 use Rattle.regatta_board.proofs.KeptFacts.{fits}
@@ -30,38 +33,50 @@ use Rattle.regatta_board.specs.KeptJournal.{sheet_of, kept_of, IsOrderly}
 use Rattle.regatta_board.specs.BoardFacts.{BoardValue, IsBoard}
 use Rattle.regatta_board.proofs.TableOf.{table_is}
 
-kept_of_is : (journal : Journal) → IsOrderly journal → IsKept (kept_of journal)
-kept_of_is journal orderly = record {
+kept_of_is : (rules : RulesParts) (journal : Journal) → IsOrderly rules journal
+    → IsKept (kept_of rules journal)
+kept_of_is rules journal orderly = record {
   few = orderly.few;
-  sheets = length-map-range_with_len (sheet_of journal) 1 40;
-  counts = length-map-range_with_len (is_scored journal) 1 40;
-  same = All-map (λ sheet. boats sheet ≡ length (entered journal)) (sheet_of journal)
-      (range_with_len 1 40) (λ k d h. length-map (entered journal) (held journal _));
+  sheets = length-map-range_with_len (sheet_of rules journal) 1 MAX_RACES;
+  counts = length-map-range_with_len (is_scored journal) 1 MAX_RACES;
+  same = All-map (λ sheet. boats sheet ≡ length (entered journal)) (sheet_of rules journal)
+      (range_with_len 1 MAX_RACES) (λ k d h. length-map (entered journal) (held journal _));
 }
 
-empty_orderly : IsOrderly []
-empty_orderly = record {
+pub empty_orderly : (rules : RulesParts) → IsOrderly rules []
+empty_orderly rules = record {
   few = omega arith;
   apart = λ i j d h k. absurd (omega arith);
   known = λ race boat h. cc;
   nothing = λ race boat h. refl;
+  once = λ race. fresh_sheet 0 (omega arith);
 }
 
-abbrev pub no_standing : Standing
-no_standing = record { races = []; rows = [] }
+-- what is kept of the empty journal
+abbrev pub empty_kept : Kept
+empty_kept = record {
+  sails = [];
+  sheets = replicate MAX_RACES (empty_sheet 0);
+  counts = replicate MAX_RACES false;
+}
 
-pub empty_board : (rules : RulesParts)
-    → IsBoard rules []
-    (record { sails = []; sheets = replicate 40 (empty_sheet 0); counts = replicate 40 false })
-    no_standing
-empty_board rules =
-    record {
+-- the board of the empty journal
+pub empty_board : (rules : RulesParts) (entries : Journal) (kept : Kept) (counted : List ℕ)
+    (rows : List Row) → entries ≡ []
+    → kept ≡ empty_kept → counted ≡ [] → rows ≡ []
+    → IsBoard rules entries kept (record { races = counted; rows = rows })
+empty_board rules entries kept counted rows e k r s =
+    subst (λ es. IsBoard rules es kept (record { races = counted; rows = rows })) (sym e)
+    (subst (λ ks. IsBoard rules [] ks (record { races = counted; rows = rows })) (sym k)
+    (subst (λ rs. IsBoard rules [] empty_kept (record { races = rs; rows = rows })) (sym r)
+    (subst (λ rs. IsBoard rules [] empty_kept (record { races = []; rows = rs })) (sym s)
+    (record {
       few = omega arith;
       lawful = refl;
-      orderly = empty_orderly;
+      orderly = empty_orderly rules;
       keeps = refl;
       stands = refl;
-    }
+    }))))
 
 -- each sheet has a line for each boat
 pub sheet_long : (kept : Kept) → IsKept kept → (race : ℕ) → IsRace race
@@ -74,7 +89,7 @@ sheet_long kept is race within =
 module _ (rules : RulesParts) (entries : Journal) (kept : Kept) (made : Standing)
     (is : IsBoard rules entries kept made) where
   pub board_kept : IsKept kept
-  board_kept = subst IsKept (sym is.keeps) (kept_of_is entries is.orderly)
+  board_kept = subst IsKept (sym is.keeps) (kept_of_is rules entries is.orderly)
 
   pub board_standing : table rules kept ≡ standing rules entries
   board_standing = ap (table rules) is.keeps ∙ table_is rules entries is.orderly
@@ -90,24 +105,28 @@ module _ (rules : RulesParts) (entries : Journal) (kept : Kept) (made : Standing
   pub staged : (before : BoardValue) → before ≡ record { rules = rules; entries = entries }
       → (e : EntryParts) (revision : Revision) (found : Standing)
       → IsBoard rules (entries ++ e ∷ []) (revised kept revision) found
-      → IsBoard before.rules (before.entries ++ e ∷ []) (revised (kept_of before.entries) revision)
+      → IsBoard before.rules (before.entries ++ e ∷ []) (revised
+      (kept_of before.rules before.entries) revision)
       found
   staged before b e revision found more =
-      let here : IsBoard rules (entries ++ e ∷ []) (revised (kept_of entries) revision) found =
+      let here : IsBoard rules (entries ++ e ∷ []) (revised
+      (kept_of rules entries) revision) found =
       subst (λ k. IsBoard rules (entries ++ e ∷ []) (revised k revision) found) is.keeps more in
       subst (λ (v : BoardValue). IsBoard v.rules (v.entries ++ e ∷ [])
-      (revised (kept_of v.entries) revision) found) (sym b) here
+      (revised (kept_of v.rules v.entries) revision) found) (sym b) here
 
   pub committed : (before : BoardValue) → before ≡ record { rules = rules; entries = entries }
       → (e : EntryParts) (revision : Revision) (found : Standing)
-      → IsBoard before.rules (before.entries ++ e ∷ []) (revised (kept_of before.entries) revision)
+      → IsBoard before.rules (before.entries ++ e ∷ []) (revised
+      (kept_of before.rules before.entries) revision)
       found → (items : Journal) → items ≡ entries ++ e ∷ [] → (new : Kept)
       → new ≡ revised kept revision → IsBoard rules items new found
   committed before b e revision found more items i new n =
-      let here : IsBoard rules (entries ++ e ∷ []) (revised (kept_of entries) revision) found =
+      let here : IsBoard rules (entries ++ e ∷ []) (revised
+      (kept_of rules entries) revision) found =
       subst (λ (v : BoardValue). IsBoard v.rules (v.entries ++ e ∷ [])
-      (revised (kept_of v.entries) revision) found) b more in
-      let kept_is : revised (kept_of entries) revision ≡ new =
+      (revised (kept_of v.rules v.entries) revision) found) b more in
+      let kept_is : revised (kept_of rules entries) revision ≡ new =
       ap (λ k. revised k revision) (sym is.keeps) ∙ sym n in
       subst (λ js. IsBoard rules js new found) (sym i)
       (subst (λ k. IsBoard rules (entries ++ e ∷ []) k found) kept_is here)
@@ -118,23 +137,23 @@ module _ (rules : RulesParts) (entries : Journal) (kept : Kept) (made : Standing
     accepted = ap (λ d. command_refusal limits rules entries e.role d) named
         ∙ no_command_refusal rules entries e none
 
-    may : MayStep entries c
-    may = may_step rules entries e.role c race accepted
+    may : MayStep rules entries c
+    may = may_step rules entries e.role c accepted
 
     pub board_fits : Fits kept c
-    board_fits = fits entries is.orderly kept is.keeps rules e.role c race accepted
+    board_fits = fits rules entries is.orderly kept is.keeps e.role c race accepted
 
-    orderly : IsOrderly (entries ++ e ∷ [])
-    orderly = orderly_more entries is.orderly e c (sym named) may
+    orderly : IsOrderly rules (entries ++ e ∷ [])
+    orderly = orderly_more rules entries is.orderly e c (sym named) may
         (has_room rules entries e.role c accepted)
 
-    next_is : (new : Kept) → new ≡ step kept c → new ≡ kept_of (entries ++ e ∷ [])
+    next_is : (new : Kept) → new ≡ step kept c → new ≡ kept_of rules (entries ++ e ∷ [])
     next_is new now = now ∙ ap (λ k. step k c) is.keeps
-        ∙ step_is entries is.orderly e c (sym named) may
+        ∙ step_is rules entries is.orderly e c (sym named) race may
 
     pub next_kept : (new : Kept) → new ≡ step kept c → IsKept new
     next_kept new now =
-        subst IsKept (sym (next_is new now)) (kept_of_is (entries ++ e ∷ []) orderly)
+        subst IsKept (sym (next_is new now)) (kept_of_is rules (entries ++ e ∷ []) orderly)
 
     -- the board after an accepted entry: what is kept takes one step
     pub board_more : (new : Kept) (found : Standing) → new ≡ step kept c → found ≡ table rules new

@@ -6,6 +6,7 @@ use Rattle.std.specs.List.{list_any}
 use Rattle.std.proofs.lemmas.List.{append-nil}
 use Rattle.std.proofs.lemmas.List.Sums.{fold_push}
 use Rattle.regatta_terms.specs.Entries.{EntryParts}
+use Rattle.regatta_terms.specs.Rules.{RulesParts}
 use Rattle.regatta_terms.specs.declared.sail.Sail.{Sail}
 use Rattle.regatta_terms.specs.declared.command.Command.{Command}
 use Rattle.regatta_terms.specs.declared.command.Command.TheVariants.{Enter, Finish, Tie, Before}
@@ -17,9 +18,10 @@ use Rattle.regatta_scores.specs.Journal.{Journal, same_sail, names_race, sail_en
 use Rattle.regatta_scores.specs.Journal.{order, held, order_by, order_after, race_commands, decides}
 use Rattle.regatta_scores.proofs.Apart.{race_commands_more, entered_more}
 use Rattle.regatta_board.specs.Refusals.{limits, is_entered}
-use Rattle.regatta_board.specs.KeptJournal.{IsOrderly}
+use Rattle.regatta_board.specs.KeptJournal.{IsOnSheet, IsOrderly}
 use Rattle.regatta_board.specs.Step.{MayStep}
 use Rattle.regatta_board.proofs.Numbers.{same_is}
+use Rattle.regatta_board.proofs.OnSheets.{on_same, on_more, on_after}
 use Rattle.regatta_board.proofs.Decisions.{held_from, others_hold}
 
 or_elim : (a b : Bool) (Q : Type 0) → (a ≡ true → Q) → (b ≡ true → Q) → (a || b) ≡ true → Q
@@ -127,39 +129,46 @@ entered_one : (boats : List Sail) (s b : Sail) → list_any (same_sail s) boats 
     → same_sail s b ≡ true → list_any (same_sail b) boats ≡ true
 entered_one boats s b h e = ap (λ x. list_any (same_sail x) boats) (sym (same_is s b e)) ∙ h
 
-order_more : (journal : Journal) (entry : EntryParts) (c : Command) (race : ℕ) → entry.command ≡ c
-    → order (journal ++ entry ∷ []) race
-    ≡ cond (names_race race c) (order_after (order journal race) c) (order journal race)
-order_more journal entry c race is = ap order_by (race_commands_more journal entry race)
-    ∙ ap (λ d. order_by (race_commands journal race ++ cond (names_race race d) (d ∷ []) [])) is
+order_more : (rules : RulesParts) (journal : Journal) (entry : EntryParts) (c : Command)
+    (race : ℕ) → entry.command ≡ c
+    → order rules (journal ++ entry ∷ []) race
+    ≡ cond (names_race race c) (order_after rules (order rules journal race) c)
+    (order rules journal race)
+order_more rules journal entry c race is =
+    ap (order_by rules) (race_commands_more journal entry race)
+    ∙ ap (λ d. order_by rules (race_commands journal race ++ cond (names_race race d)
+    (d ∷ []) [])) is
     ∙ by (names_race race c)
   where
-    by : (t : Bool) → order_by (race_commands journal race ++ cond t (c ∷ []) [])
-        ≡ cond t (order_after (order journal race) c) (order journal race)
-    by true = fold_push order_after [] (race_commands journal race) c
-    by false = ap order_by (append-nil (race_commands journal race))
+    by : (t : Bool) → order_by rules (race_commands journal race ++ cond t (c ∷ []) [])
+        ≡ cond t (order_after rules (order rules journal race) c) (order rules journal race)
+    by true = fold_push (order_after rules) [] (race_commands journal race) c
+    by false = ap (order_by rules) (append-nil (race_commands journal race))
 
 -- who stands in an order after the command is entered
-stands_entered : (journal : Journal) → IsOrderly journal → (c : Command) (race : ℕ)
-    → MayStep journal c → (b : Sail) → stands_in same_sail b (order_after (order journal race) c)
+stands_entered : (rules : RulesParts) (journal : Journal) → IsOrderly rules journal
+    → (c : Command) (race : ℕ)
+    → MayStep rules journal c → (b : Sail)
+    → stands_in same_sail b (order_after rules (order rules journal race) c)
     ≡ true → is_entered journal b ≡ true
-stands_entered journal o (Finish r s) race may b h =
-    in_last b s (order journal race) _ (o.known race b) (entered_one (entered journal) s b may.1) h
-stands_entered journal o (Tie r s other) race may b h =
-    in_joined b s other (order journal race) _ (o.known race b)
-    (entered_one (entered journal) s b may.1) h
-stands_entered journal o (Before r s other) race may b h =
-    in_ahead b s other (order journal race) _ (o.known race b)
-    (entered_one (entered journal) s b may.1) h
-stands_entered journal o (Strike r s) race may b h =
-    o.known race b (in_without b s (order journal race) h)
-stands_entered journal o (Enter s) race may b h = o.known race b h
-stands_entered journal o (Mark r s code) race may b h = o.known race b h
-stands_entered journal o (Penalise r s kind) race may b h = o.known race b h
-stands_entered journal o (Redress r s redress) race may b h = o.known race b h
-stands_entered journal o (Clear r s) race may b h = o.known race b h
-stands_entered journal o (Score r) race may b h = o.known race b h
-stands_entered journal o (Unscore r) race may b h = o.known race b h
+stands_entered rules journal o (Finish r s) race may b h =
+    in_last b s (order rules journal race) _ (o.known race b) (entered_one
+    (entered journal) s b may.0) h
+stands_entered rules journal o (Tie r s other) race may b h =
+    in_joined b s other (order rules journal race) _ (o.known race b)
+    (entered_one (entered journal) s b may.0) h
+stands_entered rules journal o (Before r s other) race may b h =
+    in_ahead b s other (order rules journal race) _ (o.known race b)
+    (entered_one (entered journal) s b may.0) h
+stands_entered rules journal o (Strike r s) race may b h =
+    o.known race b (in_without b s (order rules journal race) h)
+stands_entered rules journal o (Enter s) race may b h = o.known race b h
+stands_entered rules journal o (Mark r s code) race may b h = o.known race b h
+stands_entered rules journal o (Penalise r s kind) race may b h = o.known race b h
+stands_entered rules journal o (Redress r s redress) race may b h = o.known race b h
+stands_entered rules journal o (Clear r s) race may b h = o.known race b h
+stands_entered rules journal o (Score r) race may b h = o.known race b h
+stands_entered rules journal o (Unscore r) race may b h = o.known race b h
 
 -- nobody else is decided about
 not_about : (boats : List Sail) (s b : Sail) (t : Bool) → list_any (same_sail s) boats ≡ true
@@ -168,19 +177,22 @@ not_about boats s b true h out e = let in_it : list_any (same_sail b) boats ≡ 
     ap (λ x. list_any (same_sail x) boats) (same_is b s e) ∙ h in absurd (cc)
 not_about boats s b false h out e = refl
 
-undecided : (journal : Journal) (c : Command) → MayStep journal c → (b : Sail)
+undecided : (rules : RulesParts) (journal : Journal) (c : Command) → MayStep rules journal c
+    → (b : Sail)
     → is_entered journal b ≡ false → decides b c ≡ false
-undecided journal (Mark r s code) may b out = not_about (entered journal) s b _ may.1 out refl
-undecided journal (Penalise r s kind) may b out = not_about (entered journal) s b _ may.1 out refl
-undecided journal (Redress r s redress) may b out = not_about (entered journal) s b _ may.1 out refl
-undecided journal (Clear r s) may b out = not_about (entered journal) s b _ may.1 out refl
-undecided journal (Enter s) may b out = refl
-undecided journal (Finish r s) may b out = refl
-undecided journal (Tie r s other) may b out = refl
-undecided journal (Before r s other) may b out = refl
-undecided journal (Strike r s) may b out = refl
-undecided journal (Score r) may b out = refl
-undecided journal (Unscore r) may b out = refl
+undecided rules journal (Mark r s code) may b out = not_about (entered journal) s b _ may out refl
+undecided rules journal (Penalise r s kind) may b out =
+    not_about (entered journal) s b _ may out refl
+undecided rules journal (Redress r s redress) may b out =
+    not_about (entered journal) s b _ may out refl
+undecided rules journal (Clear r s) may b out = not_about (entered journal) s b _ may out refl
+undecided rules journal (Enter s) may b out = refl
+undecided rules journal (Finish r s) may b out = refl
+undecided rules journal (Tie r s other) may b out = refl
+undecided rules journal (Before r s other) may b out = refl
+undecided rules journal (Strike r s) may b out = refl
+undecided rules journal (Score r) may b out = refl
+undecided rules journal (Unscore r) may b out = refl
 
 held_more : (journal : Journal) (entry : EntryParts) (c : Command) (race : ℕ) (b : Sail)
     → entry.command ≡ c → decides b c ≡ false
@@ -195,9 +207,10 @@ held_more journal entry c race b is none =
     by true = others_hold (race_commands journal race) c b none
     by false = ap (λ cs. held_from cs b) (append-nil (race_commands journal race))
 
-module _ (journal : Journal) (o : IsOrderly journal) (entry : EntryParts) (c : Command)
-    (is : entry.command ≡ c) (may : MayStep journal c) where
-  orderly_same : sail_entered c ≡ None → IsOrderly (journal ++ entry ∷ [])
+module _ (rules : RulesParts) (journal : Journal) (o : IsOrderly rules journal)
+    (entry : EntryParts) (c : Command)
+    (is : entry.command ≡ c) (may : MayStep rules journal c) where
+  orderly_same : sail_entered c ≡ None → IsOrderly rules (journal ++ entry ∷ [])
   orderly_same none =
       let boats : entered (journal ++ entry ∷ []) ≡ entered journal = entered_more journal entry
       ∙ rw (is, none) (append-nil _) in
@@ -209,17 +222,27 @@ module _ (journal : Journal) (o : IsOrderly journal) (entry : EntryParts) (c : C
             ∙ o.apart i j d h (omega (arith, long));
         known = λ race b h. ap (λ xs. list_any (same_sail b) xs) boats
             ∙ by race b (names_race race c)
-            (sym (ap (stands_in same_sail b) (order_more journal entry c race is)) ∙ h);
+            (sym (ap (stands_in same_sail b) (order_more rules journal entry c race is)) ∙ h);
         nothing = λ race b out. (let before : is_entered journal b
             ≡ false = sym (ap (λ xs. list_any (same_sail b) xs) boats) ∙ out in
-            held_more journal entry c race b is (undecided journal c may b before)
+            held_more journal entry c race b is (undecided rules journal c may b before)
             ∙ o.nothing race b before);
+        once = λ race. on_same (entered journal) (entered (journal ++ entry ∷ []))
+            (cond (names_race race c) (order_after rules (order rules journal race) c)
+            (order rules journal race)) (order rules (journal ++ entry ∷ []) race) boats
+            (order_more rules journal entry c race is) (on race (names_race race c) refl);
       }
     where
+      on : (race : ℕ) (t : Bool) → names_race race c ≡ t → IsOnSheet (entered journal)
+          (cond t (order_after rules (order rules journal race) c) (order rules journal race))
+      on race true named = on_after rules journal race (o.once race) c named may
+      on race false named = o.once race
+
       by : (race : ℕ) (b : Sail) (t : Bool)
-          → stands_in same_sail b (cond t (order_after (order journal race) c) (order journal race))
+          → stands_in same_sail b (cond t (order_after rules (order rules journal race) c)
+          (order rules journal race))
           ≡ true → is_entered journal b ≡ true
-      by race b true h = stands_entered journal o c race may b h
+      by race b true h = stands_entered rules journal o c race may b h
       by race b false h = o.known race b h
 
 each_push : (xs : List Sail) (s x : Sail)
@@ -232,7 +255,7 @@ each_push (y ∷ ys) s x each last zero d h = each 0 d (omega arith)
 each_push (y ∷ ys) s x each last (suc j) d h =
     each_push ys s x (λ k e m. each (suc k) e (omega arith)) last j d (omega arith)
 
-or_false : (a b : Bool) → (a || b) ≡ false → (a ≡ false) × (b ≡ false)
+pub or_false : (a b : Bool) → (a || b) ≡ false → (a ≡ false) × (b ≡ false)
 or_false true b h = cc
 or_false false b h = (refl, h)
 
@@ -260,10 +283,11 @@ any_push p (x ∷ xs) s = ap (λ t. p x || t) (any_push p xs s)
     assoc true b d = refl
     assoc false b d = refl
 
-orderly_enter : (journal : Journal) → IsOrderly journal → (entry : EntryParts) (s : Sail)
+orderly_enter : (rules : RulesParts) (journal : Journal) → IsOrderly rules journal
+    → (entry : EntryParts) (s : Sail)
     → entry.command ≡ Enter s → is_entered journal s ≡ false
-    → length (entered journal) < limits.boats → IsOrderly (journal ++ entry ∷ [])
-orderly_enter journal o entry s is out room =
+    → length (entered journal) < limits.boats → IsOrderly rules (journal ++ entry ∷ [])
+orderly_enter rules journal o entry s is out room =
     let boats : entered (journal ++ entry ∷ []) ≡ entered journal ++ s ∷ [] =
     entered_more journal entry ∙ rw is refl in
     let long : length (entered (journal ++ entry ∷ [])) ≡ length (entered journal) + 1 =
@@ -278,37 +302,44 @@ orderly_enter journal o entry s is out room =
           ∙ any_push (same_sail b) (entered journal) s
           ∙ or_left (is_entered journal b) _
           (o.known race b
-          (sym (ap (stands_in same_sail b) (order_more journal entry (Enter s) race is)) ∙ h));
+          (sym (ap (stands_in same_sail b) (order_more rules journal entry (Enter s) race is))
+          ∙ h));
       nothing = λ race b h. (let before : is_entered journal b
           ≡ false = (or_false (is_entered journal b) _
           (sym (ap (λ xs. list_any (same_sail b) xs) boats
           ∙ any_push (same_sail b) (entered journal) s) ∙ h)).0 in
           held_more journal entry (Enter s) race b is refl ∙ o.nothing race b before);
+      once = λ race. on_same (entered journal ++ s ∷ []) (entered (journal ++ entry ∷ []))
+          (order rules journal race) (order rules (journal ++ entry ∷ []) race) boats
+          (order_more rules journal entry (Enter s) race is)
+          (on_more (entered journal) s (order rules journal race) (o.once race)
+          (o.known race) room);
     }
 
-pub orderly_more : (journal : Journal) → IsOrderly journal → (entry : EntryParts) (c : Command)
-    → entry.command ≡ c → MayStep journal c
+pub orderly_more : (rules : RulesParts) (journal : Journal) → IsOrderly rules journal
+    → (entry : EntryParts) (c : Command)
+    → entry.command ≡ c → MayStep rules journal c
     → (sail_entered c ≢ None → length (entered journal) < limits.boats)
-    → IsOrderly (journal ++ entry ∷ [])
-orderly_more journal o entry (Enter s) is may room =
-    orderly_enter journal o entry s is may (room (λ h. cc))
-orderly_more journal o entry (Finish r s) is may room =
-    orderly_same journal o entry (Finish r s) is may refl
-orderly_more journal o entry (Tie r s other) is may room =
-    orderly_same journal o entry (Tie r s other) is may refl
-orderly_more journal o entry (Before r s other) is may room =
-    orderly_same journal o entry (Before r s other) is may refl
-orderly_more journal o entry (Strike r s) is may room =
-    orderly_same journal o entry (Strike r s) is may refl
-orderly_more journal o entry (Mark r s code) is may room =
-    orderly_same journal o entry (Mark r s code) is may refl
-orderly_more journal o entry (Penalise r s kind) is may room =
-    orderly_same journal o entry (Penalise r s kind) is may refl
-orderly_more journal o entry (Redress r s redress) is may room =
-    orderly_same journal o entry (Redress r s redress) is may refl
-orderly_more journal o entry (Clear r s) is may room =
-    orderly_same journal o entry (Clear r s) is may refl
-orderly_more journal o entry (Score r) is may room =
-    orderly_same journal o entry (Score r) is may refl
-orderly_more journal o entry (Unscore r) is may room =
-    orderly_same journal o entry (Unscore r) is may refl
+    → IsOrderly rules (journal ++ entry ∷ [])
+orderly_more rules journal o entry (Enter s) is may room =
+    orderly_enter rules journal o entry s is may (room (λ h. cc))
+orderly_more rules journal o entry (Finish r s) is may room =
+    orderly_same rules journal o entry (Finish r s) is may refl
+orderly_more rules journal o entry (Tie r s other) is may room =
+    orderly_same rules journal o entry (Tie r s other) is may refl
+orderly_more rules journal o entry (Before r s other) is may room =
+    orderly_same rules journal o entry (Before r s other) is may refl
+orderly_more rules journal o entry (Strike r s) is may room =
+    orderly_same rules journal o entry (Strike r s) is may refl
+orderly_more rules journal o entry (Mark r s code) is may room =
+    orderly_same rules journal o entry (Mark r s code) is may refl
+orderly_more rules journal o entry (Penalise r s kind) is may room =
+    orderly_same rules journal o entry (Penalise r s kind) is may refl
+orderly_more rules journal o entry (Redress r s redress) is may room =
+    orderly_same rules journal o entry (Redress r s redress) is may refl
+orderly_more rules journal o entry (Clear r s) is may room =
+    orderly_same rules journal o entry (Clear r s) is may refl
+orderly_more rules journal o entry (Score r) is may room =
+    orderly_same rules journal o entry (Score r) is may refl
+orderly_more rules journal o entry (Unscore r) is may room =
+    orderly_same rules journal o entry (Unscore r) is may refl

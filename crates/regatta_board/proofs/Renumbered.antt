@@ -78,10 +78,6 @@ group_struck boats sail known (x ∷ xs) =
     by true e rest = rw e rest
     by false e rest = rw e (ap (λ ys. place_in boats x ∷ ys) rest)
 
-empty_numbered : {X Y : Type 0} (f : X → Y) (g : List X) → is_empty (map f g) ≡ is_empty g
-empty_numbered f [] = refl
-empty_numbered f (x ∷ xs) = refl
-
 kept_numbered : {X Y : Type 0} (f : X → Y) (gs : List (List X))
     → map (map f) (filter (λ g. not (is_empty g)) gs)
     ≡ filter (λ g. not (is_empty g)) (map (map f) gs)

@@ -6,6 +6,7 @@ use Rattle.std.proofs.lemmas.List.{length-map, get_or-map}
 use Rattle.std.proofs.lemmas.List.FromFn.{get_or-map-range_with_len}
 use Rattle.regatta_terms.specs.Rules.{RulesParts, exclusions_of}
 use Rattle.regatta_terms.specs.declared.sail.Sail.{Sail}
+use Rattle.regatta_terms.specs.declared.limits.TheConstants.{MAX_RACES}
 use Rattle.regatta_scores.specs.declared.boats.Scored.{Scored}
 use Rattle.regatta_scores.specs.declared.table.Row.{Row}
 use Rattle.regatta_scores.specs.Sheet.{boats, nothing_held, empty_sheet}
@@ -94,8 +95,7 @@ line_is rules journal boat i =
     record { points = points_are rules journal boat i; excluded = flags_are rules journal boat i }
 
 mark_is : (rules : RulesParts) (journal : Journal) (race : ℕ) (boat : Sail)
-    → one.mark (one.outcome rules journal race boat) ≡ by_journal.mark journal race boat
-unfolding one.mark
+    → one.mark (one.outcome rules journal race boat) ≡ by_journal.mark rules journal race boat
 mark_is rules journal race boat = refl
 
 cells_are : (rules : RulesParts) (journal : Journal) (boat : Sail)
@@ -113,7 +113,7 @@ cells_are rules journal boat =
     ∙ map_same (λ (p : ℕ × (ℕ × Bool)). cell (f p.0, p.1))
     (λ (p : ℕ × (ℕ × Bool)). record {
       points = p.1.0;
-      mark = by_journal.mark journal p.0 boat;
+      mark = by_journal.mark rules journal p.0 boat;
       dropped = p.1.1;
     })
     (λ p i. record { points = p.1.0; mark = mark_is rules journal p.0 boat i; dropped = p.1.1 })
@@ -139,8 +139,8 @@ row_is rules journal lines boat i =
 
 -- ---- one race
 
-module _ (rules : RulesParts) (journal : Journal) (orderly : IsOrderly journal) where
-  boats_numbered : (race : ℕ) → range_with_len 0 (boats (sheet_of journal race))
+module _ (rules : RulesParts) (journal : Journal) (orderly : IsOrderly rules journal) where
+  boats_numbered : (race : ℕ) → range_with_len 0 (boats (sheet_of rules journal race))
       ≡ map (number journal) (entered journal)
   boats_numbered race = ap (range_with_len 0) (length-map (entered journal) (held journal race))
       ∙ numbers_are (entered journal) orderly.apart
@@ -149,7 +149,7 @@ module _ (rules : RulesParts) (journal : Journal) (orderly : IsOrderly journal) 
   known_all = all_in (entered journal) (entered journal) (λ x h. h)
 
   held_under : (race : ℕ) (boat : Sail)
-      → get_or (sheet_of journal race).held (number journal boat) nothing_held
+      → get_or (sheet_of rules journal race).held (number journal boat) nothing_held
       ≡ held journal race boat
   held_under race boat =
       found_under (held journal race) nothing_held (entered journal) boat
@@ -157,8 +157,8 @@ module _ (rules : RulesParts) (journal : Journal) (orderly : IsOrderly journal) 
 
   renamed : (race : ℕ)
       → IsRenamed same_sail nat_eq (λ boat. is_entered journal boat ≡ true) (number journal)
-      (journal_race journal race)
-      (race_of (sheet_of journal race).order (sheet_of journal race).held)
+      (journal_race rules journal race)
+      (race_of (sheet_of rules journal race).order (sheet_of rules journal race).held)
   renamed race = record {
     tells = λ x y h. numbers_tell (entered journal) x y h;
     all_known = known_all;
@@ -168,56 +168,61 @@ module _ (rules : RulesParts) (journal : Journal) (orderly : IsOrderly journal) 
   }
 
   outcome_is : (race : ℕ) (boat : Sail) → is_entered journal boat ≡ true
-      → all.outcome_on rules (sheet_of journal race) (number journal boat)
+      → all.outcome_on rules (sheet_of rules journal race) (number journal boat)
       ≡ one.outcome rules journal race boat
   outcome_is race boat h i = record {
     plain = plain_same same_sail nat_eq (λ b. is_entered journal b ≡ true) (number journal)
-        (journal_race journal race)
-        (race_of (sheet_of journal race).order (sheet_of journal race).held) (renamed race) rules
+        (journal_race rules journal race)
+        (race_of (sheet_of rules journal race).order (sheet_of rules journal race).held)
+        (renamed race) rules
         boat h i;
     held = held_under race boat i;
     placed = order_same same_sail nat_eq (λ b. is_entered journal b ≡ true) (number journal)
-        (journal_race journal race)
-        (race_of (sheet_of journal race).order (sheet_of journal race).held) (renamed race) boat h
+        (journal_race rules journal race)
+        (race_of (sheet_of rules journal race).order (sheet_of rules journal race).held)
+        (renamed race) boat h
         i;
   }
 
   column_is : (race : ℕ)
-      → all.column rules (sheet_of journal race)
+      → all.column rules (sheet_of rules journal race)
       ≡ map (one.outcome rules journal race) (entered journal)
   column_is race =
-      ap (map (all.outcome_on rules (sheet_of journal race))) (boats_numbered race)
-      ∙ map_map (all.outcome_on rules (sheet_of journal race)) (number journal) (entered journal)
+      ap (map (all.outcome_on rules (sheet_of rules journal race))) (boats_numbered race)
+      ∙ map_map (all.outcome_on rules (sheet_of rules journal race)) (number journal)
+      (entered journal)
       ∙ map_known (λ boat. is_entered journal boat ≡ true)
-      (λ boat. all.outcome_on rules (sheet_of journal race) (number journal boat))
+      (λ boat. all.outcome_on rules (sheet_of rules journal race) (number journal boat))
       (one.outcome rules journal race) (outcome_is race) (entered journal) known_all
 
   -- ---- the races that count
 
-  races_are : all.races (kept_of journal).counts ≡ scored journal
-  races_are = filter_known (λ r. (1 ≤ r) × (r < 1 + 40))
-      (λ race. get_or (kept_of journal).counts (race - 1) false) (is_scored journal)
-      (λ race h. get_or-map-range_with_len (is_scored journal) 1 40 (race - 1) race false
-      (let k : 1 ≤ race = h.0 in let l : race < 1 + 40 = h.1 in
-      omega arith) (let k : 1 ≤ race = h.0 in omega arith)) (range_with_len 1 40) (in_range 1 40)
+  races_are : all.races (kept_of rules journal).counts ≡ scored journal
+  races_are = filter_known (λ r. (1 ≤ r) × (r < 1 + MAX_RACES))
+      (λ race. get_or (kept_of rules journal).counts (race - 1) false) (is_scored journal)
+      (λ race h. get_or-map-range_with_len (is_scored journal) 1 MAX_RACES (race - 1) race false
+      (let k : 1 ≤ race = h.0 in let l : race < 1 + MAX_RACES = h.1 in
+      omega arith) (let k : 1 ≤ race =
+      h.0 in omega arith)) (range_with_len 1 MAX_RACES) (in_range 1 MAX_RACES)
 
-  scored_in_range : AllByRecursion (λ r. (1 ≤ r) × (r < 1 + 40)) (scored journal)
+  scored_in_range : AllByRecursion (λ r. (1 ≤ r) × (r < 1 + MAX_RACES)) (scored journal)
   scored_in_range =
-      all_kept (λ r. (1 ≤ r) × (r < 1 + 40)) (is_scored journal) (range_with_len 1 40)
-      (in_range 1 40)
+      all_kept (λ r. (1 ≤ r) × (r < 1 + MAX_RACES)) (is_scored journal) (range_with_len 1 MAX_RACES)
+      (in_range 1 MAX_RACES)
 
-  sheet_at : (race : ℕ) → (1 ≤ race) × (race < 1 + 40)
-      → get_or (kept_of journal).sheets (race - 1) (empty_sheet 0) ≡ sheet_of journal race
+  sheet_at : (race : ℕ) → (1 ≤ race) × (race < 1 + MAX_RACES)
+      → get_or (kept_of rules journal).sheets (race - 1) (empty_sheet 0)
+      ≡ sheet_of rules journal race
   sheet_at race h =
-      get_or-map-range_with_len (sheet_of journal) 1 40 (race - 1) race (empty_sheet 0)
-      (let k : 1 ≤ race = h.0 in let l : race < 1 + 40 = h.1 in
+      get_or-map-range_with_len (sheet_of rules journal) 1 MAX_RACES (race - 1) race (empty_sheet 0)
+      (let k : 1 ≤ race = h.0 in let l : race < 1 + MAX_RACES = h.1 in
       omega arith) (let k : 1 ≤ race = h.0 in omega arith)
 
-  columns_are : all.columns rules (kept_of journal).sheets (scored journal)
+  columns_are : all.columns rules (kept_of rules journal).sheets (scored journal)
       ≡ map (λ race. map (one.outcome rules journal race) (entered journal)) (scored journal)
   columns_are =
-      map_known (λ r. (1 ≤ r) × (r < 1 + 40))
-      (λ race. all.column rules (get_or (kept_of journal).sheets (race - 1) (empty_sheet 0)))
+      map_known (λ r. (1 ≤ r) × (r < 1 + MAX_RACES))
+      (λ race. all.column rules (get_or (kept_of rules journal).sheets (race - 1) (empty_sheet 0)))
       (λ race. map (one.outcome rules journal race) (entered journal))
       (λ race h. ap (all.column rules) (sheet_at race h) ∙ column_is race) (scored journal)
       scored_in_range
@@ -229,7 +234,7 @@ module _ (rules : RulesParts) (journal : Journal) (orderly : IsOrderly journal) 
   by_boat b h =
       map_map (λ (column : List Outcome). get_or column b all.no_outcome)
       (λ race. map (one.outcome rules journal race) (entered journal)) (scored journal)
-      ∙ map_known (λ r. (1 ≤ r) × (r < 1 + 40))
+      ∙ map_known (λ r. (1 ≤ r) × (r < 1 + MAX_RACES))
       (λ race. get_or (map (one.outcome rules journal race) (entered journal)) b all.no_outcome)
       (λ race. one.outcome rules journal race (get_or (entered journal) b []))
       (λ race k. get_or-map (one.outcome rules journal race) (entered journal) b []
@@ -266,12 +271,12 @@ module _ (rules : RulesParts) (journal : Journal) (orderly : IsOrderly journal) 
       (line_is rules journal (get_or (entered journal) b []))
       ∙ row_is rules journal (by_journal.lines rules journal) (get_or (entered journal) b [])))
 
-  pub table_is : all.table rules (kept_of journal) ≡ by_journal.standing rules journal
+  pub table_is : all.table rules (kept_of rules journal) ≡ by_journal.standing rules journal
   table_is =
       (λ i. record {
         races = races_are i;
         rows = all.rows rules (entered journal)
-            (all.columns rules (kept_of journal).sheets (races_are i));
+            (all.columns rules (kept_of rules journal).sheets (races_are i));
       })
       ∙ (λ i. record {
         races = scored journal;

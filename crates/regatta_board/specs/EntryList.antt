@@ -2,8 +2,8 @@
 use Rattle.std.specs.Prelude.{◌≡◌, ℕ, List, Some, slice_get}
 use Rattle.regatta_terms.specs.declared.sail.Sail.{Sail}
 
--- each boat has her place in the list as her number
+-- each boat has her position in the list as her number
 abbrev pub IsNumbered : List (Sail × ℕ) → Type 0
 IsNumbered entries =
-    (place : ℕ) (boat : Sail) (number : ℕ)
-    → slice_get entries place ≡ Some (boat, number) → number ≡ place
+    (position : ℕ) (boat : Sail) (number : ℕ)
+    → slice_get entries position ≡ Some (boat, number) → number ≡ position

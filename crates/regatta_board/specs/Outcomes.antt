@@ -42,7 +42,7 @@ abbrev pub line : RulesParts → List Outcome → Line
 line rules outcomes = record { points = points outcomes; excluded = flags rules outcomes }
 
 -- the abbreviation that the table shows beside the points, if any (RRS A10)
-unfoldable pub mark : Outcome → Option Abbrev
+abbrev pub mark : Outcome → Option Abbrev
 mark o = mark_by o.held.redress (status_by o.held.code o.placed) o.held
 
 -- a cell of the table: points, abbreviation (RRS A10), and whether it is excluded (RRS A2.1)
@@ -72,9 +72,9 @@ row rules boat place outcomes = row_by boat place (line rules outcomes) outcomes
 abbrev pub outcome : RulesParts → Journal → ℕ → Sail → Outcome
 outcome rules journal race boat =
     record {
-      plain = plain same_sail rules (journal_race journal race) boat;
+      plain = plain same_sail rules (journal_race rules journal race) boat;
       held = held journal race boat;
-      placed = stands_in same_sail boat (order journal race);
+      placed = stands_in same_sail boat (order rules journal race);
     }
 
 -- the same in each race that counts

@@ -3,6 +3,7 @@ use Rattle.std.specs.Prelude.{◌≡◌, ℕ, ◌+◌, min, Bool, true, false, n
 use Rattle.std.specs.Prelude.{List, [], ◌∷◌, ◌++◌, length, filter, map, unwrap_or, Option, Some}
 use Rattle.std.specs.Prelude.{None, is_some, is_none, if◌then◌else◌}
 use Rattle.std.specs.List.{list_any}
+use Rattle.regatta_terms.specs.declared.limits.TheConstants.{MAX_BOATS, MAX_ENTRIES, MAX_PENALTIES}
 use Rattle.regatta_terms.specs.Entries.{EntryParts}
 use Rattle.regatta_terms.specs.Rules.{RulesParts}
 use Rattle.regatta_terms.specs.Roles.{may_send, is_jury_code}
@@ -28,7 +29,6 @@ use Rattle.regatta_scores.specs.declared.sheet.Held.{Held}
 use Rattle.regatta_scores.specs.Journal.{Journal, same_sail, entered, order, held, is_scored}
 use Rattle.regatta_scores.specs.Journal.{last_item}
 use Rattle.regatta_scores.specs.Order.{stands_in, is_empty}
-use Rattle.regatta_board.specs.declared.limits.TheConstants.{MAX_BOATS, MAX_ENTRIES}
 
 -- how many boats may be entered, and how many entries a journal may hold
 pub record Limits : Type 0 where
@@ -65,9 +65,9 @@ next_entry seat last role command =
 abbrev pub is_entered : Journal → Sail → Bool
 is_entered journal boat = list_any (same_sail boat) (entered journal)
 
--- the boat stands in the finishing order of the race
-abbrev pub is_placed : Journal → ℕ → Sail → Bool
-is_placed journal race boat = stands_in same_sail boat (order journal race)
+-- the boat stands in the finishing order of the race, under the rules of the series
+abbrev pub is_placed : RulesParts → Journal → ℕ → Sail → Bool
+is_placed rules journal race boat = stands_in same_sail boat (order rules journal race)
 
 -- a code of the protest committee, DSQ or DNE: RRS A5.1 names those that need no hearing
 abbrev pub is_protest_code : Option Code → Bool
@@ -90,8 +90,9 @@ holds_nothing held =
 
 -- the role of the protest committee, which alone may clear its own decisions
 abbrev pub is_jury : Role → Bool
+is_jury role.Finish = false
 is_jury role.Jury = true
-is_jury _ = false
+is_jury role.Scorer = false
 
 -- ---- the refusals of each command, in their order
 
@@ -103,25 +104,25 @@ enter_refusal most journal boat =
     else None
 
 -- of Finish: a boat finishes once in a race (RRS A3)
-abbrev pub place_refusal : Journal → ℕ → Sail → Option Refusal
-place_refusal journal race boat =
+abbrev pub place_refusal : RulesParts → Journal → ℕ → Sail → Option Refusal
+place_refusal rules journal race boat =
     if not (is_entered journal boat) then Some NotEntered
-    else if is_placed journal race boat then Some AlreadyPlaced
+    else if is_placed rules journal race boat then Some AlreadyPlaced
     else None
 
 -- of Tie and Before: a place by that of another boat (RRS A3, A7)
-abbrev pub place_by_refusal : Journal → ℕ → Sail → Sail → Option Refusal
-place_by_refusal journal race boat other =
+abbrev pub place_by_refusal : RulesParts → Journal → ℕ → Sail → Sail → Option Refusal
+place_by_refusal rules journal race boat other =
     if not (is_entered journal boat && is_entered journal other) then Some NotEntered
-    else if is_placed journal race boat then Some AlreadyPlaced
-    else if not (is_placed journal race other) then Some NotPlaced
+    else if is_placed rules journal race boat then Some AlreadyPlaced
+    else if not (is_placed rules journal race other) then Some NotPlaced
     else None
 
 -- of Strike: only who stands in the order can be taken out of it
-abbrev pub strike_refusal : Journal → ℕ → Sail → Option Refusal
-strike_refusal journal race boat =
+abbrev pub strike_refusal : RulesParts → Journal → ℕ → Sail → Option Refusal
+strike_refusal rules journal race boat =
     if not (is_entered journal boat) then Some NotEntered
-    else if not (is_placed journal race boat) then Some NotPlaced
+    else if not (is_placed rules journal race boat) then Some NotPlaced
     else None
 
 -- of Mark and Redress: a decision of the protest committee stands (our choice)
@@ -131,12 +132,13 @@ decision_refusal journal race boat =
     else if is_decided (held journal race boat) then Some Decided
     else None
 
--- of Penalise: at most nine ZFP (RRS 30.2) and nine SCP (RRS 44.3(c)), and none after a decision
+-- of Penalise: so many ZFP (RRS 30.2) and so many SCP (RRS 44.3(c)) at most, and none after a
+-- decision
 abbrev pub penalty_refusal : Journal → ℕ → Sail → PenaltyKind → Option Refusal
 penalty_refusal journal race boat kind =
     if not (is_entered journal boat) then Some NotEntered
     else if is_decided (held journal race boat) then Some Decided
-    else if nat_le 9 (penalties kind (held journal race boat)) then Some PenaltyLimit
+    else if nat_le MAX_PENALTIES (penalties kind (held journal race boat)) then Some PenaltyLimit
     else None
 
 -- of Clear: a decision of the protest committee is cleared by the jury alone (our choice)
@@ -149,33 +151,32 @@ clear_refusal journal role race boat =
 
 -- of Score: a race counts once, and not while nobody stands in its order; a boat with a code that
 -- stands there is enough
-abbrev pub score_refusal : Journal → ℕ → Option Refusal
-score_refusal journal race =
+abbrev pub score_refusal : RulesParts → Journal → ℕ → Option Refusal
+score_refusal rules journal race =
     if is_scored journal race then Some AlreadyScored
-    else if is_empty (order journal race) then Some NoFinisher
+    else if is_empty (order rules journal race) then Some NoFinisher
     else None
 
 -- of Unscore: only a race that counts can stop counting
 abbrev pub unscore_refusal : Journal → ℕ → Option Refusal
 unscore_refusal journal race = if is_scored journal race then None else Some NotScored
 
--- of each command; the series rules are an argument because a refusal may hang on them, and none of
--- these does
+-- of each command; the finishing order is that of the rules of the series
 abbrev pub command_refusal : Limits → RulesParts → Journal → Role → Command → Option Refusal
 command_refusal most rules journal role (Enter sail) = enter_refusal most journal sail
-command_refusal most rules journal role (Finish race sail) = place_refusal journal race sail
+command_refusal most rules journal role (Finish race sail) = place_refusal rules journal race sail
 command_refusal most rules journal role (Tie race sail other) =
-    place_by_refusal journal race sail other
+    place_by_refusal rules journal race sail other
 command_refusal most rules journal role (Before race sail other) =
-    place_by_refusal journal race sail other
-command_refusal most rules journal role (Strike race sail) = strike_refusal journal race sail
+    place_by_refusal rules journal race sail other
+command_refusal most rules journal role (Strike race sail) = strike_refusal rules journal race sail
 command_refusal most rules journal role (Mark race sail code) = decision_refusal journal race sail
 command_refusal most rules journal role (Penalise race sail kind) =
     penalty_refusal journal race sail kind
 command_refusal most rules journal role (Redress race sail redress) =
     decision_refusal journal race sail
 command_refusal most rules journal role (Clear race sail) = clear_refusal journal role race sail
-command_refusal most rules journal role (Score race) = score_refusal journal race
+command_refusal most rules journal role (Score race) = score_refusal rules journal race
 command_refusal most rules journal role (Unscore race) = unscore_refusal journal race
 
 -- why the entry is refused by the journal, or nothing

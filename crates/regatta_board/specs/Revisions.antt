@@ -4,13 +4,14 @@ use Rattle.regatta_board.specs.declared.kept.Revision.{Revision}
 use Rattle.regatta_board.specs.declared.kept.Revision.TheVariants.{Enter, Sheet, Counts}
 use Rattle.regatta_board.specs.Table.{Kept}
 
--- what is kept once the parts of a revision have taken the place of the old ones
+-- what is kept once the parts of a revision have replaced the old ones
 abbrev pub revised : Kept → Revision → Kept
 revised kept (Enter boats sheets) = record kept { sails = boats; sheets = sheets.items }
 revised kept (Sheet race sheet) = record kept { sheets = slice_set kept.sheets (race - 1) sheet }
 revised kept (Counts race counts) = record kept { counts = slice_set kept.counts (race - 1) counts }
 
--- whether a revision may change the standing: all do but that of the sheet of a race that doesn't count
+-- whether a revision may change the standing: all do but that of the sheet of a race that doesn't
+-- count
 abbrev pub touches : Kept → Revision → Bool
 touches kept (Enter boats sheets) = true
 touches kept (Sheet race sheet) = slice_index_or kept.counts (race - 1) false

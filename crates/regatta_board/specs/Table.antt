@@ -4,6 +4,7 @@ use Rattle.std.specs.Prelude.{slice_index_or, All}
 use Rattle.std.specs.List.{range_with_len}
 use Rattle.regatta_terms.specs.Rules.{RulesParts}
 use Rattle.regatta_terms.specs.declared.sail.Sail.{Sail}
+use Rattle.regatta_terms.specs.declared.limits.TheConstants.{MAX_RACES}
 use Rattle.regatta_scores.specs.declared.boats.Place.{Place}
 use Rattle.regatta_scores.specs.declared.table.Row.{Row}
 use Rattle.regatta_scores.specs.declared.table.Standing.{Standing}
@@ -22,11 +23,11 @@ pub record Kept : Type 0 where
   pub sheets : List Sheet
   pub counts : List Bool
 
--- 40 races, no more boats than may be entered, and all of them on each sheet
+-- a sheet for each race, no more boats than may be entered, and all of them on each sheet
 pub record IsKept (kept : Kept) : Type 0 where
   pub few : length kept.sails ≤ limits.boats
-  pub sheets : length kept.sheets ≡ 40
-  pub counts : length kept.counts ≡ 40
+  pub sheets : length kept.sheets ≡ MAX_RACES
+  pub counts : length kept.counts ≡ MAX_RACES
   pub same : All (λ sheet. boats sheet ≡ length kept.sails) kept.sheets
 
 -- what stands where no boat has this number: no lookup that matters meets it
@@ -48,7 +49,7 @@ column rules sheet = map (outcome_on rules sheet) (range_with_len 0 (boats sheet
 
 -- the races that count
 abbrev pub races : List Bool → List ℕ
-races counts = filter (λ race. slice_index_or counts (race - 1) false) (range_with_len 1 40)
+races counts = filter (λ race. slice_index_or counts (race - 1) false) (range_with_len 1 MAX_RACES)
 
 -- the same for each race that counts, in the order of the races
 abbrev pub columns : RulesParts → List Sheet → List ℕ → List (List Outcome)

@@ -10,8 +10,8 @@ use regatta_terms::Sail;
 use std::alloc::{AllocError, Global};
 use std::marker::Model;
 
-/// The boats entered, in order of their entry, each once and with her number: her place in the
-/// list, counted from 0.
+/// The boats entered, in order of their entry, each once and with her number: her position in
+/// the list, counted from 0.
 #[derive(Drop)]
 pub struct Boats {
     numbers: IndexMap<Sail, u16>,

@@ -1,14 +1,14 @@
 //! What came of a boat in each race that counts, and the line of the table that it makes.
 ghost use Rattle.std.specs.Prelude.{◌≡◌, ◌≤◌, length, IfOk};
-ghost use Rattle.regatta_scores.specs.Standing.{is_dne as is_dne_of, code_mark as code_mark_of};
 ghost use Rattle.regatta_board.specs.Outcomes.{items as items_of, points as points_of, scores_by};
 ghost use Rattle.regatta_board.specs.Outcomes.{flags as flags_of, line as line_of, row_by};
-ghost use Rattle.regatta_board.specs.Outcomes.{mark as mark_of, cell as cell_of, cells_by};
+ghost use Rattle.regatta_board.specs.Outcomes.{cell as cell_of, cells_by};
 
 use regatta_scores::{
-    Abbrev, BoatLine, Cell, Held, Items, Place, Points, Row, RowItem, Scored, averages, excluded,
+    BoatLine, Cell, Held, Items, Place, Points, Row, RowItem, Scored, averages, excluded, is_dne,
+    mark,
 };
-use regatta_terms::{Code, Rules, Sail, Tenths};
+use regatta_terms::{MAX_RACES, Rules, Sail, Tenths};
 use std::alloc::{AllocError, Global};
 
 /// What came of one boat in one race.
@@ -37,18 +37,11 @@ fn items(alloc: Global, outcomes: &[Outcome]) -> Result<Vec<RowItem>, AllocError
 /// Her points in each race, with redress (RRS A9).
 #[tactic(auto, using(crate::proofs::Lengths::lengths))]
 fn points(alloc: Global, outcomes: &[Outcome]) -> Result<Points, AllocError>
-    requires { length outcomes.now ≤ 40 }
+    requires { length outcomes.now ≤ MAX_RACES }
     ensures value { IfOk result (λ found. found ≡ points_of outcomes.now) }
     ensures long { IfOk result (λ found. length found ≡ length outcomes.now) }
 {
     averages(alloc, &items(alloc, outcomes)?)
-}
-
-/// Whether the code is a disqualification that is not excludable (RRS 90.3(b)).
-fn is_dne(code: Option<Code>) -> bool
-    ensures { result ≡ is_dne_of code }
-{
-    matches!(code, Some(Code::Dne))
 }
 
 /// Her points, and whether they are a disqualification that is not excludable.
@@ -73,7 +66,7 @@ fn flags(
     points: &[Tenths],
     rules: &Rules,
 ) -> Result<Items<bool>, AllocError>
-    requires few { length outcomes.now ≤ 40 }
+    requires few { length outcomes.now ≤ MAX_RACES }
     requires points { points.now ≡ points_of outcomes.now }
     ensures value { IfOk result (λ found. found ≡ flags_of rules.now outcomes.now) }
     ensures long { IfOk result (λ found. length found ≡ length outcomes.now) }
@@ -90,7 +83,7 @@ pub(crate) fn line(
     outcomes: &[Outcome],
     rules: &Rules,
 ) -> Result<BoatLine, AllocError>
-    requires { length outcomes.now ≤ 40 }
+    requires { length outcomes.now ≤ MAX_RACES }
     ensures value { IfOk result (λ found. found ≡ line_of rules.now outcomes.now) }
     ensures long { IfOk result (λ found. length found.points ≡ length outcomes.now) }
 {
@@ -99,48 +92,13 @@ pub(crate) fn line(
     BoatLine::new(alloc, points.as_slice(), flags.as_slice())
 }
 
-/// The abbreviation of a code (RRS A10).
-fn code_mark(code: Code) -> Abbrev
-    ensures { result ≡ code_mark_of code }
-{
-    match code {
-        Code::Dnc => Abbrev::Dnc,
-        Code::Dns => Abbrev::Dns,
-        Code::Ocs => Abbrev::Ocs,
-        Code::Ufd => Abbrev::Ufd,
-        Code::Bfd => Abbrev::Bfd,
-        Code::Dnf => Abbrev::Dnf,
-        Code::Ret => Abbrev::Ret,
-        Code::Dsq => Abbrev::Dsq,
-        Code::Dne => Abbrev::Dne,
-    }
-}
-
-/// The abbreviation in a cell (RRS A10): RDG with redress, else the code, else ZFP, else SCP.
-#[tactic(auto, unfolding(crate::specs::Outcomes::mark))]
-fn mark(outcome: &Outcome) -> Option<Abbrev>
-    ensures { result ≡ mark_of outcome.now }
-{
-    let held = outcome.held;
-    if held.redress.is_some() {
-        return Some(Abbrev::Rdg);
-    }
-    match held.code {
-        Some(code) => Some(code_mark(code)),
-        None if !outcome.placed => Some(Abbrev::Dnc),
-        None if held.zfp > 0 => Some(Abbrev::Zfp),
-        None if held.scp > 0 => Some(Abbrev::Scp),
-        None => None,
-    }
-}
-
 /// A cell of the table.
 fn cell(outcome: &Outcome, points: Tenths, dropped: bool) -> Cell
     ensures { result ≡ cell_of outcome.now points dropped }
 {
     Cell {
         points,
-        mark: mark(outcome),
+        mark: mark(&outcome.held, outcome.placed),
         dropped,
     }
 }

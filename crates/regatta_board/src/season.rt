@@ -1,8 +1,10 @@
 //! A full season: 200 boats, 40 races, 4,096 entries, each applied to the board. It shows that a
 //! season runs whole, and in a time that a test has.
-use crate::Board;
+ghost use Rattle.std.specs.Prelude.{◌≤◌};
+
+use crate::{Board, next_entry};
 use regatta_terms::{
-    Absent, Code, Command, Entry, PenaltyKind, RaceNo, Redress, Refusal, Role, Rules, Sail,
+    Absent, Code, Command, PenaltyKind, RaceNo, Redress, Refusal, Role, Rules, Sail,
 };
 use std::test::Fail;
 
@@ -21,16 +23,11 @@ fn sail(boat: u8) -> Result<Sail, Fail> {
     Ok(sail)
 }
 
-/// The next entry of a seat.
-fn next(board: &Board, seat: u8, role: Role, command: Command) -> Result<Entry, Fail> {
-    let nth = board.last_of(seat).saturating_add(1);
-    let entry = Entry::new(seat, nth, role, command).ok_or("an entry")?;
-    Ok(entry)
-}
-
-/// Applies a command as the next of a seat.
-fn apply(board: &mut Board, seat: u8, role: Role, command: Command) -> Result<(), Fail> {
-    let entry = next(board, seat, role, command)?;
+/// Applies a command as the next of a seat, which is one of the first three.
+fn apply(board: &mut Board, seat: u8, role: Role, command: Command) -> Result<(), Fail>
+    requires { (1 ≤ seat) × (seat ≤ 3) }
+{
+    let entry = next_entry(seat, board.last_of(seat), role, command);
     board.apply(entry).map_err(|_| "an accepted command")?;
     Ok(())
 }
@@ -105,7 +102,7 @@ fn a_full_season_runs(rt: HostRuntime) -> Result<(), Fail> {
     assert_eq!(rt; standing.races.as_slice().len(), 40);
     assert_eq!(rt; standing.rows.as_slice().len(), 200);
     let race = RaceNo::new(1).ok_or("the first race")?;
-    let entry = next(&board, 1, Role::Scorer, Command::Unscore { race })?;
+    let entry = next_entry(1, board.last_of(1), Role::Scorer, Command::Unscore { race });
     let full = matches!(board.apply(entry), Err(Refusal::JournalFull));
     assert!(rt; full, "the journal is full");
     Ok(())

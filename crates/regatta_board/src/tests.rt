@@ -1,155 +1,108 @@
-//! Worked examples, sent to a board line by line.
-
-mod answers;
-mod refusals;
-mod replays;
+//! Each public call once, on the way that a run takes it. What the calls answer is told by their
+//! contracts, and worked examples are theorems in `specs/`: here is shown that they do answer.
 
 use super::*;
-use regatta_scores::{Abbrev, Cell, Row, Standing};
 use regatta_terms::{
-    Absent, Answer, Command, Entry, Line, Refusal, Role, Rules, RulesFault, Sail, Touched,
-    read_entry, read_line,
+    Absent, Answer, Code, Command, RaceNo, Refusal, Role, Rules, Sail, Touched, read_entry,
 };
-use std::alloc::Global;
 use std::test::Fail;
 
-/// What a board replies to a command.
-type Reply = Result<Answer, Refusal>;
-
-/// What a board is to reply to a command.
-#[derive(Clone, Copy)]
-enum Said {
-    /// To one that names a boat: the place in the journal, her rank, whether it is tied, her net.
-    Done(u32, u16, bool, u32),
-    /// To one that names none: the place in the journal.
-    Counted(u32),
-    No(Refusal),
-}
-
-/// A role, the line that is sent in it, and the reply that it is to have.
-type Turn = (Role, &'static str, Said);
-
-/// A row of a standing: sail, rank, whether it is tied, net, and the cells: points, abbreviation,
-/// and whether the score is excluded.
-type Wanted = (
-    &'static str,
-    u16,
-    bool,
-    u32,
-    &'static [(u32, Option<Abbrev>, bool)],
-);
-
-/// A reply that isn't the expected one, and the turn that it came to, counted from 0.
-#[derive(Debug, Drop)]
-struct Unexpected {
-    turn: usize,
-    found: Reply,
-}
-
-/// The reply as a board gives it.
-fn reply(said: Said) -> Reply {
-    match said {
-        Said::Done(place, rank, tied, net) => Ok(Answer {
-            place,
-            touched: Some(Touched { rank, tied, net }),
-        }),
-        Said::Counted(place) => Ok(Answer {
-            place,
-            touched: None,
-        }),
-        Said::No(refusal) => Err(refusal),
-    }
-}
+/// A and B tie for first, and C is third.
+const TIE: [&str; 7] = [
+    "1 1 SCORER ENTER A",
+    "1 2 SCORER ENTER B",
+    "1 3 SCORER ENTER C",
+    "1 4 FINISH FINISH 1 A",
+    "1 5 FINISH TIE 1 B A",
+    "1 6 FINISH FINISH 1 C",
+    "1 7 SCORER SCORE 1",
+];
 
 /// Absent boats score N + 1, and one score is excluded from each threshold on.
-fn rules_with(thresholds: &[u8]) -> Result<Rules, RulesFault> {
-    Rules::new(Absent::A52, None, thresholds)
+fn rules_with(thresholds: &[u8]) -> Result<Rules, Fail> {
+    let rules = Rules::new(Absent::A52, None, thresholds).map_err(|_| "rules")?;
+    Ok(rules)
 }
 
-/// The next entry of a seat, with the command of a line, if it is one.
-fn next_entry(board: &Board, seat: u8, role: Role, line: &str) -> Option<Entry> {
-    let nth = board.last_of(seat).saturating_add(1);
-    match read_line(line.as_bytes()) {
-        Ok(Line::Do(command)) => Entry::new(seat, nth, role, command),
-        _ => None,
-    }
+/// The sail of a boat.
+fn sail(text: &str) -> Result<Sail, Fail> {
+    let sail = Sail::read(text.as_bytes()).ok_or("a sail")?;
+    Ok(sail)
 }
 
-/// Sends a line from seat 1. A line that is no command is answered as refused for want of memory,
-/// which no test expects.
-fn sent(board: &mut Board, role: Role, line: &str) -> Reply {
-    match next_entry(board, 1, role, line) {
-        Some(entry) => board.apply(entry),
-        None => Err(Refusal::NoMemory),
-    }
-}
-
-/// Takes the turns one by one, and tells the first that has another reply than it should.
-fn send(board: &mut Board, turns: &[Turn]) -> Result<(), Unexpected> {
-    for (turn, &(role, line, said)) in turns.iter().enumerate() {
-        let found = sent(board, role, line);
-        if found != reply(said) {
-            return Err(Unexpected { turn, found });
-        }
+/// Applies each line as the entry that it writes.
+fn send(board: &mut Board, lines: &[&str]) -> Result<(), Fail> {
+    for &line in lines {
+        let entry = read_entry(line.as_bytes())?;
+        board.apply(entry).map_err(|_| "an accepted entry")?;
     }
     Ok(())
 }
 
-/// A board under these thresholds that took these turns.
-fn played(alloc: Global, thresholds: &[u8], turns: &[Turn]) -> Result<Board, Fail> {
-    let mut board = Board::open(alloc, rules_with(thresholds)?)?;
-    send(&mut board, turns)?;
-    Ok(board)
+/// What A's row is told to be, once the race counts.
+const SHARED: Touched = Touched {
+    rank: 1,
+    tied: true,
+    net: 15,
+};
+
+#[test]
+fn a_board_takes_entries(rt: HostRuntime) -> Result<(), Fail> {
+    let rules = rules_with(&[2])?;
+    let mut board = Board::open(rt.alloc(), rules)?;
+    let a = sail("A")?;
+    assert_eq!(rt; board.rank(a), None);
+    send(&mut board, &TIE)?;
+    assert_eq!(rt; board.rank(a), Some(SHARED));
+    assert_eq!(rt; board.rules(), &rules);
+    assert_eq!(rt; board.len(), 7);
+    assert_eq!(rt; (board.last_of(1), board.last_of(2)), (7, 0));
+    let again = read_entry(b"1 7 SCORER ENTER D")?;
+    assert_eq!(rt; board.apply(again), Err(Refusal::OldNumber { last: 7 }));
+    assert_eq!(rt; board.entries().len(), 7);
+    assert_eq!(rt; board.standing()?.rows.as_slice().len(), 3);
+    Ok(())
 }
 
-/// Whether a cell is as it should be.
-fn is_cell(cell: &Cell, wanted: &(u32, Option<Abbrev>, bool)) -> bool {
-    cell.points.get() == wanted.0 && cell.mark == wanted.1 && cell.dropped == wanted.2
+#[test]
+fn a_prepared_command_is_committed(rt: HostRuntime) -> Result<(), Fail> {
+    let mut board = Board::open(rt.alloc(), rules_with(&[2])?)?;
+    send(&mut board, &TIE)?;
+    let race = RaceNo::new(1).ok_or("a race")?;
+    let (sail, code) = (sail("A")?, Code::Dsq);
+    let entry = next_entry(2, 0, Role::Jury, Command::Mark { race, sail, code });
+    let staged = board.prepare(entry).map_err(|_| "an accepted entry")?;
+    assert!(rt; *staged.entry() == entry);
+    assert_eq!(rt; staged.place(), 8);
+    assert!(rt; staged.rescored() <= 1);
+    let touched = Touched {
+        rank: 3,
+        tied: false,
+        net: 40,
+    };
+    let answer = Answer {
+        place: 8,
+        touched: Some(touched),
+    };
+    assert_eq!(rt; board.commit(staged), answer);
+    assert_eq!(rt; board.rank(sail), Some(touched));
+    Ok(())
 }
 
-/// Whether the cells are as they should be.
-fn are_cells(found: &[Cell], wanted: &[(u32, Option<Abbrev>, bool)]) -> bool {
-    found.len() == wanted.len()
-        && found
-            .iter()
-            .zip(wanted)
-            .all(|(cell, wanted)| is_cell(cell, wanted))
-}
-
-/// Whether a row is as it should be.
-fn is_row(row: &Row, wanted: &Wanted) -> bool {
-    let &(sail, rank, tied, net, cells) = wanted;
-    row.sail.text() == sail
-        && row.rank == rank
-        && row.tied == tied
-        && row.net == net
-        && are_cells(row.cells.as_slice(), cells)
-}
-
-/// Whether the rows are as they should be.
-fn are_rows(found: &[Row], wanted: &[Wanted]) -> bool {
-    found.len() == wanted.len()
-        && found
-            .iter()
-            .zip(wanted)
-            .all(|(row, wanted)| is_row(row, wanted))
-}
-
-/// Whether a standing has these races and these rows.
-fn is_table(standing: &Standing, races: &[u8], rows: &[Wanted]) -> bool {
-    let found = standing.races.as_slice();
-    found.len() == races.len()
-        && found
-            .iter()
-            .zip(races)
-            .all(|(race, wanted)| race.get() == *wanted)
-        && are_rows(standing.rows.as_slice(), rows)
-}
-
-/// Whether the board's standing has these races and these rows.
-fn stands(board: &Board, races: &[u8], rows: &[Wanted]) -> bool {
-    match board.standing() {
-        Ok(standing) => is_table(&standing, races, rows),
-        Err(_) => false,
-    }
+#[test]
+fn entries_are_replayed(rt: HostRuntime) -> Result<(), Fail> {
+    let rules = rules_with(&[])?;
+    let entries = [
+        read_entry(b"1 1 SCORER ENTER A")?,
+        read_entry(b"2 1 JURY REDRESS 1 A 7.5")?,
+    ];
+    let board = replayed(rt.alloc(), &rules, &entries).map_err(|_| "a lawful journal")?;
+    assert_eq!(rt; (board.last_of(1), board.last_of(2)), (1, 1));
+    let standing = standing_of(rt.alloc(), &rules, &entries).map_err(|_| "a lawful journal")?;
+    assert_eq!(rt; standing.rows.as_slice().len(), 1);
+    let twice = [entries[0], entries[0]];
+    let refusal = Refusal::OldNumber { last: 1 };
+    let fault = standing_of(rt.alloc(), &rules, &twice).err();
+    assert_eq!(rt; fault, Some(ReplayFault::Refused { at: 2, refusal }));
+    Ok(())
 }

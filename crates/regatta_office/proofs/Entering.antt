@@ -6,7 +6,8 @@ use Rattle.regatta_terms.specs.Entries.{EntryParts}
 use Rattle.regatta_terms.specs.declared.command.Command.TheVariants.{Enter}
 use Rattle.regatta_terms.specs.declared.command.Role.TheVariants.{Scorer}
 use Rattle.regatta_scores.specs.Journal.{Journal}
-use Rattle.regatta_board.specs.Refusals.{last_number, number_after}
+use Rattle.regatta_board.specs.Refusals.{last_number, next_entry}
+use Rattle.regatta_board.specs.declared.journal.TheConstants.{REPLAY_SEAT}
 use Rattle.regatta_board.proofs.LastNumber.{number_push}
 use Rattle.regatta_office.specs.Starts.{entering, start_of}
 
@@ -21,28 +22,18 @@ start_of-none journal = refl
 
 module _ (journal next : Journal) (sails : List (List ℕ)) (i last : ℕ) (sail : List ℕ)
     (entry : EntryParts) (h : i < length sails) (is : sail ≡ get_or sails i sail)
-    (numbered : last ≡ last_number journal 1)
-    (made : entry ≡ record {
-      seat = 1;
-      nth = number_after last;
-      role = Scorer;
-      command = Enter
-          sail;
-    })
+    (numbered : last ≡ last_number journal REPLAY_SEAT)
+    (made : entry ≡ next_entry REPLAY_SEAT last Scorer (Enter sail))
     (pushed : next ≡ journal ++ entry ∷ []) where
   entered : entry ≡ entering journal sail
-  entered = made ∙ ap (λ (n : ℕ). record {
-    seat = 1;
-    nth = number_after n;
-    role = Scorer;
-    command = Enter sail;
-  }) numbered
+  entered = made ∙ ap (λ (n : ℕ). next_entry REPLAY_SEAT n Scorer (Enter sail)) numbered
 
   -- the last number of the seat is that of the entry
-  pub last_more : entry.nth ≡ last_number next 1
+  pub last_more : entry.nth ≡ last_number next REPLAY_SEAT
   last_more =
-      sym (ap (λ (j : Journal). last_number j 1) pushed ∙ number_push journal entry 1
-      ∙ ap (λ (n : ℕ). cond (nat_eq n 1) entry.nth (last_number journal 1))
+      sym (ap (λ (j : Journal). last_number j REPLAY_SEAT) pushed
+      ∙ number_push journal entry REPLAY_SEAT
+      ∙ ap (λ (n : ℕ). cond (nat_eq n REPLAY_SEAT) entry.nth (last_number journal REPLAY_SEAT))
       (ap (λ (e : EntryParts). e.seat) made))
 
   pub start_more : start_of next (drop (i + 1) sails) ≡ start_of journal (drop i sails)

@@ -1,3 +1,4 @@
+pub mod Asking
 pub mod Entering
 pub mod Refused
 pub mod Results

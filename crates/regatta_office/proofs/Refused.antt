@@ -1,8 +1,11 @@
 -- A refusal that isn't want of memory is the one that was due.
 use Rattle.std.proofs.Common.{◌≡◌, Option, Some, None, true, false, sym, ap, ◌∙◌}
 use Rattle.regatta_terms.specs.declared.reply.Refusal.{Refusal}
-use Rattle.regatta_board.specs.Refusals.{IsRefusal}
-use Rattle.regatta_office.specs.Transcript.{is_want_of_memory}
+use Rattle.regatta_terms.specs.Entries.{EntryParts}
+use Rattle.regatta_terms.specs.Rules.{RulesParts}
+use Rattle.regatta_terms.specs.declared.command.Command.{Command}
+use Rattle.regatta_board.specs.Refusals.{IsRefusal, limits, refusal}
+use Rattle.regatta_office.specs.Transcript.{Talk, entry_of, is_want_of_memory, refusal_of}
 
 pub refused_is : (due : Option Refusal) (why : Refusal) → IsRefusal due why
     → is_want_of_memory why ≡ false → due ≡ Some why
@@ -11,3 +14,11 @@ refused_is None why is known = absurd (want (sym (ap is_want_of_memory is) ∙ k
     want : true ≡ false → ⊥
     want e = cc
 refused_is (Some due) why is known = ap Some (sym is)
+
+-- what a command was refused for is what was due for its entry
+pub due_is : (rules : RulesParts) (talk : Talk) (command : Command) (entry : EntryParts)
+    (why : Refusal) → entry ≡ entry_of talk command
+    → IsRefusal (refusal limits rules talk.journal entry) why → is_want_of_memory why ≡ false
+    → refusal_of rules talk command ≡ Some why
+due_is rules talk command entry why made is known =
+    ap (refusal limits rules talk.journal) (sym made) ∙ refused_is _ why is known

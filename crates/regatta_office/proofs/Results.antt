@@ -1,33 +1,13 @@
--- What a result's clauses say once it is known which it is, and what holds of a text that a stream
--- told.
-use Rattle.std.proofs.Common.{◌≡◌, ℕ, List, true, false, Option, Some, None, Result, Ok, Err, OnOk}
-use Rattle.std.proofs.Common.{OnErr, IfSome, IsErrAnd, IsErrOf, refl, ap, ◌∙◌, subst}
-use Rattle.std.specs.Prelude.{is_err}
-use Rattle.regatta_office.specs.Faults.{scribe_fault}
+-- What a result's clauses say once it is known which it is.
+use Rattle.std.proofs.Common.{◌≡◌, ◌+◌, ℕ, Option, None, Result, Ok, Err, IsErrOf, refl, ap, ◌∙◌}
+use Rattle.std.proofs.Common.{sym, subst}
+use Rattle.regatta_terms.specs.declared.reply.Refusal.{Refusal}
+use Rattle.regatta_office.specs.Faults.{IsRunFaultOf, scribe_fault}
+use Rattle.regatta_office.specs.Starts.{IsRunFault}
 use Rattle.regatta_office.specs.declared.run.RunFault.{RunFault}
-use Rattle.regatta_office.specs.declared.run.RunFault.TheVariants.{Write, NoMemory}
+use Rattle.regatta_office.specs.declared.run.RunFault.TheVariants.{Read, Write, NoMemory}
 use Rattle.regatta_office.specs.declared.scribe.ScribeFault.{ScribeFault}
 use Rattle.regatta_office.specs.declared.scribe.ScribeFault.TheVariants as scribe
-use mathlib.Core.Bool.{true≢false}
-use Rattle.std.proofs.Common.{sym}
-
-pub ok_of : {A E : Type 0} (r : Result A E) (P : Type 0) → OnOk r P → is_err r ≡ false → P
-ok_of (Ok x) P h is = h
-ok_of (Err e) P h is = absurd (true≢false is)
-
-pub err_of : {A E : Type 0} (r : Result A E) (P : Type 0) → OnErr r P → is_err r ≡ true → P
-err_of (Ok x) P h is = absurd (true≢false (sym is))
-err_of (Err e) P h is = h
-
-pub told : (known : Option (List ℕ)) (text : List ℕ) (P : List ℕ → Type 0)
-    → IfSome known (λ given. text ≡ given) → P text → IfSome known P
-told None text P is h = tt
-told (Some given) text P is h = subst P is h
-
-pub no_ok : {T E : Type 0} (P : Type 0) (r : Result T E) (e : E) → IsErrAnd r (λ y. y ≡ e)
-    → OnOk r P
-no_ok P (Ok x) e is = absurd is
-no_ok P (Err y) e is = tt
 
 error_or : {T E : Type 0} → E → Result T E → E
 error_or d (Ok x) = d
@@ -58,3 +38,31 @@ memory_is scribe.Write r made is = absurd (differ (sym made ∙ error_is r NoMem
   where
     differ : Write ≡ NoMemory → ⊥
     differ e = cc
+
+pub read_is_no_write : {T : Type 0} (fault : ScribeFault) (r : RunFault) (P : Type 0)
+    → r ≡ scribe_fault fault → IsErrOf {T = T} (Err r) Read → P
+read_is_no_write scribe.Write r P made is = absurd (differ (sym made ∙ error_is r Read is))
+  where
+    differ : Write ≡ Read → ⊥
+    differ e = cc
+read_is_no_write scribe.NoMemory r P made is = absurd (differ (sym made ∙ error_is r Read is))
+  where
+    differ : NoMemory ≡ Read → ⊥
+    differ e = cc
+
+-- where the writing broke off, no entry of the start is refused
+pub start_stands : (due : Option (ℕ × Refusal)) (fault : ScribeFault) (r : RunFault)
+    → r ≡ scribe_fault fault → due ≡ None → IsRunFault due r
+start_stands due scribe.Write r made none = subst (IsRunFault due) (sym made) none
+start_stands due scribe.NoMemory r made none = subst (IsRunFault due) (sym made) tt
+
+-- and the writer alone may have failed
+pub writer_failed : (reads reads' writes mid writes' : ℕ) (fault : ScribeFault) (r : RunFault)
+    → r ≡ scribe_fault fault → reads' ≡ reads → mid ≡ writes
+    → (fault ≡ scribe.Write → writes' ≡ mid + 1) → (fault ≡ scribe.NoMemory → writes' ≡ mid)
+    → IsRunFaultOf reads reads' writes writes' r
+writer_failed reads reads' writes mid writes' scribe.Write r made read well failed same =
+    subst (IsRunFaultOf reads reads' writes writes') (sym made)
+    (read, failed refl ∙ ap (λ (n : ℕ). n + 1) well)
+writer_failed reads reads' writes mid writes' scribe.NoMemory r made read well failed same =
+    subst (IsRunFaultOf reads reads' writes writes') (sym made) (read, same refl ∙ well)

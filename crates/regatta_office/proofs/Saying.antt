@@ -5,7 +5,7 @@ use Rattle.regatta_terms.specs.Lines.{line_of}
 use Rattle.regatta_terms.specs.Rules.{RulesParts}
 use Rattle.regatta_terms.specs.declared.line.Line.{Line}
 use Rattle.regatta_terms.specs.declared.line.LineFault.{LineFault}
-use Rattle.regatta_talk.specs.Lines.{is_line_end, lines_by}
+use Rattle.regatta_terms.specs.TextLines.{is_line_end, lines_by}
 use Rattle.regatta_office.specs.Coming.{Point, Said, ahead, coming, ended, said}
 use Rattle.regatta_talk.specs.KeptLines.{keep, kept_lines}
 use Rattle.regatta_office.specs.Coming.{unless}

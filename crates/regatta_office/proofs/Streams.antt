@@ -10,8 +10,8 @@ use Rattle.std.proofs.Math.Seq.{take-append_seam}
 use Rattle.std.specs.Io.KnownBytes.{Appends, Consumes, IsAtEnd, Keeps}
 use Rattle.regatta_terms.specs.Lines.{line_of}
 use Rattle.regatta_streams.proofs.KnownBytes.{appends-none, appends-then, consumes-kept}
-use Rattle.regatta_streams.proofs.KnownBytes.{consumes-none, consumes-then}
-use Rattle.regatta_talk.specs.Lines.{is_line_end, last_line}
+use Rattle.regatta_streams.proofs.KnownBytes.{consumes-then}
+use Rattle.regatta_terms.specs.TextLines.{is_line_end, last_line}
 use Rattle.regatta_office.specs.Coming.{Cuts, Stops, Finished, IsTooLong, IsWithin, Point, ReadSome}
 use Rattle.regatta_office.specs.Coming.{Said, Talked, Went, said, ahead, coming, ended, unless}
 use Rattle.regatta_talk.specs.KeptLines.{keep, kept_lines}
@@ -111,15 +111,6 @@ finished_none out before after none same = record {
   rules = ap (λ (p : Point). p.rules) same;
   quit = false;
   says = line_none before none ∙ ap (ended false) (sym same);
-}
-
--- nothing came yet
-pub went-none : (out : Option (List ℕ)) (point : Point) → Went out out [] point point false
-went-none out point = record {
-  written = [];
-  wrote = appends-none out;
-  rules = refl;
-  goes = λ counts rest. refl;
 }
 
 -- some bytes, and then others
@@ -233,14 +224,6 @@ given_stop (Some text) (Some rest) c d p given bytes left cut took k =
     subst (Stops c d p) (sym (took ∙ ap (λ (t : List ℕ). t ++ rest) cut
     ∙ append_assoc bytes left rest)) (k (left ++ rest))
 
--- at the end of what a reader gives
-pub end_cut : (a b c d : Option (List ℕ)) (p : Point) (given : List ℕ) → given ≡ []
-    → Consumes a b given → IsAtEnd b → Cuts c d p [] → IfSome a (Cuts c d p)
-end_cut None b c d p given none took end k = tt
-end_cut (Some text) None c d p given none took end k = absurd took
-end_cut (Some text) (Some rest) c d p given none took end k = subst (Cuts c d p)
-    (sym (took ∙ (λ i. none i ++ end i))) k
-
 pub any_stop : (a c : Option (List ℕ)) (p : Point) → IfSome a (Stops c c p)
 any_stop None c p = tt
 any_stop (Some text) c p = stop-none c p text
@@ -335,21 +318,6 @@ within_end (Some text) (Some rest) p most given none took end =
     inl (let size : length text ≡ 0 = ap (λ (t : List ℕ). length t)
     (took ∙ (λ i. none i ++ end i)) in omega (arith, size))
 
--- nothing came yet
-pub talked_none : (a c : Option (List ℕ)) (p : Point) → Talked a a c c p p (Some 0)
-talked_none a c p = record {
-  given = [];
-  took = consumes-none a;
-  written = [];
-  wrote = appends-none c;
-  rules = refl;
-  goes = λ n is. (cc (is), λ counts rest. refl);
-  ends = λ e. absurd (some_not e);
-}
-  where
-    some_not : {n : ℕ} → Some n ≡ None → ⊥
-    some_not e = cc
-
 -- one turn, and then another
 module _ (a b c d e f : Option (List ℕ)) (p q r : Point) (n : ℕ)
     (u : Talked a b d e p q (Some n)) where
@@ -383,45 +351,6 @@ module _ (a b c d e f : Option (List ℕ)) (p q r : Point) (n : ℕ)
 
       some_same : {k l : ℕ} → Some k ≡ Some l → k ≡ l
       some_same is = cc
-
-  -- the run has ended: all of the text was answered
-  pub talked_all : Talked b c e f q r None → IfSome a
-      (λ text. Appends d f (coming true p text).text)
-  talked_all v = whole a b c u.took v.took (v.ends refl)
-    where
-      whole : (a b c : Option (List ℕ)) → Consumes a b u.given → Consumes b c v.given
-          → IfSome c (λ rest. (quit : Bool) × (coming true q (v.given ++ rest)
-          ≡ ahead v.written (ended quit r)))
-          → IfSome a (λ text. Appends d f (coming true p text).text)
-      whole None b c h k w = tt
-      whole (Some text) None c h k w = absurd h
-      whole (Some text) (Some mid) None h k w = absurd k
-      whole (Some text) (Some mid) (Some rest) h k (quit, says) =
-          let is : coming true p text ≡ ahead u.written (ahead v.written (ended quit r)) =
-          ap (coming true p) h ∙ u_goes true mid
-          ∙ ap (λ (t : List ℕ). ahead u.written (coming true q t)) k ∙ ap (ahead u.written) says
-          in
-          subst (Appends d f)
-          (sym (ap (λ (s : Said). s.text) is ∙ ap (λ (t : List ℕ). u.written ++ t)
-          (append-nil v.written)))
-          (appends-then d e f u.written v.written u.wrote v.wrote)
-
-  pub talked_journal : Talked b c e f q r None
-      → IfSome a (λ text. r.talk.journal ≡ (coming true p text).journal)
-  talked_journal v = whole a b c u.took v.took (v.ends refl)
-    where
-      whole : (a b c : Option (List ℕ)) → Consumes a b u.given → Consumes b c v.given
-          → IfSome c (λ rest. (quit : Bool) × (coming true q (v.given ++ rest)
-          ≡ ahead v.written (ended quit r)))
-          → IfSome a (λ text. r.talk.journal ≡ (coming true p text).journal)
-      whole None b c h k w = tt
-      whole (Some text) None c h k w = absurd h
-      whole (Some text) (Some mid) None h k w = absurd k
-      whole (Some text) (Some mid) (Some rest) h k (quit, says) =
-          sym (ap (λ (s : Said). s.journal)
-          (ap (coming true p) h ∙ u_goes true mid
-          ∙ ap (λ (t : List ℕ). ahead u.written (coming true q t)) k
-          ∙ ap (ahead u.written) says))
 
   -- the reader gave so many bytes, and then at most so many more
   pub gave_more : (most limit : ℕ) → n + most ≤ limit → GaveAtMost most b c → GaveAtMost limit a c

@@ -6,12 +6,12 @@ use Rattle.regatta_terms.specs.Rules.{RulesParts}
 use Rattle.regatta_scores.specs.Journal.{Journal}
 use Rattle.regatta_board.specs.BoardFacts.{BoardValue}
 use Rattle.regatta_streams.specs.Texts.{AppendsPrefix}
-use Rattle.regatta_office.proofs.Streams.{prefix-behind, prefix-longer}
-use Rattle.regatta_streams.proofs.KnownBytes.{appends-none, appends-then}
+use Rattle.regatta_office.proofs.Streams.{prefix-longer}
+use Rattle.regatta_streams.proofs.KnownBytes.{appends-none}
 use Rattle.regatta_office.specs.declared.form.Form.{Form}
 use Rattle.regatta_office.specs.Coming.{Cuts, IsTooLong, IsWithin, Stops, Point, ReadSome, Said}
 use Rattle.regatta_office.specs.Coming.{coming, said}
-use Rattle.regatta_talk.specs.Lines.{ended_lines, lines_by}
+use Rattle.regatta_terms.specs.TextLines.{ended_lines, lines_by}
 use Rattle.regatta_office.specs.Transcript.{EndsWithin, WroteSome, final_journal, final_text}
 use Rattle.regatta_office.specs.Transcript.{has_quit, opening, replies, run_text, up_to_quit}
 use Rattle.regatta_office.specs.Transcript.{transcript, transcript_so_far}
@@ -45,15 +45,17 @@ module _ (rules : RulesParts) (start : Journal) (board : BoardValue) (p : Point)
       }) b)
       ∙ coming-whole counts rules (opening start) text
 
-  pub all_written : (a c d f : Option (List ℕ)) (form : Form) (final : List ℕ) (last : BoardValue)
-      (journal : Journal) → last.rules ≡ p.rules → last.entries ≡ journal
+  -- the final part was written, or some first part of it
+  pub whole_text : (P : Option (List ℕ) → Option (List ℕ) → List ℕ → Type 0)
+      → ((c d f : Option (List ℕ)) (x y : List ℕ) → Appends c d x → P d f y → P c f (x ++ y))
+      → (a c d f : Option (List ℕ)) (form : Form) (last : BoardValue) (journal : Journal)
+      → last.rules ≡ p.rules → last.entries ≡ journal
       → IfSome a (λ text. Appends c d (coming true p text).text)
       → IfSome a (λ text. journal ≡ (coming true p text).journal)
-      → final ≡ final_text last.rules form last.entries
-      → Appends d f final
-      → IfSome a (λ text. Appends c f (run_text rules start form text))
-  all_written None c d f form final last journal same kept wrote after is ends = tt
-  all_written (Some text) c d f form final last journal same kept wrote after is ends =
+      → P d f (final_text last.rules form last.entries)
+      → IfSome a (λ text. P c f (run_text rules start form text))
+  whole_text P join None c d f form last journal same kept wrote after ends = tt
+  whole_text P join (Some text) c d f form last journal same kept wrote after ends =
       let said_is = at_start true text in
       let rules_are : last.rules ≡ rules = same ∙ ap (λ (q : Point). q.rules) e
       ∙ ap (λ (v : BoardValue). v.rules) b in
@@ -61,10 +63,8 @@ module _ (rules : RulesParts) (start : Journal) (board : BoardValue) (p : Point)
       (λ (s : Said). s.text) said_is in
       let journal_is : last.entries ≡ final_journal rules start text = kept ∙ after
       ∙ ap (λ (s : Said). s.journal) said_is in
-      let ended : final ≡ final_text rules form (final_journal rules start text) = is
-      ∙ (λ i. final_text (rules_are i) form (journal_is i)) in
-      subst (Appends c f) (λ i. written i ++ ended i)
-      (appends-then c d f (coming true p text).text final wrote ends)
+      subst (P c f) (λ i. written i ++ final_text (rules_are i) form (journal_is i))
+      (join c d f (coming true p text).text (final_text last.rules form last.entries) wrote ends)
 
   pub read_broken : (a a' c d : Option (List ℕ))
       → ReadSome a a' c d (λ given. (coming false p given).text)
@@ -116,25 +116,3 @@ module _ (rules : RulesParts) (start : Journal) (board : BoardValue) (p : Point)
       (λ text. Appends c d (coming true p text).text) → IfSome a (WroteSome rules start c d)
   all_said None c d k = tt
   all_said (Some text) c d k = inr (subst (λ (s : Said). Appends c d s.text) (at_start true text) k)
-
-  -- the write of the final part failed
-  pub final_cut : (a c d f : Option (List ℕ)) (form : Form) (final : List ℕ) (last : BoardValue)
-      (journal : Journal) → last.rules ≡ p.rules → last.entries ≡ journal
-      → IfSome a (λ text. Appends c d (coming true p text).text)
-      → IfSome a (λ text. journal ≡ (coming true p text).journal)
-      → final ≡ final_text last.rules form last.entries
-      → AppendsPrefix d f final
-      → IfSome a (λ text. AppendsPrefix c f (run_text rules start form text))
-  final_cut None c d f form final last journal same kept wrote after is ends = tt
-  final_cut (Some text) c d f form final last journal same kept wrote after is ends =
-      let said_is = at_start true text in
-      let rules_are : last.rules ≡ rules = same ∙ ap (λ (q : Point). q.rules) e
-      ∙ ap (λ (v : BoardValue). v.rules) b in
-      let written : (coming true p text).text ≡ transcript rules start text = ap
-      (λ (s : Said). s.text) said_is in
-      let journal_is : last.entries ≡ final_journal rules start text = kept ∙ after
-      ∙ ap (λ (s : Said). s.journal) said_is in
-      let ended : final ≡ final_text rules form (final_journal rules start text) = is
-      ∙ (λ i. final_text (rules_are i) form (journal_is i)) in
-      subst (AppendsPrefix c f) (λ i. written i ++ ended i)
-      (prefix-behind c d f (coming true p text).text final wrote ends)

@@ -1,7 +1,10 @@
 pub mod Asked
 pub mod Coming
+pub mod Complaints
 pub mod Faults
 pub mod Scribes
 pub mod Starts
 pub mod Transcript
+pub mod Words
 pub mod Worked
+pub mod WorkedWords

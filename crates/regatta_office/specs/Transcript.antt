@@ -1,5 +1,5 @@
 -- What a replay writes: a reply to each line of a text, and then the table, CSV or journal.
-use Rattle.std.specs.Prelude.{◌≡◌, ◌⊎◌, IfSome, length, take, ℕ, ◌≤◌, Bool, true, false, List, []}
+use Rattle.std.specs.Prelude.{◌≡◌, ◌⊎◌, length, take, ℕ, ◌≤◌, Bool, true, false, List, []}
 use Rattle.std.specs.Prelude.{◌∷◌, ◌++◌, Option, Some, None, Result, Ok, Err, if◌then◌else◌}
 use Rattle.std.specs.Io.KnownBytes.{Appends}
 use Rattle.regatta_terms.specs.Entries.{EntryParts}
@@ -27,7 +27,7 @@ use Rattle.regatta_tables.specs.SheetTexts.{sheet_text}
 use Rattle.regatta_tables.specs.TableTexts.{table_text}
 use Rattle.regatta_office.specs.declared.form.Form.{Form}
 use Rattle.regatta_office.specs.declared.form.Form.TheVariants as form
-use Rattle.regatta_talk.specs.Lines.{lines, ended_lines}
+use Rattle.regatta_terms.specs.TextLines.{lines, ended_lines}
 use Rattle.regatta_talk.specs.Replies.{ranked, reply_apart, reply_of}
 
 -- where a run stands: the role of the lines to come, and the journal so far

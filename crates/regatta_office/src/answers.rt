@@ -7,7 +7,8 @@ ghost use Rattle.regatta_tables.specs.SheetTexts.{sheet_text};
 ghost use Rattle.regatta_talk.specs.Replies.{ranked as ranked_by};
 ghost use Rattle.regatta_office.specs.Transcript.{entry_of as entry_by, is_quit as is_quit_of};
 ghost use Rattle.regatta_office.specs.Transcript.{is_want_of_memory as is_want_of_memory_by};
-ghost use Rattle.regatta_office.specs.Transcript.{journal_after, reply_to, talk_after, text_after};
+ghost use Rattle.regatta_office.specs.Transcript.{journal_after, reply_to, talk_after, talk_for};
+ghost use Rattle.regatta_office.specs.Transcript.{text_after, text_for};
 
 use regatta_board::{Board, REPLAY_SEAT, next_entry};
 use regatta_tables::write_sheet;
@@ -90,6 +91,29 @@ fn show(board: &Board, out: &mut Vec<u8>) -> Result<(), AllocError>
     write_sheet(board.entries(), &standing, out)
 }
 
+/// Does what a line asks for, and appends what is written for it.
+fn answer_line(
+    board: &mut Board,
+    role: &mut Role,
+    line: Line,
+    out: &mut Vec<u8>,
+) -> Result<(), AllocError>
+    ensures text { OnOk result (out.new.items ≡ out.old.items ++ text_for board.old.rules
+        (record { role = role.old; journal = board.old.entries }) line) }
+    ensures talk { OnOk result ((record { role = role.new; journal = board.new.entries })
+        ≡ talk_for board.old.rules
+        (record { role = role.old; journal = board.old.entries }) line) }
+    ensures rules { OnOk result (board.new.rules ≡ board.old.rules) }
+{
+    match line {
+        Line::Do(command) => answer_command(board, *role, command, out),
+        Line::Rank(sail) => answer_rank(board, sail, out),
+        Line::Show => show(board, out),
+        Line::SetRole(next) => answer_apart(role, Ok(Line::SetRole(next)), out),
+        Line::Quit => answer_apart(role, Ok(Line::Quit), out),
+    }
+}
+
 /// Does what a line asks for, if it can be read, and appends what is written for it.
 pub(crate) fn answer(
     board: &mut Board,
@@ -105,10 +129,8 @@ pub(crate) fn answer(
     ensures rules { OnOk result (board.new.rules ≡ board.old.rules) }
 {
     match asked {
-        Ok(Line::Do(command)) => answer_command(board, *role, command, out),
-        Ok(Line::Rank(sail)) => answer_rank(board, sail, out),
-        Ok(Line::Show) => show(board, out),
-        Ok(Line::SetRole(_) | Line::Quit) | Err(_) => answer_apart(role, asked, out),
+        Ok(line) => answer_line(board, role, line, out),
+        Err(fault) => answer_apart(role, Err(fault), out),
     }
 }
 

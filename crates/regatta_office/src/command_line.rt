@@ -1,10 +1,14 @@
-//! The program: from its words to its status.
-ghost use Rattle.std.specs.Prelude.{◌≡◌, ◌≢◌, ◌⊎◌, ℕ, List, IfSome, OnOk};
+//! The program: from the words of its command line to its status.
+ghost use Rattle.std.specs.Prelude.{◌≡◌, ◌≢◌, ◌⊎◌, ℕ, List, OnOk, map};
 ghost use Rattle.std.specs.Io.KnownBytes.{Appends};
+ghost use Rattle.clap.specs.Words.{kind_of};
+ghost use Rattle.clap.specs.declared.builder.value_parser.ValueParser.{ValueParser};
 ghost use Rattle.regatta_office.specs.Asked.{Asked, IsRunOf};
+ghost use Rattle.regatta_office.specs.Words.{AskHelp, TakesForms, asked_of};
 
 use crate::complaint::Complaint;
-use crate::options::{Options, options_of, regatta};
+use crate::form::Form;
+use crate::options::{SeriesOptions, options_of};
 use crate::run::replay;
 use crate::start_files::{journal_at, sails_at};
 use crate::start_list::start_of;
@@ -31,53 +35,67 @@ fn complain<E: Sink>(alloc: Global, errors: &mut E, complaint: Complaint) -> u8
     }
 }
 
-/// Says what `clap` says of words that it doesn't take, or the help that they ask for.
-fn answer_words<W: Sink, E: Sink>(
-    alloc: Global,
-    error: &clap::Error,
-    output: &mut W,
-    errors: &mut E,
-) -> u8 {
-    if error.kind() == ErrorKind::OutOfMemory {
-        return complain(alloc, errors, Complaint::NoMemory);
-    }
+/// Writes the help that words ask for. The status that the program ends with.
+fn help<W: Sink, E: Sink>(alloc: Global, error: &clap::Error, output: &mut W, errors: &mut E) -> u8
+    ensures { result ≡ 0 → (text : List ℕ)
+        × Appends (W.contents output.old) (W.contents output.new) text }
+{
     let Ok(text) = format!(in alloc; "{error}") else {
         return complain(alloc, errors, Complaint::NoMemory);
     };
-    if !error.use_stderr() {
-        return match write_all(output, text.as_bytes()) {
-            Ok(()) => 0,
-            Err(_) => complain(alloc, errors, Complaint::Device),
-        };
+    match write_all(output, text.as_bytes()) {
+        Ok(()) => 0,
+        Err(_) => complain(alloc, errors, Complaint::Device),
     }
+}
+
+/// Says on standard error why words aren't taken. The status that the program ends with.
+fn refuse<E: Sink>(alloc: Global, error: &clap::Error, errors: &mut E) -> u8
+    ensures { result ≢ 0 }
+{
+    let Ok(text) = format!(in alloc; "{error}") else {
+        return complain(alloc, errors, Complaint::NoMemory);
+    };
     match write_all(errors, text.as_bytes()) {
         Ok(()) => BAD_WORDS,
         Err(_) => Complaint::Device.status(),
     }
 }
 
-/// Replays the input as the options ask.
+/// Answers words that ask for no run: with the help that they ask for, or with what `clap` says of
+/// words that it doesn't take.
+fn answer_words<W: Sink, E: Sink>(
+    alloc: Global,
+    error: &clap::Error,
+    output: &mut W,
+    errors: &mut E,
+) -> u8
+    ensures { result ≡ 0 → (kind_of error.now ≡ ErrorKind.DisplayHelp) × ((text : List ℕ)
+        × Appends (W.contents output.old) (W.contents output.new) text) }
+{
+    match error.kind() {
+        ErrorKind::DisplayHelp => help(alloc, error, output, errors),
+        ErrorKind::OutOfMemory => complain(alloc, errors, Complaint::NoMemory),
+        _ => refuse(alloc, error, errors),
+    }
+}
+
+/// Replays the input: a run of that series, with its final part in that form.
 fn run<H: Files + AllocGlobal, R: Source, W: Sink>(
     rt: &H,
-    options: &Options<'_>,
+    series: &SeriesOptions<'_>,
+    form: Form,
     input: &mut R,
     output: &mut W,
 ) -> Result<(), Complaint>
-    ensures { OnOk result (IsRunOf options.now (R.remaining input.old) (W.contents output.old)
-        (W.contents output.new)) }
+    ensures { OnOk result (IsRunOf (record { series = series.now; form = form })
+        (R.remaining input.old) (W.contents output.old) (W.contents output.new)) }
 {
-    let rules = Rules::read(options.absent, options.scp, options.exclude)?;
-    let journal = journal_at(rt, options.journal)?;
-    let sails = sails_at(rt, options.entries)?;
+    let rules = Rules::read(series.absent, series.scp, series.exclude)?;
+    let journal = journal_at(rt, series.journal)?;
+    let sails = sails_at(rt, series.entries)?;
     let start = start_of(rt.alloc(), journal.as_slice(), sails.as_slice())?;
-    replay(
-        rt.alloc(),
-        input,
-        output,
-        &rules,
-        start.as_slice(),
-        options.form,
-    )?;
+    replay(rt.alloc(), input, output, &rules, start.as_slice(), form)?;
     Ok(())
 }
 
@@ -97,25 +115,26 @@ pub fn program<H: Files + AllocGlobal, R: Source, W: Sink, E: Sink>(
     output: &mut W,
     errors: &mut E,
 ) -> u8
-    // All of a run is written, as some options ask for it, or the input wasn't read: the words
-    // asked for help.
-    ensures done { result ≡ 0 → (input.new ≡ input.old) ⊎ ((asked : Asked) × IsRunOf asked
-        (R.remaining input.old) (W.contents output.old) (W.contents output.new)) }
+    // The words ask for help, and it is written; or all is written of the run that these words ask
+    // for, with the defaults for what they leave out.
+    ensures done { result ≡ 0 → (forms : ValueParser) × TakesForms forms
+        × ((AskHelp forms (map (λ word. word.now) words.now) × (input.new ≡ input.old)
+        × ((text : List ℕ) × Appends (W.contents output.old) (W.contents output.new) text))
+        ⊎ ((asked : Asked)
+        × (asked_of forms (map (λ word. word.now) words.now) ≡ Some asked)
+        × IsRunOf asked (R.remaining input.old) (W.contents output.old)
+        (W.contents output.new))) }
 {
     let alloc = rt.alloc();
-    let Ok(command) = regatta(alloc) else {
-        return complain(alloc, errors, Complaint::NoMemory);
-    };
-    let matches = match command.try_get_matches_from(words) {
-        Ok(matches) => matches,
+    let asked = match options_of(alloc, words) {
+        Ok(asked) => asked,
         Err(error) => return answer_words(alloc, &error, output, errors),
     };
-    // `clap` lets no words pass that have no subcommand.
-    let Some(options) = options_of(&matches) else {
+    let Some(options) = asked else {
         let _ = write_all(errors, b"error: no command\n");
         return BAD_WORDS;
     };
-    match run(rt, &options, input, output) {
+    match run(rt, &options.series, options.form, input, output) {
         Ok(()) => 0,
         Err(complaint) => complain(alloc, errors, complaint),
     }

@@ -1,16 +1,18 @@
 //! Why the program stops short, and what it says of it.
-ghost use Rattle.std.specs.Prelude.{◌≢◌};
+ghost use Rattle.std.specs.Prelude.{◌≡◌, ◌≢◌};
+ghost use Rattle.regatta_office.specs.Complaints.{status_of};
 
 use crate::run::RunFault;
 use regatta_streams::ReadFault;
 use regatta_tables::{EntriesFault, JournalFault};
 use regatta_terms::RulesFault;
 use std::alloc::AllocError;
+use std::io::ErrorKind;
 use thiserror::Error;
 
 /// Why the program stops short. Its text is what the program says on standard error.
 #[derive(Clone, Copy, Debug, PartialEq, Eq, Error)]
-pub(crate) enum Complaint {
+pub enum Complaint {
     /// The texts of the series rules aren't rules.
     #[error("regatta: rules fault {number}")]
     Rules { number: u8 },
@@ -36,8 +38,9 @@ pub(crate) enum Complaint {
 
 impl Complaint {
     /// The status that the program ends with, from 1 to 3.
-    pub(crate) fn status(self) -> u8
-        ensures { result ≢ 0 }
+    pub fn status(self) -> u8
+        ensures value { result ≡ status_of self }
+        ensures some { result ≢ 0 }
     {
         match self {
             Complaint::Rules { .. } => 2,
@@ -53,6 +56,16 @@ impl Complaint {
 impl From<AllocError> for Complaint {
     fn from(_: AllocError) -> Complaint {
         Complaint::NoMemory
+    }
+}
+
+/// Of a file that can't be opened.
+impl From<ErrorKind> for Complaint {
+    fn from(kind: ErrorKind) -> Complaint {
+        match kind {
+            ErrorKind::OutOfMemory => Complaint::NoMemory,
+            _ => Complaint::Device,
+        }
     }
 }
 

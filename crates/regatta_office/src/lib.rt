@@ -13,10 +13,8 @@ mod start_files;
 mod start_list;
 
 pub use command_line::program;
+pub use complaint::Complaint;
 pub use form::Form;
-pub use regatta_streams::{Device, Foreign, Sink, Source, StreamFault, Tape, write_all};
+pub use regatta_streams::{Device, Failures, Foreign, Sink, Source, StreamFault, Tape, write_all};
 pub use run::{INPUT_LIMIT, RunFault, replay};
 pub use start_list::start_of;
-
-#[cfg(test)]
-mod tests;

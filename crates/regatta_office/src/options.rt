@@ -1,38 +1,63 @@
 //! The options of the program.
+ghost use Rattle.std.specs.Prelude.{◌≡◌, false, map, IfOk, IfErr, IfSome};
 ghost use Rattle.std.specs.Option.{option_copied};
+ghost use Rattle.clap.specs.Words.{app_of, first_value, found_of, kind_of, rule_of};
+ghost use Rattle.clap.specs.Words.{subcommand_rows_of};
+ghost use Rattle.clap.specs.declared.builder.command.Command.TheViews.{out-Command};
+ghost use Rattle.clap.specs.declared.builder.value_parser.ValueParser.{ValueParser};
 ghost use Rattle.regatta_office.specs.Asked.{Asked};
+ghost use Rattle.regatta_office.specs.Words.{AskHelp, TakesForms, asked_by, asked_of, asked_with};
+ghost use Rattle.regatta_office.specs.Words.{form_by, form_option as form_option_of};
+ghost use Rattle.regatta_office.specs.Words.{option as option_of, option_or as option_or_of};
+ghost use Rattle.regatta_office.specs.Words.{regatta as regatta_of, replay as replay_of};
+ghost use Rattle.regatta_office.specs.Words.{series_with, with_rules as with_rules_of};
+ghost use Rattle.regatta_office.specs.Words.{with_start as with_start_of};
 
 use crate::form::Form;
-use clap::{Arg, ArgMatches, Command};
+use clap::error::ErrorKind;
+use clap::{Arg, ArgMatches, Command, Error};
 use std::alloc::{AllocError, Global};
 use std::marker::Model;
 
 /// What the run is to print at its end, by the option's word.
 static FORMS: [&str; 3] = ["table", "csv", "journal"];
 
-/// What `regatta replay` was asked for: texts of series rules, paths of start files, and the form
-/// of the final part.
+/// The series that the words ask for: texts of its rules, and paths of its start files.
 #[derive(Drop)]
-pub(crate) struct Options<'a> {
+pub(crate) struct SeriesOptions<'a> {
     pub(crate) absent: &'a str,
     pub(crate) scp: Option<&'a str>,
     pub(crate) exclude: &'a str,
     pub(crate) journal: Option<&'a str>,
     pub(crate) entries: Option<&'a str>,
+}
+
+impl<'a> Model for SeriesOptions<'a> {
+    ghost use Rattle.std.specs.Option.{option_copied};
+    ghost use Rattle.regatta_office.specs.Asked.{Series};
+
+    ghost Value = { Series };
+
+    ghost view = { λ series. record {
+      absent = series.absent.now;
+      scp = option_copied series.scp;
+      exclude = series.exclude.now;
+      journal = option_copied series.journal;
+      entries = option_copied series.entries;
+    } };
+}
+
+/// What `regatta replay` is asked for: the series, and the form of the final part.
+#[derive(Drop)]
+pub(crate) struct ReplayOptions<'a> {
+    pub(crate) series: SeriesOptions<'a>,
     pub(crate) form: Form,
 }
 
-impl<'a> Model for Options<'a> {
+impl<'a> Model for ReplayOptions<'a> {
     ghost Value = { Asked };
 
-    ghost view = { λ options. record {
-      absent = options.absent.now;
-      scp = option_copied options.scp;
-      exclude = options.exclude.now;
-      journal = option_copied options.journal;
-      entries = option_copied options.entries;
-      form = options.form;
-    } };
+    ghost view = { λ options. record { series = options.series; form = options.form } };
 }
 
 /// What the help says of the program.
@@ -42,7 +67,7 @@ static ABOUT: &str = "Scores one series of races under Appendix A (Low Point) of
 /// What the help says of `replay`.
 static REPLAY: &str =
     "Reads lines such as ENTER GBR1, FINISH 1 GBR1 and SCORE 1 on standard input, \
-    answers each, and prints the results";
+    answers each, and prints the results: `regatta replay --help` says what its options mean";
 
 static ABSENT: &str =
     "What boats score that did not start or finish, retired or were disqualified: \
@@ -56,86 +81,177 @@ static EXCLUDE: &str = "From how many races on one more worst score is excluded 
     four rising numbers from 2 to 40, or none. Example: --exclude 5,9 excludes one score from 5 \
     races on and two from 9 on";
 
-static JOURNAL: &str = "A journal file to start from, as --print journal writes it. Example: \
-    --journal saturday.txt";
+static JOURNAL: &str = "A journal file to start from: the final part that --print journal writes, \
+    without the replies before it. Example: --journal saturday.txt";
 
 static ENTRIES: &str = "An entry list to start from: CSV with a column Sail, SailNo or SailNumber. \
     Example: --entries boats.csv";
 
-static PRINT: &str = "What is printed at the end. Example: --print csv > results.csv";
+static PRINT: &str =
+    "The final part, which is printed behind the replies: what follows the line BYE \
+    where the lines end with QUIT. Example: regatta replay --print csv < lines.txt \
+    | sed '1,/^BYE$/d' > results.csv";
 
-/// The options of the series rules.
-fn with_rules<'a>(alloc: Global, command: Command<'a>) -> Result<Command<'a>, AllocError> {
-    let absent = Arg::new(alloc, "absent")
-        .long("absent")
-        .value_name("RULE")
-        .default_value("a52")
-        .help(ABSENT);
-    let scp = Arg::new(alloc, "scp")
-        .long("scp")
-        .value_name("POINTS")
-        .help(SCP);
-    let exclude = Arg::new(alloc, "exclude")
-        .long("exclude")
-        .value_name("RACES")
-        .default_value("2")
-        .help(EXCLUDE);
-    command.arg(absent)?.arg(scp)?.arg(exclude)
+/// An option that takes one value.
+fn option<'a>(alloc: Global, name: &'a str, value: &'a str, help: &'a str) -> Arg<'a>
+    ensures rule { rule_of result ≡ option_of name.now }
+    ensures local { result.global ≡ false }
+{
+    Arg::new(alloc, name)
+        .long(name)
+        .value_name(value)
+        .help(help)
 }
 
-/// The options of the start.
-fn with_start<'a>(alloc: Global, command: Command<'a>) -> Result<Command<'a>, AllocError> {
-    let journal = Arg::new(alloc, "journal")
-        .long("journal")
-        .value_name("FILE")
-        .help(JOURNAL);
-    let entries = Arg::new(alloc, "entries")
-        .long("entries")
-        .value_name("FILE")
-        .help(ENTRIES);
-    command.arg(journal)?.arg(entries)
+/// The same, with the value that it has where the words don't give one.
+fn option_or<'a>(
+    alloc: Global,
+    name: &'a str,
+    value: &'a str,
+    default: &'a str,
+    help: &'a str,
+) -> Arg<'a>
+    ensures rule { rule_of result ≡ option_or_of name.now default.now }
+    ensures local { result.global ≡ false }
+{
+    option(alloc, name, value, help).default_value(default)
+}
+
+/// The option of the final part.
+fn form_option<'a>(alloc: Global) -> Arg<'a>
+    ensures rule { (forms : ValueParser) × TakesForms forms
+        × (rule_of result ≡ form_option_of forms) }
+    ensures local { result.global ≡ false }
+{
+    option_or(alloc, "print", "FORM", "table", PRINT).value_parser(FORMS.as_slice())
+}
+
+/// Adds the options of the series rules.
+fn with_rules<'a>(alloc: Global, command: Command<'a>) -> Result<Command<'a>, AllocError>
+    ensures app { IfOk result (λ c. app_of c ≡ with_rules_of (app_of command.entry)) }
+    ensures local { IfOk result (λ c. (out-Command c).has_globals
+        ≡ (out-Command command.entry).has_globals) }
+{
+    let absent = option_or(alloc, "absent", "RULE", "a52", ABSENT);
+    let scp = option(alloc, "scp", "POINTS", SCP);
+    let exclude = option_or(alloc, "exclude", "RACES", "2", EXCLUDE);
+    let command = command.arg(absent)?.arg(scp)?.arg(exclude)?;
+    Ok(command)
+}
+
+/// Adds the options of the start files.
+fn with_start<'a>(alloc: Global, command: Command<'a>) -> Result<Command<'a>, AllocError>
+    ensures app { IfOk result (λ c. app_of c ≡ with_start_of (app_of command.entry)) }
+    ensures local { IfOk result (λ c. (out-Command c).has_globals
+        ≡ (out-Command command.entry).has_globals) }
+{
+    let journal = option(alloc, "journal", "FILE", JOURNAL);
+    let entries = option(alloc, "entries", "FILE", ENTRIES);
+    let command = command.arg(journal)?.arg(entries)?;
+    Ok(command)
 }
 
 /// `replay` with its options.
-fn replay<'a>(alloc: Global) -> Result<Command<'a>, AllocError> {
-    let print = Arg::new(alloc, "print")
-        .long("print")
-        .value_name("FORM")
-        .value_parser(FORMS.as_slice())
-        .default_value("table")
-        .help(PRINT);
+fn replay<'a>(alloc: Global) -> Result<Command<'a>, AllocError>
+    ensures app { IfOk result (λ c. (forms : ValueParser) × TakesForms forms
+        × (app_of c ≡ replay_of forms)) }
+    ensures local { IfOk result (λ c. (out-Command c).has_globals ≡ false) }
+{
     let command = Command::new(alloc, "replay").about(REPLAY);
-    with_start(alloc, with_rules(alloc, command)?)?.arg(print)
+    let command = with_start(alloc, with_rules(alloc, command)?)?;
+    let command = command.arg(form_option(alloc))?;
+    Ok(command)
 }
 
 /// All that the program understands.
-pub(crate) fn regatta<'a>(alloc: Global) -> Result<Command<'a>, AllocError> {
-    Command::new(alloc, "regatta")
+fn regatta<'a>(alloc: Global) -> Result<Command<'a>, AllocError>
+    ensures { IfOk result (λ c. (forms : ValueParser) × TakesForms forms
+        × (app_of c ≡ regatta_of forms)) }
+{
+    let command = Command::new(alloc, "regatta")
         .about(ABOUT)
         .no_binary_name(true)
         .subcommand_required(true)
-        .bin_name("regatta")?
-        .subcommand(replay(alloc)?)
+        .bin_name("regatta")?;
+    let command = command.subcommand(replay(alloc)?)?;
+    Ok(command)
 }
 
 /// The form of that word.
-fn form_of(word: Option<&str>) -> Form {
+fn form_of(word: Option<&str>) -> Form
+    ensures { result ≡ form_by (option_copied word.entry) }
+{
     match word {
-        Some("csv") => Form::Csv,
-        Some("journal") => Form::Journal,
-        _ => Form::Table,
+        Some(word) => {
+            if word == "csv" {
+                return Form::Csv;
+            }
+            if word == "journal" {
+                return Form::Journal;
+            }
+            Form::Table
+        }
+        None => Form::Table,
     }
 }
 
-/// What words that are understood ask for.
-pub(crate) fn options_of<'a>(matches: &ArgMatches<'a>) -> Option<Options<'a>> {
-    let (_, options) = matches.subcommand()?;
-    Some(Options {
-        absent: options.get_str("absent")?,
+/// The series that the options of a subcommand ask for.
+fn series_of<'a>(options: &ArgMatches<'a>) -> Option<SeriesOptions<'a>>
+    ensures { result ≡ series_with (first_value (found_of options.now)) }
+{
+    let absent = options.get_str("absent")?;
+    let exclude = options.get_str("exclude")?;
+    Some(SeriesOptions {
+        absent,
         scp: options.get_str("scp"),
-        exclude: options.get_str("exclude")?,
+        exclude,
         journal: options.get_str("journal"),
         entries: options.get_str("entries"),
+    })
+}
+
+/// What the options of `replay` ask for.
+fn replay_of<'a>(options: &ArgMatches<'a>) -> Option<ReplayOptions<'a>>
+    ensures { result ≡ asked_with (first_value (found_of options.now)) }
+{
+    let series = series_of(options)?;
+    Some(ReplayOptions {
+        series,
         form: form_of(options.get_str("print")),
     })
+}
+
+/// What the subcommand asks for, by its name and its options.
+fn asked<'a>(matches: &ArgMatches<'a>) -> Option<ReplayOptions<'a>>
+    ensures { IfSome result (λ asked. asked_by (subcommand_rows_of matches.now) ≡ Some asked) }
+{
+    let Some(options) = matches.subcommand_matches("replay") else {
+        return None;
+    };
+    replay_of(options)
+}
+
+/// What the words ask for. `clap` lets no words pass that have no subcommand.
+///
+/// # Errors
+///
+/// What `clap` says of words that it doesn't take, the help that they ask for, or want of memory.
+pub(crate) fn options_of<'a>(
+    alloc: Global,
+    words: &'a [&'a str],
+) -> Result<Option<ReplayOptions<'a>>, Error>
+    ensures asked { IfOk result (λ options. (forms : ValueParser) × TakesForms forms
+        × IfSome options (λ asked.
+        asked_of forms (map (λ word. word.now) words.entry.now) ≡ Some asked)) }
+    ensures help { IfErr result (λ e. kind_of e ≡ ErrorKind.DisplayHelp →
+        (forms : ValueParser) × TakesForms forms
+        × AskHelp forms (map (λ word. word.now) words.entry.now)) }
+{
+    let Ok(command) = regatta(alloc) else {
+        return Err(Error::from(AllocError));
+    };
+    match command.try_get_matches_from(words) {
+        Ok(matches) => Ok(asked(&matches)),
+        Err(error) => Err(error),
+    }
 }

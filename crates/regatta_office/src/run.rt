@@ -11,7 +11,7 @@ ghost use Rattle.regatta_office.specs.Coming.{coming};
 ghost use Rattle.regatta_office.specs.Faults.{IsDeviceFault, IsRunFaultOf};
 ghost use Rattle.regatta_office.specs.Faults.{scribe_fault as scribe_fault_of};
 ghost use Rattle.regatta_office.specs.Faults.{start_fault as start_fault_of};
-ghost use Rattle.regatta_talk.specs.Lines.{ended_lines};
+ghost use Rattle.regatta_terms.specs.TextLines.{ended_lines};
 ghost use Rattle.regatta_office.specs.Scribes.{point};
 ghost use Rattle.regatta_office.specs.Starts.{IsRunFault};
 ghost use Rattle.regatta_office.specs.Transcript.{EndsWithin, WroteSome, has_quit, run_text};

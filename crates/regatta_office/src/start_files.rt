@@ -10,7 +10,6 @@ use regatta_streams::{Foreign, read_text};
 use regatta_tables::{Journal, Sails, read_entries, read_journal};
 use std::alloc::Global;
 use std::fs::{self, Files};
-use std::io::ErrorKind;
 
 /// The most bytes of a start file.
 const FILE_LIMIT: u32 = 1_048_576;
@@ -21,8 +20,7 @@ fn text_at<H: Files + AllocGlobal>(rt: &H, path: &str) -> Result<Vec<u8>, Compla
 {
     match fs::open(rt, path) {
         Ok(file) => Ok(read_text(rt.alloc(), &mut Foreign::new(file), FILE_LIMIT)?),
-        Err(error) if error.kind() == ErrorKind::OutOfMemory => Err(Complaint::NoMemory),
-        Err(_) => Err(Complaint::Device),
+        Err(error) => Err(Complaint::from(error.kind())),
     }
 }
 

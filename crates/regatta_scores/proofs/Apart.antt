@@ -1,19 +1,21 @@
 -- A command of one race changes no other race.
-use Rattle.std.proofs.Common.{◌≡◌, ◌≢◌, ℕ, Bool, true, false, cond, [], ◌∷◌, ◌++◌, refl, ap, ◌∙◌}
-use Rattle.std.proofs.Common.{sym, filter, filter_map, nat_eq, None}
-use Rattle.std.specs.List.{cons_option}
+use Rattle.std.proofs.Common.{◌≡◌, ◌≢◌, ℕ, Bool, true, false, cond, List, [], ◌∷◌, ◌++◌, refl, ap}
+use Rattle.std.proofs.Common.{◌∙◌, sym, filter, filter_map, nat_eq, None}
+use Rattle.std.specs.List.{cons_option, after_last}
 use Rattle.std.proofs.lemmas.List.{map-append, append-nil}
 use Rattle.std.proofs.lemmas.List.Elements.{filter-append, filter_map-append}
+use Rattle.std.proofs.lemmas.List.Sums.{fold_push}
 use borrow.Author.Tests.{eqb-true}
 use Rattle.regatta_terms.specs.Entries.{EntryParts}
+use Rattle.regatta_terms.specs.Rules.{RulesParts}
 use Rattle.regatta_terms.specs.declared.sail.Sail.{Sail}
 use Rattle.regatta_terms.specs.declared.command.Command.{Command}
 use Rattle.regatta_terms.specs.declared.command.Command.TheVariants.{Enter, Finish, Tie, Before}
 use Rattle.regatta_terms.specs.declared.command.Command.TheVariants.{Strike, Mark, Penalise}
 use Rattle.regatta_terms.specs.declared.command.Command.TheVariants.{Redress, Clear, Score, Unscore}
 use Rattle.regatta_scores.specs.Journal.{Journal, same_sail, names_race, sail_entered, commands}
-use Rattle.regatta_scores.specs.Journal.{entered, race_commands, order_by, held_by}
-use Rattle.regatta_scores.specs.Journal.{standing_decisions}
+use Rattle.regatta_scores.specs.Journal.{entered, race_commands, order_after, order_by, order}
+use Rattle.regatta_scores.specs.Journal.{held_by, standing_decisions, decides, is_clear, held}
 use Rattle.regatta_scores.specs.RacePoints.{Race, journal_race, status, dnf, plain}
 use Rattle.regatta_scores.specs.RaceLaws.{SaysTheSame, RacesAreApart}
 
@@ -74,29 +76,63 @@ pub same_entered : (journal : Journal) (entry : EntryParts) → sail_entered ent
     entered (journal ++ entry ∷ []) ≡ entered journal
 same_entered journal entry h = entered_more journal entry ∙ rw h (append-nil _)
 
+-- an order that the command leaves as it is
+pub order_stays : (rules : RulesParts) (journal : Journal) (entry : EntryParts) →
+    ((o : List (List Sail)) → order_after rules o entry.command ≡ o) → (race : ℕ) →
+    order rules (journal ++ entry ∷ []) race ≡ order rules journal race
+order_stays rules journal entry same race =
+    ap (order_by rules) (race_commands_more journal entry race)
+    ∙ by (names_race race entry.command)
+  where
+    by : (b : Bool) → order_by rules (race_commands journal race ++ cond b (entry.command ∷ []) [])
+        ≡ order_by rules (race_commands journal race)
+    by true =
+        fold_push (order_after rules) [] (race_commands journal race) entry.command
+        ∙ same (order_by rules (race_commands journal race))
+    by false = ap (order_by rules) (append-nil (race_commands journal race))
+
+-- what a boat holds whom the command is no decision about
+pub held_stays : (journal : Journal) (entry : EntryParts) (boat : Sail) →
+    decides boat entry.command ≡ false → (race : ℕ) →
+    held (journal ++ entry ∷ []) race boat ≡ held journal race boat
+held_stays journal entry boat out race =
+    ap (λ cs. held_by (standing_decisions cs boat)) (race_commands_more journal entry race)
+    ∙ ap (λ ds. held_by (after_last is_clear ds)) (by (names_race race entry.command))
+  where
+    by : (b : Bool) →
+        filter (decides boat) (race_commands journal race ++ cond b (entry.command ∷ []) [])
+        ≡ filter (decides boat) (race_commands journal race)
+    by true =
+        let none : filter (decides boat) (entry.command ∷ []) ≡ [] =
+        ap (λ b. cond b (entry.command ∷ []) []) out in
+        filter-append (decides boat) (race_commands journal race) (entry.command ∷ [])
+        ∙ ap (λ ds. filter (decides boat) (race_commands journal race) ++ ds) none ∙ append-nil _
+    by false = ap (filter (decides boat)) (append-nil (race_commands journal race))
+
 -- a race is made of the entry list and its own commands
-pub same_race : (old new : Journal) (race : ℕ) → entered new ≡ entered old →
-    race_commands new race ≡ race_commands old race → journal_race new race ≡ journal_race old race
-same_race old new race boats cs i =
+pub same_race : (rules : RulesParts) (old new : Journal) (race : ℕ) → entered new ≡ entered old →
+    race_commands new race ≡ race_commands old race →
+    journal_race rules new race ≡ journal_race rules old race
+same_race rules old new race boats cs i =
     record {
       entered = boats i;
-      order = order_by (cs i);
+      order = order_by rules (cs i);
       held = λ boat. held_by (standing_decisions (cs i) boat);
     }
 
-says_the_same : (old new : Journal) (race : ℕ) → journal_race new race ≡ journal_race old race →
-    SaysTheSame old new race
-says_the_same old new race e = record {
+says_the_same : (rules : RulesParts) (old new : Journal) (race : ℕ) →
+    journal_race rules new race ≡ journal_race rules old race → SaysTheSame rules old new race
+says_the_same rules old new race e = record {
   same_order = ap (λ (r : Race Sail). r.order) e;
   same_held = λ boat. ap (λ (r : Race Sail). r.held boat) e;
   same_status = λ boat. ap (λ r. status same_sail r boat) e;
-  same_dnf = λ rules. ap (dnf same_sail rules) e;
-  same_plain = λ rules boat. ap (λ r. plain same_sail rules r boat) e;
+  same_dnf = ap (dnf same_sail rules) e;
+  same_plain = λ boat. ap (λ r. plain same_sail rules r boat) e;
 }
 
 pub races_are_apart : RacesAreApart
-races_are_apart journal entry race other named apart =
+races_are_apart rules journal entry race other named apart =
     let boats = same_entered journal entry (enters_none race entry.command named) in
     let cs = same_commands journal entry other (not_named race other entry.command named apart) in
-    says_the_same journal (journal ++ entry ∷ []) other
-    (same_race journal (journal ++ entry ∷ []) other boats cs)
+    says_the_same rules journal (journal ++ entry ∷ []) other
+    (same_race rules journal (journal ++ entry ∷ []) other boats cs)

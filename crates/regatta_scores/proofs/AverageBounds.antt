@@ -7,30 +7,41 @@ use Rattle.std.proofs.Math.Nat.{mul-div-le, lt-mul-div-succ}
 use borrow.Author.Tests.{eqb-true}
 use Rattle.regatta_scores.specs.declared.boats.RowItem.{RowItem}
 use Rattle.regatta_scores.specs.Averages.{own_points, average, average_or, counted, total}
-use Rattle.regatta_scores.specs.RedressLaws.{IsWithin, AveragesLieBetween, AveragesAreNearest}
+use Rattle.regatta_scores.specs.RedressLaws.{AveragesLieBetween, AveragesAreNearest}
 
--- points from low to high have a sum from n times low to n times high
-total_within : (xs : List RowItem) (low high : ℕ) → All (IsWithin low high) xs →
-    (low * length xs ≤ total xs) × (total xs ≤ high * length xs)
-total_within [] low high each = (omega arith, omega arith)
-total_within (x ∷ xs) low high each =
-    let here : IsWithin low high x = each zero x (omega arith) in
-    let rest = total_within xs low high (λ k d h. each (suc k) d (omega arith)) in
-    let sum = sum_by-cons (λ (item : RowItem). own_points item item.redress) x xs in (
-      omega (arith, here.0, rest.0, sum, mul-suc low (length xs)),
-      omega (arith, here.1, rest.1, sum, mul-suc high (length xs)),
-    )
+-- points of at least so much have a sum of at least n times as much
+pub total_least : (xs : List RowItem) (low : ℕ) →
+    All (λ item. low ≤ own_points item item.redress) xs → low * length xs ≤ total xs
+total_least [] low each = omega arith
+total_least (x ∷ xs) low each =
+    let here : low ≤ own_points x x.redress = each zero x (omega arith) in
+    let rest = total_least xs low (λ k d h. each (suc k) d (omega arith)) in
+    let sum = sum_by-cons (λ (item : RowItem). own_points item item.redress) x xs in
+    omega (arith, here, rest, sum, mul-suc low (length xs))
 
-average_within : (n s low high : ℕ) → 0 < n → low * n ≤ s → s ≤ high * n →
-    (low ≤ average n s) × (average n s ≤ high)
-average_within n s low high some least greatest =
-    let twice_low : low * (2 * n) ≡ 2 * (low * n) = mul_left_comm low 2 n in
-    let twice_high : high * (2 * n) ≡ 2 * (high * n) = mul_left_comm high 2 n in
+total_most : (xs : List RowItem) (high : ℕ) →
+    All (λ item. own_points item item.redress ≤ high) xs → total xs ≤ high * length xs
+total_most [] high each = omega arith
+total_most (x ∷ xs) high each =
+    let here : own_points x x.redress ≤ high = each zero x (omega arith) in
+    let rest = total_most xs high (λ k d h. each (suc k) d (omega arith)) in
+    let sum = sum_by-cons (λ (item : RowItem). own_points item item.redress) x xs in
+    omega (arith, here, rest, sum, mul-suc high (length xs))
+
+pub average_least : (n s low : ℕ) → 0 < n → low * n ≤ s → low ≤ average n s
+average_least n s low some least =
+    let twice : low * (2 * n) ≡ 2 * (low * n) = mul_left_comm low 2 n in
+    let positive : 0 < 2 * n = omega arith in
+    (le-div_iff_mul-le positive).1 (omega (arith, twice))
+
+average_most : (n s high : ℕ) → 0 < n → s ≤ high * n → average n s ≤ high
+average_most n s high some greatest =
+    let twice : high * (2 * n) ≡ 2 * (high * n) = mul_left_comm high 2 n in
     let over : suc high * (2 * n) ≡ high * (2 * n) + 2 * n = omega arith in
     let positive : 0 < 2 * n = omega arith in
     let below : (2 * s + n) / (2 * n) < suc high =
-    (div-lt_iff_lt-mul positive).1 (omega (arith, twice_high, over)) in
-    ((le-div_iff_mul-le positive).1 (omega (arith, twice_low)), omega (arith, below))
+    (div-lt_iff_lt-mul positive).1 (omega (arith, twice, over)) in
+    omega (arith, below)
 
 average_by : (plain n s : ℕ) (b : Bool) → 0 < n → nat_eq n 0 ≡ b →
     cond b plain (average n s) ≡ average n s
@@ -44,10 +55,12 @@ average_is plain n s some = average_by plain n s (nat_eq n 0) some refl
 pub averages_lie_between : AveragesLieBetween
 averages_lie_between races plain low high some each =
     let n = length (counted races) in
-    let sums = total_within (counted races) low high each in
+    let least = total_least (counted races) low (λ k d h. (each k d h).0) in
+    let greatest = total_most (counted races) high (λ k d h. (each k d h).1) in
     let same = average_is plain n (total (counted races)) some in
-    let bounds = average_within n (total (counted races)) low high some sums.0 sums.1 in
-    (omega (arith, same, bounds.0), omega (arith, same, bounds.1))
+    let above = average_least n (total (counted races)) low some least in
+    let below = average_most n (total (counted races)) high some greatest in
+    (omega (arith, same, above), omega (arith, same, below))
 
 pub averages_are_nearest : AveragesAreNearest
 averages_are_nearest n s some =

@@ -5,24 +5,25 @@ use Rattle.std.proofs.Common.{filter_map, count_by, sum_by, Option, Some, None, 
 use Rattle.std.proofs.Common.{unwrap_or}
 use Rattle.std.specs.List.{after_last, suffix_len, prefix_len, last_or, before_first}
 use Rattle.std.specs.List.{position_or_len}
-use Rattle.std.proofs.lemmas.List.{reverse-append, drop-append-le, append-nil}
+use Rattle.std.proofs.lemmas.List.{reverse-append, drop-append-le}
 use Rattle.std.proofs.lemmas.List.Elements.{filter-append, filter_map-append}
-use Rattle.std.proofs.lemmas.List.Sums.{fold_push, sum_by-take-le}
+use Rattle.std.proofs.lemmas.List.Sums.{sum_by-take-le}
 use Rattle.std.specs.Cmp.Lexicographic.{bytes_decides}
 use borrow.Author.Tests.{eq-eqb}
 use Rattle.regatta_terms.specs.Entries.{EntryParts}
+use Rattle.regatta_terms.specs.Rules.{RulesParts}
 use Rattle.regatta_terms.specs.declared.sail.Sail.{Sail}
 use Rattle.regatta_terms.specs.declared.command.Code.{Code}
 use Rattle.regatta_terms.specs.declared.command.Command.TheVariants.{Mark}
 use Rattle.regatta_scores.specs.declared.sheet.Held.{Held}
 use Rattle.regatta_scores.specs.Order.{in_group, stands_in}
-use Rattle.regatta_scores.specs.Journal.{Journal, same_sail, race_commands, order, order_by}
-use Rattle.regatta_scores.specs.Journal.{order_after, held, held_by, decides, is_clear, code_marked}
+use Rattle.regatta_scores.specs.Journal.{Journal, same_sail, race_commands, order}
+use Rattle.regatta_scores.specs.Journal.{order_after, held, decides, is_clear, code_marked}
 use Rattle.regatta_scores.specs.Journal.{last_item}
 use Rattle.regatta_scores.specs.RacePoints.{Finished, Coded, journal_race, status}
 use Rattle.regatta_scores.specs.RacePoints.{status_by, finishers, groups_ahead, her_group}
 use Rattle.regatta_scores.specs.RaceLaws.{CodedBoatsLeaveTheOrder}
-use Rattle.regatta_scores.proofs.Apart.{race_commands_more}
+use Rattle.regatta_scores.proofs.Apart.{race_commands_more, order_stays, held_stays}
 use Rattle.regatta_scores.proofs.Counts.{count_split, sum_split, count_one, sum_one, found_le}
 
 -- what stands after the last element that passes, where one more comes that doesn't
@@ -43,16 +44,14 @@ last_push o (y ∷ ys) x = last_push (Some y) ys x
 
 -- ---- the race after the Mark
 
-module _ (journal : Journal) (entry : EntryParts) (race : ℕ) (coded : Sail) (code : Code)
-    (is_mark : entry.command ≡ Mark race coded code) where
+module _ (rules : RulesParts) (journal : Journal) (entry : EntryParts) (race : ℕ) (coded : Sail)
+    (code : Code) (is_mark : entry.command ≡ Mark race coded code) where
   commands_after : race_commands (journal ++ entry ∷ []) race
       ≡ race_commands journal race ++ Mark race coded code ∷ []
   commands_after = race_commands_more journal entry race ∙ rw is_mark (rw (eq-eqb race race refl))
 
-  order_stays : order (journal ++ entry ∷ []) race ≡ order journal race
-  order_stays =
-      ap order_by commands_after ∙ fold_push order_after [] (race_commands journal race)
-      (Mark race coded code)
+  order_is : order rules (journal ++ entry ∷ []) race ≡ order rules journal race
+  order_is = order_stays rules journal entry (λ o. ap (order_after rules o) is_mark) race
 
   decisions_by : (boat : Sail) (b : Bool) → same_sail boat coded ≡ b →
       filter (decides boat) (race_commands (journal ++ entry ∷ []) race)
@@ -62,10 +61,9 @@ module _ (journal : Journal) (entry : EntryParts) (race : ℕ) (coded : Sail) (c
       ∙ filter-append (decides boat) (race_commands journal race) (Mark race coded code ∷ [])
       ∙ rw e refl
 
-  held_stays : (boat : Sail) → same_sail boat coded ≡ false →
+  held_is : (boat : Sail) → same_sail boat coded ≡ false →
       held (journal ++ entry ∷ []) race boat ≡ held journal race boat
-  held_stays boat e =
-      ap (λ ds. held_by (after_last is_clear ds)) (decisions_by boat false e ∙ append-nil _)
+  held_is boat e = held_stays journal entry boat (ap (decides boat) is_mark ∙ e) race
 
   code_given : (boat : Sail) → same_sail boat coded ≡ true →
       (held (journal ++ entry ∷ []) race boat).code ≡ Some code
@@ -82,13 +80,13 @@ module _ (journal : Journal) (entry : EntryParts) (race : ℕ) (coded : Sail) (c
       (filter_map code_marked (after_last is_clear ds)) code
 
   status_after : (boat : Sail) (b : Bool) → same_sail boat coded ≡ b →
-      status same_sail (journal_race (journal ++ entry ∷ []) race) boat
-      ≡ cond b (Coded code) (status same_sail (journal_race journal race) boat)
+      status same_sail (journal_race rules (journal ++ entry ∷ []) race) boat
+      ≡ cond b (Coded code) (status same_sail (journal_race rules journal race) boat)
   status_after boat true e =
-      ap (λ o. status_by o (stands_in same_sail boat (order (journal ++ entry ∷ []) race)))
+      ap (λ o. status_by o (stands_in same_sail boat (order rules (journal ++ entry ∷ []) race)))
       (code_given boat e)
   status_after boat false e =
-      λ i. status_by (held_stays boat e i).code (stands_in same_sail boat (order_stays i))
+      λ i. status_by (held_is boat e i).code (stands_in same_sail boat (order_is i))
 
 finished_codeless : (o : Option Code) (placed : Bool) → status_by o placed ≡ Finished → o ≡ None
 finished_codeless None placed e = refl
@@ -96,9 +94,9 @@ finished_codeless (Some code) placed e = cc
 
 -- ---- the law
 
-module _ (journal : Journal) (entry : EntryParts) (race : ℕ) (coded : Sail) (code : Code)
-    (is_mark : entry.command ≡ Mark race coded code)
-    (was_finished : status same_sail (journal_race journal race) coded ≡ Finished) where
+module _ (rules : RulesParts) (journal : Journal) (entry : EntryParts) (race : ℕ) (coded : Sail)
+    (code : Code) (is_mark : entry.command ≡ Mark race coded code)
+    (was_finished : status same_sail (journal_race rules journal race) coded ≡ Finished) where
   each_boat : (boat : Sail) (b : Bool) → same_sail boat coded ≡ b →
       ◌≡◌ {A = ℕ} (cond (is_none (held journal race boat).code) 1 0)
       (cond (is_none (held (journal ++ entry ∷ []) race boat).code) 1 0 + cond b 1 0)
@@ -106,15 +104,15 @@ module _ (journal : Journal) (entry : EntryParts) (race : ℕ) (coded : Sail) (c
       let one : boat ≡ coded = (bytes_decides boat coded).0 e in
       let before : (held journal race boat).code ≡ None =
       ap (λ s. (held journal race s).code) one ∙ finished_codeless _ _ was_finished in
-      rw (before, code_given journal entry race coded code is_mark boat e) (omega arith)
+      rw (before, code_given rules journal entry race coded code is_mark boat e) (omega arith)
   each_boat boat false e =
       let same : (held (journal ++ entry ∷ []) race boat).code ≡ (held journal race boat).code =
-      ap (λ (h : Held). h.code) (held_stays journal entry race coded code is_mark boat e) in
+      ap (λ (h : Held). h.code) (held_is rules journal entry race coded code is_mark boat e) in
       rw same (omega arith)
 
   group_split : (group : List Sail) →
-      finishers (journal_race journal race) group
-      ≡ finishers (journal_race (journal ++ entry ∷ []) race) group
+      finishers (journal_race rules journal race) group
+      ≡ finishers (journal_race rules (journal ++ entry ∷ []) race) group
       + count_by (λ other. same_sail other coded) group
   group_split group =
       count_split (λ boat. is_none (held journal race boat).code)
@@ -122,11 +120,11 @@ module _ (journal : Journal) (entry : EntryParts) (race : ℕ) (coded : Sail) (c
       (λ other. same_sail other coded) (λ boat. each_boat boat (same_sail boat coded) refl) group
 
 pub coded_boats_leave : CodedBoatsLeaveTheOrder
-coded_boats_leave journal entry race coded code is_mark once was_finished boat =
-    let old = journal_race journal race in
-    let new = journal_race (journal ++ entry ∷ []) race in
+coded_boats_leave rules journal entry race coded code is_mark once was_finished boat =
+    let old = journal_race rules journal race in
+    let new = journal_race rules (journal ++ entry ∷ []) race in
     let p : Sail → Bool = λ other. same_sail other coded in
-    let stays = order_stays journal entry race coded code is_mark in
+    let stays = order_is rules journal entry race coded code is_mark in
     let ahead = groups_ahead same_sail old boat in
     let hers = her_group same_sail old boat in
     let same_ahead : groups_ahead same_sail new boat ≡ ahead =
@@ -135,22 +133,22 @@ coded_boats_leave journal entry race coded code is_mark once was_finished boat =
     ap (λ gs. unwrap_or (find (in_group same_sail boat) gs) []) stays in
     let split =
     sum_split (finishers old) (finishers new) (count_by p)
-    (group_split journal entry race coded code is_mark was_finished) ahead in
+    (group_split rules journal entry race coded code is_mark was_finished) ahead in
     let few_ahead : sum_by (count_by p) ahead ≤ 1 =
     omega (
       arith,
-      sum_by-take-le (count_by p) (order journal race)
-          (position_or_len (in_group same_sail boat) (order journal race)),
+      sum_by-take-le (count_by p) (order rules journal race)
+          (position_or_len (in_group same_sail boat) (order rules journal race)),
       once coded,
     ) in
     let few_hers : count_by p hers ≤ 1 =
-    omega (arith, found_le p (in_group same_sail boat) (order journal race), once coded) in
+    omega (arith, found_le p (in_group same_sail boat) (order rules journal race), once coded) in
     let one_ahead = sum_one p ahead few_ahead in
     let one_hers = count_one p hers few_hers in
     let new_ahead = ap (sum_by (finishers new)) same_ahead in
     let new_hers = ap (finishers new) same_hers in
-    let split_hers = group_split journal entry race coded code is_mark was_finished hers in (
-      status_after journal entry race coded code is_mark boat (same_sail boat coded) refl,
+    let split_hers = group_split rules journal entry race coded code is_mark was_finished hers in (
+      status_after rules journal entry race coded code is_mark boat (same_sail boat coded) refl,
       omega (arith, split, one_ahead, new_ahead),
       omega (arith, split_hers, one_hers, new_hers),
     )

@@ -1,6 +1,6 @@
 -- Groups cut out of one list of boats.
 use Rattle.std.proofs.Common.{◌≡◌, ℕ, zero, suc, ◌+◌, ◌-◌, ◌<◌, ◌≤◌, Bool, true, false, ◌||◌, List}
-use Rattle.std.proofs.Common.{[], ◌∷◌, ◌++◌, refl, ap, ◌∙◌, sym, arith, length, get_or, take, drop, nat_eq}
+use Rattle.std.proofs.Common.{[], ◌∷◌, ◌++◌, refl, ap, ◌∙◌, sym, arith, length, get_or, drop, nat_eq}
 use Rattle.std.specs.List.{between, list_any}
 use Rattle.std.proofs.lemmas.List.Folds.{list_any-append}
 use Rattle.std.proofs.lemmas.List.{take-append-le, take-append-drop, length-append}
@@ -8,7 +8,7 @@ use Rattle.regatta_scores.proofs.Ranked.{apart_eq_back}
 use Rattle.std.proofs.lemmas.Slice.{between_is, between_to_end}
 use Rattle.std.proofs.Math.Seq.{drop-append_seam}
 use Rattle.std.proofs.Common.{◌↔◌, IsTrue, cond}
-use Rattle.regatta_scores.specs.Order.{in_group, stands_in}
+use Rattle.regatta_scores.specs.Order.{stands_in}
 use Rattle.regatta_scores.specs.Groups.{cut, Rises, begin}
 
 pub many_groups : (boats : List ℕ) (start : ℕ) (ends : List ℕ) →
@@ -54,8 +54,11 @@ rises_more start (end ∷ ends) last more rises upto =
 
 pub no_groups : {X : Type 0} (xs : List X) → IsTrue (nat_eq (length xs) 0) ↔ (xs ≡ [])
 no_groups [] = (λ h. refl, λ h. refl)
-no_groups (x ∷ xs) = (λ h. let wrong : true ≡ false =
-    sym h ∙ apart_eq_back (length (x ∷ xs)) 0 (omega arith) in cc, λ h. let same : length (x ∷ xs) ≡ 0 = ap length h in absurd (omega (arith, same)))
+no_groups (x ∷ xs) = (
+  λ h. let wrong : true ≡ false =
+      sym h ∙ apart_eq_back (length (x ∷ xs)) 0 (omega arith) in cc,
+  λ h. let same : length (x ∷ xs) ≡ 0 = ap length h in absurd (omega (arith, same)),
+)
 
 -- ---- one group
 

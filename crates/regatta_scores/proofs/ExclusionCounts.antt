@@ -13,8 +13,7 @@ use borrow.Author.Tests.{ltb-true, ltb-false, leb-true, leb-false, lt-ltb, le-le
 use Rattle.regatta_scores.specs.declared.boats.Scored.{Scored}
 use Rattle.regatta_scores.specs.Exclusions.{excluded_ahead, is_excluded, excluded}
 use Rattle.regatta_scores.specs.ExclusionLaws.{WorstAreExcluded}
-use Rattle.regatta_scores.proofs.Counts.{count_cons}
-use Rattle.regatta_scores.proofs.RankLemmas.{count_by-map}
+use Rattle.regatta_scores.proofs.Counts.{count_cons, count_by-map}
 use Rattle.regatta_scores.proofs.Members.{lt_false, lt_same, le_by, count_le}
 
 -- excludable scores that are worse than some points, and those that are as bad
@@ -139,7 +138,7 @@ more_ahead (y ∷ ys) (suc i) (suc j) s mine at upto order =
       more_ahead ys i j s mine at upto (omega arith),
     )
 
--- ---- counts over races and their places
+-- ---- counts over races and their positions
 
 count_later : {X : Type 0} (p : ℕ × X → Bool) (n : ℕ) (ys : List X) →
     count_by p (enumerate_from (n + 1) ys) ≡ count_by (λ r. p (r.0 + 1, r.1)) (enumerate_from n ys)

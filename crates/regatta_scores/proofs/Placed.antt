@@ -1,4 +1,4 @@
--- What is kept of each boat's place makes the definitions' number of boats that came, and their
+-- The points for each boat's place make the definitions' number of boats that came, and their
 -- points.
 use Rattle.std.proofs.Common.{◌≡◌, ℕ, Bool, true, false, cond, List, refl, ap, ◌∙◌, sym, length}
 use Rattle.std.proofs.Common.{count_by, Option, Some, None, is_some, unwrap_or, nat_eq, get_or}

@@ -9,6 +9,7 @@ use Rattle.std.proofs.lemmas.List.{take-append-drop}
 use Rattle.std.proofs.lemmas.List.Folds.{list_any_more}
 use Rattle.std.proofs.Math.Seq.{take-append_seam}
 use Rattle.std.proofs.lemmas.List.Sums.{sum_by-cons, sum_by-append}
+use Rattle.regatta_scores.specs.PlacedPoints.{most_place_points}
 use Rattle.regatta_scores.specs.declared.sheet.Held.{Held}
 use Rattle.regatta_scores.specs.Order.{in_group, stands_in, times_placed}
 use Rattle.regatta_scores.specs.RacePoints.{Race, race_of, finishers, groups_ahead, her_group}
@@ -68,7 +69,7 @@ place_points_at same race ahead group behind boat split once here =
       ap (stands_in same boat) split ∙ found.2,
     )
 
--- the same at a place of the order
+-- the same at a position of the order
 split_at : {A : Type 0} (xs : List A) (i : ℕ) (d : A) → i < length xs →
     xs ≡ take i xs ++ get_or xs i d ∷ drop (suc i) xs
 split_at xs i d h = sym (take-append-drop i xs) ∙ ap (λ ys. take i xs ++ ys) (drop-cons xs i d h)
@@ -116,7 +117,8 @@ module _ (order : List (List ℕ)) (held : List Held) (i : ℕ) (d : List ℕ) (
       by false here false e f more = f ∙ e ∙ rw more refl
 
 pub few_more : (t : Bool) (points : ℕ) (old new : Option ℕ) → new ≡ cond t (Some points) old →
-    points ≤ 5000 → unwrap_or old 0 ≤ 5000 → unwrap_or new 0 ≤ 5000
+    points ≤ most_place_points → unwrap_or old 0 ≤ most_place_points →
+    unwrap_or new 0 ≤ most_place_points
 few_more true points old new e few before = rw e few
 few_more false points old new e few before = rw e before
 

@@ -5,16 +5,17 @@ use Rattle.std.proofs.Common.{nat_eq, Option}
 use Rattle.std.specs.List.{after_last, range_with_len}
 use Rattle.std.proofs.lemmas.List.{append-nil}
 use Rattle.std.proofs.lemmas.List.Elements.{filter-append, filter_map-append}
-use Rattle.std.proofs.lemmas.List.Sums.{fold_push, sum_by-append}
+use Rattle.std.proofs.lemmas.List.Sums.{sum_by-append}
 use Rattle.std.specs.Cmp.Lexicographic.{bytes_decides}
 use Rattle.regatta_terms.specs.Entries.{EntryParts}
 use Rattle.regatta_terms.specs.Rules.{RulesParts, exclusions_of}
+use Rattle.regatta_terms.specs.declared.limits.TheConstants.{MAX_RACES}
 use Rattle.regatta_terms.specs.declared.sail.Sail.{Sail}
 use Rattle.regatta_terms.specs.declared.command.Redress as redress_type
 use Rattle.regatta_terms.specs.declared.command.Command.{Command}
 use Rattle.regatta_terms.specs.declared.command.Command.TheVariants.{Redress}
 use Rattle.regatta_scores.specs.Journal.{Journal, same_sail, sail_entered, race_commands, entered}
-use Rattle.regatta_scores.specs.Journal.{order, order_by, order_after, held, held_by}
+use Rattle.regatta_scores.specs.Journal.{order, order_after, held}
 use Rattle.regatta_scores.specs.Journal.{standing_decisions, decides, is_clear, code_marked, is_zfp}
 use Rattle.regatta_scores.specs.Journal.{is_scp, counting, last_item, is_some_true, is_scored}
 use Rattle.regatta_scores.specs.Journal.{scored}
@@ -23,7 +24,8 @@ use Rattle.regatta_scores.specs.Averages as averages
 use Rattle.regatta_scores.specs.Exclusions as exclusion
 use Rattle.regatta_scores.specs.Standing.{row_items, points, excluded, is_dne}
 use Rattle.regatta_scores.specs.RedressLaws.{RedressLeavesOthers}
-use Rattle.regatta_scores.proofs.Apart.{race_commands_more, same_entered}
+use Rattle.regatta_scores.proofs.Apart.{race_commands_more, same_entered, order_stays}
+use Rattle.regatta_scores.proofs.Apart.{held_stays}
 use Rattle.regatta_scores.proofs.Coded.{after_last_push}
 
 -- ---- a score before redress reads no redress
@@ -48,7 +50,7 @@ module _ (race : Race Sail) (redress : Sail → Option redress_type.Redress) whe
 
 -- ---- the journal after the redress
 
-module _ (journal : Journal) (entry : EntryParts) (race : ℕ) (boat : Sail)
+module _ (rules : RulesParts) (journal : Journal) (entry : EntryParts) (race : ℕ) (boat : Sail)
     (redress : redress_type.Redress) (is : entry.command ≡ Redress race boat redress) where
   commands_after : (r : ℕ) → race_commands (journal ++ entry ∷ []) r
       ≡ race_commands journal r ++ cond (nat_eq r race) (Redress race boat redress ∷ []) []
@@ -57,14 +59,8 @@ module _ (journal : Journal) (entry : EntryParts) (race : ℕ) (boat : Sail)
   entered_stays : entered (journal ++ entry ∷ []) ≡ entered journal
   entered_stays = same_entered journal entry (ap sail_entered is)
 
-  order_by_more : (cs : List Command) (b : Bool) →
-      order_by (cs ++ cond b (Redress race boat redress ∷ []) []) ≡ order_by cs
-  order_by_more cs true = fold_push order_after [] cs (Redress race boat redress)
-  order_by_more cs false = ap order_by (append-nil cs)
-
-  order_stays : (r : ℕ) → order (journal ++ entry ∷ []) r ≡ order journal r
-  order_stays r =
-      ap order_by (commands_after r) ∙ order_by_more (race_commands journal r) (nat_eq r race)
+  order_is : (r : ℕ) → order rules (journal ++ entry ∷ []) r ≡ order rules journal r
+  order_is = order_stays rules journal entry (λ o. ap (order_after rules o) is)
 
   scored_by_more : (cs : List Command) (b : Bool) →
       filter_map counting (cs ++ cond b (Redress race boat redress ∷ []) [])
@@ -80,7 +76,7 @@ module _ (journal : Journal) (entry : EntryParts) (race : ℕ) (boat : Sail)
       (scored_by_more (race_commands journal r) (nat_eq r race))
 
   scored_stays : scored (journal ++ entry ∷ []) ≡ scored journal
-  scored_stays i = filter (λ r. is_scored_stays r i) (range_with_len 1 40)
+  scored_stays i = filter (λ r. is_scored_stays r i) (range_with_len 1 MAX_RACES)
 
   -- what stands of the decisions about a boat: the same, or the redress too
   decisions_by : (other : Sail) (cs : List Command) (b s : Bool) → same_sail other boat ≡ s →
@@ -152,12 +148,12 @@ module _ (journal : Journal) (entry : EntryParts) (race : ℕ) (boat : Sail)
       (nat_eq r race && same_sail other boat)
 
   -- the race is what it was but for redress
-  race_after : (r : ℕ) → journal_race (journal ++ entry ∷ []) r
-      ≡ with_redress (journal_race journal r) (λ o. (held (journal ++ entry ∷ []) r o).redress)
+  race_after : (r : ℕ) → journal_race rules (journal ++ entry ∷ []) r
+      ≡ with_redress (journal_race rules journal r) (λ o. (held (journal ++ entry ∷ []) r o).redress)
   race_after r i =
       record {
         entered = entered_stays i;
-        order = order_stays r i;
+        order = order_is r i;
         held = λ o. record {
           code = code_stays r o i;
           zfp = zfp_stays r o i;
@@ -166,46 +162,34 @@ module _ (journal : Journal) (entry : EntryParts) (race : ℕ) (boat : Sail)
         };
       }
 
-  plain_stays : (rules : RulesParts) (r : ℕ) (other : Sail) →
-      plain same_sail rules (journal_race (journal ++ entry ∷ []) r) other
-      ≡ plain same_sail rules (journal_race journal r) other
-  plain_stays rules r other =
+  plain_stays : (r : ℕ) (other : Sail) →
+      plain same_sail rules (journal_race rules (journal ++ entry ∷ []) r) other
+      ≡ plain same_sail rules (journal_race rules journal r) other
+  plain_stays r other =
       ap (λ m. plain same_sail rules m other) (race_after r)
-      ∙ plain_reads_none (journal_race journal r) (λ o. (held (journal ++ entry ∷ []) r o).redress)
+      ∙ plain_reads_none (journal_race rules journal r) (λ o. (held (journal ++ entry ∷ []) r o).redress)
       rules other
 
   -- another boat
   module _ (other : Sail) (another : same_sail other boat ≡ false) where
-    decisions_stay : (cs : List Command) (b : Bool) →
-        standing_decisions (cs ++ cond b (Redress race boat redress ∷ []) []) other
-        ≡ standing_decisions cs other
-    decisions_stay cs true =
-        decisions_by other cs true false another ∙ append-nil (standing_decisions cs other)
-    decisions_stay cs false = ap (λ ds. standing_decisions ds other) (append-nil cs)
+    held_is : (r : ℕ) → held (journal ++ entry ∷ []) r other ≡ held journal r other
+    held_is = held_stays journal entry other (ap (decides other) is ∙ another)
 
-    held_stays : (r : ℕ) → held (journal ++ entry ∷ []) r other ≡ held journal r other
-    held_stays r =
-        ap (λ cs. held_by (standing_decisions cs other)) (commands_after r)
-        ∙ ap held_by (decisions_stay (race_commands journal r) (nat_eq r race))
-
-    items_stay : (rules : RulesParts) →
-        row_items rules (journal ++ entry ∷ []) other ≡ row_items rules journal other
-    items_stay rules i =
+    items_stay : row_items rules (journal ++ entry ∷ []) other ≡ row_items rules journal other
+    items_stay i =
         map (λ r. record {
-          plain = plain_stays rules r other i;
-          redress = (held_stays r i).redress;
+          plain = plain_stays r other i;
+          redress = (held_is r i).redress;
         }) (scored_stays i)
 
-    points_stay : (rules : RulesParts) →
-        points rules (journal ++ entry ∷ []) other ≡ points rules journal other
-    points_stay rules = ap averages.points (items_stay rules)
+    points_stay : points rules (journal ++ entry ∷ []) other ≡ points rules journal other
+    points_stay = ap averages.points items_stay
 
-    excluded_stay : (rules : RulesParts) →
-        excluded rules (journal ++ entry ∷ []) other ≡ excluded rules journal other
-    excluded_stay rules i =
+    excluded_stay : excluded rules (journal ++ entry ∷ []) other ≡ excluded rules journal other
+    excluded_stay i =
         exclusion.excluded (exclusions_of rules.thresholds (length (scored_stays i)))
-        (map (λ r. record { points = r.1; dne = is_dne (held_stays r.0 i).code })
-        (zip (scored_stays i) (points_stay rules i)))
+        (map (λ r. record { points = r.1; dne = is_dne (held_is r.0 i).code })
+        (zip (scored_stays i) (points_stay i)))
 
 not_same : (a b : Sail) (t : Bool) → a ≢ b → same_sail a b ≡ t → t ≡ false
 not_same a b true apart e = absurd (apart ((bytes_decides a b).0 e))
@@ -215,6 +199,6 @@ pub redress_leaves_others : RedressLeavesOthers
 redress_leaves_others rules journal entry race boat other redress is apart =
     let another : same_sail other boat ≡ false =
     not_same other boat (same_sail other boat) apart refl in (
-      points_stay journal entry race boat redress is other another rules,
-      excluded_stay journal entry race boat redress is other another rules,
+      points_stay rules journal entry race boat redress is other another,
+      excluded_stay rules journal entry race boat redress is other another,
     )

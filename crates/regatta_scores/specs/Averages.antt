@@ -38,7 +38,7 @@ total races = sum_by (λ item. own_points item item.redress) races
 abbrev pub average_over : List RowItem → ℕ → ℕ
 average_over races plain = average_or plain (length (counted races)) (total (counted races))
 
--- her points in the race at place i, by her redress there: none; points handed in (A9 (c)); the
+-- her points in race i of the list, by her redress there: none; points handed in (A9 (c)); the
 -- average of all races but this one (A9 (a)); the average of those before it (A9 (b))
 abbrev pub redressed : List RowItem → ℕ → RowItem → Option Redress → ℕ
 redressed row i item None = item.plain

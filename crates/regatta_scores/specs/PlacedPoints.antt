@@ -1,7 +1,8 @@
--- The points for finishing places, kept for each boat of a sheet by her number.
-use Rattle.std.specs.Prelude.{◌≡◌, ℕ, ◌≤◌, Bool, List, length, count_by, Option, Some, None}
+-- The points for finishing places, for each boat of a sheet by her number.
+use Rattle.std.specs.Prelude.{◌≡◌, ℕ, ◌+◌, ◌*◌, ◌≤◌, Bool, List, length, count_by, Option, Some, None}
 use Rattle.std.specs.Prelude.{is_none, is_some, unwrap_or, nat_eq, slice_index_or, if◌then◌else◌}
 use Rattle.std.specs.List.{range_with_len}
+use Rattle.regatta_terms.specs.declared.limits.TheConstants.{MAX_BOATS}
 use Rattle.regatta_terms.specs.Rules.{RulesParts}
 use Rattle.regatta_terms.specs.declared.command.Code.{Code}
 use Rattle.regatta_scores.specs.declared.sheet.Held.{Held}
@@ -9,6 +10,10 @@ use Rattle.regatta_scores.specs.Order.{in_group, stands_in}
 use Rattle.regatta_scores.specs.Sheet.{nothing_held}
 use Rattle.regatta_scores.specs.RacePoints.{Race, race_of, status_by, came, place_points, dnf_by}
 use Rattle.regatta_scores.specs.RacePoints.{base_by, penalised, penalty_points}
+
+-- the points for a place are no more, in tenths: those of the place behind all boats, shared by all
+abbrev pub most_place_points : ℕ
+most_place_points = 10 * (MAX_BOATS + 1) + 5 * MAX_BOATS
 
 -- the points for her finishing place, or none where she has no place in the order (A4, A7)
 abbrev pub placed_points : Race ℕ → ℕ → Option ℕ
@@ -21,7 +26,7 @@ pub record HasPlacedPoints
   pub one_each : length points ≡ length held
   pub by_number : (boat : ℕ) →
       slice_index_or points boat None ≡ placed_points (race_of order held) boat
-  pub few : (boat : ℕ) → unwrap_or (slice_index_or points boat None) 0 ≤ 5000
+  pub few : (boat : ℕ) → unwrap_or (slice_index_or points boat None) 0 ≤ most_place_points
 
 -- each boat of the group has these points now, and every other boat what she had (A7)
 pub record GivesPoints (old new : List (Option ℕ)) (group : List ℕ) (points : ℕ) : Type 0 where

@@ -7,53 +7,54 @@ use Rattle.regatta_terms.specs.Rules.{RulesParts}
 use Rattle.regatta_terms.specs.declared.sail.Sail.{Sail}
 use Rattle.regatta_terms.specs.declared.command.Code.{Code}
 use Rattle.regatta_terms.specs.declared.command.Command.TheVariants.{Enter, Mark}
-use Rattle.regatta_scores.specs.Order.{in_group, stands_in, times_placed}
+use Rattle.regatta_scores.specs.Order.{HasNoEmptyGroup, in_group, stands_in, times_placed}
 use Rattle.regatta_scores.specs.Journal.{Journal, same_sail, names_race, order, held}
 use Rattle.regatta_scores.specs.RacePoints.{Race, Status, Finished, Coded, journal_race, status}
 use Rattle.regatta_scores.specs.RacePoints.{shared_points, groups_ahead, her_group, finishing_place}
 use Rattle.regatta_scores.specs.RacePoints.{sharing, dnf, plain}
 
--- two journals say the same of a race
-pub record SaysTheSame (old new : Journal) (race : ℕ) : Type 0 where
-  pub same_order : order new race ≡ order old race
+-- under the rules of the series two journals say the same of a race
+pub record SaysTheSame (rules : RulesParts) (old new : Journal) (race : ℕ) : Type 0 where
+  pub same_order : order rules new race ≡ order rules old race
   pub same_held : (boat : Sail) → held new race boat ≡ held old race boat
   pub same_status : (boat : Sail) →
-      status same_sail (journal_race new race) boat ≡ status same_sail (journal_race old race) boat
-  pub same_dnf : (rules : RulesParts) →
-      dnf same_sail rules (journal_race new race) ≡ dnf same_sail rules (journal_race old race)
-  pub same_plain : (rules : RulesParts) (boat : Sail) →
-      plain same_sail rules (journal_race new race) boat
-      ≡ plain same_sail rules (journal_race old race) boat
+      status same_sail (journal_race rules new race) boat
+      ≡ status same_sail (journal_race rules old race) boat
+  pub same_dnf :
+      dnf same_sail rules (journal_race rules new race)
+      ≡ dnf same_sail rules (journal_race rules old race)
+  pub same_plain : (boat : Sail) →
+      plain same_sail rules (journal_race rules new race) boat
+      ≡ plain same_sail rules (journal_race rules old race) boat
 
--- A command of one race changes no other race.
+-- Under whatever rules, a command of one race changes no other race.
 abbrev pub RacesAreApart : Type 0
-RacesAreApart = (journal : Journal) (entry : EntryParts) (race other : ℕ) →
+RacesAreApart = (rules : RulesParts) (journal : Journal) (entry : EntryParts) (race other : ℕ) →
     names_race race entry.command ≡ true → other ≢ race →
-    SaysTheSame journal (journal ++ entry ∷ []) other
+    SaysTheSame rules journal (journal ++ entry ∷ []) other
 
--- Enter changes no finishing order and nothing that is held.
+-- Under whatever rules, Enter changes no finishing order and nothing that is held.
 abbrev pub EnterKeepsRaces : Type 0
-EnterKeepsRaces = (journal : Journal) (entry : EntryParts) (sail : Sail) →
+EnterKeepsRaces = (rules : RulesParts) (journal : Journal) (entry : EntryParts) (sail : Sail) →
     entry.command ≡ Enter sail → (race : ℕ) →
-    (order (journal ++ entry ∷ []) race ≡ order journal race)
+    (order rules (journal ++ entry ∷ []) race ≡ order rules journal race)
     × ((boat : Sail) → held (journal ++ entry ∷ []) race boat ≡ held journal race boat)
+
+-- Under whatever rules and for whatever journal, no finishing order has an empty group (A3, A7).
+abbrev pub OrdersHaveNoEmptyGroup : Type 0
+OrdersHaveNoEmptyGroup = (rules : RulesParts) (journal : Journal) (race : ℕ) →
+    HasNoEmptyGroup (order rules journal race)
 
 -- no boat stands twice in the race's order (A3)
 abbrev pub NobodyTwice : Race Sail → Type 0
 NobodyTwice race = (boat : Sail) → times_placed same_sail race.order boat ≤ 1
 
--- When a boat that finished is given a code (A6.1), she is scored by it and every other boat's
--- status stays; each boat in a later group moves up one place, each in her group shares with one
--- less, and every other place and number of sharers stays.
-abbrev pub CodedBoatsLeaveTheOrder : Type 0
-CodedBoatsLeaveTheOrder =
-    (journal : Journal) (entry : EntryParts) (race : ℕ) (coded : Sail) (code : Code) →
-    entry.command ≡ Mark race coded code →
-    NobodyTwice (journal_race journal race) →
-    status same_sail (journal_race journal race) coded ≡ Finished →
+-- A boat leaves the order (A6.1): she is scored by her code and every other boat's status stays;
+-- each boat in a later group moves up one place, each in her group shares with one less, and every
+-- other place and number of sharers stays.
+abbrev pub LeavesTheOrder : Race Sail → Race Sail → Sail → Code → Type 0
+LeavesTheOrder old new coded code =
     (boat : Sail) →
-    let old = journal_race journal race in
-    let new = journal_race (journal ++ entry ∷ []) race in
     let is_behind = stands_in same_sail coded (groups_ahead same_sail old boat) in
     let is_tied = in_group same_sail coded (her_group same_sail old boat) in
     (status same_sail new boat
@@ -61,6 +62,17 @@ CodedBoatsLeaveTheOrder =
     × (finishing_place same_sail old boat
     ≡ finishing_place same_sail new boat + (if is_behind then 1 else 0))
     × (sharing same_sail old boat ≡ sharing same_sail new boat + (if is_tied then 1 else 0))
+
+-- When a boat that finished is given a code, she leaves the order (A6.1).
+abbrev pub CodedBoatsLeaveTheOrder : Type 0
+CodedBoatsLeaveTheOrder =
+    (rules : RulesParts) (journal : Journal) (entry : EntryParts) (race : ℕ) (coded : Sail)
+    (code : Code) →
+    entry.command ≡ Mark race coded code →
+    NobodyTwice (journal_race rules journal race) →
+    status same_sail (journal_race rules journal race) coded ≡ Finished →
+    LeavesTheOrder (journal_race rules journal race)
+    (journal_race rules (journal ++ entry ∷ []) race) coded code
 
 -- The points of so many places from one place on, in tenths: 1 point for first, 2 for second, and
 -- so on (A4).
@@ -84,9 +96,13 @@ finish_points race boat =
     then shared_points (finishing_place same_sail race boat) (sharing same_sail race boat)
     else 0
 
--- The points for the places of the boats that finished, ties shared, are those of places 1 to their
--- number (A4, A7).
-abbrev pub PlacesAreSharedOut : Type 0
-PlacesAreSharedOut = (race : Race Sail) → NobodyTwice race →
+-- the points for the places of the boats that finished, ties shared, are those of places 1 to their
+-- number (A4, A7)
+abbrev pub IsSharedOut : Race Sail → Type 0
+IsSharedOut race =
     let number = sum_by (count_by (λ boat. is_finished (status same_sail race boat))) race.order in
     sum_by (sum_by (finish_points race)) race.order ≡ points_of_places 1 number
+
+-- The places of a race in which nobody stands twice are shared out (A4, A7).
+abbrev pub PlacesAreSharedOut : Type 0
+PlacesAreSharedOut = (race : Race Sail) → NobodyTwice race → IsSharedOut race

@@ -121,7 +121,7 @@ module _ {B : Type 0} (same : B → B → Bool) where
 
 -- ---- the race on a sheet, and in the journal
 
--- on a sheet the boats are numbers, their places in the entry list
+-- on a sheet the boats are numbers, in the order of the entry list
 abbrev pub race_of : List (List ℕ) → List Held → Race ℕ
 race_of order held =
     record {
@@ -135,7 +135,7 @@ abbrev pub race_points : RulesParts → Sheet → List ℕ
 race_points rules sheet =
     map (plain nat_eq rules (race_of sheet.order sheet.held)) (range_with_len 0 (boats sheet))
 
--- the race in the journal
-abbrev pub journal_race : Journal → ℕ → Race Sail
-journal_race journal race =
-    record { entered = entered journal; order = order journal race; held = held journal race }
+-- the race in the journal, under the rules of the series
+abbrev pub journal_race : RulesParts → Journal → ℕ → Race Sail
+journal_race rules journal race =
+    record { entered = entered journal; order = order rules journal race; held = held journal race }

@@ -105,8 +105,8 @@ RanksFollowEachOther = (lines : List Line) → RanksFollow lines
 
 -- ---- the three cases of A8
 
--- two lists are equal up to a place, where both go on and the first has the lower number: the first
--- difference of A8.1 and A8.2
+-- two lists are equal up to a position, where both go on and the first has the lower number: the
+-- first difference of A8.1 and A8.2
 pub record IsLowerAtFirst (xs ys : List ℕ) : Type 0 where
   pub at : ℕ
   pub in_first : at < length xs

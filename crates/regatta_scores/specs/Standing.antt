@@ -26,7 +26,7 @@ use Rattle.regatta_scores.specs.Ranking.{Line, net, rank, is_tied}
 abbrev pub row_items : RulesParts → Journal → Sail → List RowItem
 row_items rules journal boat =
     map (λ race. record {
-      plain = plain same_sail rules (journal_race journal race) boat;
+      plain = plain same_sail rules (journal_race rules journal race) boat;
       redress = (held journal race boat).redress;
     }) (scored journal)
 
@@ -91,10 +91,10 @@ mark_by (Some redress) status held = Some abbreviation.Rdg
 mark_by None status held = status_mark status held
 
 -- the abbreviation in her cell of this race (A10)
-abbrev pub mark : Journal → ℕ → Sail → Option Abbrev
-mark journal race boat =
+abbrev pub mark : RulesParts → Journal → ℕ → Sail → Option Abbrev
+mark rules journal race boat =
     let held = held journal race boat in
-    mark_by held.redress (status same_sail (journal_race journal race) boat) held
+    mark_by held.redress (status same_sail (journal_race rules journal race) boat) held
 
 -- ---- rows
 
@@ -102,7 +102,11 @@ mark journal race boat =
 -- (A2.1, A9, A10)
 abbrev pub cells : RulesParts → Journal → Sail → List Cell
 cells rules journal boat =
-    map (λ race. record { points = race.1.0; mark = mark journal race.0 boat; dropped = race.1.1 })
+    map (λ race. record {
+      points = race.1.0;
+      mark = mark rules journal race.0 boat;
+      dropped = race.1.1;
+    })
     (zip (scored journal) (zip (points rules journal boat) (excluded rules journal boat)))
 
 -- her row: her rank among these boats (A8), her series score (A2.1) and her cells
@@ -117,7 +121,7 @@ row rules journal lines boat =
       cells = cells rules journal boat;
     }
 
--- whether a row stands ahead of another, or is the same: by rank, then by sail (A8)
+-- whether a row comes first of two, by rank and then by sail: true, too, of a row and itself (A8)
 abbrev pub comes_first : Row → Row → Bool
 comes_first a b = is_le (ordering_then (nat_cmp a.rank b.rank) (slice_cmp nat_cmp a.sail b.sail))
 

@@ -1,4 +1,4 @@
-//! One boat's race scores, and her place in the series.
+//! One boat's race scores, and her rank in the series.
 use crate::items::Items;
 use regatta_terms::{Redress, Tenths};
 
@@ -32,5 +32,5 @@ pub struct Place {
     pub tied: bool,
 }
 
-/// The places of some boats, in their order.
+/// The ranks of some boats, in their order, each with whether it is shared.
 pub type Places = Items<Place>;

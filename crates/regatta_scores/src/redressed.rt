@@ -1,6 +1,7 @@
 //! Points with redress (RRS A9).
 ghost use Rattle.std.specs.Prelude.{◌≡◌, ◌+◌, ◌*◌, ◌<◌, ◌≤◌, ◌++◌, length, take, remove, IfOk};
 ghost use Rattle.std.specs.Prelude.{if◌then◌else◌};
+ghost use Rattle.regatta_terms.specs.declared.limits.TheConstants.{MAX_RACES};
 ghost use Rattle.regatta_scores.specs.Averages.{has_average, own_points, average, average_or};
 ghost use Rattle.regatta_scores.specs.Averages.{counted, total, average_over, redressed, points};
 
@@ -30,7 +31,7 @@ fn own_points(item: &RowItem) -> Tenths
 /// How many races an average counts.
 #[tactic(auto, using(crate::proofs::Counted::number_more))]
 fn number_counted(items: &[RowItem]) -> u32
-    requires { length items.now ≤ 40 }
+    requires { length items.now ≤ MAX_RACES }
     ensures value { result ≡ length (counted items.now) }
     ensures bound { result ≤ length items.now }
 {
@@ -44,7 +45,7 @@ fn number_counted(items: &[RowItem]) -> u32
 /// Her points in the races that an average counts, added up.
 #[tactic(auto, using(crate::proofs::Counted::number_more, crate::proofs::Counted::total_more))]
 fn total_counted(items: &[RowItem]) -> u32
-    requires { length items.now ≤ 40 }
+    requires { length items.now ≤ MAX_RACES }
     ensures value { result ≡ total (counted items.now) }
     ensures bound { result ≤ 65535 * length (counted items.now) }
 {
@@ -63,7 +64,7 @@ fn total_counted(items: &[RowItem]) -> u32
 #[tactic(auto, using(crate::proofs::Counted::average_small))]
 fn average(number: u32, sum: u32) -> Tenths
     requires some { 0 < number }
-    requires few { number ≤ 80 }
+    requires few { number ≤ 2 * MAX_RACES }
     requires small { sum ≤ 65535 * number }
     ensures { result ≡ average number sum }
 {
@@ -72,7 +73,7 @@ fn average(number: u32, sum: u32) -> Tenths
 
 /// The average, or her score without redress where no race is counted.
 fn average_or(plain: Tenths, number: u32, sum: u32) -> Tenths
-    requires few { number ≤ 80 }
+    requires few { number ≤ 2 * MAX_RACES }
     requires small { sum ≤ 65535 * number }
     ensures { result ≡ average_or plain number sum }
 {
@@ -86,8 +87,8 @@ fn average_or(plain: Tenths, number: u32, sum: u32) -> Tenths
 /// Her average over the races before and after.
 #[tactic(auto, using(crate::proofs::Counted::number_parts, crate::proofs::Counted::total_parts))]
 fn average_over(before: &[RowItem], after: &[RowItem], plain: Tenths) -> Tenths
-    requires before { length before.now ≤ 40 }
-    requires after { length after.now ≤ 40 }
+    requires before { length before.now ≤ MAX_RACES }
+    requires after { length after.now ≤ MAX_RACES }
     ensures { result ≡ average_over (before.now ++ after.now) plain }
 {
     let number = number_counted(before) + number_counted(after);
@@ -97,7 +98,7 @@ fn average_over(before: &[RowItem], after: &[RowItem], plain: Tenths) -> Tenths
 
 /// Her points in race `i`, by her redress there.
 fn redressed(row: &[RowItem], i: usize, item: &RowItem) -> Tenths
-    requires few { length row.now ≤ 40 }
+    requires few { length row.now ≤ MAX_RACES }
     requires i { i < length row.now }
     ensures { result ≡ redressed row.now i item.now item.now.redress }
 {
@@ -114,10 +115,10 @@ fn redressed(row: &[RowItem], i: usize, item: &RowItem) -> Tenths
 ///
 /// An award is taken as it is. An average is over her points in the other races, or in the races
 /// before, to the nearest tenth with 0.05 upward; races in which she has an average herself don't
-/// count, and where none is left her points are those without redress. At most 40 races; the one
-/// error is want of memory.
+/// count, and where none is left her points are those without redress. At most
+/// [`MAX_RACES`](regatta_terms::MAX_RACES) races; the one error is want of memory.
 pub fn averages(alloc: Global, row: &[RowItem]) -> Result<Points, AllocError>
-    requires { length row.now ≤ 40 }
+    requires { length row.now ≤ MAX_RACES }
     ensures { IfOk result (λ found. found ≡ points row.now) }
 {
     let mut found = Vec::with_capacity(alloc, row.len())?;

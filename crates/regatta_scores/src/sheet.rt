@@ -1,5 +1,7 @@
 //! One race: who finished in which order, and what each boat holds.
-ghost use Rattle.std.specs.Prelude.{◌≡◌, ◌<◌, ◌≤◌, ◌↔◌, [], nat_eq, slice_get, Some, IsTrue, IfOk};
+ghost use Rattle.std.specs.Prelude.{◌≡◌, ◌<◌, ◌≤◌, ◌↔◌, ℕ, [], nat_eq, slice_get, Some, IsTrue};
+ghost use Rattle.std.specs.Prelude.{IfOk, false};
+ghost use Rattle.regatta_terms.specs.declared.limits.TheConstants.{MAX_BOATS, MAX_PENALTIES};
 ghost use Rattle.regatta_scores.specs.Sheet.{boats, empty_sheet};
 ghost use Rattle.regatta_scores.specs.Order.{stands_in};
 ghost use Rattle.regatta_scores.specs.SheetFacts.{IsSheet, Allows};
@@ -18,9 +20,11 @@ use std::marker::Model;
 pub struct Held {
     /// The code by which she is scored in place of a finishing place, if any (RRS A10).
     pub code: Option<Code>,
-    /// How many 20% penalties for breaking rule 30.2 she holds, at most nine.
+    /// How many 20% penalties for breaking rule 30.2 she holds, at most
+    /// [`MAX_PENALTIES`](regatta_terms::MAX_PENALTIES).
     pub zfp: u8,
-    /// How many Scoring Penalties (RRS 44.3) she holds, at most nine.
+    /// How many Scoring Penalties (RRS 44.3) she holds, at most
+    /// [`MAX_PENALTIES`](regatta_terms::MAX_PENALTIES).
     pub scp: u8,
     /// The redress that replaces her score, if any (RRS A9).
     pub redress: Option<Redress>,
@@ -35,7 +39,8 @@ pub(crate) const NOTHING: Held = Held {
 };
 
 /// One race: the finishing order, in groups of tied boats (RRS A3, A7), and what each boat holds.
-/// Boats are numbers from 0, their places in the entry list, and at most 200.
+/// Boats are numbers from 0, in the order of the entry list, and at most
+/// [`MAX_BOATS`](regatta_terms::MAX_BOATS).
 #[derive(Drop)]
 pub struct RaceSheet {
     order: Groups,
@@ -55,12 +60,13 @@ impl Model for RaceSheet {
 }
 
 impl RaceSheet {
-    /// A sheet of at most 200 boats, on which nobody is placed and nothing is held.
+    /// A sheet of at most [`MAX_BOATS`](regatta_terms::MAX_BOATS) boats, on which nobody is placed
+    /// and nothing is held.
     ///
     /// The one error is want of memory.
     #[tactic(auto, using(crate::proofs::Fresh::fresh_sheet))]
     pub fn new(alloc: Global, boats: u16) -> Result<RaceSheet, AllocError>
-        requires { boats ≤ 200 }
+        requires { boats ≤ MAX_BOATS }
         ensures { IfOk result (λ sheet. sheet ≡ empty_sheet boats) }
     {
         Ok(RaceSheet {
@@ -81,22 +87,28 @@ impl RaceSheet {
     pub fn held(&self, boat: u16) -> Held
         requires { boat < boats self.now }
         ensures value { slice_get self.now.held boat ≡ Some result }
-        ensures few { (result.zfp ≤ 9) × (result.scp ≤ 9) }
+        ensures few { (result.zfp ≤ MAX_PENALTIES) × (result.scp ≤ MAX_PENALTIES) }
     {
         self.held[boat as usize]
     }
 
-    /// Whether nobody is in the finishing order.
+    /// Whether nobody stands in the finishing order.
     pub fn is_empty(&self) -> bool
-        ensures { IsTrue result ↔ (self.now.order ≡ []) }
+        ensures order { IsTrue result ↔ (self.now.order ≡ []) }
+        ensures nobody { IsTrue result
+            ↔ ((boat : ℕ) → stands_in nat_eq boat self.now.order ≡ false) }
     {
         self.order.is_empty()
     }
 
     /// A copy of the sheet after a change that the sheet allows.
     ///
-    /// Boats that the change names are among the sheet's, which are at most 200. An other boat, and
-    /// one that goes out, stand in the order. The one error is want of memory.
+    /// A boat is added where there are fewer than [`MAX_BOATS`](regatta_terms::MAX_BOATS). Boats
+    /// that the change names are among the sheet's. Who is placed, last, tied or ahead, doesn't
+    /// stand in the order yet; the other boat that she joins or goes ahead of, and a boat that goes
+    /// out, stand in it. What a boat holds from now on has at most
+    /// [`MAX_PENALTIES`](regatta_terms::MAX_PENALTIES) penalties of each kind. The one error is want
+    /// of memory.
     pub fn after(&self, change: Change) -> Result<RaceSheet, AllocError>
         requires { Allows self.now change }
         ensures { IfOk result (λ sheet. sheet ≡ after self.now change) }
@@ -219,7 +231,6 @@ pub enum Change {
     Ahead { boat: u16, other: u16 },
     /// The boat out of the order; a group that this leaves empty goes.
     Out { boat: u16 },
-    /// What the boat holds from now on, in place of what she held: at most nine penalties of each
-    /// kind.
+    /// What the boat holds from now on, in place of what she held.
     Hold { boat: u16, held: Held },
 }

@@ -95,6 +95,7 @@ mod tests {
     fn hands_its_bytes_on(rt: HostRuntime) -> Result<(), Fail> {
         let mut output = Foreign::new(Vec::new(rt.alloc()));
         assert_eq!(rt; output.write(b"to std"), Ok(6));
+        assert_eq!(rt; output.write(b""), Ok(0));
         assert_eq!(rt; output.inner.as_slice(), b"to std".as_slice());
         let mut input = Foreign::new(b"from std".as_slice());
         let mut buffer = [0; 4];

@@ -3,7 +3,7 @@ use Rattle.std.proofs.Common.{◌≡◌, ℕ, ◌+◌, ◌<◌, ◌≤◌, List,
 use Rattle.std.proofs.Common.{ap, ◌∙◌, sym, append_assoc, append-nil, length-append, arith, codes}
 use Rattle.std.specs.List.{join_with_byte, flat_map}
 use Rattle.std.proofs.Math.Seq.{take-append_seam}
-use Rattle.std.proofs.lemmas.List.{map_more, flat_map_more, take-take}
+use Rattle.std.proofs.lemmas.List.{map_more, flat_map_more, take_more, take-take}
 use Rattle.std.proofs.lemmas.List.Folds.{length-flat_map-take}
 use Rattle.regatta_terms.specs.Words.{spaced}
 use Rattle.regatta_tables.specs.Lines.{line}
@@ -28,6 +28,37 @@ no_room pieces i d before text room cap old len below so_far start end grown ful
       ap length so_far,
       length-append before (flat_map (λ piece. piece.now) (take i pieces)),
     )
+
+-- the next piece makes the text of one piece more
+pub pushed_piece : (pieces : List (Bor (List ℕ))) (i : ℕ) (d : Bor (List ℕ))
+    (before text new : List ℕ) → i < length pieces
+    → text ≡ before ++ flat_map (λ piece. piece.now) (take i pieces)
+    → new ≡ text ++ (get_or pieces i d).now
+    → new ≡ before ++ flat_map (λ piece. piece.now) (take (i + 1) pieces)
+pushed_piece pieces i d before text new below so_far pushed =
+    pushed ∙ ap (λ (t : List ℕ). t ++ (get_or pieces i d).now) so_far
+    ∙ flat_map_more (λ (piece : Bor (List ℕ)). piece.now) before (take i pieces)
+    (get_or pieces i d)
+    ∙ ap (λ (ps : List (Bor (List ℕ))). before ++ flat_map (λ piece. piece.now) ps)
+    (sym (take_more pieces i d below))
+
+-- where all pieces have room the next one has, so that it takes no memory
+pub stays_more : (pieces : List (Bor (List ℕ))) (i : ℕ) (d : Bor (List ℕ)) (before text : List ℕ)
+    (first cap new old len : ℕ) → i < length pieces
+    → text ≡ before ++ flat_map (λ piece. piece.now) (take i pieces) → old ≡ length before
+    → len ≡ length text
+    → (old + length (flat_map (λ piece. piece.now) pieces) ≤ first → cap ≡ first)
+    → (len + length (get_or pieces i d).now ≤ cap → new ≡ cap)
+    → old + length (flat_map (λ piece. piece.now) pieces) ≤ first → new ≡ first
+stays_more pieces i d before text first cap new old len below so_far start end stays next fits =
+    let same : cap ≡ first = stays fits in
+    let room : len + length (get_or pieces i d).now ≤ cap = omega (
+      arith,
+      length-flat_map-take (λ (piece : Bor (List ℕ)). piece.now) pieces i d below,
+      ap length so_far,
+      length-append before (flat_map (λ piece. piece.now) (take i pieces)),
+    ) in
+    next room ∙ same
 
 -- what begins with a longer text begins with its beginning
 pub kept : (old more longer text : List ℕ) (a b : ℕ) → a ≡ length old → b ≡ length longer

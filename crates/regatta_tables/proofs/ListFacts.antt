@@ -1,9 +1,9 @@
 -- Entry lists, record by record.
 use Rattle.std.proofs.Common.{◌≡◌, ℕ, zero, suc, ◌+◌, ◌<◌, ◌≤◌, Bool, true, false, not, cond, List}
 use Rattle.std.proofs.Common.{[], ◌∷◌, ◌++◌, length, take, drop, map, filter, filter_map, get_or}
-use Rattle.std.proofs.Common.{Option, Some, None, option_map, inl, inr, ◌⊎◌, refl, ap, ◌∙◌, sym}
+use Rattle.std.proofs.Common.{Option, Some, None, inl, inr, ◌⊎◌, refl, ap, ◌∙◌, sym}
 use Rattle.std.proofs.Common.{arith}
-use Rattle.std.specs.List.{list_all, position, slice_get, position_or_len}
+use Rattle.std.specs.List.{list_all, position, position_or_len}
 use Rattle.std.specs.Prelude.{Ok, Err}
 use Rattle.std.specs.Option.{option_or}
 use Rattle.std.proofs.lemmas.List.{take_more, take_all, get_or-map, drop_all, length-map}
@@ -49,14 +49,6 @@ pub blank_fields : (fields : List (Bor (List ℕ)))
     → is_blank (map (λ field. field.now) fields)
     ≡ list_all (λ field. list_all is_space field.now) fields
 blank_fields fields = list_all-map (list_all is_space) (λ field. field.now) fields
-
--- the field of a place, seen through its reference
-pub get_seen : (fields : List (Bor (List ℕ))) (i : ℕ)
-    → slice_get (map (λ field. field.now) fields) i
-    ≡ option_map (λ field. field.now) (slice_get fields i)
-get_seen [] i = refl
-get_seen (f ∷ fs) zero = refl
-get_seen (f ∷ fs) (suc i) = get_seen fs i
 
 -- ---- faults in turn
 

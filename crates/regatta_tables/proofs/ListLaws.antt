@@ -14,7 +14,8 @@ use Rattle.regatta_scores.specs.Journal.{same_sail}
 use Rattle.regatta_tables.specs.declared.entries.EntriesFault.{EntriesFault}
 use Rattle.regatta_tables.specs.declared.entries.EntriesFault.TheVariants.{Twice, TooMany}
 use Rattle.regatta_tables.specs.EntryLists.{Field, Record, entries_under, fault_of, fault_of_field}
-use Rattle.regatta_tables.specs.EntryLists.{fault_of_sail, first_fault, is_blank, most_boats}
+use Rattle.regatta_terms.specs.declared.limits.TheConstants.{MAX_BOATS}
+use Rattle.regatta_tables.specs.EntryLists.{fault_of_sail, first_fault, is_blank}
 use Rattle.regatta_tables.specs.EntryLists.{sail_in, sails_in, unless_faulty, without_spaces}
 use Rattle.regatta_tables.proofs.ListFacts.{sails-append}
 
@@ -40,7 +41,7 @@ distinct_more (s ∷ sails) sail distinct new =
     )
 
 record Kept (sails : List Sail) : Type 0 where
-  few : length sails ≤ most_boats
+  few : length sails ≤ MAX_BOATS
   once : IsDistinct same_sail sails
 
 kept_with : (row : ℕ) (sails : List Sail) (o : Option Sail) → Kept sails
@@ -48,16 +49,16 @@ kept_with : (row : ℕ) (sails : List Sail) (o : Option Sail) → Kept sails
 kept_with row sails None kept sound = cc
 kept_with row sails (Some sail) kept sound =
     by (list_any (λ other. same_sail other sail) sails)
-    (nat_le most_boats (length sails)) refl refl sound
+    (nat_le MAX_BOATS (length sails)) refl refl sound
   where
     by : (twice many : Bool) → list_any (λ other. same_sail other sail) sails ≡ twice
-        → nat_le most_boats (length sails) ≡ many
+        → nat_le MAX_BOATS (length sails) ≡ many
         → cond twice (Some (Twice row)) (cond many (Some (TooMany row)) None) ≡ None
         → Kept (sails ++ sail ∷ [])
     by true many t m h = cc
     by false true t m h = cc
     by false false t m h = record {
-      few = omega (arith, leb-false most_boats (length sails) m, length-append sails (sail ∷ []));
+      few = omega (arith, leb-false MAX_BOATS (length sails) m, length-append sails (sail ∷ []));
       once = distinct_more sails sail kept.once t;
     }
 
@@ -111,7 +112,7 @@ kept_all column records sails read = by (first_fault column [] records) refl rea
     by (Some fault) sound h = cc
 
 pub few_sails : (column : ℕ) (records : List Record) (sails : List Sail)
-    → entries_under (Some column) records ≡ Ok sails → length sails ≤ most_boats
+    → entries_under (Some column) records ≡ Ok sails → length sails ≤ MAX_BOATS
 few_sails column records sails read = (kept_all column records sails read).few
 
 pub sails_once : (column : ℕ) (records : List Record) (sails : List Sail)

@@ -9,11 +9,11 @@ use Rattle.regatta_tables.specs.TableTexts.{row_words}
 abbrev pub race_name : ℕ → List ℕ
 race_name race = codes "R" ++ decimal race
 
--- the header: a column for each word of a boat's line in the table
+-- the header: a column for each word of a boat's row in the table
 abbrev pub header_fields : List ℕ → List (List ℕ)
 header_fields races = codes "rank" ∷ codes "sail" ∷ codes "net" ∷ map race_name races
 
--- the header, and a record with the words of each boat's line
+-- the header, and a record with the words of each boat's row
 abbrev pub csv_records : Standing → List (List (List ℕ))
 csv_records standing = header_fields standing.races ∷ map row_words standing.rows
 

@@ -9,7 +9,7 @@ use Rattle.regatta_terms.specs.Sails.{sail_of}
 use Rattle.regatta_terms.specs.Words.{is_space, says}
 use Rattle.regatta_terms.specs.declared.sail.Sail.{Sail}
 use Rattle.regatta_scores.specs.Journal.{same_sail}
-use Rattle.regatta_tables.specs.declared.limits.TheConstants.{MAX_BOATS}
+use Rattle.regatta_terms.specs.declared.limits.TheConstants.{MAX_BOATS}
 use Rattle.regatta_tables.specs.declared.entries.EntriesFault.{EntriesFault}
 use Rattle.regatta_tables.specs.declared.entries.EntriesFault.TheVariants.{NoColumn, BadRow}
 use Rattle.regatta_tables.specs.declared.entries.EntriesFault.TheVariants.{BadSail, Twice, TooMany}
@@ -22,10 +22,6 @@ Field = List ℕ
 -- a record is its fields, as `csv` reads them
 abbrev pub Record : Type 0
 Record = List Field
-
--- how many boats an entry list may name
-abbrev pub most_boats : ℕ
-most_boats = MAX_BOATS
 
 -- spaces don't matter, wherever they stand in a field
 abbrev pub without_spaces : Field → List ℕ
@@ -57,7 +53,7 @@ abbrev pub fault_of_sail : ℕ → List Sail → Option Sail → Option EntriesF
 fault_of_sail row sails None = Some (BadSail row)
 fault_of_sail row sails (Some sail) =
     if list_any (λ other. same_sail other sail) sails then Some (Twice row)
-    else if nat_le most_boats (length sails) then Some (TooMany row)
+    else if nat_le MAX_BOATS (length sails) then Some (TooMany row)
     else None
 
 -- what is wrong with what stands in the column of sails
@@ -86,7 +82,7 @@ abbrev pub unless_faulty : Option EntriesFault → List Sail → Result (List Sa
 unless_faulty None sails = Ok sails
 unless_faulty (Some fault) sails = Err fault
 
--- what the records behind the header read as, given the place of the column of sails
+-- what the records behind the header read as, given the column of sails
 abbrev pub entries_under : Option ℕ → List Record → Result (List Sail) EntriesFault
 entries_under None records = Err NoColumn
 entries_under (Some column) records =

@@ -42,7 +42,7 @@ abbrev pub head_words : Standing → List (List ℕ)
 head_words standing =
     codes "TABLE" ∷ decimal (length standing.rows) ∷ codes "RACES" ∷ map decimal standing.races
 
--- the head line, and a line for each boat
+-- the head, and a row for each boat
 abbrev pub table_text : Standing → List ℕ
 table_text standing =
     line (head_words standing) ++ flat_map (λ row. line (row_words row)) standing.rows

@@ -6,11 +6,7 @@ use Rattle.csv.specs.Machine.{next_record}
 use Rattle.csv.specs.Reading.{records_from, strip_bom}
 use Rattle.regatta_tables.specs.declared.entries.EntriesFault.TheVariants.{NoColumn, BadRow}
 use Rattle.regatta_tables.specs.declared.entries.EntriesFault.TheVariants.{BadSail, Twice, TooMany}
-use Rattle.regatta_tables.specs.EntryLists.{entries_of_text, most_boats}
-
--- how many boats an entry list may name
-pub boats_at_most : most_boats ≡ 200
-boats_at_most = refl
+use Rattle.regatta_tables.specs.EntryLists.{entries_of_text}
 
 -- small letters are raised, spaces don't matter, and a field in quotes may hold a comma
 pub two_boats : entries_of_text (codes "Boat,Sail,Club\nWind,gbr 12,X\n\"A, B\",NED7")

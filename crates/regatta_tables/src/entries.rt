@@ -9,14 +9,13 @@ ghost use Rattle.regatta_terms.specs.Words.{is_space};
 ghost use Rattle.regatta_scores.specs.Journal.{same_sail};
 ghost use Rattle.regatta_tables.specs.EntryLists.{entries_of_text, entries_under, fault_in};
 ghost use Rattle.regatta_tables.specs.EntryLists.{fault_of_field, is_blank, is_sail_heading};
-ghost use Rattle.regatta_tables.specs.EntryLists.{most_boats, number_of_entries_fault};
+ghost use Rattle.regatta_tables.specs.EntryLists.{number_of_entries_fault};
 ghost use Rattle.regatta_tables.specs.EntryLists.{row_of_entries_fault, sails_in, without_spaces};
 
-use crate::limits::MAX_BOATS;
 use crate::records::{fields_in, records_of, without_spaces};
 use csv::ByteRecord;
 use regatta_scores::Items;
-use regatta_terms::Sail;
+use regatta_terms::{MAX_BOATS, Sail};
 use std::alloc::{AllocError, Global};
 use thiserror::Error;
 
@@ -48,8 +47,8 @@ pub enum EntriesFault {
         /// The row where it stands again.
         row: usize,
     },
-    /// As many sails as an entry list may name stood in earlier rows: 200.
-    #[error("entries fault 5: more than 200 sails, from row {row}")]
+    /// [`MAX_BOATS`](regatta_terms::MAX_BOATS) sails stood in earlier rows.
+    #[error("entries fault 5: more than {most} sails, from row {row}", most = MAX_BOATS)]
     TooMany {
         /// The row of the first sail too many.
         row: usize,
@@ -90,12 +89,12 @@ impl EntriesFault {
     }
 }
 
-/// The sails that an entry list names, 200 at most: those in the first column that is headed
+/// The sails that an entry list names, as many as may be entered: those in the first column headed
 /// `Sail`, `SailNo` or `SailNumber`, in letters of either case. Spaces don't matter, and blank
 /// records are passed over. The records are those that `csv` reads by default, so any bytes do.
 pub fn read_entries(alloc: Global, text: &[u8]) -> Result<Sails, EntriesFault>
     ensures ok { IfOk result (λ sails. entries_of_text text.now ≡ Ok sails) }
-    ensures few { IfOk result (λ sails. length sails ≤ most_boats) }
+    ensures few { IfOk result (λ sails. length sails ≤ MAX_BOATS) }
     ensures once { IfOk result (λ sails. IsDistinct same_sail sails) }
     ensures fault { IfErr result (λ fault.
         (fault ≡ EntriesFault.NoMemory) ⊎ (entries_of_text text.now ≡ Err fault)) }
@@ -115,15 +114,15 @@ pub fn read_entries(alloc: Global, text: &[u8]) -> Result<Sails, EntriesFault>
     read_sails(alloc, column, records)
 }
 
-/// The place of the first field that heads a column of sails.
+/// The number of the first column that is headed as one of sails, counted from 0.
 fn sail_column(alloc: Global, header: &ByteRecord) -> Result<Option<usize>, AllocError>
     ensures { IfOk result (λ column.
         column ≡ position is_sail_heading (fields_of header.now)) }
 {
     let fields = fields_in(alloc, header)?;
-    for (place, field) in fields.iter().enumerate() {
+    for (column, field) in fields.iter().enumerate() {
         if is_sail_heading(alloc, field)? {
-            return Ok(Some(place));
+            return Ok(Some(column));
         }
     }
     Ok(None)
@@ -143,19 +142,19 @@ fn is_sail_heading(alloc: Global, field: &[u8]) -> Result<bool, AllocError>
     )
 }
 
-/// The sails of the records behind the header, from the field at that place.
+/// The sails of the records behind the header, from the fields of that column.
 #[tactic(auto, using(crate::proofs::ListFacts::all_sound, crate::proofs::ListFacts::faulty_row))]
 fn read_sails(alloc: Global, column: usize, records: &[ByteRecord]) -> Result<Sails, EntriesFault>
     ensures ok { IfOk result (λ sails.
         entries_under (Some column) (map fields_of records.now) ≡ Ok sails) }
-    ensures few { IfOk result (λ sails. length sails ≤ most_boats) }
+    ensures few { IfOk result (λ sails. length sails ≤ MAX_BOATS) }
     ensures once { IfOk result (λ sails. IsDistinct same_sail sails) }
     ensures fault { IfErr result (λ fault. (fault ≡ EntriesFault.NoMemory)
         ⊎ (entries_under (Some column) (map fields_of records.now) ≡ Err fault)) }
 {
     let mut sails = Vec::new(alloc);
-    for (place, boat) in records.iter().enumerate() {
-        match add_sail(alloc, column, place + 2, boat, &mut sails) {
+    for (number, boat) in records.iter().enumerate() {
+        match add_sail(alloc, column, number + 2, boat, &mut sails) {
             Ok(()) => {}
             Err(fault) => return Err(fault),
         }

@@ -3,7 +3,6 @@
 
 mod entries;
 mod journals;
-mod limits;
 mod pieces;
 mod records;
 mod replies;

@@ -1,30 +1,31 @@
 //! Replies as text.
 
-ghost use Rattle.std.specs.Prelude.{◌≡◌, ◌≤◌, ◌++◌, ◌+◌, vec_len, vec_capacity, length, codes};
+ghost use Rattle.std.specs.Prelude.{◌≡◌, ◌≤◌, ◌++◌, ◌+◌, vec_len, vec_capacity, codes};
 ghost use Rattle.std.specs.Prelude.{OnOk, OnErr, IsOk};
-ghost use Rattle.regatta_terms.specs.Entries.{role_text};
 ghost use Rattle.regatta_tables.specs.Lines.{line};
 ghost use Rattle.regatta_tables.specs.ReplyTexts.{reply_text, answer_words, ranked_words};
 ghost use Rattle.regatta_tables.specs.ReplyTexts.{refused_words};
 
-use crate::pieces::{append, points_word, rank_word};
+use crate::pieces::{append, rank_word};
 use itoa::Buffer;
-use regatta_terms::{Answer, Reply, Role, Touched};
+use regatta_terms::{Answer, Reply, Touched, points_word};
 use std::alloc::AllocError;
 
-/// Appends a reply, a line that ends in a line feed. It never fails where 64 bytes of room are
-/// free.
+/// Appends a reply, a line that ends in a line feed. Where 64 bytes of room are free it never fails
+/// and takes no memory.
 pub fn write_reply(reply: &Reply, out: &mut Vec<u8>) -> Result<(), AllocError>
     ensures ok { OnOk result (out.new.items ≡ out.old.items ++ reply_text reply.now) }
     ensures err { OnErr result (out.new.items ≡ out.old.items) }
     ensures room { vec_capacity out.old ≤ vec_capacity out.new }
     ensures fits { vec_len out.old + 64 ≤ vec_capacity out.old → IsOk result }
+    ensures stays { vec_len out.old + 64 ≤ vec_capacity out.old
+        → vec_capacity out.new ≡ vec_capacity out.old }
 {
     match reply {
         Reply::Done(answer) => write_answer(answer, out),
         Reply::Refused(refusal) => write_number(refusal.number(), out),
         Reply::Fault(fault) => write_number(fault.number(), out),
-        Reply::RoleSet(role) => append(out, &[b"ROLE ", role_word(*role), b"\n"]),
+        Reply::RoleSet(role) => append(out, &[b"ROLE ", role.text().as_bytes(), b"\n"]),
         Reply::Ranked(touched) => write_ranked(touched, out),
         Reply::Bye => append(out, &[b"BYE\n"]),
         Reply::Busy => append(out, &[b"BUSY\n"]),
@@ -38,6 +39,8 @@ fn write_answer(answer: &Answer, out: &mut Vec<u8>) -> Result<(), AllocError>
     ensures err { OnErr result (out.new.items ≡ out.old.items) }
     ensures room { vec_capacity out.old ≤ vec_capacity out.new }
     ensures fits { vec_len out.old + 64 ≤ vec_capacity out.old → IsOk result }
+    ensures stays { vec_len out.old + 64 ≤ vec_capacity out.old
+        → vec_capacity out.new ≡ vec_capacity out.old }
 {
     let mut number = Buffer::new();
     let place = number.format(answer.place).as_bytes();
@@ -56,6 +59,8 @@ fn write_ranked(touched: &Touched, out: &mut Vec<u8>) -> Result<(), AllocError>
     ensures err { OnErr result (out.new.items ≡ out.old.items) }
     ensures room { vec_capacity out.old ≤ vec_capacity out.new }
     ensures fits { vec_len out.old + 64 ≤ vec_capacity out.old → IsOk result }
+    ensures stays { vec_len out.old + 64 ≤ vec_capacity out.old
+        → vec_capacity out.new ≡ vec_capacity out.old }
 {
     let (mut rank, mut net) = ([0; 6], [0; 11]);
     let rank = rank_word(&mut rank, touched.rank, touched.tied);
@@ -69,19 +74,10 @@ fn write_number(number: u8, out: &mut Vec<u8>) -> Result<(), AllocError>
     ensures err { OnErr result (out.new.items ≡ out.old.items) }
     ensures room { vec_capacity out.old ≤ vec_capacity out.new }
     ensures fits { vec_len out.old + 64 ≤ vec_capacity out.old → IsOk result }
+    ensures stays { vec_len out.old + 64 ≤ vec_capacity out.old
+        → vec_capacity out.new ≡ vec_capacity out.old }
 {
     let mut buffer = Buffer::new();
     let number = buffer.format(number).as_bytes();
     append(out, &[b"NO ", number, b"\n"])
-}
-
-fn role_word(role: Role) -> &'static [u8]
-    ensures text { result.now ≡ role_text role }
-    ensures short { length result.now ≤ 6 }
-{
-    match role {
-        Role::Finish => b"FINISH",
-        Role::Jury => b"JURY",
-        Role::Scorer => b"SCORER",
-    }
 }

@@ -8,12 +8,12 @@ ghost use Rattle.csv.specs.Writing.{row_text};
 ghost use Rattle.regatta_tables.specs.CsvTexts.{any_lengths, csv_text, header_fields, race_name};
 ghost use Rattle.regatta_tables.specs.TableTexts.{row_words, cell_text};
 
-use crate::pieces::{points_word, rank_word};
+use crate::pieces::rank_word;
 use crate::tables::push_cell;
 use csv::{Error, Writer, WriterBuilder};
 use itoa::Buffer;
 use regatta_scores::{Cell, Row, Standing};
-use regatta_terms::RaceNo;
+use regatta_terms::{RaceNo, points_word};
 use std::alloc::{AllocError, Global};
 
 /// Appends the standing as CSV: a header, and a record for each boat.
@@ -136,7 +136,7 @@ fn race_field(alloc: Global, race: RaceNo) -> Result<Vec<u8>, AllocError>
     Ok(field)
 }
 
-/// The record of a boat: the words of her line in the table.
+/// The record of a boat: the words of her row in the table.
 fn row_record(alloc: Global, row: &Row) -> Result<Vec<Vec<u8>>, AllocError>
     ensures { IfOk result (λ fields.
         map (λ field. field.items) fields.items ≡ row_words row.now) }

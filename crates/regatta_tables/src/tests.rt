@@ -168,14 +168,29 @@ fn finds_the_bad_line_of_a_journal(rt: HostRuntime) -> Result<(), Fail> {
 }
 
 #[test]
+fn writes_nothing_of_an_empty_journal(rt: HostRuntime) -> Result<(), Fail> {
+    let alloc = rt.alloc();
+    let mut out = Vec::from_slice(alloc, b"#")?;
+    write_journal(&[], &mut out)?;
+    assert_eq!(rt; out.as_slice(), b"#".as_slice());
+    let journal = read_journal(alloc, b"").map_err(|_| "a journal")?;
+    assert_eq!(rt; journal.as_slice().len(), 0);
+    Ok(())
+}
+
+/// The standing of a series that nobody has entered.
+fn nobody(alloc: Global) -> Result<Standing, Fail> {
+    Ok(Standing {
+        races: races(alloc, &[])?,
+        rows: Items::new(Vec::new(alloc)),
+    })
+}
+
+#[test]
 fn writes_sheets(rt: HostRuntime) -> Result<(), Fail> {
     let alloc = rt.alloc();
     let mut out = Vec::new(alloc);
-    let nobody = Standing {
-        races: races(alloc, &[])?,
-        rows: Items::new(Vec::new(alloc)),
-    };
-    write_sheet(&[], &nobody, &mut out)?;
+    write_sheet(&[], &nobody(alloc)?, &mut out)?;
     assert_eq!(rt;
         out.as_slice(),
         b"JOURNAL 0\nTABLE 0 RACES\nEND\n".as_slice()
@@ -186,8 +201,8 @@ fn writes_sheets(rt: HostRuntime) -> Result<(), Fail> {
         &one_disqualified(alloc)?,
         &mut out,
     )?;
-    let sheet =
-        b"JOURNAL 1\n1 1 SCORER ENTER B\nTABLE 3 RACES 1\n1 B 1.0 1.0\n2 C 2.0 2.0\n3 A 4.0 4.0/DSQ\nEND\n";
+    let sheet = b"JOURNAL 1\n1 1 SCORER ENTER B\n\
+        TABLE 3 RACES 1\n1 B 1.0 1.0\n2 C 2.0 2.0\n3 A 4.0 4.0/DSQ\nEND\n";
     assert_eq!(rt; out.as_slice(), sheet.as_slice());
     Ok(())
 }
@@ -203,6 +218,9 @@ fn writes_results(rt: HostRuntime) -> Result<(), Fail> {
     write_csv(alloc, &one_excluded(alloc)?, &mut out)?;
     let text = b"rank,sail,net,R1,R2\n1,A,1.0,(1.0),1.0/RDG\n2,B,1.0,(2.0),1.0\n";
     assert_eq!(rt; out.as_slice(), text.as_slice());
+    let mut out = Vec::new(alloc);
+    write_csv(alloc, &nobody(alloc)?, &mut out)?;
+    assert_eq!(rt; out.as_slice(), b"rank,sail,net\n".as_slice());
     Ok(())
 }
 
@@ -323,5 +341,39 @@ fn tells_faults_of_entry_lists_by_number_and_row(rt: HostRuntime) -> Result<(), 
     assert_eq!(rt; fault.number(), 4);
     assert_eq!(rt; fault.row(), Some(3));
     assert_eq!(rt; EntriesFault::NoColumn.row(), Some(1));
+    Ok(())
+}
+
+#[test]
+fn prints_each_fault_of_a_file_with_its_number(rt: HostRuntime) -> Result<(), Fail> {
+    let faults = [
+        EntriesFault::NoColumn,
+        EntriesFault::BadRow { row: 3 },
+        EntriesFault::BadSail { row: 3 },
+        EntriesFault::Twice { row: 3 },
+        EntriesFault::TooMany { row: 3 },
+        EntriesFault::NoMemory,
+    ];
+    for fault in faults {
+        let text = format!(in rt.alloc(); "{fault}")?;
+        let begins = format!(in rt.alloc(); "entries fault {}: ", fault.number())?;
+        assert!(rt; text.as_str().starts_with(begins.as_str()));
+    }
+    let fault = format!(in rt.alloc(); "{}", EntriesFault::TooMany { row: 3 })?;
+    assert_eq!(rt;
+        fault.as_str(),
+        "entries fault 5: more than 200 sails, from row 3"
+    );
+    let bad_line = JournalFault::BadLine {
+        line: 2,
+        fault: LineFault::WrongCount,
+    };
+    for fault in [bad_line, JournalFault::TooMany, JournalFault::NoMemory] {
+        let text = format!(in rt.alloc(); "{fault}")?;
+        let begins = format!(in rt.alloc(); "journal fault {}: ", fault.number())?;
+        assert!(rt; text.as_str().starts_with(begins.as_str()));
+    }
+    let fault = format!(in rt.alloc(); "{}", JournalFault::TooMany)?;
+    assert_eq!(rt; fault.as_str(), "journal fault 2: more than 4096 lines");
     Ok(())
 }

@@ -1,5 +1,5 @@
 -- What is kept of each line tells as much as the line: its lines are the text's.
-use Rattle.std.proofs.Common.{◌≡◌, ℕ, ◌-◌, ◌<◌, ◌≤◌, Bool, true, false, cond, List, [], ◌∷◌, ◌++◌}
+use Rattle.std.proofs.Common.{◌≡◌, ℕ, ◌+◌, ◌-◌, ◌<◌, ◌≤◌, Bool, true, false, cond, List, [], ◌∷◌, ◌++◌}
 use Rattle.std.proofs.Common.{length, take, map, Err, refl, sym, ap, ◌∙◌, arith, append-nil}
 use Rattle.std.proofs.Common.{append_assoc}
 use Rattle.std.specs.Prelude.{nat_le, nat_lt}
@@ -12,13 +12,15 @@ use Rattle.std.proofs.lemmas.List.Splits.{length-slice_split}
 use Rattle.regatta_terms.specs.Lines.{line_of, line_of_words}
 use Rattle.regatta_terms.specs.Words.{words}
 use Rattle.regatta_terms.specs.declared.line.LineFault.TheVariants.{TooLong}
-use Rattle.regatta_talk.specs.Lines.{is_line_end, last_line, lines_of_pieces, lines_by}
+use Rattle.regatta_terms.specs.declared.limits.TheConstants.{MAX_LINE}
+use Rattle.regatta_talk.specs.declared.cutter.TheConstants.{MAX_KEPT}
+use Rattle.regatta_terms.specs.TextLines.{is_line_end, last_line, lines_of_pieces, lines_by}
 use Rattle.regatta_talk.specs.KeptLines.{keep, kept_lines}
 
--- ---- a line of more than 81 bytes is too long, and so is what is kept of it
+-- ---- a line of more bytes than a line may have, and a CR, is too long, and so is what is kept of it
 
-stays_long : (ends : Bool) (line : List ℕ) → 81 < length line
-    → 80 < length (cond ends (take (length line - 1) line) line)
+stays_long : (ends : Bool) (line : List ℕ) → MAX_LINE + 1 < length line
+    → MAX_LINE < length (cond ends (take (length line - 1) line) line)
 stays_long true line long = omega (
   arith,
   long,
@@ -26,43 +28,43 @@ stays_long true line long = omega (
 )
 stays_long false line long = omega (arith, long)
 
-too_long : (line : List ℕ) → 81 < length line → line_of line ≡ Err TooLong
+too_long : (line : List ℕ) → MAX_LINE + 1 < length line → line_of line ≡ Err TooLong
 unfolding line_of
 too_long line long =
-    cond-false (nat_le (length (strip_carriage_return line)) 80)
+    cond-false (nat_le (length (strip_carriage_return line)) MAX_LINE)
     (line_of_words (words (strip_carriage_return line))) (Err TooLong)
-    (lt-leb (length (strip_carriage_return line)) 80 (stays_long _ line long))
+    (lt-leb (length (strip_carriage_return line)) MAX_LINE (stays_long _ line long))
 
-pub kept_reads : (line : List ℕ) → line_of (take 82 line) ≡ line_of line
-kept_reads line = by (nat_lt 82 (length line)) refl
+pub kept_reads : (line : List ℕ) → line_of (take MAX_KEPT line) ≡ line_of line
+kept_reads line = by (nat_lt MAX_KEPT (length line)) refl
   where
-    by : (b : Bool) → nat_lt 82 (length line) ≡ b → line_of (take 82 line) ≡ line_of line
+    by : (b : Bool) → nat_lt MAX_KEPT (length line) ≡ b → line_of (take MAX_KEPT line) ≡ line_of line
     by true is =
-        let long : 82 < length line = ltb-true 82 (length line) is in
-        too_long (take 82 line) (omega (arith, long, length-take-le 82 line (omega (arith, long))))
+        let long : MAX_KEPT < length line = ltb-true MAX_KEPT (length line) is in
+        too_long (take MAX_KEPT line) (omega (arith, long, length-take-le MAX_KEPT line (omega (arith, long))))
         ∙ sym (too_long line (omega (arith, long)))
-    by false is = ap line_of (take_all 82 line (ltb-false 82 (length line) is))
+    by false is = ap line_of (take_all MAX_KEPT line (ltb-false MAX_KEPT (length line) is))
 
 -- ---- what is kept, byte by byte
 
-kept_more : (line : List ℕ) (byte : ℕ) → keep (take 82 line) byte ≡ take 82 (line ++ byte ∷ [])
-kept_more line byte = by (nat_lt (length line) 82) refl
+kept_more : (line : List ℕ) (byte : ℕ) → keep (take MAX_KEPT line) byte ≡ take MAX_KEPT (line ++ byte ∷ [])
+kept_more line byte = by (nat_lt (length line) MAX_KEPT) refl
   where
-    by : (b : Bool) → nat_lt (length line) 82 ≡ b
-        → keep (take 82 line) byte ≡ take 82 (line ++ byte ∷ [])
+    by : (b : Bool) → nat_lt (length line) MAX_KEPT ≡ b
+        → keep (take MAX_KEPT line) byte ≡ take MAX_KEPT (line ++ byte ∷ [])
     by true is =
-        let short : length line < 82 = ltb-true (length line) 82 is in
-        let whole : take 82 line ≡ line = take_all 82 line (omega (arith, short)) in
+        let short : length line < MAX_KEPT = ltb-true (length line) MAX_KEPT is in
+        let whole : take MAX_KEPT line ≡ line = take_all MAX_KEPT line (omega (arith, short)) in
         ap (λ l. keep l byte) whole
         ∙ ap (λ b. cond b (line ++ byte ∷ []) line) is
-        ∙ sym (take_all 82 (line ++ byte ∷ [])
+        ∙ sym (take_all MAX_KEPT (line ++ byte ∷ [])
         (omega (arith, short, length-append line (byte ∷ []))))
     by false is =
-        let full : 82 ≤ length line = ltb-false (length line) 82 is in
-        let size : length (take 82 line) ≡ 82 = length-take-le 82 line full in
-        ap (λ b. cond b (take 82 line ++ byte ∷ []) (take 82 line))
-        (le-ltb (length (take 82 line)) 82 (omega (arith, size)))
-        ∙ sym (take-append-le 82 line (byte ∷ []) full)
+        let full : MAX_KEPT ≤ length line = ltb-false (length line) MAX_KEPT is in
+        let size : length (take MAX_KEPT line) ≡ MAX_KEPT = length-take-le MAX_KEPT line full in
+        ap (λ b. cond b (take MAX_KEPT line ++ byte ∷ []) (take MAX_KEPT line))
+        (le-ltb (length (take MAX_KEPT line)) MAX_KEPT (omega (arith, size)))
+        ∙ sym (take-append-le MAX_KEPT line (byte ∷ []) full)
 
 -- the pieces of a text that goes on from a line at hand
 abbrev onto : List ℕ → List (List ℕ) → List (List ℕ)
@@ -86,8 +88,8 @@ lines-cons : (counts : Bool) (piece : List ℕ) (pieces : List (List ℕ)) → 0
 lines-cons counts piece [] some = absurd (omega (arith, some))
 lines-cons counts piece (next ∷ pieces) some = refl
 
-kept_last : (counts : Bool) (line : List ℕ) → last_line counts (take 82 line)
-    ≡ map (take 82) (last_line counts line)
+kept_last : (counts : Bool) (line : List ℕ) → last_line counts (take MAX_KEPT line)
+    ≡ map (take MAX_KEPT) (last_line counts line)
 kept_last true [] = refl
 kept_last true (byte ∷ line) = refl
 kept_last false [] = refl
@@ -111,47 +113,47 @@ kept_byte counts line byte text is = ap (λ b. cond b (line ∷ kept_lines count
     (kept_lines counts (keep line byte) text)) is
 
 kept_from : (counts : Bool) (line text : List ℕ)
-    → kept_lines counts (take 82 line) text ≡ map (take 82)
+    → kept_lines counts (take MAX_KEPT line) text ≡ map (take MAX_KEPT)
     (lines_of_pieces counts (onto line (slice_split is_line_end text)))
 kept_from counts line [] =
-    kept_none counts (take 82 line) ∙ kept_last counts line
-    ∙ ap (λ (l : List ℕ). map (take 82) (last_line counts l)) (sym (append-nil line))
+    kept_none counts (take MAX_KEPT line) ∙ kept_last counts line
+    ∙ ap (λ (l : List ℕ). map (take MAX_KEPT) (last_line counts l)) (sym (append-nil line))
 kept_from counts line (byte ∷ text) = by (is_line_end byte) refl (kept_from counts [] text)
     (kept_from counts (line ++ byte ∷ []) text)
   where
     by : (b : Bool) → is_line_end byte ≡ b
-        → kept_lines counts [] text ≡ map (take 82)
+        → kept_lines counts [] text ≡ map (take MAX_KEPT)
         (lines_of_pieces counts (onto [] (slice_split is_line_end text)))
-        → kept_lines counts (take 82 (line ++ byte ∷ [])) text
-        ≡ map (take 82) (lines_of_pieces counts
+        → kept_lines counts (take MAX_KEPT (line ++ byte ∷ [])) text
+        ≡ map (take MAX_KEPT) (lines_of_pieces counts
         (onto (line ++ byte ∷ []) (slice_split is_line_end text)))
-        → kept_lines counts (take 82 line) (byte ∷ text)
-        ≡ map (take 82) (lines_of_pieces counts
+        → kept_lines counts (take MAX_KEPT line) (byte ∷ text)
+        ≡ map (take MAX_KEPT) (lines_of_pieces counts
         (onto line (slice_split is_line_end (byte ∷ text))))
     by true is next more =
         let pieces = slice_split is_line_end text in
-        kept_end counts (take 82 line) byte text is
-        ∙ ap (λ (ls : List (List ℕ)). take 82 line ∷ ls)
-        (next ∙ ap (λ (ps : List (List ℕ)). map (take 82) (lines_of_pieces counts ps))
+        kept_end counts (take MAX_KEPT line) byte text is
+        ∙ ap (λ (ls : List (List ℕ)). take MAX_KEPT line ∷ ls)
+        (next ∙ ap (λ (ps : List (List ℕ)). map (take MAX_KEPT) (lines_of_pieces counts ps))
         (onto-none pieces (some_piece text)))
-        ∙ sym (ap (map (take 82)) (
+        ∙ sym (ap (map (take MAX_KEPT)) (
         ap (λ (ps : List (List ℕ)). lines_of_pieces counts (onto line ps))
         (slice_split-cons_yes is_line_end byte text is)
         ∙ ap (λ (l : List ℕ). lines_of_pieces counts (l ∷ pieces)) (append-nil line)
         ∙ lines-cons counts line pieces (some_piece text)))
     by false is next more =
         let pieces = slice_split is_line_end text in
-        kept_byte counts (take 82 line) byte text is
+        kept_byte counts (take MAX_KEPT line) byte text is
         ∙ ap (λ (l : List ℕ). kept_lines counts l text) (kept_more line byte)
         ∙ more
-        ∙ ap (λ (ps : List (List ℕ)). map (take 82) (lines_of_pieces counts ps))
+        ∙ ap (λ (ps : List (List ℕ)). map (take MAX_KEPT) (lines_of_pieces counts ps))
         (onto-more line byte pieces ∙ ap (onto line)
         (sym (slice_split-cons_no is_line_end byte text is)))
 
 -- the lines of a whole text, of each what is kept
 pub kept_of_text : (counts : Bool) (text : List ℕ)
-    → kept_lines counts [] text ≡ map (take 82) (lines_by counts text)
+    → kept_lines counts [] text ≡ map (take MAX_KEPT) (lines_by counts text)
 kept_of_text counts text =
     kept_from counts [] text
-    ∙ ap (λ (ps : List (List ℕ)). map (take 82) (lines_of_pieces counts ps))
+    ∙ ap (λ (ps : List (List ℕ)). map (take MAX_KEPT) (lines_of_pieces counts ps))
     (onto-none (slice_split is_line_end text) (some_piece text))

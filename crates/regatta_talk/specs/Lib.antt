@@ -1,3 +1,2 @@
 pub mod KeptLines
-pub mod Lines
 pub mod Replies

@@ -1,17 +1,21 @@
 //! The lines of a text that comes in pieces.
 ghost use Rattle.std.specs.Prelude.{◌≡◌, [], if◌then◌else◌};
-ghost use Rattle.regatta_talk.specs.Lines.{is_line_end};
+ghost use Rattle.regatta_terms.specs.TextLines.{is_line_end};
 ghost use Rattle.regatta_talk.specs.KeptLines.{keep};
 
 use arrayvec::ArrayVec;
+use regatta_terms::MAX_LINE;
 use std::marker::Model;
 
-/// The line at hand, seen as the bytes that are kept of it. At most 82 are, so that a line that is
-/// too long is known for one (80 bytes and a CR are not), and a line takes no memory however long
-/// it is.
+/// How many bytes of a line are kept: as many as a line may have, a CR, and one byte more, by which
+/// a line that is too long is known for one.
+const MAX_KEPT: usize = MAX_LINE + 2;
+
+/// The line at hand, seen as the bytes that are kept of it. No more than [`MAX_KEPT`] are, so that a
+/// line takes no memory however long it is.
 #[derive(Drop)]
 pub struct Cutter {
-    kept: ArrayVec<u8, 82>,
+    kept: ArrayVec<u8, MAX_KEPT>,
 }
 
 impl Model for Cutter {

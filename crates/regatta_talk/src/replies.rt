@@ -33,7 +33,7 @@ pub fn ranked(row: Option<Touched>) -> Reply
 ///
 /// # Errors
 ///
-/// Where memory is wanting for the reply. Nothing has changed then.
+/// Where memory is wanting for the reply. The role and what is written are then as they were.
 pub fn answer_apart(
     role: &mut Role,
     asked: Result<Line, LineFault>,
@@ -42,7 +42,7 @@ pub fn answer_apart(
     requires { asks_board asked ≡ false }
     ensures text { OnOk result (out.new.items ≡ out.old.items ++ reply_text (reply_apart asked)) }
     ensures role { OnOk result (role.new ≡ role_after asked role.old) }
-    ensures err { OnErr result ((role.new ≡ role.old) × (out.new ≡ out.old)) }
+    ensures err { OnErr result ((role.new ≡ role.old) × (out.new.items ≡ out.old.items)) }
 {
     make_room(out)?;
     let reply = match asked {

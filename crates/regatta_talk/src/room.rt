@@ -1,5 +1,6 @@
 //! Room for a reply.
-ghost use Rattle.std.specs.Prelude.{◌≡◌, ◌+◌, ◌≤◌, ◌++◌, OnOk, OnErr, vec_len, vec_capacity};
+ghost use Rattle.std.specs.Prelude.{◌≡◌, ◌+◌, ◌≤◌, ◌++◌, IsOk, OnOk, OnErr, vec_len};
+ghost use Rattle.std.specs.Prelude.{vec_capacity};
 ghost use Rattle.regatta_tables.specs.ReplyTexts.{reply_text};
 
 use regatta_tables::write_reply;
@@ -9,15 +10,16 @@ use std::alloc::AllocError;
 /// The bytes that a reply has at most, with its LF.
 pub const REPLY_ROOM: usize = 64;
 
-/// Makes room for a reply behind what is written already.
+/// Makes room for a reply behind what is written already. Where there is room it never fails.
 ///
 /// # Errors
 ///
-/// Where memory is wanting. Nothing has changed then.
+/// Where memory is wanting. The bytes and the room are then as they were.
 pub fn make_room(out: &mut Vec<u8>) -> Result<(), AllocError>
     ensures room { OnOk result (vec_len out.new + REPLY_ROOM ≤ vec_capacity out.new) }
-    ensures same { OnOk result (out.new.items ≡ out.old.items) }
-    ensures err { OnErr result (out.new ≡ out.old) }
+    ensures same { out.new.items ≡ out.old.items }
+    ensures fits { vec_len out.old + REPLY_ROOM ≤ vec_capacity out.old → IsOk result }
+    ensures err { OnErr result (vec_capacity out.new ≡ vec_capacity out.old) }
 {
     out.reserve(REPLY_ROOM)
 }

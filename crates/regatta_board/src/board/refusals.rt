@@ -7,9 +7,11 @@ ghost use Rattle.regatta_board.specs.Refusals as refusals;
 ghost use Rattle.regatta_board.specs.Refusals.{limits};
 
 use crate::board::Board;
-use crate::limits::{MAX_BOATS, MAX_ENTRIES};
 use regatta_scores::Held;
-use regatta_terms::{Code, Command, Entry, PenaltyKind, RaceNo, Refusal, Role, Sail, may};
+use regatta_terms::{
+    Code, Command, Entry, MAX_BOATS, MAX_ENTRIES, MAX_PENALTIES, PenaltyKind, RaceNo, Refusal,
+    Role, Sail, may,
+};
 
 /// Whether she holds a decision of the protest committee.
 fn is_decided(held: &Held) -> bool
@@ -53,7 +55,7 @@ impl Board {
     /// Whether an entered boat stands in the race's finishing order.
     fn is_placed(&self, race: RaceNo, boat: Sail) -> bool
         requires { refusals.is_entered self.now.entries boat ≡ true }
-        ensures { result ≡ refusals.is_placed self.now.entries race boat }
+        ensures { result ≡ refusals.is_placed self.now.rules self.now.entries race boat }
     {
         self.kept.is_placed(race, boat)
     }
@@ -75,7 +77,7 @@ impl Board {
 
     /// Whether nobody stands in the race's finishing order.
     fn has_no_finisher(&self, race: RaceNo) -> bool
-        ensures { result ≡ is_empty (order self.now.entries race) }
+        ensures { result ≡ is_empty (order self.now.rules self.now.entries race) }
     {
         self.kept.has_no_finisher(race)
     }
@@ -95,7 +97,7 @@ impl Board {
 
     /// Of Finish.
     fn place_refusal(&self, race: RaceNo, boat: Sail) -> Option<Refusal>
-        ensures { result ≡ refusals.place_refusal self.now.entries race boat }
+        ensures { result ≡ refusals.place_refusal self.now.rules self.now.entries race boat }
     {
         if !self.is_entered(boat) {
             Some(Refusal::NotEntered)
@@ -108,7 +110,8 @@ impl Board {
 
     /// Of Tie and Before.
     fn place_by_refusal(&self, race: RaceNo, boat: Sail, other: Sail) -> Option<Refusal>
-        ensures { result ≡ refusals.place_by_refusal self.now.entries race boat other }
+        ensures { result
+            ≡ refusals.place_by_refusal self.now.rules self.now.entries race boat other }
     {
         if !(self.is_entered(boat) && self.is_entered(other)) {
             Some(Refusal::NotEntered)
@@ -123,7 +126,7 @@ impl Board {
 
     /// Of Strike.
     fn strike_refusal(&self, race: RaceNo, boat: Sail) -> Option<Refusal>
-        ensures { result ≡ refusals.strike_refusal self.now.entries race boat }
+        ensures { result ≡ refusals.strike_refusal self.now.rules self.now.entries race boat }
     {
         if !self.is_entered(boat) {
             Some(Refusal::NotEntered)
@@ -157,7 +160,7 @@ impl Board {
         let held = self.held(race, boat);
         if is_decided(&held) {
             Some(Refusal::Decided)
-        } else if penalties(kind, &held) >= 9 {
+        } else if penalties(kind, &held) >= MAX_PENALTIES {
             Some(Refusal::PenaltyLimit)
         } else {
             None
@@ -183,7 +186,7 @@ impl Board {
 
     /// Of Score.
     fn score_refusal(&self, race: RaceNo) -> Option<Refusal>
-        ensures { result ≡ refusals.score_refusal self.now.entries race }
+        ensures { result ≡ refusals.score_refusal self.now.rules self.now.entries race }
     {
         if self.is_scored(race) {
             Some(Refusal::AlreadyScored)

@@ -1,7 +1,7 @@
 //! Laws of single races.
 ghost use Rattle.regatta_scores.specs.RaceLaws.{RacesAreApart, EnterKeepsRaces};
 ghost use Rattle.regatta_scores.specs.RaceLaws.{CodedBoatsLeaveTheOrder, TiesShareEqually};
-ghost use Rattle.regatta_scores.specs.RaceLaws.{PlacesAreSharedOut};
+ghost use Rattle.regatta_scores.specs.RaceLaws.{OrdersHaveNoEmptyGroup, PlacesAreSharedOut};
 
 /// A command of one race changes nothing of another race: its finishing order, what boats hold
 /// there, who finished, its DNF score and its points before redress. Enter changes no finishing
@@ -9,6 +9,11 @@ ghost use Rattle.regatta_scores.specs.RaceLaws.{PlacesAreSharedOut};
 pub fn races_are_apart()
     ensures others { RacesAreApart }
     ensures enter { EnterKeepsRaces }
+{}
+
+/// Somebody is in each group of a finishing order, whatever the rules and the journal (RRS A3, A7).
+pub fn orders_have_no_empty_group()
+    ensures { OrdersHaveNoEmptyGroup }
 {}
 
 /// When a boat that finished is given a code, she is scored by it, the boats behind her move up one

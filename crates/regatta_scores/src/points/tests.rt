@@ -3,6 +3,7 @@ ghost use Rattle.regatta_scores.specs.SheetFacts.{Allows};
 
 use super::*;
 use crate::sheet::{Change, NOTHING};
+use regatta_terms::{MAX_BOATS, MAX_PENALTIES};
 use std::test::Fail;
 
 /// Whether the boat is one of the sheet's and stands in its order.
@@ -16,7 +17,7 @@ fn is_allowed(sheet: &RaceSheet, change: Change) -> bool
 {
     let boats = sheet.all_held().len();
     match change {
-        Change::AddBoat => boats < 200,
+        Change::AddBoat => boats < MAX_BOATS,
         Change::Last { boat } => usize::from(boat) < boats && !sheet.placed(boat),
         Change::Join { boat, other } | Change::Ahead { boat, other } => {
             usize::from(boat) < boats
@@ -25,7 +26,9 @@ fn is_allowed(sheet: &RaceSheet, change: Change) -> bool
                 && sheet.placed(other)
         }
         Change::Out { boat } => usize::from(boat) < boats && sheet.placed(boat),
-        Change::Hold { boat, held } => usize::from(boat) < boats && held.zfp <= 9 && held.scp <= 9,
+        Change::Hold { boat, held } => {
+            usize::from(boat) < boats && held.zfp <= MAX_PENALTIES && held.scp <= MAX_PENALTIES
+        }
     }
 }
 

@@ -1,5 +1,5 @@
 use super::*;
-use regatta_terms::Award;
+use regatta_terms::{Award, MAX_RACES};
 use std::test::Fail;
 
 fn item(plain: u32, redress: Option<Redress>) -> Result<RowItem, &'static str> {
@@ -21,8 +21,8 @@ fn average_of_before(plain: u32) -> Result<RowItem, &'static str> {
 
 /// The points with redress, in tenths.
 fn points(alloc: Global, row: &[RowItem]) -> Result<Vec<u32>, Fail> {
-    if row.len() > 40 {
-        return Err("at most 40 races")?;
+    if row.len() > usize::from(MAX_RACES) {
+        return Err("too many races")?;
     }
     let mut points = Vec::new(alloc);
     for tenths in averages(alloc, row)?.as_slice() {
@@ -84,5 +84,11 @@ fn keeps_her_score_where_no_race_is_left(rt: HostRuntime) -> Result<(), Fail> {
     assert_eq!(rt; points(rt.alloc(), &row)?.as_slice(), [40].as_slice());
     let row = [average_of_before(40)?, scored(20)?];
     assert_eq!(rt; points(rt.alloc(), &row)?.as_slice(), [40, 20].as_slice());
+    Ok(())
+}
+
+#[test]
+fn averages_nothing_of_no_race(rt: HostRuntime) -> Result<(), Fail> {
+    assert_eq!(rt; points(rt.alloc(), &[])?.len(), 0);
     Ok(())
 }

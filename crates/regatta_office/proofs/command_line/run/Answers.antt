@@ -1,8 +1,8 @@
-use Rattle.std.proofs.Common.{◌≡◌, subst, true, IfSome, List, ℕ}
+use Rattle.std.proofs.Common.{◌≡◌, subst, true, IfSome}
 use Rattle.std.specs.Io.KnownBytes.{Appends}
 use Rattle.regatta_scores.specs.Journal.{Journal}
 use Rattle.regatta_board.specs.Refusals.{limits, is_lawful}
-use Rattle.regatta_office.specs.Asked.{Asked, IsRunOf}
+use Rattle.regatta_office.specs.Asked.{IsRunOf, Series}
 use Rattle.regatta_office.specs.Starts.{start_of}
 use Rattle.regatta_office.specs.Transcript.{run_text}
 use Rattle.regatta_office.proofs.command_line.run.Goals as goal
@@ -16,9 +16,10 @@ returns g c =
       c.as_slice-2.ensures,
       c.as_slice-3.ensures,
     ) in
-    subst (λ (asked : Asked). IsRunOf asked (g.R.Source.remaining c.args.input.now)
+    subst (λ (series : Series). IsRunOf (record { series = series; form = c.args.form })
+    (g.R.Source.remaining c.args.input.now)
     (g.W.Sink.contents c.args.output.now) (g.W.Sink.contents c.replay.new.output))
-    c.options.view_is (record {
+    c.series.view_is (record {
       rules = c.in_ok-rules.rules;
       read = cc (c.read.ensures, c.in_ok-rules.was);
       journal = c.in_ok-journal.journal;
@@ -30,6 +31,6 @@ returns g c =
       wrote = subst (λ (start : Journal). IfSome (g.R.Source.remaining c.args.input.now)
           (λ text. Appends (g.W.Sink.contents c.args.output.now)
           (g.W.Sink.contents c.replay.new.output)
-          (run_text c.in_ok-rules.rules start c.options.inside.form text))) start_is
+          (run_text c.in_ok-rules.rules start c.args.form text))) start_is
           c.in_ok-replay.ensures.answered;
     })

@@ -1,12 +1,15 @@
-use Rattle.std.proofs.Common.{◌≡◌, ◌+◌, ◌++◌, List, ℕ, sym, ap, ◌∙◌, subst}
+use Rattle.std.proofs.Common.{IfSome, Err, sym, ap, ◌∙◌, subst}
 use Rattle.std.specs.Io.KnownBytes.{Appends}
-use Rattle.regatta_office.specs.Transcript.{final_text}
+use Rattle.regatta_office.specs.Transcript.{WroteSome}
 use Rattle.regatta_office.specs.declared.run.TheConstants.{INPUT_LIMIT}
 use Rattle.regatta_office.specs.Scribes.{point}
-use Rattle.regatta_office.proofs.Results.{err_of, ok_of}
+use Rattle.regatta_office.proofs.Results.{memory_is, read_is_no_write, start_stands, write_is}
+use Rattle.regatta_office.proofs.Results.{writer_failed}
+use Rattle.regatta_office.proofs.Streams.{prefix-behind}
+use Rattle.regatta_streams.proofs.KnownBytes.{appends-then}
 use Rattle.regatta_streams.specs.Texts.{AppendsPrefix}
-use Rattle.regatta_office.proofs.Whole.{all_said, all_written, final_cut, read_broken, whole_cut}
-use Rattle.regatta_office.proofs.Whole.{whole_stop, wrote_nothing, text_too_long, within_limit}
+use Rattle.regatta_office.proofs.Whole.{all_said, read_broken, whole_cut, whole_stop, whole_text}
+use Rattle.regatta_office.proofs.Whole.{wrote_nothing, text_too_long, within_limit}
 use Rattle.regatta_office.proofs.run.replay.Goals as goal
 
 pub returns-in-Err-answer_all-clause-read : goal.returns-in-Err-answer_all-clause-read
@@ -21,32 +24,17 @@ returns-in-Err-answer_all-clause-long g c = λ is.
     (point c.new-scribe.result) c.in-Ok.ensures.board c.new-scribe.ensures
     _ _ _ INPUT_LIMIT (c.in-Err-answer_all.ensures.long is)
 
-pub returns-clause-answered : goal.returns-clause-answered
-returns-clause-answered g c =
-    let last = c.board.result.now in
-    let final : c.write_final.new.out.items ≡ c.new-text.result.items ++ final_text last.rules
-    c.args.form last.entries =
-    ok_of _ _ c.write_final.ensures (sym c.is_err.ensures.value ∙ c.if-is_err.false)
-    in
-    let whole : c.write_final.new.out.items ≡ final_text last.rules c.args.form last.entries =
-    final ∙ ap (λ (t : List ℕ). t ++ final_text last.rules c.args.form last.entries)
-    c.new-text.ensures.items
-    in
-    let ends : Appends (g.W.Sink.contents c.answer_all.new.output)
-    (g.W.Sink.contents c.write_all.new.output) c.deref.result.now =
-    ok_of _ _ c.write_all.ensures.ok (sym c.is_err-2.ensures.value ∙ c.if-is_err-2.false)
-    in
-    all_written c.args.rules.now c.args.start.now c.in-Ok.board
-    (point c.new-scribe.result) c.in-Ok.ensures.board c.new-scribe.ensures
+pub returns-in-Ok-print_final-clause-answered : goal.returns-in-Ok-print_final-clause-answered
+returns-in-Ok-print_final-clause-answered g c =
+    whole_text c.args.rules.now c.args.start.now c.in-Ok.board
+    (point c.new-scribe.result) c.in-Ok.ensures.board c.new-scribe.ensures Appends appends-then
     (g.R.Source.remaining c.args.input.now) _ (g.W.Sink.contents c.answer_all.new.output) _
-    c.args.form c.write_final.new.out.items last _
+    c.args.form c.board.result.now _
     (c.board.ensures.rules ∙ c.in_default.ensures.rules) c.board.ensures.journal
-    c.in_default.ensures.wrote c.in_default.ensures.after whole
-    (subst (Appends (g.W.Sink.contents c.answer_all.new.output)
-    (g.W.Sink.contents c.write_all.new.output)) c.deref.ensures.value ends)
+    c.in_default.ensures.wrote c.in_default.ensures.after c.in-Ok-print_final.ensures.wrote
 
-pub returns-clause-within : goal.returns-clause-within
-returns-clause-within g c =
+pub returns-in-Ok-print_final-clause-within : goal.returns-in-Ok-print_final-clause-within
+returns-in-Ok-print_final-clause-within g c =
     within_limit c.args.rules.now c.args.start.now c.in-Ok.board
     (point c.new-scribe.result) c.in-Ok.ensures.board c.new-scribe.ensures
     (g.R.Source.remaining c.args.input.now) INPUT_LIMIT c.in_default.ensures.within
@@ -68,47 +56,41 @@ returns-in-Err-answer_all-clause-stopped g c = λ is.
     (point c.new-scribe.result) c.in-Ok.ensures.board c.new-scribe.ensures
     _ _ _ (c.in-Err-answer_all.ensures.stopped is)
 
-pub returns-then-is_err-clause-stopped : goal.returns-then-is_err-clause-stopped
-returns-then-is_err-clause-stopped g c = λ is.
-    all_said c.args.rules.now c.args.start.now c.in-Ok.board
+pub returns-clause-stopped : goal.returns-clause-stopped
+returns-clause-stopped g c = λ is.
+    let same = c.in-Err-print_final.ensures.silent (ap Err
+    (memory_is c.in-Err-print_final.fault c.scribe_fault.result c.scribe_fault.ensures is)) in
+    subst (λ (w : g.row.W.Denot). IfSome (g.R.Source.remaining c.args.input.now)
+    (WroteSome c.args.rules.now c.args.start.now (g.W.Sink.contents c.args.output.now)
+    (g.W.Sink.contents w))) (sym same)
+    (all_said c.args.rules.now c.args.start.now c.in-Ok.board
     (point c.new-scribe.result) c.in-Ok.ensures.board c.new-scribe.ensures
-    _ _ _ c.in_default.ensures.wrote
+    _ _ _ c.in_default.ensures.wrote)
 
-pub returns-then-is_err-2-clause-cut : goal.returns-then-is_err-2-clause-cut
-returns-then-is_err-2-clause-cut g c = λ is.
-    let last = c.board.result.now in
-    let final : c.write_final.new.out.items ≡ c.new-text.result.items ++ final_text last.rules
-    c.args.form last.entries =
-    ok_of _ _ c.write_final.ensures (sym c.is_err.ensures.value ∙ c.if-is_err.false)
-    in
-    let whole : c.write_final.new.out.items ≡ final_text last.rules c.args.form last.entries =
-    final ∙ ap (λ (t : List ℕ). t ++ final_text last.rules c.args.form last.entries)
-    c.new-text.ensures.items
-    in
-    let cut : AppendsPrefix (g.W.Sink.contents c.answer_all.new.output)
-    (g.W.Sink.contents c.write_all.new.output) c.deref.result.now =
-    err_of _ _ c.write_all.ensures.cut (sym c.is_err-2.ensures.value ∙ c.if-is_err-2.true)
-    in
-    final_cut c.args.rules.now c.args.start.now c.in-Ok.board
-    (point c.new-scribe.result) c.in-Ok.ensures.board c.new-scribe.ensures
-    (g.R.Source.remaining c.args.input.now) _ (g.W.Sink.contents c.answer_all.new.output) _
-    c.args.form c.write_final.new.out.items last _
+pub returns-clause-cut : goal.returns-clause-cut
+returns-clause-cut g c = λ is.
+    let failed = ap Err (write_is c.in-Err-print_final.fault c.scribe_fault.result
+    c.scribe_fault.ensures is) in
+    whole_text c.args.rules.now c.args.start.now c.in-Ok.board
+    (point c.new-scribe.result) c.in-Ok.ensures.board c.new-scribe.ensures AppendsPrefix
+    prefix-behind (g.R.Source.remaining c.args.input.now) _
+    (g.W.Sink.contents c.answer_all.new.output) _ c.args.form c.board.result.now _
     (c.board.ensures.rules ∙ c.in_default.ensures.rules) c.board.ensures.journal
-    c.in_default.ensures.wrote c.in_default.ensures.after whole
-    (subst (AppendsPrefix (g.W.Sink.contents c.answer_all.new.output)
-    (g.W.Sink.contents c.write_all.new.output)) c.deref.ensures.value cut)
+    c.in_default.ensures.wrote c.in_default.ensures.after
+    (c.in-Err-print_final.ensures.cut failed)
 
--- the failures of the devices
-pub returns-clause-well : goal.returns-clause-well
-returns-clause-well g c = (
-  c.in_default.ensures.well.0,
-  ok_of _ _ c.write_all.ensures.well (sym c.is_err-2.ensures.value ∙ c.if-is_err-2.false)
-      ∙ c.in_default.ensures.well.1,
-)
+pub returns-clause-read : goal.returns-clause-read
+returns-clause-read g c = λ is. read_is_no_write c.in-Err-print_final.fault c.scribe_fault.result _
+    c.scribe_fault.ensures is
 
-pub returns-then-is_err-2-clause-fault : goal.returns-then-is_err-2-clause-fault
-returns-then-is_err-2-clause-fault g c = (
-  c.in_default.ensures.well.0,
-  err_of _ _ c.write_all.ensures.failed (sym c.is_err-2.ensures.value ∙ c.if-is_err-2.true)
-      ∙ ap (λ (n : ℕ). n + 1) c.in_default.ensures.well.1,
-)
+pub returns-clause-start : goal.returns-clause-start
+returns-clause-start g c = start_stands _ c.in-Err-print_final.fault c.scribe_fault.result
+    c.scribe_fault.ensures c.in-Ok.ensures.accepted
+
+pub returns-clause-fault : goal.returns-clause-fault
+returns-clause-fault g c =
+    writer_failed _ _ _ (g.W.Device.failures c.answer_all.new.output) _
+    c.in-Err-print_final.fault c.scribe_fault.result c.scribe_fault.ensures
+    c.in_default.ensures.well.0 c.in_default.ensures.well.1
+    (λ is. c.in-Err-print_final.ensures.write (ap Err is))
+    (λ is. ap g.W.Device.failures (c.in-Err-print_final.ensures.silent (ap Err is)))

@@ -10,12 +10,12 @@ loop-sail-preserved c =
     let i = c.loop-sail.sail-index in
     record {
       last = c.nth-last.ensures.value ∙ last_more old new sails i c.loop-sail.last
-          c.sail-item.result c.entering-entry.result
-          (omega arith) c.sail-item.is c.loop-sail.invariant.last c.entering-entry.ensures
+          c.sail-item.result c.next_entry-entry.result
+          (omega arith) c.sail-item.is c.loop-sail.invariant.last c.next_entry-entry.ensures
           c.in_ok-push.ensures.items;
       start = start_more old new sails i c.loop-sail.last c.sail-item.result
-          c.entering-entry.result (omega arith) c.sail-item.is c.loop-sail.invariant.last
-          c.entering-entry.ensures c.in_ok-push.ensures.items ∙ c.loop-sail.invariant.start;
+          c.next_entry-entry.result (omega arith) c.sail-item.is c.loop-sail.invariant.last
+          c.next_entry-entry.ensures c.in_ok-push.ensures.items ∙ c.loop-sail.invariant.start;
     }
 
 pub returns : goal.returns

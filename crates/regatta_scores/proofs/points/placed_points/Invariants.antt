@@ -2,6 +2,7 @@ use Rattle.std.proofs.Common.{◌≡◌, ◌≤◌, ℕ, ◌+◌, length, take, 
 use Rattle.std.proofs.Common.{cond, Some, None}
 use Rattle.regatta_scores.specs.Order.{stands_in}
 use Rattle.regatta_scores.specs.RacePoints.{race_of, finishers, place_points}
+use Rattle.regatta_scores.specs.PlacedPoints.{most_place_points}
 use Rattle.regatta_scores.proofs.points.placed_points.Given as goal
 
 -- the boats of the groups so far have their points, and the others none
@@ -14,5 +15,5 @@ invariant-loop-i l = record {
   given : (boat : ℕ) → get_or l.placed.items boat None
       ≡ cond (stands_in nat_eq boat (take l.i l.order))
       (Some (place_points nat_eq (race_of l.order l.held) boat)) None;
-  few : (boat : ℕ) → unwrap_or (get_or l.placed.items boat None) 0 ≤ 5000;
+  few : (boat : ℕ) → unwrap_or (get_or l.placed.items boat None) 0 ≤ most_place_points;
 }

@@ -4,10 +4,10 @@ use Rattle.regatta_tables.specs.EntryLists.{first_fault, sails_in}
 use Rattle.regatta_tables.proofs.entries.read_sails.Given as goal
 
 -- the rows so far have no fault, and their sails are those that were read
-abbrev pub invariant-loop-place : goal.invariant-loop-place
-invariant-loop-place l = record {
+abbrev pub invariant-loop-number : goal.invariant-loop-number
+invariant-loop-number l = record {
   sound : first_fault l.column [] (map fields_of l.records)
-      ≡ first_fault l.column (take l.place (map fields_of l.records))
-      (drop l.place (map fields_of l.records));
-  so_far : l.sails.items ≡ sails_in l.column (take l.place (map fields_of l.records));
+      ≡ first_fault l.column (take l.number (map fields_of l.records))
+      (drop l.number (map fields_of l.records));
+  so_far : l.sails.items ≡ sails_in l.column (take l.number (map fields_of l.records));
 }

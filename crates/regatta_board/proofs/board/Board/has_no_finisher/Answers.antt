@@ -13,5 +13,5 @@ returns c =
     let b = c.self.inside in
     let is = c.self.invariant.0 in
     rw (← c.self.view_is) (c.has_no_finisher.ensures.value
-    ∙ empty_is b.entries.items is.orderly b.kept is.keeps c.args.race
+    ∙ empty_is b.rules b.entries.items is.orderly b.kept is.keeps c.args.race
     c.has_no_finisher.ensures.range)

@@ -15,7 +15,7 @@ is_placed-requires-clause-known c =
     let is = c.self.invariant.0 in
     let known : is_entered b.entries.items c.args.boat ≡ true =
     rw (← c.self.view_is) at c.requires in
-    known_is b.entries.items is.orderly b.kept is.keeps c.args.boat known
+    known_is b.rules b.entries.items is.orderly b.kept is.keeps c.args.boat known
 
 pub returns : goal.returns
 returns c =
@@ -24,5 +24,5 @@ returns c =
     let known : is_entered b.entries.items c.args.boat ≡ true =
     rw (← c.self.view_is) at c.requires in
     rw (← c.self.view_is) (c.is_placed.ensures.value
-    ∙ placed_is b.entries.items is.orderly b.kept is.keeps c.args.race c.is_placed.ensures.range
-    c.args.boat known)
+    ∙ placed_is b.rules b.entries.items is.orderly b.kept is.keeps c.args.race
+    c.is_placed.ensures.range c.args.boat known)

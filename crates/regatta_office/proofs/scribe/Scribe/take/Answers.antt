@@ -1,7 +1,7 @@
 use Rattle.std.proofs.Common.{◌≡◌, false, true, sym, ◌∙◌}
 use Rattle.std.proofs.lemmas.Bool.{cond-true, cond-false}
 use Rattle.regatta_talk.specs.KeptLines.{keep}
-use Rattle.regatta_talk.specs.Lines.{is_line_end}
+use Rattle.regatta_terms.specs.TextLines.{is_line_end}
 use Rattle.regatta_office.specs.Scribes.{point}
 use Rattle.regatta_office.proofs.Streams.{byte_kept, line_cut, line_ended_ok}
 use Rattle.regatta_office.proofs.scribe.Scribe.take.Goals as goal

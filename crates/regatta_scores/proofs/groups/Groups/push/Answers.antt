@@ -1,4 +1,4 @@
-use Rattle.std.proofs.Common.{◌∙◌, sym, ap, arith, length, ◌++◌, ◌∷◌, []}
+use Rattle.std.proofs.Common.{◌∙◌, ap, arith, ◌++◌, ◌∷◌, []}
 use Rattle.regatta_scores.proofs.Cut.{pushed}
 use Rattle.regatta_scores.proofs.groups.Groups.push.Goals as goal
 

@@ -1,0 +1,43 @@
+ghost use Rattle.std.specs.Prelude.{◌<◌};
+
+use regatta_office::{Form, RunFault, Tape, replay};
+use regatta_terms::{Absent, Entry, Rules};
+use std::alloc::Global;
+use std::test::Fail;
+
+mod complaints;
+mod faults;
+mod programs;
+mod replays;
+mod weekend;
+
+/// The rules where none are stated.
+fn default_rules() -> Rules {
+    Rules::new(Absent::A52, None, &[2]).unwrap()
+}
+
+/// A tape that gives this text in pieces of so many bytes.
+fn giving(alloc: Global, text: &[u8], piece: usize) -> Result<Tape, Fail>
+    requires { 0 < piece }
+{
+    Ok(Tape::new(alloc, text, piece, 4_000_000, 0)?)
+}
+
+/// A tape that takes so many bytes.
+fn taking(alloc: Global, take: usize) -> Result<Tape, Fail> {
+    Ok(Tape::new(alloc, b"", 1, 0, take)?)
+}
+
+/// What a run over memory writes for a text, and how it ends.
+fn replayed(
+    alloc: Global,
+    text: &[u8],
+    rules: &Rules,
+    start: &[Entry],
+    form: Form,
+) -> Result<(Tape, Result<(), RunFault>), Fail> {
+    let mut input = giving(alloc, text, 7)?;
+    let mut output = taking(alloc, 200_000)?;
+    let ended = replay(alloc, &mut input, &mut output, rules, start, form);
+    Ok((output, ended))
+}

@@ -1,0 +1,208 @@
+use super::*;
+use regatta_office::start_of;
+use regatta_tables::{read_entries, read_journal};
+use regatta_terms::{Refusal, Sail};
+
+/// A run without a start: its text, and what it writes.
+struct Talk {
+    text: &'static str,
+    written: &'static str,
+}
+
+static TALKS: [Talk; 9] = [
+    Talk {
+        text: "SHOW",
+        written: "JOURNAL 0\nTABLE 0 RACES\nEND\nTABLE 0 RACES\n",
+    },
+    Talk {
+        text: "ENTER C\nENTER A\nENTER B\n",
+        written: "OK 1 1 0.0\nOK 2 1= 0.0\nOK 3 1= 0.0\n\
+            TABLE 3 RACES\n1= A 0.0\n1= B 0.0\n1= C 0.0\n",
+    },
+    Talk {
+        text: "ENTER A\nENTER B\nENTER C\nFINISH 1 A\nTIE 1 B A\nFINISH 1 C\nSCORE 1\n",
+        written: "OK 1 1 0.0\nOK 2 1= 0.0\nOK 3 1= 0.0\nOK 4 1= 0.0\nOK 5 1= 0.0\nOK 6 1= 0.0\n\
+            OK 7\nTABLE 3 RACES 1\n1= A 1.5 1.5\n1= B 1.5 1.5\n3 C 3.0 3.0\n",
+    },
+    Talk {
+        text: "ENTER A\nENTER B\nENTER C\nFINISH 1 A\nTIE 1 B A\nFINISH 1 C\nSCORE 1\nROLE JURY\n\
+            MARK 1 A DSQ\n",
+        written: "OK 1 1 0.0\nOK 2 1= 0.0\nOK 3 1= 0.0\nOK 4 1= 0.0\nOK 5 1= 0.0\nOK 6 1= 0.0\n\
+            OK 7\nROLE JURY\nOK 8 3 4.0\n\
+            TABLE 3 RACES 1\n1 B 1.0 1.0\n2 C 2.0 2.0\n3 A 4.0 4.0/DSQ\n",
+    },
+    Talk {
+        text: "ENTER A\nENTER B\nENTER C\nFINISH 1 A\nFINISH 1 B\nMARK 1 C DNF\nSCORE 1\nENTER D\n",
+        written: "OK 1 1 0.0\nOK 2 1= 0.0\nOK 3 1= 0.0\nOK 4 1= 0.0\nOK 5 1= 0.0\nOK 6 1= 0.0\n\
+            OK 7\nOK 8 3= 5.0\n\
+            TABLE 4 RACES 1\n1 A 1.0 1.0\n2 B 2.0 2.0\n3= C 5.0 5.0/DNF\n3= D 5.0 5.0/DNC\n",
+    },
+    Talk {
+        text: "ENTER A\nENTER B\nENTER C\nFINISH 1 A\nTIE 1 B A\nFINISH 1 C\nSCORE 1\nROLE JURY\n\
+            MARK 1 A DSQ\nROLE FINISH\nMARK 1 B DSQ\nROLE SCORER\nMARK 1 A RET\n",
+        written: "OK 1 1 0.0\nOK 2 1= 0.0\nOK 3 1= 0.0\nOK 4 1= 0.0\nOK 5 1= 0.0\nOK 6 1= 0.0\n\
+            OK 7\nROLE JURY\nOK 8 3 4.0\nROLE FINISH\nNO 4\nROLE SCORER\nNO 10\n\
+            TABLE 3 RACES 1\n1 B 1.0 1.0\n2 C 2.0 2.0\n3 A 4.0 4.0/DSQ\n",
+    },
+    Talk {
+        text: "ENTER A\nENTER B\nFINISH 1 B\nFINISH 1 A\nSCORE 1\n",
+        written: "OK 1 1 0.0\nOK 2 1= 0.0\nOK 3 1= 0.0\nOK 4 1= 0.0\nOK 5\n\
+            TABLE 2 RACES 1\n1 B 1.0 1.0\n2 A 2.0 2.0\n",
+    },
+    Talk {
+        text: "ENTER A\nENTER B\nFINISH 1 A\nSCORE 1\n",
+        written: "OK 1 1 0.0\nOK 2 1= 0.0\nOK 3 1= 0.0\nOK 4\n\
+            TABLE 2 RACES 1\n1 A 1.0 1.0\n2 B 3.0 3.0/DNC\n",
+    },
+    Talk {
+        text: "ENTER A\nENTER A\nFINISH 1 B\nTIE 1 A A\nSTRIKE 1 A\nSCORE 1\nUNSCORE 1\n\
+            CLEAR 1 A\nFINISH 1 A\nFINISH 1 A\nTIE 1 A A\nSCORE 1\nSCORE 1\nMARK 1 A DSQ\n\
+            ROLE JURY\nMARK 1 A DSQ\nREDRESS 1 A ALL\nPENALTY 1 A ZFP\nROLE SCORER\nCLEAR 1 A\n\
+            RANK A\nRANK B\nROLE JURY\nCLEAR 1 A\nREDRESS 1 A 2.5\nREDRESS 1 A ALL\nQUIT\n\
+            ENTER C\n",
+        written: "OK 1 1 0.0\nNO 6\nNO 7\nNO 9\nNO 9\nNO 15\nNO 14\nNO 12\nOK 2 1 0.0\nNO 8\n\
+            NO 8\nOK 3\nNO 13\nNO 4\nROLE JURY\nOK 4 1 2.0\nNO 10\nNO 10\nROLE SCORER\nNO 10\n\
+            RANK 1 2.0\nNO 7\nROLE JURY\nOK 5 1 1.0\nOK 6 1 2.5\nNO 10\nBYE\n\
+            TABLE 1 RACES 1\n1 A 2.5 2.5/RDG\n",
+    },
+];
+
+#[test]
+fn lines_are_answered_and_the_table_is_printed(rt: HostRuntime) -> Result<(), Fail> {
+    for talk in &TALKS {
+        for piece in [1, 7, 5000] {
+            let mut input = giving(rt.alloc(), talk.text.as_bytes(), piece)?;
+            let mut output = taking(rt.alloc(), 1000)?;
+            let rules = default_rules();
+            let ended = replay(
+                rt.alloc(),
+                &mut input,
+                &mut output,
+                &rules,
+                &[],
+                Form::Table,
+            );
+            assert_eq!(rt; output.written(), talk.written.as_bytes());
+            assert_eq!(rt; ended, Ok(()));
+        }
+    }
+    Ok(())
+}
+
+static REDRESS: &str = "ENTER A\nENTER B\nFINISH 1 A\nFINISH 1 B\nFINISH 2 B\nSCORE 1\nSCORE 2\n\
+    ROLE JURY\nREDRESS 2 A ALL\nROLE SCORER\nSTRIKE 1 A\nBEFORE 1 A B\n";
+
+#[test]
+fn the_series_rules_are_those_handed_in(rt: HostRuntime) -> Result<(), Fail> {
+    let none = Rules::new(Absent::A52, None, &[]).unwrap();
+    let (output, ended) = replayed(rt.alloc(), REDRESS.as_bytes(), &none, &[], Form::Table)?;
+    let written = "OK 1 1 0.0\nOK 2 1= 0.0\nOK 3 1= 0.0\nOK 4 1= 0.0\nOK 5 1= 0.0\nOK 6\nOK 7\n\
+        ROLE JURY\nOK 8 1 2.0\nROLE SCORER\nOK 9 2 6.0\nOK 10 1 2.0\n\
+        TABLE 2 RACES 1 2\n1 A 2.0 1.0 1.0/RDG\n2 B 3.0 2.0 1.0\n";
+    assert_eq!(rt; output.written(), written.as_bytes());
+    assert_eq!(rt; ended, Ok(()));
+    let rules = default_rules();
+    let (output, _) = replayed(rt.alloc(), REDRESS.as_bytes(), &rules, &[], Form::Table)?;
+    let table = "TABLE 2 RACES 1 2\n1 A 1.0 (1.0) 1.0/RDG\n2 B 1.0 (2.0) 1.0\n";
+    assert!(rt; output.written().ends_with(table.as_bytes()));
+    let (output, _) = replayed(rt.alloc(), REDRESS.as_bytes(), &rules, &[], Form::Csv)?;
+    let results = "rank,sail,net,R1,R2\n1,A,1.0,(1.0),1.0/RDG\n2,B,1.0,(2.0),1.0\n";
+    assert!(rt; output.written().ends_with(results.as_bytes()));
+    Ok(())
+}
+
+#[test]
+fn a_run_goes_on_from_its_start(rt: HostRuntime) -> Result<(), Fail> {
+    let rules = default_rules();
+    let last = read_journal(rt.alloc(), b"1 4294967295 SCORER ENTER A\n")
+        .ok()
+        .expect(&rt, "a journal");
+    let (output, ended) = replayed(rt.alloc(), b"ENTER B", &rules, last.as_slice(), Form::Table)?;
+    assert_eq!(rt;
+        output.written(),
+        b"NO 3\nTABLE 1 RACES\n1 A 0.0\n".as_slice()
+    );
+    assert_eq!(rt; ended, Ok(()));
+    let refused = read_journal(rt.alloc(), b"1 1 JURY ENTER A\n")
+        .ok()
+        .expect(&rt, "a journal");
+    let (output, ended) = replayed(
+        rt.alloc(),
+        b"ENTER B",
+        &rules,
+        refused.as_slice(),
+        Form::Table,
+    )?;
+    assert_eq!(rt; output.written(), b"".as_slice());
+    let refusal = Refusal::NotYours;
+    assert_eq!(rt; ended, Err(RunFault::Start { at: 1, refusal }));
+    Ok(())
+}
+
+#[test]
+fn an_entry_list_is_entered_by_the_scorer(rt: HostRuntime) -> Result<(), Fail> {
+    let rules = default_rules();
+    let sails = read_entries(
+        rt.alloc(),
+        b"Boat,Sail,Club\nWind,gbr 12,X\n\"A, B\",NED7\n",
+    )
+    .ok()
+    .expect(&rt, "sails");
+    let start = start_of(rt.alloc(), &[], sails.as_slice())?;
+    let (output, ended) = replayed(rt.alloc(), b"", &rules, start.as_slice(), Form::Journal)?;
+    let journal = "1 1 SCORER ENTER GBR12\n1 2 SCORER ENTER NED7\n";
+    assert_eq!(rt; output.written(), journal.as_bytes());
+    assert_eq!(rt; ended, Ok(()));
+    let more: [Sail; 1] = [Sail::read(b"fra9").expect(&rt, "a sail")];
+    let start = start_of(rt.alloc(), start.as_slice(), &more)?;
+    let (output, _) = replayed(rt.alloc(), b"", &rules, start.as_slice(), Form::Journal)?;
+    let journal = "1 1 SCORER ENTER GBR12\n1 2 SCORER ENTER NED7\n1 3 SCORER ENTER FRA9\n";
+    assert_eq!(rt; output.written(), journal.as_bytes());
+    Ok(())
+}
+
+#[test]
+fn entries_and_penalties_have_their_limits(rt: HostRuntime) -> Result<(), Fail> {
+    let rules = default_rules();
+    let mut text = Vec::new(rt.alloc());
+    text.extend_from_slice(b"ENTER A\n")?;
+    for boat in 1..=200u32 {
+        let line = format!(in rt.alloc(); "ENTER B{boat}\n")?;
+        text.extend_from_slice(line.as_bytes())?;
+    }
+    text.extend_from_slice(b"ENTER A\n")?;
+    for _ in 0..10 {
+        text.extend_from_slice(b"PENALTY 2 A ZFP\n")?;
+    }
+    text.extend_from_slice(b"PENALTY 2 A SCP\n")?;
+    let (output, ended) = replayed(rt.alloc(), &text, &rules, &[], Form::Journal)?;
+    let replies = "OK 200 1= 0.0\nNO 5\nNO 6\nOK 201 1= 0.0\n";
+    assert!(rt;
+        std::str::from_utf8(output.written())
+            .unwrap_or("")
+            .contains(replies)
+    );
+    let replies = "OK 209 1= 0.0\nNO 11\nOK 210 1= 0.0\n1 1 SCORER ENTER A\n";
+    assert!(rt;
+        std::str::from_utf8(output.written())
+            .unwrap_or("")
+            .contains(replies)
+    );
+    assert_eq!(rt; ended, Ok(()));
+    Ok(())
+}
+
+#[test]
+fn a_journal_is_full_at_last(rt: HostRuntime) -> Result<(), Fail> {
+    let rules = default_rules();
+    let mut text = Vec::new(rt.alloc());
+    text.extend_from_slice(b"ENTER A\n")?;
+    for _ in 0..2048 {
+        text.extend_from_slice(b"FINISH 1 A\nSTRIKE 1 A\n")?;
+    }
+    let (output, ended) = replayed(rt.alloc(), &text, &rules, &[], Form::Table)?;
+    let last = "OK 4095 1 0.0\nOK 4096 1 0.0\nNO 2\nTABLE 1 RACES\n1 A 0.0\n";
+    assert!(rt; output.written().ends_with(last.as_bytes()));
+    assert_eq!(rt; ended, Ok(()));
+    Ok(())
+}

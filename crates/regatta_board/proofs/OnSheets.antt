@@ -1,0 +1,109 @@
+-- A finishing order by numbers, on a sheet on which nothing is held, stays one of a sheet.
+use Rattle.std.proofs.Common.{◌≡◌, ℕ, ◌+◌, ◌<◌, Bool, true, false, List, [], ◌∷◌, ◌++◌, ap, ◌∙◌}
+use Rattle.std.proofs.Common.{refl, sym, arith, length, map, nat_eq}
+use Rattle.std.specs.List.{list_any}
+use Rattle.std.proofs.lemmas.List.{length-map, map-append}
+use borrow.Author.Tests.{eqb-true}
+use Rattle.regatta_terms.specs.declared.limits.TheConstants.{MAX_BOATS}
+use Rattle.regatta_terms.specs.Rules.{RulesParts}
+use Rattle.regatta_terms.specs.declared.sail.Sail.{Sail}
+use Rattle.regatta_terms.specs.declared.command.Command.{Command}
+use Rattle.regatta_terms.specs.declared.command.Command.TheVariants.{Enter, Finish, Tie, Before}
+use Rattle.regatta_terms.specs.declared.command.Command.TheVariants.{Strike, Mark, Penalise}
+use Rattle.regatta_terms.specs.declared.command.Command.TheVariants.{Redress, Clear, Score, Unscore}
+use Rattle.regatta_scores.specs.Order.{stands_in, with_last, joined, with_ahead, without}
+use Rattle.regatta_scores.specs.Sheet.{nothing_held}
+use Rattle.regatta_scores.specs.SheetFacts.{IsSheet}
+use Rattle.regatta_scores.specs.Journal.{Journal, same_sail, names_race, entered, order}
+use Rattle.regatta_scores.specs.Journal.{order_after}
+use Rattle.regatta_scores.proofs.Sheets.{last_sheet, joined_sheet, ahead_sheet, without_sheet}
+use Rattle.regatta_scores.proofs.Sheets.{more_sheet, copied_sheet}
+use Rattle.regatta_board.specs.Refusals.{limits, is_entered, is_placed}
+use Rattle.regatta_board.specs.KeptJournal.{number, blank, IsOnSheet}
+use Rattle.regatta_board.specs.Step.{MayStep}
+use Rattle.regatta_board.proofs.Numbers.{place_in}
+use Rattle.regatta_board.proofs.Allowed.{placed_same, place_below}
+use Rattle.regatta_board.proofs.Renumbered.{last_numbered, joined_numbered, ahead_numbered}
+use Rattle.regatta_board.proofs.Renumbered.{without_numbered, order_stays}
+
+-- the same order of the same boats
+pub on_same : (old new : List Sail) (o p : List (List Sail)) → new ≡ old → p ≡ o
+    → IsOnSheet old o → IsOnSheet new p
+on_same old new o p boats orders is =
+    copied_sheet (map (map (place_in old)) o) (map (map (place_in new)) p) (blank old) (blank new)
+    (λ i. map (map (place_in (boats i))) (orders i)) (ap blank boats) is
+
+-- one more boat entered
+pub on_more : (boats : List Sail) (s : Sail) (o : List (List Sail)) → IsOnSheet boats o
+    → ((x : Sail) → stands_in same_sail x o ≡ true → list_any (same_sail x) boats ≡ true)
+    → length boats < limits.boats → IsOnSheet (boats ++ s ∷ []) o
+on_more boats s o is known room =
+    copied_sheet (map (map (place_in boats)) o) (map (map (place_in (boats ++ s ∷ []))) o)
+    (blank boats ++ nothing_held ∷ []) (blank (boats ++ s ∷ [])) (order_stays boats s o known)
+    (map-append (λ (b : Sail). nothing_held) boats (s ∷ []))
+    (more_sheet (map (map (place_in boats)) o) (blank boats) is
+    (let within : length boats < MAX_BOATS = room in
+    omega (arith, length-map boats (λ (b : Sail). nothing_held))))
+
+module _ (rules : RulesParts) (journal : Journal) (race : ℕ)
+    (is : IsOnSheet (entered journal) (order rules journal race)) where
+  below : (s : Sail) → is_entered journal s ≡ true
+      → number journal s < length (blank (entered journal))
+  below s known =
+      omega (
+        arith,
+        place_below (entered journal) s known,
+        length-map (entered journal) (λ (b : Sail). nothing_held),
+      )
+
+  out : (s : Sail) (r : ℕ) → nat_eq race r ≡ true → is_entered journal s ≡ true
+      → is_placed rules journal r s ≡ false
+      → stands_in nat_eq (number journal s) (map (map (number journal)) (order rules journal race))
+      ≡ false
+  out s r named known free = placed_same rules journal race s known
+      ∙ ap (λ n. is_placed rules journal n s) (eqb-true race r named) ∙ free
+
+  renumbered : (new : List (List Sail)) (numbers : List (List ℕ))
+      → map (map (number journal)) new ≡ numbers → IsSheet numbers (blank (entered journal))
+      → IsOnSheet (entered journal) new
+  renumbered new numbers e sheet =
+      copied_sheet numbers (map (map (number journal)) new) (blank (entered journal))
+      (blank (entered journal)) e refl sheet
+
+  -- a command of the race that its refusals let through
+  pub on_after : (c : Command) → names_race race c ≡ true → MayStep rules journal c
+      → IsOnSheet (entered journal) (order_after rules (order rules journal race) c)
+  on_after (Enter s) named may = is
+  on_after (Finish r s) named may =
+      renumbered (with_last same_sail (order rules journal race) s)
+      (with_last nat_eq (map (map (number journal)) (order rules journal race)) (number journal s))
+      (last_numbered (entered journal) (order rules journal race) s)
+      (last_sheet (map (map (number journal)) (order rules journal race)) (blank (entered journal))
+      (number journal s) is (below s may.0) (out s r named may.0 may.1))
+  on_after (Tie r s other) named may =
+      renumbered (joined same_sail (order rules journal race) s other)
+      (joined nat_eq (map (map (number journal)) (order rules journal race)) (number journal s)
+      (number journal other))
+      (joined_numbered (entered journal) (order rules journal race) s other may.1)
+      (joined_sheet (map (map (number journal)) (order rules journal race)) (blank
+      (entered journal))
+      (number journal s) (number journal other) is (below s may.0) (out s r named may.0 may.2))
+  on_after (Before r s other) named may =
+      renumbered (with_ahead same_sail (order rules journal race) s other)
+      (with_ahead nat_eq (map (map (number journal)) (order rules journal race)) (number journal s)
+      (number journal other))
+      (ahead_numbered (entered journal) (order rules journal race) s other may.1)
+      (ahead_sheet (map (map (number journal)) (order rules journal race)) (blank (entered journal))
+      (number journal s) (number journal other) is (below s may.0) (out s r named may.0 may.2))
+  on_after (Strike r s) named may =
+      renumbered (without same_sail (order rules journal race) s)
+      (without nat_eq (map (map (number journal)) (order rules journal race)) (number journal s))
+      (without_numbered (entered journal) (order rules journal race) s may)
+      (without_sheet (map (map (number journal)) (order rules journal race))
+      (blank (entered journal)) (number journal s) is)
+  on_after (Mark r s code) named may = is
+  on_after (Penalise r s kind) named may = is
+  on_after (Redress r s redress) named may = is
+  on_after (Clear r s) named may = is
+  on_after (Score r) named may = is
+  on_after (Unscore r) named may = is

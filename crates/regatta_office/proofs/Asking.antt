@@ -1,0 +1,99 @@
+-- What words ask for, by what `clap` says of them.
+use Rattle.std.specs.Prelude.{◌⊎◌, ◌||◌, Box}
+use Rattle.std.proofs.Common.{◌≡◌, Bool, true, false, List, Option, Some, None}
+use Rattle.std.proofs.Common.{Err, IfSome, codes, inl, inr, option_map, refl, sym, ap, ◌∙◌, subst}
+use Rattle.std.specs.Box.{box_value}
+use Rattle.clap.specs.Words.{App, FailsBy, HasMatchesOf, IsAmong, Row, Text, fault_of}
+use Rattle.clap.specs.Words.{first_value, is_simple, kind_of, rows_of, subcommand_of}
+use Rattle.clap.specs.Words.{subcommand_rows_of, is_simple_and_free}
+use Rattle.clap.specs.Simple.{subcommand_rows}
+use Rattle.clap.specs.declared.builder.value_parser.ValueParser.{ValueParser}
+use Rattle.clap.specs.declared.error.Error.{Error}
+use Rattle.clap.specs.declared.error.kind.ErrorKind.{ErrorKind}
+use Rattle.clap.specs.declared.error.kind.ErrorKind.TheVariants.{DisplayHelp, OutOfMemory}
+use Rattle.clap.specs.declared.parser.matches.ArgMatches.{ArgMatches}
+use Rattle.clap.specs.declared.parser.matches.ArgMatches.TheViews.{out-SubCommand}
+use Rattle.clap.specs.declared.parser.matches.Found.{Found}
+use Rattle.clap.specs.declared.parser.matches.SubCommand.{SubCommand}
+use Rattle.clap.proofs.OnLiterals.{clap_on_literals}
+use Rattle.clap.proofs.WalkLemmas.{first_value-rows}
+use Rattle.regatta_office.specs.Asked.{Asked}
+use Rattle.regatta_office.specs.Words.{AskHelp, asked_by, asked_of, asked_with, regatta}
+
+-- no argument of the command is global, with one more that isn't
+pub stays_local : (new old global : Bool) → new ≡ (old || global) → global ≡ false → new ≡ old
+stays_local new old global is local = is ∙ ap (λ (b : Bool). old || b) local ∙ or_false old
+  where
+    or_false : (b : Bool) → (b || false) ≡ b
+    or_false true = refl
+    or_false false = refl
+
+-- the subcommand that was met, by its name and its rows
+pub subcommand_is : {Z : Type 0} (met : Option (Box SubCommand Z)) (name : Text) (rows : List Row)
+    → Some name ≡ option_map (λ b. (out-SubCommand (box_value b)).name.now) met
+    → Some rows ≡ option_map (λ p. p.1) (subcommand_rows met)
+    → subcommand_rows met ≡ Some (name, rows)
+subcommand_is None name rows named found = absurd (some_not named)
+  where
+    some_not : Some name ≡ None → ⊥
+    some_not e = cc
+subcommand_is (Some b) name rows named found =
+    λ i. Some (sym (same named) i, sym (same_rows found) i)
+  where
+    same : {x y : Text} → Some x ≡ Some y → x ≡ y
+    same e = cc
+
+    same_rows : {x y : List Row} → Some x ≡ Some y → x ≡ y
+    same_rows e = cc
+
+-- what its options ask for
+pub asked_is : {Z : Type 0} (met : Option (Box SubCommand Z)) (f : Found) (r : Option Asked)
+    → Some (codes "replay") ≡ option_map (λ b. (out-SubCommand (box_value b)).name.now) met
+    → Some (rows_of f) ≡ option_map (λ p. p.1) (subcommand_rows met)
+    → r ≡ asked_with (first_value f)
+    → IfSome r (λ asked. asked_by (subcommand_rows met) ≡ Some asked)
+asked_is met f r named found is = if_some r (asked_by (subcommand_rows met))
+    (ap asked_by (subcommand_is met _ _ named found)
+    ∙ (λ i. asked_with (λ option. sym (first_value-rows f option) i)) ∙ sym is)
+  where
+    if_some : (r o : Option Asked) → o ≡ r → IfSome r (λ asked. o ≡ Some asked)
+    if_some None o e = tt
+    if_some (Some asked) o e = e
+
+-- the program's words are of the kind whose matches `clap` tells
+simple : (forms : ValueParser) → is_simple (regatta forms) ≡ true
+unfolding clap_on_literals
+simple forms = refl
+
+free : (forms : ValueParser) → is_simple_and_free (regatta forms) ≡ true
+unfolding clap_on_literals
+free forms = refl
+
+-- words that are taken ask for a run
+pub matched : (app : App) (forms : ValueParser) (words : List Text) (m : ArgMatches)
+    → app ≡ regatta forms → HasMatchesOf app words m → (r : Option Asked)
+    → IfSome r (λ asked. asked_by (subcommand_rows_of m) ≡ Some asked)
+    → IfSome r (λ asked. asked_of forms words ≡ Some asked)
+matched app forms words m is has r found = subst
+    (λ (o : Option Asked). IfSome r (λ asked. o ≡ Some asked))
+    (ap asked_by ((has (ap is_simple is ∙ simple forms)).1
+    ∙ ap (λ (a : App). subcommand_of a words) is)) found
+
+not_help : (e : Error) → kind_of e ≡ OutOfMemory → kind_of e ≡ DisplayHelp → ⊥
+not_help e memory help = differ (sym memory ∙ help)
+  where
+    differ : OutOfMemory ≡ DisplayHelp → ⊥
+    differ is = cc
+
+-- help comes of words that ask for it
+pub helped : (app : App) (forms : ValueParser) (words : List Text) (e : Error)
+    → app ≡ regatta forms
+    → (is_simple_and_free app ≡ true → FailsBy {T = ArgMatches} (fault_of app words) (Err e))
+    → kind_of e ≡ DisplayHelp → AskHelp forms words
+helped app forms words e is fails help = by (fails (ap is_simple_and_free is ∙ free forms))
+  where
+    by : (kind_of e ≡ OutOfMemory) ⊎ IsAmong (kind_of e) (fault_of app words)
+        → AskHelp forms words
+    by (inl memory) = absurd (not_help e memory help)
+    by (inr among) = subst (λ (a : App). IsAmong DisplayHelp (fault_of a words)) is
+        (subst (λ (k : ErrorKind). IsAmong k (fault_of app words)) help among)

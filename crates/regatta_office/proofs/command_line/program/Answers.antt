@@ -1,0 +1,34 @@
+use Rattle.std.proofs.Common.{◌≡◌, ℕ, List, Bor, Option, Some, IfSome, map, inl, inr, refl, rules}
+use Rattle.std.proofs.Common.{subst}
+use Rattle.regatta_office.specs.Asked.{Asked, IsRunOf}
+use Rattle.regatta_office.specs.Words.{asked_of}
+use Rattle.regatta_office.proofs.command_line.program.Goals as goal
+
+-- the words ask for help
+pub returns-in-Err : goal.returns-in-Err
+returns-in-Err g c = record {
+  done = λ zero.
+      let said = c.answer_words.ensures zero in
+      let asks = c.in-Err.ensures.help said.0 in
+      (asks.0, asks.1, inl (asks.2, refl, said.1));
+}
+
+-- they ask for a run
+pub returns-in-Ok-run : goal.returns-in-Ok-run
+returns-in-Ok-run g c = record {
+  done = λ zero.
+      let asks = c.in-Ok.ensures.asked in
+      let same : c.in-Ok.asked ≡ Some c.in-Some.options = search rules in (
+        asks.0,
+        asks.1,
+        inr (
+          c.in-Some.options,
+          subst (λ (o : Option Asked). IfSome o (λ asked. asked_of asks.0
+              (map {A = Bor (List ℕ)} {B = List ℕ} (λ word. word.now) c.args.words.now)
+              ≡ Some asked)) same asks.2,
+          subst (λ (asked : Asked). IsRunOf asked (g.R.Source.remaining c.args.input.now)
+              (g.W.Sink.contents c.args.output.now) (g.W.Sink.contents c.run.new.output))
+              c.options.view_is c.in-Ok-run.ensures,
+        ),
+      );
+}

@@ -1,0 +1,14 @@
+use Rattle.std.proofs.Common.{◌≡◌, rules, ◌∙◌}
+use Rattle.clap.specs.Words.{app_of, with_subcommand}
+use Rattle.regatta_office.specs.Words.{bare_program}
+use Rattle.regatta_office.proofs.options.regatta.Goals as goal
+
+pub returns : goal.returns
+returns c =
+    let replay = c.in_ok-replay.ensures.app in
+    let bare : app_of c.in_ok-command.command ≡ bare_program = search rules in (
+      replay.0,
+      replay.1,
+      c.in_ok-command-2.ensures.shape c.in_ok-replay.ensures.local
+          ∙ (λ i. with_subcommand (bare i) (replay.2 i).top),
+    )

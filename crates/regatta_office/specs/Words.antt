@@ -1,0 +1,104 @@
+-- What the words of the program ask for, as `clap` reads them.
+use Rattle.std.specs.Prelude.{◌≡◌, true, List, [], ◌∷◌, Option, Some, None, map, codes}
+use Rattle.std.specs.Prelude.{option_map, if◌then◌else◌}
+use Rattle.std.specs.Borrow.{Bor}
+use Rattle.std.specs.Str.{bytes_eq}
+use Rattle.clap.specs.Words.{App, IsAmong, Row, Rule, Text, fault_of, first_of, new_app, new_rule}
+use Rattle.clap.specs.Words.{subcommand_of, with_rule, with_subcommand}
+use Rattle.clap.specs.declared.builder.value_parser.ValueParser.{ValueParser}
+use Rattle.clap.specs.declared.builder.value_parser.ValueParser.TheVariants.{Names}
+use Rattle.clap.specs.declared.error.kind.ErrorKind.TheVariants.{DisplayHelp}
+use Rattle.regatta_office.specs.Asked.{Asked, Series}
+use Rattle.regatta_office.specs.declared.form.Form.{Form}
+use Rattle.regatta_office.specs.declared.form.Form.TheVariants.{Table, Csv, Journal}
+
+-- ---- the words that the program knows
+
+-- an option that takes one value
+abbrev pub option : Text → Rule
+option name = record (new_rule name) { long = Some name; value_names = 1 }
+
+-- the same, with the value that it has where the words don't give one
+abbrev pub option_or : Text → Text → Rule
+option_or name value = record (option name) { defaults = value ∷ [] }
+
+-- the option of the final part, whose words that parser takes
+abbrev pub form_option : ValueParser → Rule
+form_option forms = record (option_or (codes "print") (codes "table")) { parser = Some forms }
+
+-- a parser that takes the words of the final part, and no others
+abbrev pub TakesForms : ValueParser → Type 0
+TakesForms forms = (names : Bor (List (Bor Text))) × (forms ≡ Names names)
+    × (map (λ name. name.now) names.now
+    ≡ codes "table" ∷ codes "csv" ∷ codes "journal" ∷ [])
+
+-- the options of the series rules, with their defaults: A5.2, 20% for a Scoring Penalty, and one
+-- score excluded from two races on
+abbrev pub with_rules : App → App
+with_rules app =
+    with_rule (with_rule (with_rule app (option_or (codes "absent") (codes "a52")))
+    (option (codes "scp"))) (option_or (codes "exclude") (codes "2"))
+
+-- the options of the start files
+abbrev pub with_start : App → App
+with_start app = with_rule (with_rule app (option (codes "journal"))) (option (codes "entries"))
+
+abbrev pub replay : ValueParser → App
+replay forms =
+    with_rule (with_start (with_rules (new_app (codes "replay")))) (form_option forms)
+
+-- the program has no option of its own, and wants a subcommand
+abbrev pub bare_program : App
+bare_program =
+    let app = new_app (codes "regatta") in
+    record app { top = record app.top { no_binary_name = true; subcommand_required = true } }
+
+abbrev pub regatta : ValueParser → App
+regatta forms = with_subcommand bare_program (replay forms).top
+
+-- ---- what words ask for
+
+-- the series, by what the words or the defaults give
+abbrev pub series_by : Option Text → Option Text → Option Text → Option Text → Option Text
+    → Option Series
+series_by (Some absent) scp (Some exclude) journal entries = Some (record {
+  absent = absent;
+  scp = scp;
+  exclude = exclude;
+  journal = journal;
+  entries = entries;
+})
+series_by (Some absent) scp None journal entries = None
+series_by None scp exclude journal entries = None
+
+-- the same, where this gives the value of each option by its name
+abbrev pub series_with : (Text → Option Text) → Option Series
+series_with value =
+    series_by (value (codes "absent")) (value (codes "scp")) (value (codes "exclude"))
+    (value (codes "journal")) (value (codes "entries"))
+
+-- the form of that word
+abbrev pub form_by : Option Text → Form
+form_by (Some word) = if bytes_eq word (codes "csv") then Csv
+    else if bytes_eq word (codes "journal") then Journal else Table
+form_by None = Table
+
+-- what `replay` is asked for, by the values of its options
+abbrev pub asked_with : (Text → Option Text) → Option Asked
+asked_with value = option_map
+    (λ series. record { series = series; form = form_by (value (codes "print")) })
+    (series_with value)
+
+-- what the subcommand asks for, by its name and its options
+abbrev pub asked_by : Option (Text × List Row) → Option Asked
+asked_by (Some (name, rows)) =
+    if bytes_eq name (codes "replay") then asked_with (λ option. first_of option rows) else None
+asked_by None = None
+
+-- the run that words ask for
+abbrev pub asked_of : ValueParser → List Text → Option Asked
+asked_of forms words = asked_by (subcommand_of (regatta forms) words)
+
+-- words ask for help
+abbrev pub AskHelp : ValueParser → List Text → Type 0
+AskHelp forms words = IsAmong DisplayHelp (fault_of (regatta forms) words)

@@ -1,0 +1,54 @@
+-- Worked examples of the program's words, by computation.
+use Rattle.std.specs.Prelude.{◌≡◌, [], ◌∷◌, Some, None, refl, codes}
+use Rattle.std.proofs.Common.{inl}
+use Rattle.clap.proofs.OnLiterals.{clap_on_literals}
+use Rattle.clap.specs.Words.{fault_of}
+use Rattle.clap.specs.declared.builder.value_parser.ValueParser.{ValueParser}
+use Rattle.clap.specs.declared.error.kind.ErrorKind.TheVariants.{MissingSubcommand}
+use Rattle.regatta_office.specs.declared.form.Form.TheVariants.{Table, Csv}
+use Rattle.regatta_office.specs.Words.{AskHelp, asked_of, regatta}
+
+-- the defaults: A5.2, 20% for a Scoring Penalty, one score excluded from two races on, no start
+-- file, and a table
+pub defaults : (forms : ValueParser) → asked_of forms (codes "replay" ∷ []) ≡ Some (record {
+  series = record {
+    absent = codes "a52";
+    scp = None;
+    exclude = codes "2";
+    journal = None;
+    entries = None;
+  };
+  form = Table;
+})
+unfolding clap_on_literals
+defaults forms = refl
+
+-- each option, in both ways that its value may be given
+pub each_option : (forms : ValueParser) → asked_of forms
+    (codes "replay" ∷ codes "--print=csv" ∷ codes "--absent" ∷ codes "a53" ∷ codes "--scp=3"
+    ∷ codes "--exclude" ∷ codes "none" ∷ codes "--journal" ∷ codes "j" ∷ codes "--entries=e" ∷ [])
+    ≡ Some (record {
+      series = record {
+        absent = codes "a53";
+        scp = Some (codes "3");
+        exclude = codes "none";
+        journal = Some (codes "j");
+        entries = Some (codes "e");
+      };
+      form = Csv;
+    })
+unfolding clap_on_literals
+each_option forms = refl
+
+-- help, and words that aren't enough
+pub help : (forms : ValueParser) → AskHelp forms (codes "--help" ∷ [])
+unfolding clap_on_literals
+help forms = inl refl
+
+pub help_of_replay : (forms : ValueParser) → AskHelp forms (codes "replay" ∷ codes "--help" ∷ [])
+unfolding clap_on_literals
+help_of_replay forms = inl refl
+
+pub no_words : (forms : ValueParser) → fault_of (regatta forms) [] ≡ MissingSubcommand ∷ []
+unfolding clap_on_literals
+no_words forms = refl

@@ -1,0 +1,139 @@
+-- No finishing order has an empty group.
+use Rattle.std.proofs.Common.{◌≡◌, ℕ, Bool, true, false, cond, not, List, [], ◌∷◌, ◌++◌, refl, ap}
+use Rattle.std.proofs.Common.{filter, map, fold, nat_eq}
+use Rattle.std.specs.Prelude.{◌↔◌}
+use Rattle.std.specs.List.{AllByRecursion}
+use Rattle.std.proofs.lemmas.List.Elements.{All-from_recursion, recursion_from_All}
+use borrow.Author.Tests.{eq-eqb}
+use Rattle.regatta_terms.specs.Rules.{RulesParts}
+use Rattle.regatta_terms.specs.declared.sail.Sail.{Sail}
+use Rattle.regatta_terms.specs.declared.command.Command.{Command}
+use Rattle.regatta_terms.specs.declared.command.Command.TheVariants.{Enter, Finish, Tie, Before}
+use Rattle.regatta_terms.specs.declared.command.Command.TheVariants.{Strike, Mark, Penalise}
+use Rattle.regatta_terms.specs.declared.command.Command.TheVariants.{Redress, Clear, Score, Unscore}
+use Rattle.regatta_scores.specs.Order.{is_empty, in_group, stands_in, with_last, joined, with_ahead}
+use Rattle.regatta_scores.specs.Order.{without, HasNoEmptyGroup}
+use Rattle.regatta_scores.specs.Journal.{same_sail, order_after, race_commands}
+use Rattle.regatta_scores.specs.RaceLaws.{OrdersHaveNoEmptyGroup}
+
+abbrev HasBoats : {B : Type 0} → List B → Type 0
+HasBoats group = is_empty group ≡ false
+
+pushed : {B : Type 0} (group : List B) (boat : B) → HasBoats (group ++ boat ∷ [])
+pushed [] boat = refl
+pushed (first ∷ group) boat = refl
+
+-- ---- each change of an order, group by group
+
+module _ {B : Type 0} (same : B → B → Bool) where
+  in_last : (order : List (List B)) (boat : B) → AllByRecursion HasBoats order →
+      AllByRecursion HasBoats (with_last same order boat)
+  in_last [] boat each = (refl, tt)
+  in_last (group ∷ groups) boat each = (each.0, in_last groups boat each.1)
+
+  in_joined : (order : List (List B)) (boat other : B) → AllByRecursion HasBoats order →
+      AllByRecursion HasBoats (joined same order boat other)
+  in_joined [] boat other each = tt
+  in_joined (group ∷ groups) boat other each = (
+    by (in_group same other group),
+    in_joined groups boat other each.1,
+  )
+    where
+      by : (t : Bool) → HasBoats (cond t (group ++ boat ∷ []) group)
+      by true = pushed group boat
+      by false = each.0
+
+  in_ahead : (order : List (List B)) (boat other : B) → AllByRecursion HasBoats order →
+      AllByRecursion HasBoats (with_ahead same order boat other)
+  in_ahead [] boat other each = tt
+  in_ahead (group ∷ groups) boat other each =
+      by (in_group same other group) (in_ahead groups boat other each.1)
+    where
+      by : (t : Bool) → AllByRecursion HasBoats (with_ahead same groups boat other) →
+          AllByRecursion HasBoats
+          (cond t ((boat ∷ []) ∷ group ∷ []) (group ∷ []) ++ with_ahead same groups boat other)
+      by true rest = (refl, (each.0, rest))
+      by false rest = (each.0, rest)
+
+  with_boats : (groups : List (List B)) →
+      AllByRecursion HasBoats (filter (λ group. not (is_empty group)) groups)
+  with_boats [] = tt
+  with_boats ([] ∷ groups) = with_boats groups
+  with_boats ((first ∷ group) ∷ groups) = (refl, with_boats groups)
+
+  pub last_has_none : (order : List (List B)) (boat : B) → HasNoEmptyGroup order →
+      HasNoEmptyGroup (with_last same order boat)
+  last_has_none order boat each =
+      All-from_recursion HasBoats (with_last same order boat)
+      (in_last order boat (recursion_from_All HasBoats order each))
+
+  pub joined_has_none : (order : List (List B)) (boat other : B) → HasNoEmptyGroup order →
+      HasNoEmptyGroup (joined same order boat other)
+  joined_has_none order boat other each =
+      All-from_recursion HasBoats (joined same order boat other)
+      (in_joined order boat other (recursion_from_All HasBoats order each))
+
+  pub ahead_has_none : (order : List (List B)) (boat other : B) → HasNoEmptyGroup order →
+      HasNoEmptyGroup (with_ahead same order boat other)
+  ahead_has_none order boat other each =
+      All-from_recursion HasBoats (with_ahead same order boat other)
+      (in_ahead order boat other (recursion_from_All HasBoats order each))
+
+  pub without_has_none : (order : List (List B)) (boat : B) →
+      HasNoEmptyGroup (without same order boat)
+  without_has_none order boat =
+      All-from_recursion HasBoats (without same order boat)
+      (with_boats (map (λ group. filter (λ other. not (same other boat)) group) order))
+
+-- ---- the orders of a journal
+
+after_has_none : (rules : RulesParts) (order : List (List Sail)) (command : Command) →
+    HasNoEmptyGroup order → HasNoEmptyGroup (order_after rules order command)
+after_has_none rules order (Enter sail) each = each
+after_has_none rules order (Finish race sail) each = last_has_none same_sail order sail each
+after_has_none rules order (Tie race sail other) each =
+    joined_has_none same_sail order sail other each
+after_has_none rules order (Before race sail other) each =
+    ahead_has_none same_sail order sail other each
+after_has_none rules order (Strike race sail) each = without_has_none same_sail order sail
+after_has_none rules order (Mark race sail code) each = each
+after_has_none rules order (Penalise race sail kind) each = each
+after_has_none rules order (Redress race sail redress) each = each
+after_has_none rules order (Clear race sail) each = each
+after_has_none rules order (Score race) each = each
+after_has_none rules order (Unscore race) each = each
+
+fold_has_none : (rules : RulesParts) (commands : List Command) (order : List (List Sail)) →
+    HasNoEmptyGroup order → HasNoEmptyGroup (fold (order_after rules) order commands)
+fold_has_none rules [] order each = each
+fold_has_none rules (command ∷ commands) order each =
+    fold_has_none rules commands (order_after rules order command)
+    (after_has_none rules order command each)
+
+pub orders_have_no_empty_group : OrdersHaveNoEmptyGroup
+orders_have_no_empty_group rules journal race =
+    fold_has_none rules (race_commands journal race) []
+    (All-from_recursion HasBoats [] tt)
+
+-- ---- an order in which nobody stands
+
+first_stands : (first : ℕ) (group : List ℕ) (groups : List (List ℕ)) →
+    stands_in nat_eq first ((first ∷ group) ∷ groups) ≡ true
+first_stands first group groups = rw (eq-eqb first first refl) refl
+
+nobody_by : (order : List (List ℕ)) → AllByRecursion HasBoats order →
+    ((boat : ℕ) → stands_in nat_eq boat order ≡ false) → order ≡ []
+nobody_by [] each none = refl
+nobody_by ([] ∷ groups) each none = let empty = each.0 in cc
+nobody_by ((first ∷ group) ∷ groups) each none =
+    let stands = first_stands first group groups in
+    let out = none first in
+    cc
+
+-- in an order without an empty group nobody stands exactly where there is no group
+pub nobody_stands : (order : List (List ℕ)) → HasNoEmptyGroup order →
+    (order ≡ []) ↔ ((boat : ℕ) → stands_in nat_eq boat order ≡ false)
+nobody_stands order each = (
+  λ none boat. ap (stands_in nat_eq boat) none,
+  nobody_by order (recursion_from_All HasBoats order each),
+)
