@@ -3,7 +3,7 @@
 
 use super::*;
 use regatta_terms::{
-    Absent, Answer, Code, Command, RaceNo, Refusal, Role, Rules, Sail, Touched, read_entry,
+    Absent, Answer, Code, Command, Entry, RaceNo, Refusal, Role, Rules, Sail, Touched, read_entry,
 };
 use std::test::Fail;
 
@@ -64,6 +64,22 @@ fn a_board_takes_entries(rt: HostRuntime) -> Result<(), Fail> {
     Ok(())
 }
 
+/// What a prepared command tells: its place, and how many races were scored for it.
+fn told(board: &Board, entry: Entry) -> Option<(u32, u32)> {
+    let staged = board.prepare(entry).ok()?;
+    if *staged.entry() == entry {
+        Some((staged.place(), staged.rescored()))
+    } else {
+        None
+    }
+}
+
+/// Prepares an entry and commits it.
+fn committed(board: &mut Board, entry: Entry) -> Option<Answer> {
+    let staged = board.prepare(entry).ok()?;
+    Some(board.commit(staged))
+}
+
 #[test]
 fn a_prepared_command_is_committed(rt: HostRuntime) -> Result<(), Fail> {
     let mut board = Board::open(rt.alloc(), rules_with(&[2])?)?;
@@ -71,21 +87,19 @@ fn a_prepared_command_is_committed(rt: HostRuntime) -> Result<(), Fail> {
     let race = RaceNo::new(1).ok_or("a race")?;
     let (sail, code) = (sail("A")?, Code::Dsq);
     let entry = next_entry(2, 0, Role::Jury, Command::Mark { race, sail, code });
-    let staged = board.prepare(entry).map_err(|_| "an accepted entry")?;
-    assert!(rt; *staged.entry() == entry);
-    assert_eq!(rt; staged.place(), 8);
-    assert!(rt; staged.rescored() <= 1);
-    let touched = Touched {
+    let (place, rescored) = told(&board, entry).ok_or("an accepted entry")?;
+    assert_eq!(rt; place, 8);
+    assert!(rt; rescored <= 1);
+    let touched = Some(Touched {
         rank: 3,
         tied: false,
         net: 40,
-    };
-    let answer = Answer {
-        place: 8,
-        touched: Some(touched),
-    };
-    assert_eq!(rt; board.commit(staged), answer);
-    assert_eq!(rt; board.rank(sail), Some(touched));
+    });
+    assert_eq!(rt;
+        committed(&mut board, entry),
+        Some(Answer { place, touched })
+    );
+    assert_eq!(rt; board.rank(sail), touched);
     Ok(())
 }
 
