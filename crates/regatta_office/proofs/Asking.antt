@@ -1,7 +1,7 @@
 -- What words ask for, by what `clap` says of them.
 use Rattle.std.specs.Prelude.{◌⊎◌, ◌||◌, Box}
 use Rattle.std.proofs.Common.{◌≡◌, Bool, true, false, List, Option, Some, None}
-use Rattle.std.proofs.Common.{Err, IfSome, codes, inl, inr, option_map, refl, sym, ap, ◌∙◌, subst}
+use Rattle.std.proofs.Common.{[], Ok, Err, IfSome, codes, inl, inr, option_map, refl, sym, ap, ◌∙◌, subst}
 use Rattle.std.specs.Box.{box_value}
 use Rattle.clap.specs.Words.{App, FailsBy, HasMatchesOf, IsAmong, Row, Text, fault_of}
 use Rattle.clap.specs.Words.{first_value, is_simple, kind_of, rows_of, subcommand_of}
@@ -18,7 +18,7 @@ use Rattle.clap.specs.declared.parser.matches.SubCommand.{SubCommand}
 use Rattle.clap.proofs.OnLiterals.{clap_on_literals}
 use Rattle.clap.proofs.WalkLemmas.{first_value-rows}
 use Rattle.regatta_office.specs.Asked.{Asked}
-use Rattle.regatta_office.specs.Words.{AskHelp, asked_by, asked_of, asked_with, regatta}
+use Rattle.regatta_office.specs.Words.{AskHelp, AskRun, asked_by, asked_of, asked_with, regatta}
 
 -- no argument of the command is global, with one more that isn't
 pub stays_local : (new old global : Bool) → new ≡ (old || global) → global ≡ false → new ≡ old
@@ -69,15 +69,26 @@ free : (forms : ValueParser) → is_simple_and_free (regatta forms) ≡ true
 unfolding clap_on_literals
 free forms = refl
 
--- words that are taken ask for a run
+-- words that are taken have no fault, and ask for a run
 pub matched : (app : App) (forms : ValueParser) (words : List Text) (m : ArgMatches)
-    → app ≡ regatta forms → HasMatchesOf app words m → (r : Option Asked)
-    → IfSome r (λ asked. asked_by (subcommand_rows_of m) ≡ Some asked)
-    → IfSome r (λ asked. asked_of forms words ≡ Some asked)
-matched app forms words m is has r found = subst
-    (λ (o : Option Asked). IfSome r (λ asked. o ≡ Some asked))
-    (ap asked_by ((has (ap is_simple is ∙ simple forms)).1
-    ∙ ap (λ (a : App). subcommand_of a words) is)) found
+    → app ≡ regatta forms → HasMatchesOf app words m
+    → (is_simple_and_free app ≡ true → FailsBy {T = ArgMatches} (fault_of app words) (Ok m))
+    → (r : Option Asked) → IfSome r (λ asked. asked_by (subcommand_rows_of m) ≡ Some asked)
+    → IfSome r (AskRun forms words)
+matched app forms words m is has fails r found = by r found
+  where
+    same : asked_by (subcommand_rows_of m) ≡ asked_of forms words
+    same = ap asked_by ((has (ap is_simple is ∙ simple forms)).1
+        ∙ ap (λ (a : App). subcommand_of a words) is)
+
+    by : (r : Option Asked) → IfSome r (λ asked. asked_by (subcommand_rows_of m) ≡ Some asked)
+        → IfSome r (AskRun forms words)
+    by None found = tt
+    by (Some asked) found = record {
+      faultless = sym (ap (λ (a : App). fault_of a words) is)
+          ∙ fails (ap is_simple_and_free is ∙ free forms);
+      asks = sym same ∙ found;
+    }
 
 not_help : (e : Error) → kind_of e ≡ OutOfMemory → kind_of e ≡ DisplayHelp → ⊥
 not_help e memory help = differ (sym memory ∙ help)

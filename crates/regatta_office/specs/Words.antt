@@ -95,9 +95,14 @@ asked_by (Some (name, rows)) =
     if bytes_eq name (codes "replay") then asked_with (λ option. first_of option rows) else None
 asked_by None = None
 
--- the run that words ask for
+-- the run that the options of words ask for
 abbrev pub asked_of : ValueParser → List Text → Option Asked
 asked_of forms words = asked_by (subcommand_of (regatta forms) words)
+
+-- words ask for this run: `clap` finds no fault in them, and their options say it
+pub record AskRun (forms : ValueParser) (words : List Text) (asked : Asked) : Type 0 where
+  pub faultless : fault_of (regatta forms) words ≡ []
+  pub asks : asked_of forms words ≡ Some asked
 
 -- words ask for help
 abbrev pub AskHelp : ValueParser → List Text → Type 0

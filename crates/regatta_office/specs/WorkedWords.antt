@@ -4,7 +4,8 @@ use Rattle.std.proofs.Common.{inl}
 use Rattle.clap.proofs.OnLiterals.{clap_on_literals}
 use Rattle.clap.specs.Words.{fault_of}
 use Rattle.clap.specs.declared.builder.value_parser.ValueParser.{ValueParser}
-use Rattle.clap.specs.declared.error.kind.ErrorKind.TheVariants.{MissingSubcommand}
+use Rattle.clap.specs.declared.error.kind.ErrorKind.TheVariants.{MissingSubcommand, UnknownArgument}
+use Rattle.clap.specs.declared.error.kind.ErrorKind.TheVariants.{ArgumentConflict}
 use Rattle.regatta_office.specs.declared.form.Form.TheVariants.{Table, Csv}
 use Rattle.regatta_office.specs.Words.{AskHelp, asked_of, regatta}
 
@@ -52,3 +53,15 @@ help_of_replay forms = inl refl
 pub no_words : (forms : ValueParser) → fault_of (regatta forms) [] ≡ MissingSubcommand ∷ []
 unfolding clap_on_literals
 no_words forms = refl
+
+-- an option that isn't the program's, and one that is given twice, are faults
+pub unknown_option : (forms : ValueParser)
+    → fault_of (regatta forms) (codes "replay" ∷ codes "--speed" ∷ []) ≡ UnknownArgument ∷ []
+unfolding clap_on_literals
+unknown_option forms = refl
+
+pub option_twice : (forms : ValueParser) → fault_of (regatta forms)
+    (codes "replay" ∷ codes "--scp" ∷ codes "3" ∷ codes "--scp" ∷ codes "4" ∷ [])
+    ≡ ArgumentConflict ∷ []
+unfolding clap_on_literals
+option_twice forms = refl

@@ -4,7 +4,7 @@ ghost use Rattle.std.specs.Io.KnownBytes.{Appends};
 ghost use Rattle.clap.specs.Words.{kind_of};
 ghost use Rattle.clap.specs.declared.builder.value_parser.ValueParser.{ValueParser};
 ghost use Rattle.regatta_office.specs.Asked.{Asked, IsRunOf};
-ghost use Rattle.regatta_office.specs.Words.{AskHelp, TakesForms, asked_of};
+ghost use Rattle.regatta_office.specs.Words.{AskHelp, AskRun, TakesForms};
 
 use crate::complaint::Complaint;
 use crate::form::Form;
@@ -115,13 +115,12 @@ pub fn program<H: Files + AllocGlobal, R: Source, W: Sink, E: Sink>(
     output: &mut W,
     errors: &mut E,
 ) -> u8
-    // The words ask for help, and it is written; or all is written of the run that these words ask
-    // for, with the defaults for what they leave out.
+    // The words ask for help, and it is written; or `clap` finds no fault in them, and all is
+    // written of the run that they ask for, with the defaults for what they leave out.
     ensures done { result ≡ 0 → (forms : ValueParser) × TakesForms forms
         × ((AskHelp forms (map (λ word. word.now) words.now) × (input.new ≡ input.old)
         × ((text : List ℕ) × Appends (W.contents output.old) (W.contents output.new) text))
-        ⊎ ((asked : Asked)
-        × (asked_of forms (map (λ word. word.now) words.now) ≡ Some asked)
+        ⊎ ((asked : Asked) × AskRun forms (map (λ word. word.now) words.now) asked
         × IsRunOf asked (R.remaining input.old) (W.contents output.old)
         (W.contents output.new))) }
 {

@@ -6,7 +6,7 @@ ghost use Rattle.clap.specs.Words.{subcommand_rows_of};
 ghost use Rattle.clap.specs.declared.builder.command.Command.TheViews.{out-Command};
 ghost use Rattle.clap.specs.declared.builder.value_parser.ValueParser.{ValueParser};
 ghost use Rattle.regatta_office.specs.Asked.{Asked};
-ghost use Rattle.regatta_office.specs.Words.{AskHelp, TakesForms, asked_by, asked_of, asked_with};
+ghost use Rattle.regatta_office.specs.Words.{AskHelp, AskRun, TakesForms, asked_by, asked_with};
 ghost use Rattle.regatta_office.specs.Words.{form_by, form_option as form_option_of};
 ghost use Rattle.regatta_office.specs.Words.{option as option_of, option_or as option_or_of};
 ghost use Rattle.regatta_office.specs.Words.{regatta as regatta_of, replay as replay_of};
@@ -241,8 +241,7 @@ pub(crate) fn options_of<'a>(
     words: &'a [&'a str],
 ) -> Result<Option<ReplayOptions<'a>>, Error>
     ensures asked { IfOk result (λ options. (forms : ValueParser) × TakesForms forms
-        × IfSome options (λ asked.
-        asked_of forms (map (λ word. word.now) words.entry.now) ≡ Some asked)) }
+        × IfSome options (AskRun forms (map (λ word. word.now) words.entry.now))) }
     ensures help { IfErr result (λ e. kind_of e ≡ ErrorKind.DisplayHelp →
         (forms : ValueParser) × TakesForms forms
         × AskHelp forms (map (λ word. word.now) words.entry.now)) }

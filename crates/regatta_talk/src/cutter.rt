@@ -11,8 +11,8 @@ use std::marker::Model;
 /// a line that is too long is known for one.
 const MAX_KEPT: usize = MAX_LINE + 2;
 
-/// The line at hand, seen as the bytes that are kept of it. No more than [`MAX_KEPT`] are, so that a
-/// line takes no memory however long it is.
+/// The line at hand, seen as the bytes that are kept of it. No more than [`MAX_KEPT`] are, so that
+/// a line takes no memory however long it is.
 #[derive(Drop)]
 pub struct Cutter {
     kept: ArrayVec<u8, MAX_KEPT>,

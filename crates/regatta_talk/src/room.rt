@@ -10,7 +10,8 @@ use std::alloc::AllocError;
 /// The bytes that a reply has at most, with its LF.
 pub const REPLY_ROOM: usize = 64;
 
-/// Makes room for a reply behind what is written already. Where there is room it never fails.
+/// Makes room for a reply behind what is written already. Where there is room it takes no memory,
+/// and never fails.
 ///
 /// # Errors
 ///
@@ -19,8 +20,13 @@ pub fn make_room(out: &mut Vec<u8>) -> Result<(), AllocError>
     ensures room { OnOk result (vec_len out.new + REPLY_ROOM ≤ vec_capacity out.new) }
     ensures same { out.new.items ≡ out.old.items }
     ensures fits { vec_len out.old + REPLY_ROOM ≤ vec_capacity out.old → IsOk result }
+    ensures stays { vec_len out.old + REPLY_ROOM ≤ vec_capacity out.old
+        → vec_capacity out.new ≡ vec_capacity out.old }
     ensures err { OnErr result (vec_capacity out.new ≡ vec_capacity out.old) }
 {
+    if REPLY_ROOM <= out.capacity() - out.len() {
+        return Ok(());
+    }
     out.reserve(REPLY_ROOM)
 }
 

@@ -1,7 +1,7 @@
 use Rattle.std.proofs.Common.{◌≡◌, ℕ, List, Bor, Option, Some, IfSome, map, inl, inr, refl, rules}
 use Rattle.std.proofs.Common.{subst}
 use Rattle.regatta_office.specs.Asked.{Asked, IsRunOf}
-use Rattle.regatta_office.specs.Words.{asked_of}
+use Rattle.regatta_office.specs.Words.{AskRun}
 use Rattle.regatta_office.proofs.command_line.program.Goals as goal
 
 -- the words ask for help
@@ -23,9 +23,9 @@ returns-in-Ok-run g c = record {
         asks.1,
         inr (
           c.in-Some.options,
-          subst (λ (o : Option Asked). IfSome o (λ asked. asked_of asks.0
-              (map {A = Bor (List ℕ)} {B = List ℕ} (λ word. word.now) c.args.words.now)
-              ≡ Some asked)) same asks.2,
+          subst (λ (o : Option Asked). IfSome o (AskRun asks.0
+              (map {A = Bor (List ℕ)} {B = List ℕ} (λ word. word.now) c.args.words.now))) same
+              asks.2,
           subst (λ (asked : Asked). IsRunOf asked (g.R.Source.remaining c.args.input.now)
               (g.W.Sink.contents c.args.output.now) (g.W.Sink.contents c.run.new.output))
               c.options.view_is c.in-Ok-run.ensures,

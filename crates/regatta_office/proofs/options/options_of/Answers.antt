@@ -10,7 +10,9 @@ returns-in-Ok-try_get_matches_from-clause-asked c =
     let found = c.in-Ok-try_get_matches_from in (
       app.0,
       app.1,
-      matched (app_of c.in-Ok.command) app.0 _ found.matches app.2 found.ensures.matches
+      matched (app_of c.in-Ok.command) app.0
+          (map {A = Bor (List ℕ)} {B = List ℕ} (λ word. word.now) c.args.words.now)
+          found.matches app.2 found.ensures.matches found.ensures.kinds
           c.asked.result c.asked.ensures,
     )
 
