@@ -6,7 +6,7 @@ ghost use Rattle.regatta_scores.specs.Order.{is_empty};
 ghost use Rattle.regatta_board.specs.Refusals as refusals;
 ghost use Rattle.regatta_board.specs.Refusals.{limits};
 
-use crate::board::Board;
+use crate::ledger::Ledger;
 use regatta_scores::Held;
 use regatta_terms::{
     Code, Command, Entry, MAX_BOATS, MAX_ENTRIES, MAX_PENALTIES, PenaltyKind, RaceNo, Refusal,
@@ -37,7 +37,7 @@ fn holds_nothing(held: &Held) -> bool
     held.code.is_none() && held.zfp == 0 && held.scp == 0 && held.redress.is_none()
 }
 
-impl Board {
+impl Ledger {
     /// Whether the boat is entered.
     fn is_entered(&self, boat: Sail) -> bool
         ensures { result ≡ refusals.is_entered self.now.entries boat }
