@@ -7,7 +7,7 @@ use Rattle.regatta_board.proofs.ledger.Ledger.held.Goals as goal
 pub held-requires-clause-kept : goal.held-requires-clause-kept
 held-requires-clause-kept c =
     let b = c.self.inside in
-    ledger_kept b.rules b.entries.items b.kept c.self.invariant.0
+    ledger_kept b.rules b.entries.items b.kept b.last c.self.invariant.0
 
 pub held-requires-clause-known : goal.held-requires-clause-known
 held-requires-clause-known c =
@@ -15,12 +15,12 @@ held-requires-clause-known c =
     let is = c.self.invariant.0 in
     let known : is_entered b.entries.items c.args.boat ≡ true =
     rw (← c.self.view_is) at c.requires in
-    known_is b.rules b.entries.items (ledger_orderly b.rules b.entries.items b.kept is) b.kept is.keeps c.args.boat known
+    known_is b.rules b.entries.items (ledger_orderly b.rules b.entries.items b.kept b.last is) b.kept is.keeps c.args.boat known
 
 pub returns : goal.returns
 returns c =
     let b = c.self.inside in
     let is = c.self.invariant.0 in
     rw (← c.self.view_is) (c.held.ensures.value
-    ∙ held_is b.rules b.entries.items (ledger_orderly b.rules b.entries.items b.kept is) b.kept is.keeps c.args.race c.held.ensures.range
+    ∙ held_is b.rules b.entries.items (ledger_orderly b.rules b.entries.items b.kept b.last is) b.kept is.keeps c.args.race c.held.ensures.range
     c.args.boat)
