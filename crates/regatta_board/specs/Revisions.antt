@@ -7,7 +7,7 @@ use Rattle.regatta_board.specs.Table.{Kept}
 
 -- what is kept once the parts of a revision have replaced the old ones
 abbrev pub revised : Kept → Revision → Kept
-revised kept (Enter boats sheets) = record kept { sails = boats; sheets = sheets.items }
+revised kept (Enter boats sheets) = record kept { sails = boats; sheets = sheets }
 revised kept (Sheet race sheet) = record kept { sheets = slice_set kept.sheets (race - 1) sheet }
 revised kept (Counts race counts) = record kept { counts = slice_set kept.counts (race - 1) counts }
 
