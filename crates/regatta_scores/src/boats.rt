@@ -2,6 +2,18 @@
 use crate::items::Items;
 use regatta_terms::{Redress, Tenths};
 
+/// A boat's score in one race before redress, and whether she stands in its finishing order.
+#[derive(Clone, Copy, Debug, PartialEq, Eq)]
+pub struct RaceScore {
+    /// The points without redress, in tenths.
+    pub plain: Tenths,
+    /// Whether she stands in the finishing order, with a code or without.
+    pub placed: bool,
+}
+
+/// The scores of the boats in one race, in the order of their numbers.
+pub type RaceScores = Items<RaceScore>;
+
 /// A boat's score in one race before redress, and her redress there (RRS A9).
 #[derive(Clone, Copy, Debug, PartialEq, Eq)]
 pub struct RowItem {

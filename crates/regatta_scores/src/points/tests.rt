@@ -138,7 +138,12 @@ fn ties_codes_and_strikes_move_places(rt: HostRuntime) -> Result<(), Fail> {
         points(rt.alloc(), &sheet, &rules)?.as_slice(),
         struck.as_slice()
     );
-    let placed = all_placed(rt.alloc(), &sheet)?;
+    let scores = race_scores(rt.alloc(), &sheet, &rules, &mut Work::new())?;
+    let placed: Vec<bool> = scores
+        .as_slice()
+        .iter()
+        .map(|score| score.placed)
+        .collect(rt.alloc())?;
     assert_eq!(rt; placed.as_slice(), [true, true, false, true].as_slice());
     Ok(())
 }
