@@ -15,7 +15,7 @@ pub struct RaceScore {
 pub type RaceScores = Items<RaceScore>;
 
 /// A boat's score in one race before redress, and her redress there (RRS A9).
-#[derive(Clone, Copy, Debug, PartialEq, Eq)]
+#[derive(Clone, Copy, Debug, Default, PartialEq, Eq)]
 pub struct RowItem {
     /// The points without redress, in tenths.
     pub plain: Tenths,
@@ -24,7 +24,7 @@ pub struct RowItem {
 }
 
 /// A boat's score in one race, and whether it may be excluded.
-#[derive(Clone, Copy, Debug, PartialEq, Eq)]
+#[derive(Clone, Copy, Debug, Default, PartialEq, Eq)]
 pub struct Scored {
     /// The points, in tenths.
     pub points: Tenths,
