@@ -63,3 +63,5 @@ from_the_last_end xs ys k end =
     let b = length-reverse ys in
     from_end (reverse xs) (reverse ys) k (omega (arith, a, b))
     ∙ (λ i. nat_cmp (a i) (b i))
+
+pub ruleset from_the_last = (from_the_last_step, from_the_last_end)

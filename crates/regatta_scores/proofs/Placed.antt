@@ -1,7 +1,8 @@
 -- The points for each boat's place make the definitions' number of boats that came, and their
 -- points.
 use Rattle.std.proofs.Common.{◌≡◌, ℕ, Bool, true, false, cond, List, refl, ap, ◌∙◌, sym, length}
-use Rattle.std.proofs.Common.{[], ◌∷◌, map, count_by, Option, Some, None, is_some, unwrap_or, nat_eq, get_or}
+use Rattle.std.proofs.Common.{[], ◌∷◌, map, count_by, Option, Some, None, is_some, unwrap_or}
+use Rattle.std.proofs.Common.{nat_eq, get_or}
 use Rattle.std.specs.List.{range_with_len}
 use Rattle.std.proofs.lemmas.List.FromFn.{length-range_with_len}
 use Rattle.regatta_terms.specs.Rules.{RulesParts}

@@ -1,6 +1,7 @@
 -- The points for finishing places, for each boat of a sheet by her number.
 use Rattle.std.specs.Prelude.{◌≡◌, ℕ, ◌+◌, ◌*◌, ◌≤◌, Bool, List, length, count_by}
-use Rattle.std.specs.Prelude.{Option, Some, None, is_none, is_some, unwrap_or, nat_eq, slice_index_or, if◌then◌else◌}
+use Rattle.std.specs.Prelude.{Option, Some, None, is_none, is_some, unwrap_or, nat_eq}
+use Rattle.std.specs.Prelude.{slice_index_or, if◌then◌else◌}
 use Rattle.std.specs.List.{range_with_len}
 use Rattle.regatta_terms.specs.declared.limits.TheConstants.{MAX_BOATS}
 use Rattle.regatta_terms.specs.Rules.{RulesParts}

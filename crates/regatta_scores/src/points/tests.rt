@@ -2,7 +2,7 @@ ghost use Rattle.std.specs.Prelude.{IsTrue};
 ghost use Rattle.regatta_scores.specs.SheetFacts.{Allows};
 
 use super::*;
-use crate::sheet::{Change, NOTHING};
+use crate::sheet::{Change, NOTHING_HELD};
 use regatta_terms::{MAX_BOATS, MAX_PENALTIES};
 use std::test::Fail;
 
@@ -56,14 +56,14 @@ fn penalties(zfp: u8, scp: u8) -> Held {
     Held {
         zfp,
         scp,
-        ..NOTHING
+        ..NOTHING_HELD
     }
 }
 
 fn coded(code: Code) -> Held {
     Held {
         code: Some(code),
-        ..NOTHING
+        ..NOTHING_HELD
     }
 }
 
