@@ -1,29 +1,25 @@
 -- Columns of outcomes.
 use Rattle.std.proofs.Common.{◌≡◌, ℕ, ◌+◌, ◌-◌, ◌<◌, Bool, false, true, cond, List, [], ◌∷◌, ◌++◌}
 use Rattle.std.proofs.Common.{ap, ◌∙◌, sym, ◌≤◌, arith, length, length-append, map, filter, get_or}
-use Rattle.std.proofs.Common.{nat_eq}
 use Rattle.std.specs.List.{range_with_len}
 use Rattle.std.proofs.lemmas.List.FromFn.{length-map-range_with_len, get_or-map-range_with_len}
 use Rattle.std.proofs.lemmas.List.FromFn.{map-range_with_len_more}
 use Rattle.std.proofs.lemmas.List.Elements.{filter-append}
 use Rattle.regatta_terms.specs.Rules.{RulesParts}
-use Rattle.regatta_scores.specs.Order.{stands_in}
-use Rattle.regatta_scores.specs.Sheet.{Sheet, boats, all_placed}
-use Rattle.regatta_scores.specs.RacePoints.{plain, race_of, race_points}
+use Rattle.regatta_scores.specs.declared.boats.RaceScore.{RaceScore}
+use Rattle.regatta_scores.specs.Sheet.{Sheet, boats}
+use Rattle.regatta_scores.specs.RacePoints.{race_score, race_scores}
 use Rattle.regatta_scores.proofs.Ranges.{range_more}
 use Rattle.regatta_board.specs.Table.{outcome_on}
 
-pub points_long : (rules : RulesParts) (sheet : Sheet)
-    → length (race_points rules sheet) ≡ boats sheet
-points_long rules sheet =
-    length-map-range_with_len (plain nat_eq rules (race_of sheet.order sheet.held)) 0 (boats sheet)
+pub scores_long : (rules : RulesParts) (sheet : Sheet)
+    → length (race_scores rules sheet) ≡ boats sheet
+scores_long rules sheet = length-map-range_with_len (race_score rules sheet) 0 (boats sheet)
 
-pub points_at : (rules : RulesParts) (sheet : Sheet) (boat : ℕ) → boat < boats sheet
-    → get_or (race_points rules sheet) boat 0 ≡ plain nat_eq rules (race_of sheet.order sheet.held)
-    boat
-points_at rules sheet boat h =
-    get_or-map-range_with_len (plain nat_eq rules (race_of sheet.order sheet.held)) 0 (boats sheet)
-    boat boat 0 h (omega arith)
+pub score_at : (rules : RulesParts) (sheet : Sheet) (boat : ℕ) (d : RaceScore) → boat < boats sheet
+    → get_or (race_scores rules sheet) boat d ≡ race_score rules sheet boat
+score_at rules sheet boat d h =
+    get_or-map-range_with_len (race_score rules sheet) 0 (boats sheet) boat boat d h (omega arith)
 
 pub column_more : (rules : RulesParts) (sheet : Sheet) (n : ℕ)
     → map (outcome_on rules sheet) (range_with_len 0 (n + 1))
@@ -34,17 +30,7 @@ pub column_long : (rules : RulesParts) (sheet : Sheet)
     → length (map (outcome_on rules sheet) (range_with_len 0 (boats sheet))) ≡ boats sheet
 column_long rules sheet = length-map-range_with_len (outcome_on rules sheet) 0 (boats sheet)
 
-pub placed_long : (sheet : Sheet) → length (all_placed sheet) ≡ boats sheet
-placed_long sheet =
-    length-map-range_with_len (λ boat. stands_in nat_eq boat sheet.order) 0 (boats sheet)
-
-pub placed_at : (sheet : Sheet) (boat : ℕ) → boat < boats sheet
-    → get_or (all_placed sheet) boat false ≡ stands_in nat_eq boat sheet.order
-placed_at sheet boat h =
-    get_or-map-range_with_len (λ b. stands_in nat_eq b sheet.order) 0 (boats sheet) boat boat false
-    h (omega arith)
-
-pub ruleset columns = (points_long, points_at, placed_long, placed_at, column_more, column_long)
+pub ruleset columns = (scores_long, score_at, column_more, column_long)
 
 races_step : (counts : List Bool) (i : ℕ)
     → filter (λ race. get_or counts (race - 1) false) (range_with_len 1 (i + 1))

@@ -23,7 +23,7 @@ long_zip (x ∷ xs) (y ∷ ys) e = ap suc (long_zip xs ys (cc))
 pub long_averages : (row : List RowItem) → length (averages.points row) ≡ length row
 long_averages row =
     length-map (enumerate_from 0 row)
-    (λ (race : ℕ × RowItem). averages.redressed row race.0 race.1 race.1.redress)
+    (λ (race : ℕ × RowItem). averages.redressed row race.0 race.1)
     ∙ long_enumerate 0 row
 
 pub long_excluded : (d : ℕ) (scores : List Scored)

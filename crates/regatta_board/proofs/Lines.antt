@@ -10,7 +10,7 @@ use Rattle.regatta_terms.specs.Rules.{RulesParts}
 use Rattle.regatta_terms.specs.declared.sail.Sail.{Sail}
 use Rattle.regatta_scores.specs.declared.boats.Place.{Place}
 use Rattle.regatta_scores.specs.declared.table.Row.{Row}
-use Rattle.regatta_scores.specs.Ranking.{Line, place, places}
+use Rattle.regatta_scores.specs.Ranking.{BoatScores, place, places}
 use Rattle.regatta_scores.specs.Standing.{with_row, sorted_rows}
 use Rattle.regatta_board.specs.declared.outcomes.Outcome.{Outcome}
 use Rattle.regatta_board.specs.Outcomes as boat
@@ -81,15 +81,15 @@ rows_none f n =
 
 pub ruleset row_facts = (rows_step, rows_none)
 
-line_at : (rules : RulesParts) (columns : List (List Outcome)) (n b : ℕ) (d : Line) → b < n
+line_at : (rules : RulesParts) (columns : List (List Outcome)) (n b : ℕ) (d : BoatScores) → b < n
     → get_or (lines rules columns n) b d ≡ boat.line rules (outcomes columns b)
 line_at rules columns n b d h =
     get_or-map-range_with_len (λ b. boat.line rules (outcomes columns b)) 0 n b b d h (omega arith)
 
 -- the rows made from the lines of the boats and their places are those of the table
 pub rows_are : (rules : RulesParts) (sails : List Sail) (columns : List (List Outcome))
-    (ls : List Line) (ps : List Place) → ls ≡ lines rules columns (length sails) → ps ≡ places ls
-    → rows_by sails columns ls ps ≡ rows rules sails columns
+    (ls : List BoatScores) (ps : List Place) → ls ≡ lines rules columns (length sails)
+    → ps ≡ places ls → rows_by sails columns ls ps ≡ rows rules sails columns
 rows_are rules sails columns ls ps e f =
     let n = length sails in
     let all = lines rules columns n in

@@ -15,7 +15,7 @@ use Rattle.regatta_scores.specs.RacePoints.{race_of, journal_race}
 use Rattle.regatta_scores.specs.Renaming.{IsRenamed}
 use Rattle.regatta_scores.specs.Averages as averages
 use Rattle.regatta_scores.specs.Exclusions as exclusion
-use Rattle.regatta_scores.specs.Ranking.{Line, net, place}
+use Rattle.regatta_scores.specs.Ranking.{BoatScores, net, place}
 use Rattle.regatta_scores.specs.Standing as by_journal
 use Rattle.regatta_scores.proofs.Renamed.{plain_same, order_same}
 use Rattle.regatta_board.specs.declared.outcomes.Outcome.{Outcome}
@@ -124,7 +124,7 @@ cells_are rules journal boat =
     map_same g h same [] = refl
     map_same g h same (x ∷ xs) = λ i. same x i ∷ map_same g h same xs i
 
-pub row_is : (rules : RulesParts) (journal : Journal) (lines : List Line) (boat : Sail)
+pub row_is : (rules : RulesParts) (journal : Journal) (lines : List BoatScores) (boat : Sail)
     → one.row rules boat (place lines (by_journal.line rules journal boat))
     (one.outcomes rules journal boat) ≡ by_journal.row rules journal lines boat
 row_is rules journal lines boat i =

@@ -13,7 +13,7 @@ use Rattle.regatta_scores.specs.Journal.{Journal, same_sail, order, held, scored
 use Rattle.regatta_scores.specs.RacePoints.{status_by, plain, journal_race}
 use Rattle.regatta_scores.specs.Averages as averages
 use Rattle.regatta_scores.specs.Exclusions as exclusion
-use Rattle.regatta_scores.specs.Ranking.{Line, net}
+use Rattle.regatta_scores.specs.Ranking.{BoatScores, net}
 use Rattle.regatta_scores.specs.Standing.{is_dne, mark_by}
 use Rattle.regatta_board.specs.declared.outcomes.Outcome.{Outcome}
 
@@ -38,7 +38,7 @@ flags rules outcomes =
     (scores_by outcomes (points outcomes))
 
 -- what ranks are made from: her points, and which of them are excluded (RRS A2.1, A8)
-abbrev pub line : RulesParts → List Outcome → Line
+abbrev pub line : RulesParts → List Outcome → BoatScores
 line rules outcomes = record { points = points outcomes; excluded = flags rules outcomes }
 
 -- the abbreviation that the table shows beside the points, if any (RRS A10)
@@ -54,7 +54,7 @@ abbrev pub cells_by : List Outcome → List ℕ → List Bool → List Cell
 cells_by outcomes points flags = map (λ o. cell o.0 o.1.0 o.1.1) (zip outcomes (zip points flags))
 
 -- a boat's row of the table from her line and her rank (RRS A8)
-abbrev pub row_by : Sail → Place → Line → List Outcome → Row
+abbrev pub row_by : Sail → Place → BoatScores → List Outcome → Row
 row_by boat place line outcomes = record {
   sail = boat;
   rank = place.rank;

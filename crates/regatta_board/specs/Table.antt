@@ -11,7 +11,7 @@ use Rattle.regatta_scores.specs.declared.table.Standing.{Standing}
 use Rattle.regatta_scores.specs.Order.{stands_in}
 use Rattle.regatta_scores.specs.Sheet.{Sheet, boats, nothing_held, empty_sheet}
 use Rattle.regatta_scores.specs.RacePoints.{plain, race_of}
-use Rattle.regatta_scores.specs.Ranking.{Line, place}
+use Rattle.regatta_scores.specs.Ranking.{BoatScores, place}
 use Rattle.regatta_scores.specs.Standing as scores
 use Rattle.regatta_board.specs.declared.outcomes.Outcome.{Outcome}
 use Rattle.regatta_board.specs.Refusals.{limits}
@@ -61,7 +61,7 @@ abbrev pub outcomes : List (List Outcome) → ℕ → List Outcome
 outcomes columns boat = map (λ column. slice_index_or column boat no_outcome) columns
 
 -- the lines of all boats: their points, and which of them are excluded (RRS A2.1)
-abbrev pub lines : RulesParts → List (List Outcome) → ℕ → List Line
+abbrev pub lines : RulesParts → List (List Outcome) → ℕ → List BoatScores
 lines rules columns n = map (λ boat. line rules (outcomes columns boat)) (range_with_len 0 n)
 
 -- a boat's row of the table, with her rank among all the lines (RRS A8)
@@ -77,7 +77,7 @@ rows rules sails columns =
     scores.sorted_rows (map (row_of rules sails columns) (range_with_len 0 (length sails)))
 
 -- what stands where no boat has this number, in the list of lines
-abbrev pub no_line : Line
+abbrev pub no_line : BoatScores
 no_line = record { points = []; excluded = [] }
 
 -- what stands where no boat has this number, in the list of places
@@ -85,13 +85,13 @@ abbrev pub no_place : Place
 no_place = record { rank = 0; tied = false }
 
 -- a boat's row from the lines and places of the boats, each made once (RRS A8)
-abbrev pub row_at : List Sail → List (List Outcome) → List Line → List Place → ℕ → Row
+abbrev pub row_at : List Sail → List (List Outcome) → List BoatScores → List Place → ℕ → Row
 row_at sails columns lines places boat =
     row_by (slice_index_or sails boat []) (slice_index_or places boat no_place)
     (slice_index_or lines boat no_line) (outcomes columns boat)
 
 -- the rows of all boats from their lines and places, in the table's order (RRS A8)
-abbrev pub rows_by : List Sail → List (List Outcome) → List Line → List Place → List Row
+abbrev pub rows_by : List Sail → List (List Outcome) → List BoatScores → List Place → List Row
 rows_by sails columns lines places =
     scores.sorted_rows (map (row_at sails columns lines places) (range_with_len 0 (length sails)))
 

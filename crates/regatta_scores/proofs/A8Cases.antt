@@ -13,8 +13,8 @@ use Rattle.std.proofs.lemmas.List.{length-reverse}
 use Rattle.std.proofs.lemmas.List.Sums.{sum_by-cons}
 use Rattle.std.proofs.lemmas.List.Sorted.{sum_by-IsPermutation, All-permutation}
 use borrow.Author.Tests.{ltb-true, lt-ltb}
-use Rattle.regatta_scores.specs.Exclusions.{kept}
-use Rattle.regatta_scores.specs.Ranking.{Line, net, best_to_worst, last_to_first, beats}
+use Rattle.regatta_scores.specs.Exclusions.{counting}
+use Rattle.regatta_scores.specs.Ranking.{BoatScores, net, best_to_worst, last_to_first, beats}
 use Rattle.regatta_scores.specs.RankLaws.{IsLowerAtFirst, IsBetter, BeatsInThreeCases}
 use Rattle.regatta_scores.proofs.Sorting.{all_cons, all_rest, rising_permutes}
 use Rattle.regatta_scores.proofs.Ties.{Less-is}
@@ -101,26 +101,26 @@ first_lower w (x ∷ xs) (y ∷ ys) positive sums e =
 
 -- ---- the lists of two boats
 
-kept_positive : (points : List ℕ) (flags : List Bool) → All (λ p. 10 ≤ p) points →
-    All (λ p. 1 ≤ p) (kept points flags)
-kept_positive [] flags each = λ k d h. absurd (omega (arith, h))
-kept_positive (x ∷ xs) [] each = λ k d h. absurd (omega (arith, h))
-kept_positive (x ∷ xs) (true ∷ flags) each =
-    kept_positive xs flags (all_rest (λ p. 10 ≤ p) x xs each)
-kept_positive (x ∷ xs) (false ∷ flags) each =
+counting_positive : (points : List ℕ) (flags : List Bool) → All (λ p. 10 ≤ p) points →
+    All (λ p. 1 ≤ p) (counting points flags)
+counting_positive [] flags each = λ k d h. absurd (omega (arith, h))
+counting_positive (x ∷ xs) [] each = λ k d h. absurd (omega (arith, h))
+counting_positive (x ∷ xs) (true ∷ flags) each =
+    counting_positive xs flags (all_rest (λ p. 10 ≤ p) x xs each)
+counting_positive (x ∷ xs) (false ∷ flags) each =
     let here : 10 ≤ x = each zero x (omega arith) in
-    all_cons (λ p. 1 ≤ p) x (kept xs flags) (omega (arith, here))
-    (kept_positive xs flags (all_rest (λ p. 10 ≤ p) x xs each))
+    all_cons (λ p. 1 ≤ p) x (counting xs flags) (omega (arith, here))
+    (counting_positive xs flags (all_rest (λ p. 10 ≤ p) x xs each))
 
-best_sum : (a : Line) → sum_by (λ p. p) (best_to_worst a) ≡ net a
+best_sum : (a : BoatScores) → sum_by (λ p. p) (best_to_worst a) ≡ net a
 best_sum a =
-    sum_by-IsPermutation (λ p. p) (kept a.points a.excluded) (best_to_worst a)
-    (rising_permutes (kept a.points a.excluded))
+    sum_by-IsPermutation (λ p. p) (counting a.points a.excluded) (best_to_worst a)
+    (rising_permutes (counting a.points a.excluded))
 
-best_positive : (a : Line) → All (λ p. 10 ≤ p) a.points → All (λ p. 1 ≤ p) (best_to_worst a)
+best_positive : (a : BoatScores) → All (λ p. 10 ≤ p) a.points → All (λ p. 1 ≤ p) (best_to_worst a)
 best_positive a each =
-    All-permutation (λ p. 1 ≤ p) (kept a.points a.excluded) (best_to_worst a)
-    (rising_permutes (kept a.points a.excluded)) (kept_positive a.points a.excluded each)
+    All-permutation (λ p. 1 ≤ p) (counting a.points a.excluded) (best_to_worst a)
+    (rising_permutes (counting a.points a.excluded)) (counting_positive a.points a.excluded each)
 
 ones : (xs : List ℕ) → sum_by (λ (p : ℕ). 1) xs ≡ length xs
 ones [] = refl
@@ -128,7 +128,7 @@ ones (x ∷ xs) = omega (arith, sum_by-cons (λ (p : ℕ). 1) x xs, ones xs)
 
 -- ---- the law
 
-better_by : (a b : Line) → All (λ p. 10 ≤ p) b.points → length a.points ≡ length b.points →
+better_by : (a b : BoatScores) → All (λ p. 10 ≤ p) b.points → length a.points ≡ length b.points →
     (r s : Ordering) → nat_cmp (net a) (net b) ≡ r →
     slice_cmp nat_cmp (best_to_worst a) (best_to_worst b) ≡ s →
     is_lt (ordering_then r (ordering_then s
@@ -159,7 +159,7 @@ better_by a b high long Equal Equal e f h =
 better_by a b high long Equal Greater e f h = cc
 better_by a b high long Greater s e f h = cc
 
-beats_by : (a b : Line) → IsBetter a b → beats a b ≡ true
+beats_by : (a b : BoatScores) → IsBetter a b → beats a b ≡ true
 beats_by a b (inl lower) =
     ap (λ r. is_lt (ordering_then r
     (ordering_then (slice_cmp nat_cmp (best_to_worst a) (best_to_worst b))

@@ -33,7 +33,7 @@ use Rattle.regatta_scores.specs.RacePoints.{sharing, place_points, number_came, 
 use Rattle.regatta_scores.specs.RacePoints.{penalty_points, journal_race}
 use Rattle.regatta_scores.specs.Averages as averages
 use Rattle.regatta_scores.specs.Averages.{has_average, own_points, average, average_over, counted}
-use Rattle.regatta_scores.specs.Averages.{total, redressed}
+use Rattle.regatta_scores.specs.Averages.{award_or, total, redressed, redressed_by}
 use Rattle.regatta_scores.specs.RankLaws.{cell_points}
 use Rattle.regatta_scores.specs.Standing.{row_items, points, line, cells, standing}
 use Rattle.regatta_scores.specs.ScoreLaws.{HasAwardInRange, AwardsAreInRange, HasNoScoreBelowOne}
@@ -85,14 +85,14 @@ RedressIsInRange None = Unit {0}
 RedressIsInRange (Some redress) = IsRedress redress
 
 abbrev IsHigh : RowItem → Type 0
-IsHigh item = (10 ≤ item.plain) × (10 ≤ own_points item item.redress)
+IsHigh item = (10 ≤ item.plain) × (10 ≤ own_points item)
 
-own_is_high : (item : RowItem) (given : Option redress_type.Redress) → 10 ≤ item.plain →
-    RedressIsInRange given → 10 ≤ own_points item given
-own_is_high item None high range = high
-own_is_high item (Some (Points award)) high range = range.0
-own_is_high item (Some AllRaces) high range = high
-own_is_high item (Some RacesBefore) high range = high
+own_is_high : (plain : ℕ) (given : Option redress_type.Redress) → 10 ≤ plain →
+    RedressIsInRange given → 10 ≤ award_or plain given
+own_is_high plain None high range = high
+own_is_high plain (Some (Points award)) high range = range.0
+own_is_high plain (Some AllRaces) high range = high
+own_is_high plain (Some RacesBefore) high range = high
 
 some_number : (n : ℕ) → nat_eq n 0 ≡ false → 0 < n
 some_number zero e = cc
@@ -104,23 +104,23 @@ average_is_high races plain high each =
     by (length (counted races)) (total (counted races)) (nat_eq (length (counted races)) 0) refl
     (total_least (counted races) 10
     (All-filter (λ (item : RowItem). not (has_average item.redress))
-    (λ item. 10 ≤ own_points item item.redress) races (λ k d h. (each k d h).1)))
+    (λ item. 10 ≤ own_points item) races (λ k d h. (each k d h).1)))
   where
     by : (n s : ℕ) (b : Bool) → nat_eq n 0 ≡ b → 10 * n ≤ s → 10 ≤ cond b plain (average n s)
     by n s true e least = high
     by n s false e least = average_least n s 10 (some_number n e) least
 
-redressed_is_high : (items : List RowItem) (i : ℕ) (item : RowItem)
-    (given : Option redress_type.Redress) → All IsHigh items → 10 ≤ item.plain →
-    10 ≤ own_points item given → 10 ≤ redressed items i item given
-redressed_is_high items i item None each high own = high
-redressed_is_high items i item (Some (Points award)) each high own = own
-redressed_is_high items i item (Some AllRaces) each high own =
-    average_is_high (remove items i) item.plain high
+redressed_is_high : (items : List RowItem) (i plain : ℕ)
+    (given : Option redress_type.Redress) → All IsHigh items → 10 ≤ plain →
+    10 ≤ award_or plain given → 10 ≤ redressed_by items i plain given
+redressed_is_high items i plain None each high own = high
+redressed_is_high items i plain (Some (Points award)) each high own = own
+redressed_is_high items i plain (Some AllRaces) each high own =
+    average_is_high (remove items i) plain high
     (All-append IsHigh (take i items) (drop (suc i) items) (All-take IsHigh i items each)
     (All-drop IsHigh (suc i) items each))
-redressed_is_high items i item (Some RacesBefore) each high own =
-    average_is_high (take i items) item.plain high (All-take IsHigh i items each)
+redressed_is_high items i plain (Some RacesBefore) each high own =
+    average_is_high (take i items) plain high (All-take IsHigh i items each)
 
 numbered : (n : ℕ) (items : List RowItem) → AllByRecursion IsHigh items →
     AllByRecursion (λ (race : ℕ × RowItem). IsHigh race.1) (enumerate_from n items)
@@ -133,9 +133,9 @@ points_are_high items each =
     let all : All (λ (race : ℕ × RowItem). IsHigh race.1) (enumerate_from 0 items) =
     All-from_recursion (λ (race : ℕ × RowItem). IsHigh race.1) (enumerate_from 0 items)
     (numbered 0 items (recursion_from_All IsHigh items each)) in
-    All-map (λ p. 10 ≤ p) (λ (race : ℕ × RowItem). redressed items race.0 race.1 race.1.redress)
+    All-map (λ p. 10 ≤ p) (λ (race : ℕ × RowItem). redressed items race.0 race.1)
     (enumerate_from 0 items) (λ k d h. (let race = get_or (enumerate_from 0 items) k d in
-    redressed_is_high items race.0 race.1 race.1.redress each (all k d h).0 (all k d h).1))
+    redressed_is_high items race.0 race.1.plain race.1.redress each (all k d h).0 (all k d h).1))
 
 -- ---- the redress that a boat has by the journal
 
@@ -183,10 +183,8 @@ module _ (rules : RulesParts) (journal : Journal) (each : AwardsAreInRange journ
       at race =
           let high = plain_is_high rules (journal_race rules journal race) boat in (
             high,
-            own_is_high (record {
-              plain = plain same_sail rules (journal_race rules journal race) boat;
-              redress = (held journal race boat).redress;
-            }) (held journal race boat).redress high (redress_in_range journal race boat each),
+            own_is_high (plain same_sail rules (journal_race rules journal race) boat)
+                (held journal race boat).redress high (redress_in_range journal race boat each),
           )
 
   scores_are_high : (boat : Sail) → All (λ p. 10 ≤ p) (points rules journal boat)

@@ -11,21 +11,21 @@ use Rattle.regatta_scores.specs.RedressLaws.{AveragesLieBetween, AveragesAreNear
 
 -- points of at least so much have a sum of at least n times as much
 pub total_least : (xs : List RowItem) (low : ℕ) →
-    All (λ item. low ≤ own_points item item.redress) xs → low * length xs ≤ total xs
+    All (λ item. low ≤ own_points item) xs → low * length xs ≤ total xs
 total_least [] low each = omega arith
 total_least (x ∷ xs) low each =
-    let here : low ≤ own_points x x.redress = each zero x (omega arith) in
+    let here : low ≤ own_points x = each zero x (omega arith) in
     let rest = total_least xs low (λ k d h. each (suc k) d (omega arith)) in
-    let sum = sum_by-cons (λ (item : RowItem). own_points item item.redress) x xs in
+    let sum = sum_by-cons (λ (item : RowItem). own_points item) x xs in
     omega (arith, here, rest, sum, mul-suc low (length xs))
 
 total_most : (xs : List RowItem) (high : ℕ) →
-    All (λ item. own_points item item.redress ≤ high) xs → total xs ≤ high * length xs
+    All (λ item. own_points item ≤ high) xs → total xs ≤ high * length xs
 total_most [] high each = omega arith
 total_most (x ∷ xs) high each =
-    let here : own_points x x.redress ≤ high = each zero x (omega arith) in
+    let here : own_points x ≤ high = each zero x (omega arith) in
     let rest = total_most xs high (λ k d h. each (suc k) d (omega arith)) in
-    let sum = sum_by-cons (λ (item : RowItem). own_points item item.redress) x xs in
+    let sum = sum_by-cons (λ (item : RowItem). own_points item) x xs in
     omega (arith, here, rest, sum, mul-suc high (length xs))
 
 pub average_least : (n s low : ℕ) → 0 < n → low * n ≤ s → low ≤ average n s

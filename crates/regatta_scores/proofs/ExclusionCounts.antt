@@ -220,28 +220,28 @@ behind_dne d x ys dne j y =
     ap (λ n. not y.dne && nat_lt n d) ahead
 
 -- a score at the front that isn't excluded changes nothing behind it
-kept_by : (d : ℕ) (x : Scored) (ys : List Scored) (j : ℕ) (y : Scored) (b : Bool) →
+counting_by : (d : ℕ) (x : Scored) (ys : List Scored) (j : ℕ) (y : Scored) (b : Bool) →
     nat_le y.points x.points ≡ b → d ≤ count_by (worse x.points) ys → slice_get ys j ≡ Some y →
     excluded_ahead ys j y.points < d →
     cond (as_bad y.points x) 1 0 + excluded_ahead ys j y.points < d
-kept_by d x ys j y true e many at h =
+counting_by d x ys j y true e many at h =
     let upto = leb-true y.points x.points e in
     let ahead = many_ahead ys j y x.points y.points at upto upto in
     absurd (omega (arith, ahead, many))
-kept_by d x ys j y false e many at h =
+counting_by d x ys j y false e many at h =
     let none = as_bad_no y.points x (leb-false y.points x.points e) in
     omega (arith, none)
 
-behind_kept : (d : ℕ) (x : Scored) (ys : List Scored) → d ≤ count_by (worse x.points) ys →
+behind_counting : (d : ℕ) (x : Scored) (ys : List Scored) → d ≤ count_by (worse x.points) ys →
     (j : ℕ) (y : Scored) → slice_get ys j ≡ Some y →
     is_excluded d (x ∷ ys) (j + 1) y ≡ is_excluded d ys j y
-behind_kept d x ys many j y at =
+behind_counting d x ys many j y at =
     let ahead = ahead_behind x ys j y.points in
     let same : nat_lt (excluded_ahead (x ∷ ys) (j + 1) y.points) d
     ≡ nat_lt (excluded_ahead ys j y.points) d =
     lt_same (excluded_ahead (x ∷ ys) (j + 1) y.points) d (excluded_ahead ys j y.points) d
     (λ h. omega (arith, h, ahead))
-    (λ h. let more = kept_by d x ys j y (nat_le y.points x.points) refl many at h in
+    (λ h. let more = counting_by d x ys j y (nat_le y.points x.points) refl many at h in
     omega (arith, ahead, more)) in
     ap (λ b. not y.dne && b) same
 
@@ -297,7 +297,7 @@ flagged_by d x ys rest false false dne e =
     let behind =
     count_same (λ race. is_excluded d (x ∷ ys) (race.0 + 1) race.1)
     (λ race. is_excluded d ys race.0 race.1) 0 ys
-    (λ k j y place at. behind_kept d x ys many j y (at_place ys k j y place at)) in
+    (λ k j y place at. behind_counting d x ys many j y (at_place ys k j y place at)) in
     omega (
       arith,
       flagged_cons d x ys,
@@ -357,9 +357,9 @@ flag_at d scores i s at =
     slice_get-map flag (enumerate_from 0 scores) i
     ∙ ap (option_map flag) (enumerate_at 0 scores i i s (omega arith) at)
 
-kept_flag : (dne b : Bool) → dne ≡ false → (not dne && b) ≡ false → b ≡ false
-kept_flag true b e h = cc
-kept_flag false b e h = h
+counting_flag : (dne b : Bool) → dne ≡ false → (not dne && b) ≡ false → b ≡ false
+counting_flag true b e h = cc
+counting_flag false b e h = h
 
 worst_by : (scores : List Scored) (i j : ℕ) (s t : Scored) → slice_get scores i ≡ Some s →
     slice_get scores j ≡ Some t → t.dne ≡ false →
@@ -415,7 +415,7 @@ worst_are_excluded d scores =
           (second_so (not s.dne) (nat_lt (excluded_ahead scores i s.points) d) on) in
           let above =
           ltb-false (excluded_ahead scores j t.points) d
-          (kept_flag t.dne (nat_lt (excluded_ahead scores j t.points) d) free off) in
+          (counting_flag t.dne (nat_lt (excluded_ahead scores j t.points) d) free off) in
           worst_by scores i j s t at_i at_j free (omega (arith, below, above))
           (nat_lt t.points s.points) (nat_lt i j) refl refl;
     }

@@ -1,7 +1,8 @@
 -- The points for each boat's place make the definitions' number of boats that came, and their
 -- points.
 use Rattle.std.proofs.Common.{◌≡◌, ℕ, Bool, true, false, cond, List, refl, ap, ◌∙◌, sym, length}
-use Rattle.std.proofs.Common.{count_by, Option, Some, None, is_some, unwrap_or, nat_eq, get_or}
+use Rattle.std.proofs.Common.{[], ◌∷◌, map, count_by, Option, Some, None, is_some, unwrap_or}
+use Rattle.std.proofs.Common.{nat_eq, get_or}
 use Rattle.std.specs.List.{range_with_len}
 use Rattle.std.proofs.lemmas.List.FromFn.{length-range_with_len}
 use Rattle.regatta_terms.specs.Rules.{RulesParts}
@@ -9,12 +10,12 @@ use Rattle.regatta_terms.specs.declared.command.Code.{Code}
 use Rattle.regatta_terms.specs.declared.command.Code.TheVariants as code
 use Rattle.regatta_scores.specs.declared.sheet.Held.{Held}
 use Rattle.regatta_scores.specs.Order.{stands_in}
-use Rattle.regatta_scores.specs.Sheet.{nothing_held}
+use Rattle.regatta_scores.specs.Sheet.{Sheet, boats, nothing_held}
 use Rattle.regatta_scores.specs.RacePoints.{race_of, status, status_by, came, place_points}
 use Rattle.regatta_scores.specs.RacePoints.{number_came, dnf_by, base_by, plain, penalised}
-use Rattle.regatta_scores.specs.RacePoints.{penalty_points}
+use Rattle.regatta_scores.specs.RacePoints.{penalty_points, race_score, race_scores, race_points}
 use Rattle.regatta_scores.specs.PlacedPoints.{HasPlacedPoints, placed_points, came_with}
-use Rattle.regatta_scores.specs.PlacedPoints.{number_came_with, plain_with}
+use Rattle.regatta_scores.specs.PlacedPoints.{number_came_with, plain_with, score_with}
 
 is_some_by : (b : Bool) (n : ℕ) → is_some (cond b (Some n) None) ≡ b
 is_some_by true n = refl
@@ -59,10 +60,26 @@ module _ (order : List (List ℕ)) (held : List Held) (placed : List (Option ℕ
       by_place ∙ sym (λ i. plain_with rules hers (is.by_number boat i) (length held)
       (dnf_by rules.absent (length held) (number_came_is i)))
 
--- her points for a place tell whether she stands in the order
-pub stands_is : (order : List (List ℕ)) (held : List Held) (placed : List (Option ℕ)) →
-    HasPlacedPoints order held placed → (boat : ℕ) →
-    is_some (get_or placed boat None) ≡ stands_in nat_eq boat order
-stands_is order held placed is boat =
-    ap is_some (is.by_number boat)
-    ∙ is_some_by (stands_in nat_eq boat order) (place_points nat_eq (race_of order held) boat)
+  -- her points for a place tell whether she stands in the order
+  stands_is : (boat : ℕ) → stands_in nat_eq boat order ≡ is_some (get_or placed boat None)
+  stands_is boat =
+      sym (ap is_some (is.by_number boat)
+      ∙ is_some_by (stands_in nat_eq boat order) (place_points nat_eq (race_of order held) boat))
+
+  pub score_is : (rules : RulesParts) (boat : ℕ) →
+      race_score rules (record { order = order; held = held }) boat
+      ≡ score_with rules (get_or held boat nothing_held) (get_or placed boat None) (length held)
+      (dnf_by rules.absent (length held) (number_came_with held placed))
+  score_is rules boat i = record { plain = plain_is rules boat i; placed = stands_is boat i }
+
+-- the points of the scores are those of the race
+pub points_are : (rules : RulesParts) (sheet : Sheet) →
+    map (λ score. score.plain) (race_scores rules sheet) ≡ race_points rules sheet
+points_are rules sheet = map_parts (range_with_len 0 (boats sheet))
+  where
+    map_parts : (numbers : List ℕ) →
+        map (λ score. score.plain) (map (race_score rules sheet) numbers)
+        ≡ map (plain nat_eq rules (race_of sheet.order sheet.held)) numbers
+    map_parts [] = refl
+    map_parts (n ∷ ns) =
+        ap (λ xs. plain nat_eq rules (race_of sheet.order sheet.held) n ∷ xs) (map_parts ns)

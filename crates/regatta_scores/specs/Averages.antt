@@ -13,10 +13,16 @@ has_average (Some (Points award)) = false
 has_average (Some AllRaces) = true
 has_average (Some RacesBefore) = true
 
+-- the points handed in (A9 (c)), or these where there are none
+abbrev pub award_or : ℕ → Option Redress → ℕ
+award_or plain None = plain
+award_or plain (Some (Points award)) = award
+award_or plain (Some AllRaces) = plain
+award_or plain (Some RacesBefore) = plain
+
 -- her points in a race where she has no average: those handed in (A9 (c)), or her score
-abbrev pub own_points : RowItem → Option Redress → ℕ
-own_points item (Some (Points award)) = award
-own_points item _ = item.plain
+abbrev pub own_points : RowItem → ℕ
+own_points item = award_or item.plain item.redress
 
 -- the average of n points with sum s, to the nearest tenth, 0.05 upward (A9)
 abbrev pub average : ℕ → ℕ → ℕ
@@ -32,20 +38,24 @@ counted races = filter (λ item. not (has_average item.redress)) races
 
 -- the sum of her points in these races, which an average is made of (A9)
 abbrev pub total : List RowItem → ℕ
-total races = sum_by (λ item. own_points item item.redress) races
+total races = sum_by own_points races
 
 -- her average over these races, or her score without redress where none is counted (A9)
 abbrev pub average_over : List RowItem → ℕ → ℕ
 average_over races plain = average_or plain (length (counted races)) (total (counted races))
 
--- her points in race i of the list, by her redress there: none; points handed in (A9 (c)); the
--- average of all races but this one (A9 (a)); the average of those before it (A9 (b))
-abbrev pub redressed : List RowItem → ℕ → RowItem → Option Redress → ℕ
-redressed row i item None = item.plain
-redressed row i item (Some (Points award)) = award
-redressed row i item (Some AllRaces) = average_over (remove row i) item.plain
-redressed row i item (Some RacesBefore) = average_over (take i row) item.plain
+-- her points in race i of the list, from these by her redress there: none; points handed in
+-- (A9 (c)); the average of all races but this one (A9 (a)); the average of those before it (A9 (b))
+abbrev pub redressed_by : List RowItem → ℕ → ℕ → Option Redress → ℕ
+redressed_by row i plain None = plain
+redressed_by row i plain (Some (Points award)) = award
+redressed_by row i plain (Some AllRaces) = average_over (remove row i) plain
+redressed_by row i plain (Some RacesBefore) = average_over (take i row) plain
+
+-- her points in race i of the list, by what she has there (A9)
+abbrev pub redressed : List RowItem → ℕ → RowItem → ℕ
+redressed row i item = redressed_by row i item.plain item.redress
 
 -- her points in each scored race, with redress (A9)
 abbrev pub points : List RowItem → List ℕ
-points row = map (λ race. redressed row race.0 race.1 race.1.redress) (enumerate_from 0 row)
+points row = map (λ race. redressed row race.0 race.1) (enumerate_from 0 row)

@@ -1,10 +1,12 @@
 -- The points for finishing places, for each boat of a sheet by her number.
-use Rattle.std.specs.Prelude.{◌≡◌, ℕ, ◌+◌, ◌*◌, ◌≤◌, Bool, List, length, count_by, Option, Some, None}
-use Rattle.std.specs.Prelude.{is_none, is_some, unwrap_or, nat_eq, slice_index_or, if◌then◌else◌}
+use Rattle.std.specs.Prelude.{◌≡◌, ℕ, ◌+◌, ◌*◌, ◌≤◌, Bool, List, length, count_by}
+use Rattle.std.specs.Prelude.{Option, Some, None, is_none, is_some, unwrap_or, nat_eq}
+use Rattle.std.specs.Prelude.{slice_index_or, if◌then◌else◌}
 use Rattle.std.specs.List.{range_with_len}
 use Rattle.regatta_terms.specs.declared.limits.TheConstants.{MAX_BOATS}
 use Rattle.regatta_terms.specs.Rules.{RulesParts}
 use Rattle.regatta_terms.specs.declared.command.Code.{Code}
+use Rattle.regatta_scores.specs.declared.boats.RaceScore.{RaceScore}
 use Rattle.regatta_scores.specs.declared.sheet.Held.{Held}
 use Rattle.regatta_scores.specs.Order.{in_group, stands_in}
 use Rattle.regatta_scores.specs.Sheet.{nothing_held}
@@ -65,3 +67,8 @@ base_with code placed entered dnf =
 abbrev pub plain_with : RulesParts → Held → Option ℕ → ℕ → ℕ → ℕ
 plain_with rules held placed entered dnf =
     penalised (base_with held.code placed entered dnf) (penalty_points rules dnf held) dnf
+
+-- the same score, and whether she has points for a place
+abbrev pub score_with : RulesParts → Held → Option ℕ → ℕ → ℕ → RaceScore
+score_with rules held placed entered dnf =
+    record { plain = plain_with rules held placed entered dnf; placed = is_some placed }

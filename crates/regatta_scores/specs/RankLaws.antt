@@ -9,9 +9,9 @@ use Rattle.regatta_terms.specs.Rules.{RulesParts}
 use Rattle.regatta_terms.specs.declared.sail.Sail.{Sail}
 use Rattle.regatta_scores.specs.declared.table.Cell.{Cell}
 use Rattle.regatta_scores.specs.declared.table.Row.{Row}
-use Rattle.regatta_scores.specs.Exclusions.{kept}
+use Rattle.regatta_scores.specs.Exclusions.{counting}
 use Rattle.regatta_scores.specs.Journal.{Journal, entered}
-use Rattle.regatta_scores.specs.Ranking.{Line, net, rising, best_to_worst, last_to_first}
+use Rattle.regatta_scores.specs.Ranking.{BoatScores, net, rising, best_to_worst, last_to_first}
 use Rattle.regatta_scores.specs.Ranking.{comparison, beats, rank}
 use Rattle.regatta_scores.specs.Standing.{line, lines, row, comes_first, standing}
 
@@ -25,23 +25,23 @@ ComparisonIsTotal = IsTotalOrder comparison
 -- What that says of beating (A8): no boat beats herself, no two beat each other, and who beats one
 -- that beats another beats that one too; so do ties chain.
 pub record BeatingIsAnOrder : Type 0 where
-  pub itself : (a : Line) → comparison a a ≡ Equal
-  pub one_way : (a b : Line) → beats a b ≡ true → beats b a ≡ false
-  pub chains : (a b c : Line) → beats a b ≡ true → beats b c ≡ true → beats a c ≡ true
-  pub ties_chain : (a b c : Line) →
+  pub itself : (a : BoatScores) → comparison a a ≡ Equal
+  pub one_way : (a b : BoatScores) → beats a b ≡ true → beats b a ≡ false
+  pub chains : (a b c : BoatScores) → beats a b ≡ true → beats b c ≡ true → beats a c ≡ true
+  pub ties_chain : (a b c : BoatScores) →
       comparison a b ≡ Equal → comparison b c ≡ Equal → comparison a c ≡ Equal
-  pub tied : (a b : Line) → beats a b ≡ false → beats b a ≡ false → comparison a b ≡ Equal
+  pub tied : (a b : BoatScores) → beats a b ≡ false → beats b a ≡ false → comparison a b ≡ Equal
 
--- The kept scores from best to worst rise, and are the kept scores in another order (A8.1).
-abbrev pub KeptScoresRise : Type 0
-KeptScoresRise = (line : Line) →
+-- From best to worst the scores that count rise, and are those that count in another order (A8.1).
+abbrev pub CountingScoresRise : Type 0
+CountingScoresRise = (line : BoatScores) →
     IsNonDecreasing (best_to_worst line)
-    × IsPermutation (kept line.points line.excluded) (best_to_worst line)
+    × IsPermutation (counting line.points line.excluded) (best_to_worst line)
 
 -- ---- ties
 
--- Two boats share a rank exactly where their series scores, their kept scores from best to worst
--- and their points in each race are equal (A8).
+-- Two boats share a rank exactly where their series scores, their scores that count from best to
+-- worst and their points in each race are equal (A8).
 abbrev pub TiesAreComplete : Type 0
 TiesAreComplete = (rules : RulesParts) (journal : Journal) (a b : Sail) →
     Contains (entered journal) a → Contains (entered journal) b →
@@ -56,8 +56,8 @@ abbrev pub cell_points : List Cell → List ℕ
 cell_points cells = map (λ cell. cell.points) cells
 
 -- those of them that are not excluded (A8.1)
-abbrev pub kept_points : List Cell → List ℕ
-kept_points cells = cell_points (filter (λ cell. not cell.dropped) cells)
+abbrev pub counting_points : List Cell → List ℕ
+counting_points cells = cell_points (filter (λ cell. not cell.dropped) cells)
 
 -- The same, read off the rows of the standing (A8).
 abbrev pub RowsTieCompletely : Type 0
@@ -65,7 +65,7 @@ RowsTieCompletely = (rules : RulesParts) (journal : Journal) (a b : Row) →
     Contains (standing rules journal).rows a → Contains (standing rules journal).rows b →
     (a.rank ≡ b.rank)
     ↔ ((a.net ≡ b.net)
-    × (rising (kept_points a.cells) ≡ rising (kept_points b.cells))
+    × (rising (counting_points a.cells) ≡ rising (counting_points b.cells))
     × (cell_points a.cells ≡ cell_points b.cells))
 
 -- ---- the rows of the standing
@@ -85,23 +85,23 @@ StandingHasTheEntered = (rules : RulesParts) (journal : Journal) → RowsAreTheE
 -- ---- ranks
 
 -- how many boats share a boat's rank, herself included: those tied with her after A8
-abbrev pub sharers : List Line → Line → ℕ
+abbrev pub sharers : List BoatScores → BoatScores → ℕ
 sharers lines line = count_by (λ other. nat_eq (rank lines other) (rank lines line)) lines
 
 -- ranks begin at 1, a boat has as many boats ranked above her as her rank says, and after k boats
 -- that share rank r the next rank is r + k (A8)
-pub record RanksFollow (lines : List Line) : Type 0 where
-  pub above : (a : Line) → Contains lines a →
+pub record RanksFollow (lines : List BoatScores) : Type 0 where
+  pub above : (a : BoatScores) → Contains lines a →
       rank lines a ≡ 1 + count_by (λ other. nat_lt (rank lines other) (rank lines a)) lines
   pub first : 0 < length lines → Any (λ a. rank lines a ≡ 1) lines
-  pub no_lower : (a b : Line) → Contains lines a → Contains lines b →
+  pub no_lower : (a b : BoatScores) → Contains lines a → Contains lines b →
       rank lines a < rank lines b → rank lines a + sharers lines a ≤ rank lines b
-  pub next : (a : Line) → Contains lines a → rank lines a + sharers lines a ≤ length lines →
+  pub next : (a : BoatScores) → Contains lines a → rank lines a + sharers lines a ≤ length lines →
       Any (λ b. rank lines b ≡ rank lines a + sharers lines a) lines
 
 -- So it is of any boats (A2.1, A8).
 abbrev pub RanksFollowEachOther : Type 0
-RanksFollowEachOther = (lines : List Line) → RanksFollow lines
+RanksFollowEachOther = (lines : List BoatScores) → RanksFollow lines
 
 -- ---- the three cases of A8
 
@@ -115,9 +115,9 @@ pub record IsLowerAtFirst (xs ys : List ℕ) : Type 0 where
   pub lower : slice_index xs at < slice_index ys at
 
 -- a boat is better by her series score; or, where those are equal, by the first difference of the
--- kept scores from best to worst (A8.1); or, where those are equal too, by the first difference
--- from the last race back, excluded scores included (A8.2)
-abbrev pub IsBetter : Line → Line → Type 0
+-- scores that count from best to worst (A8.1); or, where those are equal too, by the first
+-- difference from the last race back, excluded scores included (A8.2)
+abbrev pub IsBetter : BoatScores → BoatScores → Type 0
 IsBetter a b =
     (net a < net b)
     ⊎ ((net a ≡ net b) × IsLowerAtFirst (best_to_worst a) (best_to_worst b))
@@ -127,6 +127,6 @@ IsBetter a b =
 -- Boats with equally many races and no score below 1.0 beat each other in these three cases and no
 -- other (A2.1, A8.1, A8.2).
 abbrev pub BeatsInThreeCases : Type 0
-BeatsInThreeCases = (a b : Line) →
+BeatsInThreeCases = (a b : BoatScores) →
     All (λ p. 10 ≤ p) a.points → All (λ p. 10 ≤ p) b.points → length a.points ≡ length b.points →
     (beats a b ≡ true) ↔ IsBetter a b

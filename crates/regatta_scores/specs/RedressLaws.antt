@@ -22,7 +22,7 @@ RedressLeavesOthers = (rules : RulesParts) (journal : Journal) (entry : EntryPar
 -- her points in a race that an average counts are from low to high (A9)
 abbrev pub IsWithin : ℕ → ℕ → RowItem → Type 0
 IsWithin low high item =
-    (low ≤ own_points item item.redress) × (own_points item item.redress ≤ high)
+    (low ≤ own_points item) × (own_points item ≤ high)
 
 -- An average is no less than the least and no more than the greatest of the points that it counts
 -- (A9).

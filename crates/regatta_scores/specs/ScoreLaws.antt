@@ -1,5 +1,5 @@
 -- Laws of all scores of a series: none is below 1.0, so boats beat each other in three cases alone.
-use Rattle.std.specs.Prelude.{◌≡◌, ◌↔◌, ℕ, ◌≤◌, true, All}
+use Rattle.std.specs.Prelude.{◌≡◌, ◌↔◌, ◌≤◌, true, All}
 use Rattle.regatta_terms.specs.Entries.{EntryParts, IsEntry, IsRedress}
 use Rattle.regatta_terms.specs.Rules.{RulesParts}
 use Rattle.regatta_terms.specs.declared.sail.Sail.{Sail}

@@ -20,7 +20,7 @@ use Rattle.regatta_scores.specs.Journal.{Journal, same_sail, entered, held, scor
 use Rattle.regatta_scores.specs.RacePoints.{Status, Finished, Coded, status, plain, journal_race}
 use Rattle.regatta_scores.specs.Averages as averages
 use Rattle.regatta_scores.specs.Exclusions as exclusion
-use Rattle.regatta_scores.specs.Ranking.{Line, net, rank, is_tied}
+use Rattle.regatta_scores.specs.Ranking.{BoatScores, net, rank, is_tied}
 
 -- her score before redress in each scored race, and her redress there (A9)
 abbrev pub row_items : RulesParts → Journal → Sail → List RowItem
@@ -52,12 +52,12 @@ excluded rules journal boat =
     (exclusions_of rules.thresholds (length (scored journal))) (scores rules journal boat)
 
 -- what she is ranked by: her points in each scored race, and which of them are excluded (A8)
-abbrev pub line : RulesParts → Journal → Sail → Line
+abbrev pub line : RulesParts → Journal → Sail → BoatScores
 line rules journal boat =
     record { points = points rules journal boat; excluded = excluded rules journal boat }
 
 -- the same of each boat entered in the series, in the order of the entry list (A2.2, A8)
-abbrev pub lines : RulesParts → Journal → List Line
+abbrev pub lines : RulesParts → Journal → List BoatScores
 lines rules journal = map (line rules journal) (entered journal)
 
 -- ---- the abbreviation in a cell (A10)
@@ -110,7 +110,7 @@ cells rules journal boat =
     (zip (scored journal) (zip (points rules journal boat) (excluded rules journal boat)))
 
 -- her row: her rank among these boats (A8), her series score (A2.1) and her cells
-abbrev pub row : RulesParts → Journal → List Line → Sail → Row
+abbrev pub row : RulesParts → Journal → List BoatScores → Sail → Row
 row rules journal lines boat =
     let line = line rules journal boat in
     record {

@@ -8,7 +8,7 @@ use Rattle.regatta_scores.specs.declared.boats.RowItem.{RowItem}
 use Rattle.regatta_scores.specs.declared.boats.Scored.{Scored}
 use Rattle.regatta_scores.specs.Averages.{points}
 use Rattle.regatta_scores.specs.Exclusions as exclusion
-use Rattle.regatta_scores.specs.Ranking.{Line, better, places}
+use Rattle.regatta_scores.specs.Ranking.{BoatScores, better, places}
 
 -- ---- exclusions (A2.1, 90.3(b))
 
@@ -56,17 +56,17 @@ nothing_of_no_race = refl
 -- ---- ties (A8)
 
 -- a boat's scores, where nothing is excluded
-abbrev pub all_kept : List ℕ → Line
-all_kept points = record { points = points; excluded = map (λ _. false) points }
+abbrev pub all_counting : List ℕ → BoatScores
+all_counting points = record { points = points; excluded = map (λ _. false) points }
 
 -- a boat's scores, where one is excluded from three races on
-abbrev pub one_excluded : List ℕ → Line
+abbrev pub one_excluded : List ℕ → BoatScores
 one_excluded points = record { points = points; excluded = flags 3 (map score points) }
 
-pub best_score_decides : better (all_kept (10 ∷ 40 ∷ [])) (all_kept (20 ∷ 30 ∷ [])) ≡ Less
+pub best_score_decides : better (all_counting (10 ∷ 40 ∷ [])) (all_counting (20 ∷ 30 ∷ [])) ≡ Less
 best_score_decides = refl
 
-pub last_race_decides : better (all_kept (20 ∷ 10 ∷ [])) (all_kept (10 ∷ 20 ∷ [])) ≡ Less
+pub last_race_decides : better (all_counting (20 ∷ 10 ∷ [])) (all_counting (10 ∷ 20 ∷ [])) ≡ Less
 last_race_decides = refl
 
 pub excluded_last_race_decides :
@@ -80,7 +80,8 @@ pub no_excluded_score_is_listed :
 no_excluded_score_is_listed = refl
 
 pub complete_tie_shares_a_rank :
-    places (all_kept (15 ∷ 15 ∷ []) ∷ all_kept (15 ∷ 15 ∷ []) ∷ all_kept (30 ∷ 30 ∷ []) ∷ [])
+    places
+    (all_counting (15 ∷ 15 ∷ []) ∷ all_counting (15 ∷ 15 ∷ []) ∷ all_counting (30 ∷ 30 ∷ []) ∷ [])
     ≡ record { rank = 1; tied = true } ∷ record { rank = 1; tied = true }
     ∷ record { rank = 3; tied = false } ∷ []
 complete_tie_shares_a_rank = refl
@@ -89,7 +90,7 @@ pub nobody_has_no_rank : places [] ≡ []
 nobody_has_no_rank = refl
 
 pub first_rank_is_shared_without_a_race :
-    places (all_kept [] ∷ all_kept [] ∷ [])
+    places (all_counting [] ∷ all_counting [] ∷ [])
     ≡ record { rank = 1; tied = true } ∷ record { rank = 1; tied = true } ∷ []
 first_rank_is_shared_without_a_race = refl
 

@@ -2,8 +2,20 @@
 use crate::items::Items;
 use regatta_terms::{Redress, Tenths};
 
-/// A boat's score in one race before redress, and her redress there (RRS A9).
+/// A boat's score in one race before redress, and whether she stands in its finishing order.
 #[derive(Clone, Copy, Debug, PartialEq, Eq)]
+pub struct RaceScore {
+    /// The points without redress, in tenths.
+    pub plain: Tenths,
+    /// Whether she stands in the finishing order, with a code or without.
+    pub placed: bool,
+}
+
+/// The scores of the boats in one race, in the order of their numbers.
+pub type RaceScores = Items<RaceScore>;
+
+/// A boat's score in one race before redress, and her redress there (RRS A9).
+#[derive(Clone, Copy, Debug, Default, PartialEq, Eq)]
 pub struct RowItem {
     /// The points without redress, in tenths.
     pub plain: Tenths,
@@ -12,7 +24,7 @@ pub struct RowItem {
 }
 
 /// A boat's score in one race, and whether it may be excluded.
-#[derive(Clone, Copy, Debug, PartialEq, Eq)]
+#[derive(Clone, Copy, Debug, Default, PartialEq, Eq)]
 pub struct Scored {
     /// The points, in tenths.
     pub points: Tenths,

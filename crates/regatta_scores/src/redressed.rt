@@ -6,7 +6,7 @@ ghost use Rattle.regatta_scores.specs.Averages.{has_average, own_points, average
 ghost use Rattle.regatta_scores.specs.Averages.{counted, total, average_over, redressed, points};
 
 use crate::boats::RowItem;
-use crate::items::{Items, Points};
+use crate::items::{Items, PerRace, Points};
 use crate::points::tenths;
 use regatta_terms::{Redress, Tenths};
 use std::alloc::{AllocError, Global};
@@ -20,7 +20,7 @@ fn has_average(redress: Option<Redress>) -> bool
 
 /// Her points in a race where she has no average.
 fn own_points(item: &RowItem) -> Tenths
-    ensures { result ≡ own_points item.now item.now.redress }
+    ensures { result ≡ own_points item.now }
 {
     match item.redress {
         Some(Redress::Points(points)) => tenths(points.get()),
@@ -100,7 +100,7 @@ fn average_over(before: &[RowItem], after: &[RowItem], plain: Tenths) -> Tenths
 fn redressed(row: &[RowItem], i: usize, item: &RowItem) -> Tenths
     requires few { length row.now ≤ MAX_RACES }
     requires i { i < length row.now }
-    ensures { result ≡ redressed row.now i item.now item.now.redress }
+    ensures { result ≡ redressed row.now i item.now }
 {
     let plain = item.plain;
     match item.redress {
@@ -116,15 +116,26 @@ fn redressed(row: &[RowItem], i: usize, item: &RowItem) -> Tenths
 /// An award is taken as it is. An average is over her points in the other races, or in the races
 /// before, to the nearest tenth with 0.05 upward; races in which she has an average herself don't
 /// count, and where none is left her points are those without redress. At most
-/// [`MAX_RACES`](regatta_terms::MAX_RACES) races; the one error is want of memory.
+/// [`MAX_RACES`](regatta_terms::MAX_RACES) races. It takes no memory.
+pub fn redressed_points(row: &[RowItem]) -> PerRace<Tenths>
+    requires { length row.now ≤ MAX_RACES }
+    ensures { result.items ≡ points row.now }
+{
+    let mut found = PerRace::new();
+    for (i, item) in row.iter().enumerate() {
+        found.push(redressed(row, i, item));
+    }
+    found
+}
+
+/// One boat's points with redress, as [`redressed_points`] gives them, in a list of their own.
+///
+/// At most [`MAX_RACES`](regatta_terms::MAX_RACES) races; the one error is want of memory.
 pub fn averages(alloc: Global, row: &[RowItem]) -> Result<Points, AllocError>
     requires { length row.now ≤ MAX_RACES }
     ensures { IfOk result (λ found. found ≡ points row.now) }
 {
-    let mut found = Vec::with_capacity(alloc, row.len())?;
-    for (i, item) in row.iter().enumerate() {
-        found.push(redressed(row, i, item))?;
-    }
+    let found = Vec::from_slice(alloc, &redressed_points(row))?;
     Ok(Items::new(found))
 }
 

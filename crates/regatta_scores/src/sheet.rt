@@ -30,8 +30,8 @@ pub struct Held {
     pub redress: Option<Redress>,
 }
 
-/// Nothing is held.
-pub(crate) const NOTHING: Held = Held {
+/// What a boat holds about which nothing was decided: no code, no penalty, no redress.
+pub const NOTHING_HELD: Held = Held {
     code: None,
     zfp: 0,
     scp: 0,
@@ -71,7 +71,7 @@ impl RaceSheet {
     {
         Ok(RaceSheet {
             order: Groups::new(alloc),
-            held: vec![in alloc; NOTHING; boats as usize]?,
+            held: vec![in alloc; NOTHING_HELD; boats as usize]?,
         })
     }
 
@@ -107,8 +107,8 @@ impl RaceSheet {
     /// that the change names are among the sheet's. Who is placed, last, tied or ahead, doesn't
     /// stand in the order yet; the other boat that she joins or goes ahead of, and a boat that goes
     /// out, stand in it. What a boat holds from now on has at most
-    /// [`MAX_PENALTIES`](regatta_terms::MAX_PENALTIES) penalties of each kind. The one error is want
-    /// of memory.
+    /// [`MAX_PENALTIES`](regatta_terms::MAX_PENALTIES) penalties of each kind. The one error is
+    /// want of memory.
     pub fn after(&self, change: Change) -> Result<RaceSheet, AllocError>
         requires { Allows self.now change }
         ensures { IfOk result (λ sheet. sheet ≡ after self.now change) }
@@ -132,7 +132,7 @@ impl RaceSheet {
         let alloc = self.allocator();
         let order = self.order.copy(alloc)?;
         let mut held = Vec::from_slice(alloc, &self.held)?;
-        held.push(NOTHING)?;
+        held.push(NOTHING_HELD)?;
         Ok(RaceSheet { order, held })
     }
 

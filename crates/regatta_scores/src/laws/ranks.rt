@@ -1,12 +1,13 @@
 //! Laws of exclusions, of the comparison of boats, and of ranks.
 ghost use Rattle.regatta_scores.specs.ExclusionLaws.{WorstAreExcluded};
 ghost use Rattle.regatta_scores.specs.RankLaws.{ComparisonIsTotal, BeatingIsAnOrder};
-ghost use Rattle.regatta_scores.specs.RankLaws.{KeptScoresRise, TiesAreComplete, RowsTieCompletely};
+ghost use Rattle.regatta_scores.specs.RankLaws.{CountingScoresRise, TiesAreComplete};
+ghost use Rattle.regatta_scores.specs.RankLaws.{RowsTieCompletely};
 ghost use Rattle.regatta_scores.specs.RankLaws.{StandingHasTheEntered, RanksFollowEachOther};
 ghost use Rattle.regatta_scores.specs.RankLaws.{BeatsInThreeCases};
 
-/// The excluded scores are as many as the rules say or all that may be excluded, and none that is
-/// kept and may be excluded is worse than one that is excluded (RRS A2.1, 90.3(b)).
+/// The excluded scores are as many as the rules say or all that may be excluded, and none that
+/// counts and may be excluded is worse than one that is excluded (RRS A2.1, 90.3(b)).
 pub fn worst_are_excluded()
     ensures { WorstAreExcluded }
 {}
@@ -17,9 +18,10 @@ pub fn comparison_is_total()
     ensures beating { BeatingIsAnOrder }
 {}
 
-/// The kept scores from best to worst rise, and are the kept scores in another order (RRS A8.1).
-pub fn kept_scores_rise()
-    ensures { KeptScoresRise }
+/// From best to worst the scores that count rise, and are those that count in another order (RRS
+/// A8.1).
+pub fn counting_scores_rise()
+    ensures { CountingScoresRise }
 {}
 
 /// Boats with equally many races, and no score below 1.0, beat each other in the three cases of the
@@ -29,7 +31,7 @@ pub fn boats_are_beaten_in_three_cases()
 {}
 
 /// Two boats share a rank exactly where no rule of A8 breaks their tie: their series scores, their
-/// kept scores from best to worst and their points in every scored race are equal.
+/// scores that count from best to worst and their points in every scored race are equal.
 pub fn ties_are_complete()
     ensures boats { TiesAreComplete }
     ensures rows { RowsTieCompletely }

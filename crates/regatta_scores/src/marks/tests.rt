@@ -1,5 +1,5 @@
 use super::*;
-use crate::sheet::NOTHING;
+use crate::sheet::NOTHING_HELD;
 use regatta_terms::Redress;
 
 #[test]
@@ -7,7 +7,7 @@ fn shows_redress_ahead_of_a_code_and_of_penalties(rt: HostRuntime) {
     let penalised = Held {
         zfp: 1,
         scp: 2,
-        ..NOTHING
+        ..NOTHING_HELD
     };
     assert_eq!(rt; mark(&penalised, true), Some(Abbrev::Zfp));
     assert_eq!(rt; mark(&penalised, false), Some(Abbrev::Dnc));
@@ -21,7 +21,7 @@ fn shows_redress_ahead_of_a_code_and_of_penalties(rt: HostRuntime) {
         ..coded
     };
     assert_eq!(rt; mark(&redressed, true), Some(Abbrev::Rdg));
-    assert_eq!(rt; mark(&NOTHING, true), None);
+    assert_eq!(rt; mark(&NOTHING_HELD, true), None);
 }
 
 #[test]

@@ -2,7 +2,7 @@ ghost use Rattle.std.specs.Prelude.{IsTrue};
 ghost use Rattle.regatta_scores.specs.SheetFacts.{Allows};
 
 use super::*;
-use crate::sheet::{Change, NOTHING};
+use crate::sheet::{Change, NOTHING_HELD};
 use regatta_terms::{MAX_BOATS, MAX_PENALTIES};
 use std::test::Fail;
 
@@ -56,14 +56,14 @@ fn penalties(zfp: u8, scp: u8) -> Held {
     Held {
         zfp,
         scp,
-        ..NOTHING
+        ..NOTHING_HELD
     }
 }
 
 fn coded(code: Code) -> Held {
     Held {
         code: Some(code),
-        ..NOTHING
+        ..NOTHING_HELD
     }
 }
 
@@ -138,7 +138,12 @@ fn ties_codes_and_strikes_move_places(rt: HostRuntime) -> Result<(), Fail> {
         points(rt.alloc(), &sheet, &rules)?.as_slice(),
         struck.as_slice()
     );
-    let placed = all_placed(rt.alloc(), &sheet)?;
+    let scores = race_scores(rt.alloc(), &sheet, &rules, &mut Work::new())?;
+    let placed: Vec<bool> = scores
+        .as_slice()
+        .iter()
+        .map(|score| score.placed)
+        .collect(rt.alloc())?;
     assert_eq!(rt; placed.as_slice(), [true, true, false, true].as_slice());
     Ok(())
 }

@@ -1,11 +1,11 @@
-use Rattle.std.proofs.Common.{◌≡◌, ◌++◌, ◌∷◌, [], ap, ◌∙◌, sym, nat_eq, length, refl, None, arith}
+use Rattle.std.proofs.Common.{◌≡◌, ◌++◌, ◌∷◌, [], ap, ◌∙◌, sym, length, refl, None, arith}
 use Rattle.std.proofs.lemmas.List.{get_or_read_under}
 use Rattle.regatta_scores.specs.Sheet.{nothing_held}
-use Rattle.regatta_scores.specs.RacePoints.{race_of, plain, dnf_by}
-use Rattle.regatta_scores.specs.PlacedPoints.{plain_with, number_came_with}
-use Rattle.regatta_scores.proofs.Placed.{plain_is}
+use Rattle.regatta_scores.specs.RacePoints.{race_score, dnf_by}
+use Rattle.regatta_scores.specs.PlacedPoints.{score_with, number_came_with}
+use Rattle.regatta_scores.proofs.Placed.{score_is}
 use Rattle.regatta_scores.proofs.Ranges.{map_range_more}
-use Rattle.regatta_scores.proofs.points.race_points.Goals as goal
+use Rattle.regatta_scores.proofs.points.scores.Goals as goal
 
 -- one more boat is scored
 pub loop-boat-preserved : goal.loop-boat-preserved
@@ -26,8 +26,10 @@ loop-boat-preserved c =
     let placed_is =
     get_or_read_under placed boat (length held) c.index.result.now None c.index.ensures
     (omega arith) (sym is.one_each) in
-    let scored : c.plain.result ≡ plain nat_eq rules (race_of order held) boat =
-    c.plain.ensures ∙ (λ i. plain_with rules (held_is i) (placed_is i) (length held) (dnf_is i))
-    ∙ sym (plain_is order held placed is rules boat) in
+    let scored : c.race_score.result ≡ race_score rules c.args.sheet.now boat =
+    c.race_score.ensures
+    ∙ (λ i. score_with rules (held_is i) (placed_is i) (length held) (dnf_is i))
+    ∙ sym (score_is order held placed is rules boat)
+    ∙ (λ i. race_score rules (record { order = order; held = c.all_held-held.ensures i }) boat) in
     c.in_ok-push.ensures.items ∙ (λ i. c.loop-boat.invariant i ++ scored i ∷ [])
-    ∙ sym (map_range_more (plain nat_eq rules (race_of order held)) boat)
+    ∙ sym (map_range_more (race_score rules c.args.sheet.now) boat)

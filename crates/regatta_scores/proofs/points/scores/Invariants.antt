@@ -1,0 +1,9 @@
+use Rattle.std.proofs.Common.{◌≡◌, map}
+use Rattle.std.specs.List.{range_with_len}
+use Rattle.regatta_scores.specs.RacePoints.{race_score}
+use Rattle.regatta_scores.proofs.points.scores.Given as goal
+
+-- the boats so far are scored
+abbrev pub invariant-loop-boat : goal.invariant-loop-boat
+invariant-loop-boat l =
+    l.scores.items ≡ map (race_score l.rules l.fn.sheet) (range_with_len 0 l.boat)
