@@ -1,0 +1,11 @@
+//! The office under its lock, and the passes by which seats run commands and watch without it.
+#![tactic(auto)]
+
+mod pass;
+mod receipt;
+mod sheet;
+
+pub use pass::Pass;
+pub use receipt::Receipt;
+pub use regatta_watch::{OfficeName, ShowFault};
+pub use sheet::Sheet;
