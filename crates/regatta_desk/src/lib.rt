@@ -1,10 +1,12 @@
 //! The office under its lock, and the passes by which seats run commands and watch without it.
 #![tactic(auto)]
 
+mod desk;
 mod pass;
 mod receipt;
 mod sheet;
 
+pub use desk::Desk;
 pub use pass::Pass;
 pub use receipt::Receipt;
 pub use regatta_watch::{OfficeName, ShowFault};
