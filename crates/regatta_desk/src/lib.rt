@@ -2,11 +2,15 @@
 #![tactic(auto)]
 
 mod desk;
+mod office;
+mod opening;
 mod pass;
 mod receipt;
 mod sheet;
 
 pub use desk::Desk;
+pub use office::{Office, Opened};
+pub use opening::OpenFault;
 pub use pass::Pass;
 pub use receipt::Receipt;
 pub use regatta_watch::{OfficeName, ShowFault};
