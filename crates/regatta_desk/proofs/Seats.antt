@@ -13,6 +13,7 @@ use Rattle.regatta_desk.specs.Passes.{PassValue}
 use Rattle.regatta_desk.specs.Offices.{AreSeated, seated}
 
 module _ (entries : Journal) where
+  -- passes in order of seat from one, and the next
   seated_from : (n : ℕ) (passes : List PassValue) (p : PassValue)
       → ((k : ℕ) (q : PassValue) → slice_get passes k ≡ Some q → q ≡ seated entries (n + k))
       → p ≡ seated entries (n + length passes)
@@ -28,6 +29,7 @@ module _ (entries : Journal) where
       (last ∙ ap (seated entries) (sym (shift (length xs)))) k q at
       ∙ ap (seated entries) (shift k)
 
+  -- the same from seat 1
   pub seated_push : (passes : List PassValue) (p : PassValue) → AreSeated entries passes
       → p ≡ seated entries (length passes) → AreSeated entries (passes ++ p ∷ [])
   seated_push passes p all last k q at =
@@ -37,6 +39,7 @@ module _ (entries : Journal) where
       (last ∙ ap (seated entries) (sym (plain (length passes)))) k q at
       ∙ ap (seated entries) (plain k)
 
+-- what holds of all holds of the rest, and of the first
 pub all_rest : {X : Type 0} (P : X → Type 0) (x : X) (xs : List X) → All P (x ∷ xs) → All P xs
 all_rest P x xs all k d within = all (suc k) d (omega arith)
 
@@ -44,9 +47,9 @@ pub all_first : {A : Type 0} (P : A → Type 0) (x : A) (xs : List A) → All P 
 all_first P x xs h = h 0 x (omega arith)
 
 -- a view that sees the published value whole
-sees_looking : (v : ReaderView) (x : Published) (entries : Journal) (rules : RulesParts) (history : TableId)
-    → v ≡ looking x → x.entries ≡ entries → x.rules ≡ rules → x.history ≡ history
-    → Sees v entries rules history
+sees_looking : (v : ReaderView) (x : Published) (entries : Journal) (rules : RulesParts)
+    (history : TableId) → v ≡ looking x → x.entries ≡ entries → x.rules ≡ rules
+    → x.history ≡ history → Sees v entries rules history
 sees_looking v x entries rules history is e r b = (
   subst (λ (w : Journal). IsPrefix entries w) (sym (ap (λ (w : ReaderView). w.seen) is ∙ e))
       (prefix_self entries),
@@ -57,8 +60,9 @@ sees_looking v x entries rules history is e r b = (
   ),
 )
 
+-- so each of the watchers sees it
 pub all_sees : (views : List ReaderView) (x : Published) (entries : Journal) (rules : RulesParts)
-    (history : TableId) → All (λ v. v ≡ looking x) views → x.entries ≡ entries → x.rules ≡ rules
-    → x.history ≡ history → All (λ v. Sees v entries rules history) views
+    (history : TableId) → All (λ v. v ≡ looking x) views → x.entries ≡ entries
+    → x.rules ≡ rules → x.history ≡ history → All (λ v. Sees v entries rules history) views
 all_sees views x entries rules history h e r b =
     λ k d lt. sees_looking _ x entries rules history (h k d lt) e r b

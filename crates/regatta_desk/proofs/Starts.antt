@@ -1,5 +1,6 @@
 -- Why an office isn't opened.
-use Rattle.std.proofs.Common.{◌≡◌, sym, subst, None, Result, Ok, Err, IfErr, IsErrAnd, ◌⊎◌, inl, inr}
+use Rattle.std.proofs.Common.{◌≡◌, sym, subst, None, Result, Ok, Err, IfErr, IsErrAnd, ◌⊎◌, inl}
+use Rattle.std.proofs.Common.{inr}
 use Rattle.regatta_terms.specs.Rules.{RulesParts}
 use Rattle.regatta_scores.specs.Journal.{Journal}
 use Rattle.regatta_board.specs.Replays.{first_refused}
