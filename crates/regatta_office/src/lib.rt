@@ -1,4 +1,5 @@
-//! The race office: it answers the lines of a scorer over any streams.
+//! The race office: it answers the lines of a scorer over any streams, and of seats that share a
+//! desk under a lock and watch without it.
 #![tactic(auto)]
 
 mod answers;
@@ -15,6 +16,9 @@ mod start_list;
 pub use command_line::program;
 pub use complaint::Complaint;
 pub use form::Form;
+pub use regatta_desk::{
+    Desk, Next, Office, OfficeName, OpenFault, Opened, Pass, Receipt, Sheet, ShowFault, answer_alone,
+};
 pub use regatta_streams::{Device, Failures, Foreign, Sink, Source, StreamFault, Tape, write_all};
 pub use run::{INPUT_LIMIT, RunFault, replay};
 pub use start_list::start_of;

@@ -1,0 +1,5 @@
+pub mod Receipts
+pub mod Passes
+pub mod Desks
+pub mod Offices
+pub mod Replies
