@@ -5,10 +5,10 @@ use Rattle.std.specs.Io.KnownBytes.{Appends, Consumes}
 use Rattle.regatta_streams.specs.Texts.{AppendsPrefix}
 use Rattle.regatta_terms.specs.Rules.{RulesParts}
 use Rattle.regatta_scores.specs.Journal.{Journal}
-use Rattle.regatta_talk.specs.KeptLines.{kept_lines}
+use Rattle.regatta_talk.specs.HeardLines.{heard_lines}
 use Rattle.regatta_office.specs.Transcript.{Talk, has_quit, up_to_quit, replies, talk_at_end}
 
--- a point of a run: the series rules, where it stands, and what is kept of the line at hand
+-- a point of a run: the series rules, where it stands, and what is heard of the line at hand
 pub record Point : Type 0 where
   pub rules : RulesParts
   pub talk : Talk
@@ -34,7 +34,7 @@ said rules talk lines = record {
 
 -- what is still to come, with the rest of the text
 abbrev pub coming : Bool → Point → List ℕ → Said
-coming counts point text = said point.rules point.talk (kept_lines counts point.line text)
+coming counts point text = said point.rules point.talk (heard_lines counts point.line text)
 
 -- nothing is to come
 abbrev pub ended : Bool → Point → Said
