@@ -54,6 +54,18 @@ pub record Went (old new : Option (List ℕ)) (bytes : List ℕ) (before after :
   pub goes : (counts : Bool) (rest : List ℕ)
       → coming counts before (bytes ++ rest) ≡ ahead written (unless quit counts after rest)
 
+-- what a writer took for the first bytes of a piece, as many as are told, or for all of it where a
+-- QUIT ended the run
+abbrev pub Took : Option (List ℕ) → Option (List ℕ) → List ℕ → Point → Point → Option ℕ → Type 0
+Took old new piece before after (Some n) = Went old new (take n piece) before after false
+Took old new piece before after None = Went old new piece before after true
+
+-- what a writer took for some first bytes of a piece, behind which the run broke off
+pub record Broke (old new : Option (List ℕ)) (piece : List ℕ) (before : Point) : Type 0 where
+  pub count : ℕ
+  pub after : Point
+  pub went : Went old new (take count piece) before after false
+
 -- what a writer took at the end of a text
 pub record Finished (old new : Option (List ℕ)) (before after : Point) : Type 0 where
   pub written : List ℕ
