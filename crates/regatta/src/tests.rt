@@ -5,6 +5,7 @@ use regatta_terms::{Absent, Entry, Rules};
 use std::alloc::Global;
 use std::test::Fail;
 
+mod boards;
 mod complaints;
 mod faults;
 mod programs;

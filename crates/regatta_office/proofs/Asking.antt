@@ -1,7 +1,8 @@
 -- What words ask for, by what `clap` says of them.
 use Rattle.std.specs.Prelude.{◌⊎◌, ◌||◌, Box}
 use Rattle.std.proofs.Common.{◌≡◌, Bool, true, false, List, Option, Some, None}
-use Rattle.std.proofs.Common.{[], Ok, Err, IfSome, codes, inl, inr, option_map, refl, sym, ap, ◌∙◌, subst}
+use Rattle.std.proofs.Common.{Ok, Err, IfSome, codes, inl, inr, option_map, refl, sym, ap}
+use Rattle.std.proofs.Common.{◌∙◌, subst}
 use Rattle.std.specs.Box.{box_value}
 use Rattle.clap.specs.Words.{App, FailsBy, HasMatchesOf, IsAmong, Row, Text, fault_of}
 use Rattle.clap.specs.Words.{first_value, is_simple, kind_of, rows_of, subcommand_of}

@@ -1,5 +1,6 @@
 pub mod Asking
 pub mod Entering
+pub mod Gathering
 pub mod Refused
 pub mod Results
 pub mod Saying

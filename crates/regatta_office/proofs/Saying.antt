@@ -7,11 +7,11 @@ use Rattle.regatta_terms.specs.declared.line.Line.{Line}
 use Rattle.regatta_terms.specs.declared.line.LineFault.{LineFault}
 use Rattle.regatta_terms.specs.TextLines.{is_line_end, lines_by}
 use Rattle.regatta_office.specs.Coming.{Point, Said, ahead, coming, ended, said}
-use Rattle.regatta_talk.specs.KeptLines.{keep, kept_lines}
+use Rattle.regatta_talk.specs.HeardLines.{heard_with, heard_lines}
 use Rattle.regatta_office.specs.Coming.{unless}
 use Rattle.regatta_office.specs.Transcript.{Talk, has_quit, is_quit, replies, talk_after}
 use Rattle.regatta_office.specs.Transcript.{talk_at_end, text_after, up_to_quit}
-use Rattle.regatta_talk.proofs.KeptLines.{kept_byte, kept_end, kept_of_text, kept_reads}
+use Rattle.regatta_talk.proofs.HeardLines.{heard_byte, heard_end, heard_of_text, heard_reads}
 
 -- a line, by what it reads as, and what is said to the lines behind it
 abbrev next_said : RulesParts → Talk → Result Line LineFault → List (List ℕ) → Said
@@ -37,28 +37,28 @@ pub said-cons : (rules : RulesParts) (talk : Talk) (line : List ℕ) (rest : Lis
 said-cons rules talk line rest = said-by rules talk line rest (is_quit (line_of line)) refl
 
 -- lines that read alike are answered alike
-pub said-kept : (rules : RulesParts) (talk : Talk) (lines : List (List ℕ))
+pub said-heard : (rules : RulesParts) (talk : Talk) (lines : List (List ℕ))
     → said rules talk (map (take 82) lines) ≡ said rules talk lines
-said-kept rules talk [] = refl
-said-kept rules talk (line ∷ rest) =
+said-heard rules talk [] = refl
+said-heard rules talk (line ∷ rest) =
     said-cons rules talk (take 82 line) (map (take 82) rest)
     ∙ ap (λ (asked : Result Line LineFault). next_said rules talk asked (map (take 82) rest))
-    (kept_reads line)
+    (heard_reads line)
     ∙ ap (λ (s : Said). ahead (text_after rules talk (line_of line))
     (cond (is_quit (line_of line)) (record {
       text = [];
       journal = (talk_after rules talk (line_of line)).journal;
       quit = true;
     }) s))
-    (said-kept rules (talk_after rules talk (line_of line)) rest)
+    (said-heard rules (talk_after rules talk (line_of line)) rest)
     ∙ sym (said-cons rules talk line rest)
 
 -- what is to come at the beginning of a text is what is said to its lines
 pub coming-whole : (counts : Bool) (rules : RulesParts) (talk : Talk) (text : List ℕ)
     → coming counts (record { rules = rules; talk = talk; line = [] }) text
     ≡ said rules talk (lines_by counts text)
-coming-whole counts rules talk text = ap (said rules talk) (kept_of_text counts text)
-    ∙ said-kept rules talk (lines_by counts text)
+coming-whole counts rules talk text = ap (said rules talk) (heard_of_text counts text)
+    ∙ said-heard rules talk (lines_by counts text)
 
 -- the end of a line
 pub line_ends : (counts : Bool) (point : Point) (byte : ℕ) (rest : List ℕ) → is_line_end byte ≡ true
@@ -72,22 +72,22 @@ pub line_ends : (counts : Bool) (point : Point) (byte : ℕ) (rest : List ℕ) �
       line = [];
     }) rest)
 line_ends counts point byte rest is =
-    ap (said point.rules point.talk) (kept_end counts point.line byte rest is)
-    ∙ said-cons point.rules point.talk point.line (kept_lines counts [] rest)
+    ap (said point.rules point.talk) (heard_end counts point.line byte rest is)
+    ∙ said-cons point.rules point.talk point.line (heard_lines counts [] rest)
 
 -- another byte of a line
 pub line_goes : (counts : Bool) (point : Point) (byte : ℕ) (rest : List ℕ)
     → is_line_end byte ≡ false
     → coming counts point (byte ∷ rest) ≡ coming counts
-    (record point { line = keep point.line byte }) rest
+    (record point { line = heard_with point.line byte }) rest
 line_goes counts point byte rest is = ap (said point.rules point.talk)
-    (kept_byte counts point.line byte rest is)
+    (heard_byte counts point.line byte rest is)
 
 -- the end of a text, with bytes of a line at hand, and with none
-last_kept : (line : List ℕ) → 0 < length line → kept_lines true line [] ≡ line ∷ []
-unfolding kept_lines
-last_kept [] some = absurd (omega (arith, some))
-last_kept (byte ∷ line) some = refl
+last_heard : (line : List ℕ) → 0 < length line → heard_lines true line [] ≡ line ∷ []
+unfolding heard_lines
+last_heard [] some = absurd (omega (arith, some))
+last_heard (byte ∷ line) some = refl
 
 last_said : (quit : Bool) (rules : RulesParts) (talk : Talk) (text : List ℕ)
     → ahead text (cond quit (record { text = []; journal = talk.journal; quit = true })
@@ -106,19 +106,19 @@ pub line_last : (point : Point) → 0 < length point.line
       line = [];
     }))
 line_last point some =
-    ap (said point.rules point.talk) (last_kept point.line some)
+    ap (said point.rules point.talk) (last_heard point.line some)
     ∙ said-cons point.rules point.talk point.line []
     ∙ last_said (is_quit (line_of point.line)) point.rules
     (talk_after point.rules point.talk (line_of point.line))
     (text_after point.rules point.talk (line_of point.line))
 
-none_kept : (line : List ℕ) → length line ≡ 0 → kept_lines true line [] ≡ []
-unfolding kept_lines
-none_kept [] none = refl
-none_kept (byte ∷ line) none = absurd (omega (arith, none))
+none_heard : (line : List ℕ) → length line ≡ 0 → heard_lines true line [] ≡ []
+unfolding heard_lines
+none_heard [] none = refl
+none_heard (byte ∷ line) none = absurd (omega (arith, none))
 
 pub line_none : (point : Point) → length point.line ≡ 0 → coming true point [] ≡ ended false point
-line_none point none = ap (said point.rules point.talk) (none_kept point.line none)
+line_none point none = ap (said point.rules point.talk) (none_heard point.line none)
     ∙ said-none point.rules point.talk
 
 -- ---- a text ahead

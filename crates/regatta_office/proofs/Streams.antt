@@ -9,26 +9,27 @@ use Rattle.regatta_streams.specs.Texts.{AppendsPrefix, GaveAtMost}
 use Rattle.std.proofs.Math.Seq.{take-append_seam}
 use Rattle.std.specs.Io.KnownBytes.{Appends, Consumes, IsAtEnd, Keeps}
 use Rattle.regatta_terms.specs.Lines.{line_of}
-use Rattle.regatta_streams.proofs.KnownBytes.{appends-none, appends-then, consumes-kept}
+use Rattle.regatta_streams.proofs.KnownBytes.{appends-none, appends-then, consumes-keeps}
 use Rattle.regatta_streams.proofs.KnownBytes.{consumes-then}
 use Rattle.regatta_terms.specs.TextLines.{is_line_end, last_line}
 use Rattle.regatta_office.specs.Coming.{Cuts, Stops, Finished, IsTooLong, IsWithin, Point, ReadSome}
 use Rattle.regatta_office.specs.Coming.{Said, Talked, Went, said, ahead, coming, ended, unless}
-use Rattle.regatta_talk.specs.KeptLines.{keep, kept_lines}
+use Rattle.regatta_talk.specs.HeardLines.{heard_with, heard_lines}
 use Rattle.regatta_office.specs.Transcript.{is_quit, talk_after, text_after}
 use Rattle.regatta_office.proofs.Saying.{ahead-ahead, line_ends, line_goes, line_last, line_none}
 use Rattle.regatta_office.proofs.Saying.{said-none}
 
--- a byte of a line was kept
-pub byte_kept : (out : Option (List ℕ)) (before after : Point) (byte : ℕ) → is_line_end byte ≡ false
-    → after ≡ record before { line = keep before.line byte }
+-- a byte of a line was heard
+pub byte_heard : (out : Option (List ℕ)) (before after : Point) (byte : ℕ)
+    → is_line_end byte ≡ false
+    → after ≡ record before { line = heard_with before.line byte }
     → Went out out (byte ∷ []) before after false
-byte_kept out before after byte is kept = record {
+byte_heard out before after byte is heard = record {
   written = [];
   wrote = appends-none out;
-  rules = ap (λ (p : Point). p.rules) kept;
+  rules = ap (λ (p : Point). p.rules) heard;
   goes = λ counts rest. line_goes counts before byte rest is
-      ∙ ap (λ (p : Point). coming counts p rest) (sym kept);
+      ∙ ap (λ (p : Point). coming counts p rest) (sym heard);
 }
 
 -- a line ended, and was answered
@@ -53,7 +54,7 @@ line_ended old new before after byte quit is quits wrote went = record {
       (unless (sym quits i) counts (sym went i) rest));
 }
 
--- the same of an answer that may have failed, with what was kept of the line
+-- the same of an answer that may have failed, with what was heard of the line
 pub line_ended_ok : {E : Type 0} (old new : Option (List ℕ)) (before after : Point) (line : List ℕ)
     (byte : ℕ) (r : Result Bool E)
     → is_line_end byte ≡ true → line ≡ before.line
@@ -179,7 +180,7 @@ cut-then a b c xs rest p q u cut =
     (prefix-behind a b c u.written _ u.wrote cut)
 
 nothing_comes : (q : Point) → coming false q [] ≡ ended false q
-unfolding kept_lines
+unfolding heard_lines
 nothing_comes q = ap (said q.rules q.talk) (none q.line) ∙ said-none q.rules q.talk
   where
     none : (line : List ℕ) → last_line false line ≡ []
@@ -363,9 +364,9 @@ module _ (a b c d e f : Option (List ℕ)) (p q r : Point) (n : ℕ)
 
   -- the reader broke off
   pub broke_off : Keeps b c → ReadSome a c d e (λ given. (coming false p given).text)
-  broke_off kept = (
+  broke_off stays = (
     u.given,
-    consumes-kept a b c u.given u.took kept,
+    consumes-keeps a b c u.given u.took stays,
     subst (Appends d e)
         (sym (ap (λ (s : Said). s.text) (ap (coming false p) (sym (append-nil u.given))
         ∙ u_goes false [] ∙ ap (ahead u.written) (nothing_comes q)) ∙ append-nil u.written))

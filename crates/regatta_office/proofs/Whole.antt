@@ -54,14 +54,14 @@ module _ (rules : RulesParts) (start : Journal) (board : BoardValue) (p : Point)
       → IfSome a (λ text. journal ≡ (coming true p text).journal)
       → P d f (final_text last.rules form last.entries)
       → IfSome a (λ text. P c f (run_text rules start form text))
-  whole_text P join None c d f form last journal same kept wrote after ends = tt
-  whole_text P join (Some text) c d f form last journal same kept wrote after ends =
+  whole_text P join None c d f form last journal same carried wrote after ends = tt
+  whole_text P join (Some text) c d f form last journal same carried wrote after ends =
       let said_is = at_start true text in
       let rules_are : last.rules ≡ rules = same ∙ ap (λ (q : Point). q.rules) e
       ∙ ap (λ (v : BoardValue). v.rules) b in
       let written : (coming true p text).text ≡ transcript rules start text = ap
       (λ (s : Said). s.text) said_is in
-      let journal_is : last.entries ≡ final_journal rules start text = kept ∙ after
+      let journal_is : last.entries ≡ final_journal rules start text = carried ∙ after
       ∙ ap (λ (s : Said). s.journal) said_is in
       subst (P c f) (λ i. written i ++ final_text (rules_are i) form (journal_is i))
       (join c d f (coming true p text).text (final_text last.rules form last.entries) wrote ends)

@@ -5,10 +5,10 @@ use Rattle.std.specs.Io.KnownBytes.{Appends, Consumes}
 use Rattle.regatta_streams.specs.Texts.{AppendsPrefix}
 use Rattle.regatta_terms.specs.Rules.{RulesParts}
 use Rattle.regatta_scores.specs.Journal.{Journal}
-use Rattle.regatta_talk.specs.KeptLines.{kept_lines}
+use Rattle.regatta_talk.specs.HeardLines.{heard_lines}
 use Rattle.regatta_office.specs.Transcript.{Talk, has_quit, up_to_quit, replies, talk_at_end}
 
--- a point of a run: the series rules, where it stands, and what is kept of the line at hand
+-- a point of a run: the series rules, where it stands, and what is heard of the line at hand
 pub record Point : Type 0 where
   pub rules : RulesParts
   pub talk : Talk
@@ -34,7 +34,7 @@ said rules talk lines = record {
 
 -- what is still to come, with the rest of the text
 abbrev pub coming : Bool → Point → List ℕ → Said
-coming counts point text = said point.rules point.talk (kept_lines counts point.line text)
+coming counts point text = said point.rules point.talk (heard_lines counts point.line text)
 
 -- nothing is to come
 abbrev pub ended : Bool → Point → Said
@@ -53,6 +53,18 @@ pub record Went (old new : Option (List ℕ)) (bytes : List ℕ) (before after :
   pub rules : after.rules ≡ before.rules
   pub goes : (counts : Bool) (rest : List ℕ)
       → coming counts before (bytes ++ rest) ≡ ahead written (unless quit counts after rest)
+
+-- what a writer took for the first bytes of a piece, as many as are told, or for all of it where a
+-- QUIT ended the run
+abbrev pub Took : Option (List ℕ) → Option (List ℕ) → List ℕ → Point → Point → Option ℕ → Type 0
+Took old new piece before after (Some n) = Went old new (take n piece) before after false
+Took old new piece before after None = Went old new piece before after true
+
+-- what a writer took for some first bytes of a piece, behind which the run broke off
+pub record Broke (old new : Option (List ℕ)) (piece : List ℕ) (before : Point) : Type 0 where
+  pub count : ℕ
+  pub after : Point
+  pub went : Went old new (take count piece) before after false
 
 -- what a writer took at the end of a text
 pub record Finished (old new : Option (List ℕ)) (before after : Point) : Type 0 where

@@ -1,5 +1,5 @@
 -- Worked examples, by computation: the default rules, no start, and the table at the end.
-use Rattle.std.specs.Prelude.{◌≡◌, ℕ, List, [], ◌∷◌, None, refl, codes}
+use Rattle.std.specs.Prelude.{◌≡◌, ℕ, List, [], ◌∷◌, ◌++◌, None, refl, codes}
 use Rattle.std.specs.Fmt.{digits}
 use Rattle.regatta_terms.specs.Lines.{line_of, line_of_words, command_of_words, command_after}
 use Rattle.regatta_terms.specs.Rules.{RulesParts}
@@ -38,21 +38,29 @@ entered_boats = refl
 
 -- two boats finish a race that counts
 pub one_race : run (codes "ENTER A\nENTER B\nFINISH 1 B\nFINISH 1 A\nSCORE 1\n")
-    ≡ codes "OK 1 1 0.0\nOK 2 1= 0.0\nOK 3 1= 0.0\nOK 4 1= 0.0\nOK 5\nTABLE 2 RACES 1\n1 B 1.0 1.0\n2 A 2.0 2.0\n"
+    ≡ codes "OK 1 1 0.0\nOK 2 1= 0.0\nOK 3 1= 0.0\nOK 4 1= 0.0\nOK 5\nTABLE 2 RACES 1\n"
+    ++ codes "1 B 1.0 1.0\n2 A 2.0 2.0\n"
 unfolding digits replies talk_at_end up_to_quit line_of line_of_words command_of_words command_after
 one_race = refl
 
 -- a boat of a tie is disqualified, and the role at hand decides who may (A6.1, A7, A5.1)
 pub a_tie_and_a_disqualification : run
-    (codes "ENTER A\nENTER B\nENTER C\nFINISH 1 A\nTIE 1 B A\nFINISH 1 C\nSCORE 1\nROLE JURY\nMARK 1 A DSQ\nROLE FINISH\nMARK 1 B DSQ\nROLE SCORER\nMARK 1 A RET\n")
-    ≡ codes "OK 1 1 0.0\nOK 2 1= 0.0\nOK 3 1= 0.0\nOK 4 1= 0.0\nOK 5 1= 0.0\nOK 6 1= 0.0\nOK 7\nROLE JURY\nOK 8 3 4.0\nROLE FINISH\nNO 4\nROLE SCORER\nNO 10\nTABLE 3 RACES 1\n1 B 1.0 1.0\n2 C 2.0 2.0\n3 A 4.0 4.0/DSQ\n"
+    (codes "ENTER A\nENTER B\nENTER C\nFINISH 1 A\nTIE 1 B A\nFINISH 1 C\nSCORE 1\n"
+    ++ codes "ROLE JURY\nMARK 1 A DSQ\nROLE FINISH\nMARK 1 B DSQ\nROLE SCORER\n"
+    ++ codes "MARK 1 A RET\n")
+    ≡ codes "OK 1 1 0.0\nOK 2 1= 0.0\nOK 3 1= 0.0\nOK 4 1= 0.0\nOK 5 1= 0.0\nOK 6 1= 0.0\n"
+    ++ codes "OK 7\nROLE JURY\nOK 8 3 4.0\nROLE FINISH\nNO 4\nROLE SCORER\nNO 10\n"
+    ++ codes "TABLE 3 RACES 1\n1 B 1.0 1.0\n2 C 2.0 2.0\n3 A 4.0 4.0/DSQ\n"
 unfolding digits replies talk_at_end up_to_quit line_of line_of_words command_of_words command_after
 a_tie_and_a_disqualification = refl
 
 -- redress as an average follows another race (A9), under other rules
-pub redress : run_text no_exclusions [] Table (codes
-    "ENTER A\nENTER B\nFINISH 1 A\nFINISH 1 B\nFINISH 2 B\nSCORE 1\nSCORE 2\nROLE JURY\nREDRESS 2 A ALL\nROLE SCORER\nSTRIKE 1 A\nBEFORE 1 A B\n")
-    ≡ codes "OK 1 1 0.0\nOK 2 1= 0.0\nOK 3 1= 0.0\nOK 4 1= 0.0\nOK 5 1= 0.0\nOK 6\nOK 7\nROLE JURY\nOK 8 1 2.0\nROLE SCORER\nOK 9 2 6.0\nOK 10 1 2.0\nTABLE 2 RACES 1 2\n1 A 2.0 1.0 1.0/RDG\n2 B 3.0 2.0 1.0\n"
+pub redress : run_text no_exclusions [] Table
+    (codes "ENTER A\nENTER B\nFINISH 1 A\nFINISH 1 B\nFINISH 2 B\nSCORE 1\nSCORE 2\n"
+    ++ codes "ROLE JURY\nREDRESS 2 A ALL\nROLE SCORER\nSTRIKE 1 A\nBEFORE 1 A B\n")
+    ≡ codes "OK 1 1 0.0\nOK 2 1= 0.0\nOK 3 1= 0.0\nOK 4 1= 0.0\nOK 5 1= 0.0\nOK 6\nOK 7\n"
+    ++ codes "ROLE JURY\nOK 8 1 2.0\nROLE SCORER\nOK 9 2 6.0\nOK 10 1 2.0\n"
+    ++ codes "TABLE 2 RACES 1 2\n1 A 2.0 1.0 1.0/RDG\n2 B 3.0 2.0 1.0\n"
 unfolding digits replies talk_at_end up_to_quit line_of line_of_words command_of_words command_after
 redress = refl
 

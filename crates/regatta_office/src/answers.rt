@@ -1,5 +1,5 @@
 //! What a line of a replay asks for, done and answered.
-ghost use Rattle.std.specs.Prelude.{◌≡◌, ◌++◌, IfOk, OnOk};
+ghost use Rattle.std.specs.Prelude.{◌≡◌, ◌++◌, IfOk, OnOk, OnErr};
 ghost use Rattle.regatta_scores.specs.Standing.{standing};
 ghost use Rattle.regatta_board.specs.Answers.{rank_of};
 ghost use Rattle.regatta_tables.specs.ReplyTexts.{reply_text};
@@ -65,6 +65,7 @@ fn answer_command(
       entries = journal_after
           board.old.rules (record { role = role; journal = board.old.entries }) command;
     }) }
+    ensures err { OnErr result (out.new.items ≡ out.old.items) }
 {
     make_room(out)?;
     let reply = do_command(board, role, command)?;
@@ -74,8 +75,9 @@ fn answer_command(
 
 /// Appends the reply to a boat's rank.
 fn answer_rank(board: &Board, sail: Sail, out: &mut Vec<u8>) -> Result<(), AllocError>
-    ensures { OnOk result (out.new.items ≡ out.old.items
+    ensures text { OnOk result (out.new.items ≡ out.old.items
         ++ reply_text (ranked_by (rank_of board.now.rules board.now.entries sail))) }
+    ensures err { OnErr result (out.new.items ≡ out.old.items) }
 {
     make_room(out)?;
     write_fitting(&ranked(board.rank(sail)), out);
@@ -84,8 +86,9 @@ fn answer_rank(board: &Board, sail: Sail, out: &mut Vec<u8>) -> Result<(), Alloc
 
 /// Appends the sheet of the board: its journal and its standing.
 fn show(board: &Board, out: &mut Vec<u8>) -> Result<(), AllocError>
-    ensures { OnOk result (out.new.items ≡ out.old.items
+    ensures text { OnOk result (out.new.items ≡ out.old.items
         ++ sheet_text board.now.entries (standing board.now.rules board.now.entries)) }
+    ensures err { OnErr result (out.new.items ≡ out.old.items) }
 {
     let standing = board.standing()?;
     write_sheet(board.entries(), &standing, out)
@@ -104,6 +107,7 @@ fn answer_line(
         ≡ talk_for board.old.rules
         (record { role = role.old; journal = board.old.entries }) line) }
     ensures rules { OnOk result (board.new.rules ≡ board.old.rules) }
+    ensures err { OnErr result (out.new.items ≡ out.old.items) }
 {
     match line {
         Line::Do(command) => answer_command(board, *role, command, out),
@@ -127,6 +131,7 @@ pub(crate) fn answer(
         ≡ talk_after board.old.rules
         (record { role = role.old; journal = board.old.entries }) asked) }
     ensures rules { OnOk result (board.new.rules ≡ board.old.rules) }
+    ensures err { OnErr result (out.new.items ≡ out.old.items) }
 {
     match asked {
         Ok(line) => answer_line(board, role, line, out),

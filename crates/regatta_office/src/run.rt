@@ -93,7 +93,7 @@ fn turn<R: Source, W: Sink>(
     ensures fault { IfErr result (IsDeviceFault (R.failures input.old) (R.failures input.new)
         (W.failures output.old) (W.failures output.new)) }
     ensures read { IsErrOf result RunFault.Read → output.new ≡ output.old }
-    ensures kept { IsErrOf result RunFault.Read →
+    ensures stays { IsErrOf result RunFault.Read →
         Keeps (R.remaining input.old) (R.remaining input.new) }
     ensures cut { IsErrOf result RunFault.Write → IfSome (R.remaining input.old)
         (Cuts (W.contents output.old) (W.contents output.new) (point scribe.old)) }

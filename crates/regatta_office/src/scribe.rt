@@ -1,20 +1,23 @@
-//! A run so far: it takes bytes of a text, and writes what is due for each line that has ended.
+//! A run so far: it takes pieces of a text, and writes what is due for the lines that have ended.
 ghost use Rattle.std.specs.Prelude.{◌≡◌, ◌≢◌, ◌+◌, ◌++◌, ◌∷◌, [], true, false, ℕ, List, IfOk, OnOk};
-ghost use Rattle.std.specs.Prelude.{OnErr, IsErrOf};
+ghost use Rattle.std.specs.Prelude.{OnErr, IsErrOf, IfSome, Some, ◌<◌, ◌≤◌, length};
 ghost use Rattle.std.specs.Io.KnownBytes.{Appends};
 ghost use Rattle.regatta_streams.specs.Texts.{AppendsPrefix};
 ghost use Rattle.regatta_terms.specs.Lines.{line_of};
-ghost use Rattle.regatta_office.specs.Coming.{Cuts, Finished, Stops, Went};
+ghost use Rattle.regatta_office.specs.Coming.{Broke, Cuts, Finished, Stops, Took, Went};
 ghost use Rattle.regatta_office.specs.Scribes.{point};
 ghost use Rattle.regatta_office.specs.Transcript.{is_quit as is_quit_of, talk_after, text_after};
 ghost use Rattle.regatta_terms.specs.declared.command.Role.TheVariants.{Scorer};
 
 use crate::answers::{answer, is_quit};
 use regatta_board::Board;
-use regatta_streams::{Sink, write_all};
+use regatta_streams::{Sink, StreamFault, write_all};
 use regatta_talk::Cutter;
 use regatta_terms::{Role, read_line};
-use std::alloc::Global;
+use std::alloc::{AllocError, Global};
+
+/// How many bytes may be due, and not yet written, before one more line is answered.
+const DUE_LIMIT: usize = 4096;
 
 /// Why no more is written.
 #[derive(Clone, Copy, Debug, PartialEq, Eq)]
@@ -25,14 +28,13 @@ pub(crate) enum ScribeFault {
     NoMemory,
 }
 
-/// The board, the role of the lines to come, the line at hand, and room for what is written for
-/// it.
+/// The board, the role of the lines to come, the line at hand, and what is due and not yet written.
 #[derive(Drop)]
 pub(crate) struct Scribe {
     board: Board,
     role: Role,
     cutter: Cutter,
-    reply: Vec<u8>,
+    due: Vec<u8>,
 }
 
 impl Scribe {
@@ -48,7 +50,7 @@ impl Scribe {
             board,
             role: Role::Scorer,
             cutter: Cutter::new(),
-            reply: Vec::new(alloc),
+            due: Vec::new(alloc),
         }
     }
 
@@ -60,59 +62,99 @@ impl Scribe {
         &self.board
     }
 
-    /// Does what the line at hand asks for, and writes what is due for it. True where it ends the
-    /// run.
-    fn end_line<W: Sink>(&mut self, output: &mut W) -> Result<bool, ScribeFault>
+    /// Does what the line at hand asks for; what is due for it joins what is due already. True
+    /// where it ends the run.
+    fn end_line(&mut self) -> Result<bool, AllocError>
         ensures quit { IfOk result (λ quit. quit ≡ is_quit_of (line_of (point self.old).line)) }
-        ensures wrote { OnOk result (Appends (W.contents output.old) (W.contents output.new)
-            (text_after (point self.old).rules (point self.old).talk
-            (line_of (point self.old).line))) }
+        ensures due { OnOk result (self.new.due.items ≡ self.old.due.items
+            ++ text_after (point self.old).rules (point self.old).talk
+            (line_of (point self.old).line)) }
         ensures after { OnOk result (point self.new ≡ record {
           rules = (point self.old).rules;
           talk = talk_after (point self.old).rules (point self.old).talk
               (line_of (point self.old).line);
           line = [];
         }) }
-        ensures well { OnOk result (W.failures output.new ≡ W.failures output.old) }
-        ensures write { IsErrOf result ScribeFault.Write →
-            W.failures output.new ≡ W.failures output.old + 1 }
-        ensures cut { IsErrOf result ScribeFault.Write → AppendsPrefix (W.contents output.old)
-            (W.contents output.new) (text_after (point self.old).rules (point self.old).talk
-            (line_of (point self.old).line)) }
-        ensures memory { IsErrOf result ScribeFault.NoMemory →
-            W.failures output.new ≡ W.failures output.old }
-        ensures silent { IsErrOf result ScribeFault.NoMemory → output.new ≡ output.old }
+        ensures err { OnErr result (self.new.due.items ≡ self.old.due.items) }
     {
         let asked = read_line(self.cutter.line());
         self.cutter.clear();
-        self.reply.clear();
-        if answer(&mut self.board, &mut self.role, asked, &mut self.reply).is_err() {
-            return Err(ScribeFault::NoMemory);
-        }
-        if write_all(output, &self.reply).is_err() {
-            return Err(ScribeFault::Write);
-        }
+        answer(&mut self.board, &mut self.role, asked, &mut self.due)?;
         Ok(is_quit(&asked))
     }
 
     /// Takes a byte of the text. True where it ends the run.
-    fn take<W: Sink>(&mut self, byte: u8, output: &mut W) -> Result<bool, ScribeFault>
-        ensures went { IfOk result (λ quit. Went (W.contents output.old) (W.contents output.new)
-            (byte ∷ []) (point self.old) (point self.new) quit) }
+    fn take(&mut self, byte: u8) -> Result<bool, AllocError>
+        ensures went { IfOk result (λ quit. Went (Some self.old.due.items)
+            (Some self.new.due.items) (byte ∷ []) (point self.old) (point self.new) quit) }
+        ensures err { OnErr result (self.new.due.items ≡ self.old.due.items) }
+    {
+        if !self.cutter.take(byte) {
+            return Ok(false);
+        }
+        self.end_line()
+    }
+
+    /// Takes a piece of the text, up to the end of the run or to a line behind which much is due.
+    /// How many bytes it took, or `None` at the end of the run.
+    ///
+    /// # Errors
+    ///
+    /// Where memory is wanting: what is due for the lines before it is still due.
+    fn gather(&mut self, piece: &[u8]) -> Result<Option<usize>, AllocError>
+        requires { 0 < length piece.now }
+        ensures count { IfOk result (λ count. IfSome count
+            (λ n. (0 < n) × (n ≤ length piece.now))) }
+        ensures took { IfOk result (Took (Some []) (Some self.new.due.items) piece.now
+            (point self.old) (point self.new)) }
+        ensures broke { OnErr result (Broke (Some []) (Some self.new.due.items) piece.now
+            (point self.old)) }
+    {
+        self.due.clear();
+        for i in 0..piece.len() {
+            match self.take(piece[i]) {
+                Ok(false) => {}
+                Ok(true) => return Ok(None),
+                Err(fault) => return Err(fault),
+            }
+            if DUE_LIMIT <= self.due.len() {
+                return Ok(Some(i + 1));
+            }
+        }
+        Ok(Some(piece.len()))
+    }
+
+    /// Takes a piece of the text, as far as it gathers what is due, and writes that. How many bytes
+    /// it took, or `None` at the end of the run.
+    fn take_some<W: Sink>(
+        &mut self,
+        piece: &[u8],
+        output: &mut W,
+    ) -> Result<Option<usize>, ScribeFault>
+        requires { 0 < length piece.now }
+        ensures count { IfOk result (λ count. IfSome count
+            (λ n. (0 < n) × (n ≤ length piece.now))) }
+        ensures took { IfOk result (Took (W.contents output.old) (W.contents output.new) piece.now
+            (point self.old) (point self.new)) }
         ensures well { OnOk result (W.failures output.new ≡ W.failures output.old) }
         ensures write { IsErrOf result ScribeFault.Write →
             W.failures output.new ≡ W.failures output.old + 1 }
         ensures cut { IsErrOf result ScribeFault.Write → (rest : List ℕ) →
             Cuts (W.contents output.old) (W.contents output.new) (point self.old)
-            (byte ∷ rest) }
+            (piece.now ++ rest) }
         ensures memory { IsErrOf result ScribeFault.NoMemory →
             W.failures output.new ≡ W.failures output.old }
-        ensures silent { IsErrOf result ScribeFault.NoMemory → output.new ≡ output.old }
+        ensures broke { IsErrOf result ScribeFault.NoMemory →
+            Broke (W.contents output.old) (W.contents output.new) piece.now (point self.old) }
     {
-        if !self.cutter.take(byte) {
-            return Ok(false);
+        let gathered = self.gather(piece);
+        if let Err(StreamFault) = write_all(output, &self.due) {
+            return Err(ScribeFault::Write);
         }
-        self.end_line(output)
+        match gathered {
+            Ok(count) => Ok(count),
+            Err(AllocError) => Err(ScribeFault::NoMemory),
+        }
     }
 
     /// Takes a piece of the text, up to the end of the run. True where that came.
@@ -135,10 +177,11 @@ impl Scribe {
             Stops (W.contents output.old) (W.contents output.new) (point self.old)
             (piece.now ++ rest) }
     {
-        for byte in piece {
-            match self.take(*byte, output) {
-                Ok(false) => {}
-                Ok(true) => return Ok(true),
+        let mut taken = 0;
+        while taken < piece.len() {
+            match self.take_some(&piece[taken..], output) {
+                Ok(Some(count)) => taken += count,
+                Ok(None) => return Ok(true),
                 Err(fault) => return Err(fault),
             }
         }
@@ -161,9 +204,13 @@ impl Scribe {
         if self.cutter.line().is_empty() {
             return Ok(());
         }
-        match self.end_line(output) {
-            Ok(_) => Ok(()),
-            Err(fault) => Err(fault),
+        self.due.clear();
+        let Ok(_) = self.end_line() else {
+            return Err(ScribeFault::NoMemory);
+        };
+        match write_all(output, &self.due) {
+            Ok(()) => Ok(()),
+            Err(StreamFault) => Err(ScribeFault::Write),
         }
     }
 }

@@ -17,23 +17,23 @@ appends-then (Some xs) None c x y h k = absurd h
 appends-then (Some xs) (Some ys) None x y h k = k
 appends-then (Some xs) (Some ys) (Some zs) x y h k = k ∙ ap (λ t. t ++ y) h ∙ append_assoc xs x y
 
-pub appends-kept : (a b c : Option (List ℕ)) (x : List ℕ) → Appends a b x → Keeps b c
+pub appends-keeps : (a b c : Option (List ℕ)) (x : List ℕ) → Appends a b x → Keeps b c
     → Appends a c x
-appends-kept None b c x h k = tt
-appends-kept (Some xs) None c x h k = absurd h
-appends-kept (Some xs) (Some ys) None x h k = k
-appends-kept (Some xs) (Some ys) (Some zs) x h k = k ∙ h
+appends-keeps None b c x h k = tt
+appends-keeps (Some xs) None c x h k = absurd h
+appends-keeps (Some xs) (Some ys) None x h k = k
+appends-keeps (Some xs) (Some ys) (Some zs) x h k = k ∙ h
 
 pub consumes-none : (a : Option (List ℕ)) → Consumes a a []
 consumes-none None = tt
 consumes-none (Some xs) = refl
 
-pub consumes-kept : (a b c : Option (List ℕ)) (x : List ℕ) → Consumes a b x → Keeps b c
+pub consumes-keeps : (a b c : Option (List ℕ)) (x : List ℕ) → Consumes a b x → Keeps b c
     → Consumes a c x
-consumes-kept None b c x h k = tt
-consumes-kept (Some xs) None c x h k = absurd h
-consumes-kept (Some xs) (Some ys) None x h k = k
-consumes-kept (Some xs) (Some ys) (Some zs) x h k = h ∙ ap (λ t. x ++ t) (sym k)
+consumes-keeps None b c x h k = tt
+consumes-keeps (Some xs) None c x h k = absurd h
+consumes-keeps (Some xs) (Some ys) None x h k = k
+consumes-keeps (Some xs) (Some ys) (Some zs) x h k = h ∙ ap (λ t. x ++ t) (sym k)
 
 pub consumes-then : (a b c : Option (List ℕ)) (x y : List ℕ) → Consumes a b x → Consumes b c y
     → Consumes a c (x ++ y)

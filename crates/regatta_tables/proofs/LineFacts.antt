@@ -61,9 +61,9 @@ stays_more pieces i d before text first cap new old len below so_far start end s
     next room ∙ same
 
 -- what begins with a longer text begins with its beginning
-pub kept : (old more longer text : List ℕ) (a b : ℕ) → a ≡ length old → b ≡ length longer
+pub start_stays : (old more longer text : List ℕ) (a b : ℕ) → a ≡ length old → b ≡ length longer
     → longer ≡ old ++ more → take b text ≡ longer → take a text ≡ old
-kept old more longer text a b first second is begins =
+start_stays old more longer text a b first second is begins =
     let short : a ≤ b = omega (arith, ap length is, length-append old more) in
     sym (take-take a b text short) ∙ ap (take a) (begins ∙ is)
     ∙ ap (λ (n : ℕ). take n (old ++ more)) first ∙ take-append_seam old more

@@ -40,81 +40,82 @@ distinct_more (s ∷ sails) sail distinct new =
       distinct_more sails sail distinct.1 apart.1,
     )
 
-record Kept (sails : List Sail) : Type 0 where
+record IsEntryList (sails : List Sail) : Type 0 where
   few : length sails ≤ MAX_BOATS
   once : IsDistinct same_sail sails
 
-kept_with : (row : ℕ) (sails : List Sail) (o : Option Sail) → Kept sails
-    → fault_of_sail row sails o ≡ None → Kept (sails ++ cons_option o [])
-kept_with row sails None kept sound = cc
-kept_with row sails (Some sail) kept sound =
+list_with : (row : ℕ) (sails : List Sail) (o : Option Sail) → IsEntryList sails
+    → fault_of_sail row sails o ≡ None → IsEntryList (sails ++ cons_option o [])
+list_with row sails None listed sound = cc
+list_with row sails (Some sail) listed sound =
     by (list_any (λ other. same_sail other sail) sails)
     (nat_le MAX_BOATS (length sails)) refl refl sound
   where
     by : (twice many : Bool) → list_any (λ other. same_sail other sail) sails ≡ twice
         → nat_le MAX_BOATS (length sails) ≡ many
         → cond twice (Some (Twice row)) (cond many (Some (TooMany row)) None) ≡ None
-        → Kept (sails ++ sail ∷ [])
+        → IsEntryList (sails ++ sail ∷ [])
     by true many t m h = cc
     by false true t m h = cc
     by false false t m h = record {
       few = omega (arith, leb-false MAX_BOATS (length sails) m, length-append sails (sail ∷ []));
-      once = distinct_more sails sail kept.once t;
+      once = distinct_more sails sail listed.once t;
     }
 
-kept_more : (column : ℕ) (before : List Record) (fields : Record) → Kept (sails_in column before)
-    → fault_of column before fields ≡ None → Kept (sails_in column (before ++ fields ∷ []))
-kept_more column before fields kept sound =
-    subst Kept (sym (sails-append column before (fields ∷ []))) (by (is_blank fields) sound)
+list_more : (column : ℕ) (before : List Record) (fields : Record)
+    → IsEntryList (sails_in column before)
+    → fault_of column before fields ≡ None → IsEntryList (sails_in column (before ++ fields ∷ []))
+list_more column before fields listed sound =
+    subst IsEntryList (sym (sails-append column before (fields ∷ []))) (by (is_blank fields) sound)
   where
     named : (o : Option Field) → fault_of_field (length before + 2) (sails_in column before) o
         ≡ None
-        → Kept (sails_in column before ++ cons_option
+        → IsEntryList (sails_in column before ++ cons_option
         (option_and_then (λ field. sail_of (without_spaces field)) o) [])
     named None h = cc
-    named (Some field) h = kept_with (length before + 2) (sails_in column before)
-        (sail_of (without_spaces field)) kept h
+    named (Some field) h = list_with (length before + 2) (sails_in column before)
+        (sail_of (without_spaces field)) listed h
 
     by : (blank : Bool) → cond blank None (fault_of_field (length before + 2)
         (sails_in column before) (slice_get fields column)) ≡ None
-        → Kept (sails_in column before ++ filter_map (sail_in column)
+        → IsEntryList (sails_in column before ++ filter_map (sail_in column)
         (cond (not blank) (fields ∷ []) []))
-    by true h = subst Kept (sym (append-nil (sails_in column before))) kept
+    by true h = subst IsEntryList (sym (append-nil (sails_in column before))) listed
     by false h = named (slice_get fields column) h
 
-kept_behind : (column : ℕ) (before records : List Record) → Kept (sails_in column before)
-    → first_fault column before records ≡ None → Kept (sails_in column (before ++ records))
-kept_behind column before [] kept sound = subst (λ (rs : List Record). Kept (sails_in column rs))
-    (sym (append-nil before)) kept
-kept_behind column before (fields ∷ records) kept sound =
+list_behind : (column : ℕ) (before records : List Record) → IsEntryList (sails_in column before)
+    → first_fault column before records ≡ None → IsEntryList (sails_in column (before ++ records))
+list_behind column before [] listed sound =
+    subst (λ (rs : List Record). IsEntryList (sails_in column rs)) (sym (append-nil before)) listed
+list_behind column before (fields ∷ records) listed sound =
     let both = by (fault_of column before fields)
     (first_fault column (before ++ fields ∷ []) records) sound in
-    subst (λ (rs : List Record). Kept (sails_in column rs))
+    subst (λ (rs : List Record). IsEntryList (sails_in column rs))
     (append_assoc before (fields ∷ []) records)
-    (kept_behind column (before ++ fields ∷ []) records
-    (kept_more column before fields kept both.0) both.1)
+    (list_behind column (before ++ fields ∷ []) records
+    (list_more column before fields listed both.0) both.1)
   where
     by : (o p : Option EntriesFault) → option_or o p ≡ None → (o ≡ None) × (p ≡ None)
     by None p h = (refl, h)
     by (Some fault) p h = cc
 
-kept_all : (column : ℕ) (records : List Record) (sails : List Sail)
-    → entries_under (Some column) records ≡ Ok sails → Kept sails
+list_whole : (column : ℕ) (records : List Record) (sails : List Sail)
+    → entries_under (Some column) records ≡ Ok sails → IsEntryList sails
 unfolding IsDistinct
-kept_all column records sails read = by (first_fault column [] records) refl read
+list_whole column records sails read = by (first_fault column [] records) refl read
   where
     by : (o : Option EntriesFault) → first_fault column [] records ≡ o
-        → unless_faulty o (sails_in column records) ≡ Ok sails → Kept sails
+        → unless_faulty o (sails_in column records) ≡ Ok sails → IsEntryList sails
     by None sound h =
         let same : sails_in column records ≡ sails = cc in
-        subst Kept same (kept_behind column [] records
+        subst IsEntryList same (list_behind column [] records
         (record { few = omega arith; once = tt }) sound)
     by (Some fault) sound h = cc
 
 pub few_sails : (column : ℕ) (records : List Record) (sails : List Sail)
     → entries_under (Some column) records ≡ Ok sails → length sails ≤ MAX_BOATS
-few_sails column records sails read = (kept_all column records sails read).few
+few_sails column records sails read = (list_whole column records sails read).few
 
 pub sails_once : (column : ℕ) (records : List Record) (sails : List Sail)
     → entries_under (Some column) records ≡ Ok sails → IsDistinct same_sail sails
-sails_once column records sails read = (kept_all column records sails read).once
+sails_once column records sails read = (list_whole column records sails read).once

@@ -6,9 +6,9 @@ use Rattle.std.specs.Io.KnownBytes.{Appends, Keeps}
 pub all_written : (empty headed full : Option (List ℕ)) (text header rows : List ℕ)
     → empty ≡ Some [] → Appends empty headed header → Appends headed full rows
     → Keeps full (Some text) → text ≡ header ++ rows
-all_written None headed full text header rows start first more kept = cc
-all_written (Some x) None full text header rows start first more kept = absurd first
-all_written (Some x) (Some y) None text header rows start first more kept = absurd more
-all_written (Some x) (Some y) (Some z) text header rows start first more kept =
+all_written None headed full text header rows start first more stays = cc
+all_written (Some x) None full text header rows start first more stays = absurd first
+all_written (Some x) (Some y) None text header rows start first more stays = absurd more
+all_written (Some x) (Some y) (Some z) text header rows start first more stays =
     let nothing : x ≡ [] = cc in
-    kept ∙ more ∙ ap (λ (t : List ℕ). t ++ rows) (first ∙ ap (λ (t : List ℕ). t ++ header) nothing)
+    stays ∙ more ∙ ap (λ (t : List ℕ). t ++ rows) (first ∙ ap (λ (t : List ℕ). t ++ header) nothing)

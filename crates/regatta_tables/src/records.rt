@@ -48,9 +48,9 @@ pub(crate) fn fields_in(alloc: Global, row: &ByteRecord) -> Result<Vec<&[u8]>, A
 
 /// A field without its spaces, wherever they stand.
 pub(crate) fn without_spaces(alloc: Global, field: &[u8]) -> Result<Vec<u8>, AllocError>
-    ensures { IfOk result (λ kept. kept.items ≡ without_spaces field.now) }
+    ensures { IfOk result (λ rest. rest.items ≡ without_spaces field.now) }
 {
-    let mut kept = Vec::from_slice(alloc, field)?;
-    kept.retain(|byte| *byte != b' ');
-    Ok(kept)
+    let mut rest = Vec::from_slice(alloc, field)?;
+    rest.retain(|byte| *byte != b' ');
+    Ok(rest)
 }

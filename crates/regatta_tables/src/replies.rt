@@ -11,14 +11,17 @@ use itoa::Buffer;
 use regatta_terms::{Answer, Reply, Touched, points_word};
 use std::alloc::AllocError;
 
-/// Appends a reply, a line that ends in a line feed. Where 64 bytes of room are free it never fails
-/// and takes no memory.
+/// The bytes that a reply has at most, with its LF.
+pub const REPLY_ROOM: usize = 64;
+
+/// Appends a reply, a line that ends in a line feed. Where [`REPLY_ROOM`] bytes of room are free it
+/// never fails and takes no memory.
 pub fn write_reply(reply: &Reply, out: &mut Vec<u8>) -> Result<(), AllocError>
     ensures ok { OnOk result (out.new.items ≡ out.old.items ++ reply_text reply.now) }
     ensures err { OnErr result (out.new.items ≡ out.old.items) }
     ensures room { vec_capacity out.old ≤ vec_capacity out.new }
-    ensures fits { vec_len out.old + 64 ≤ vec_capacity out.old → IsOk result }
-    ensures stays { vec_len out.old + 64 ≤ vec_capacity out.old
+    ensures fits { vec_len out.old + REPLY_ROOM ≤ vec_capacity out.old → IsOk result }
+    ensures stays { vec_len out.old + REPLY_ROOM ≤ vec_capacity out.old
         → vec_capacity out.new ≡ vec_capacity out.old }
 {
     match reply {
@@ -38,8 +41,8 @@ fn write_answer(answer: &Answer, out: &mut Vec<u8>) -> Result<(), AllocError>
     ensures ok { OnOk result (out.new.items ≡ out.old.items ++ line (answer_words answer.now)) }
     ensures err { OnErr result (out.new.items ≡ out.old.items) }
     ensures room { vec_capacity out.old ≤ vec_capacity out.new }
-    ensures fits { vec_len out.old + 64 ≤ vec_capacity out.old → IsOk result }
-    ensures stays { vec_len out.old + 64 ≤ vec_capacity out.old
+    ensures fits { vec_len out.old + REPLY_ROOM ≤ vec_capacity out.old → IsOk result }
+    ensures stays { vec_len out.old + REPLY_ROOM ≤ vec_capacity out.old
         → vec_capacity out.new ≡ vec_capacity out.old }
 {
     let mut number = Buffer::new();
@@ -58,8 +61,8 @@ fn write_ranked(touched: &Touched, out: &mut Vec<u8>) -> Result<(), AllocError>
     ensures ok { OnOk result (out.new.items ≡ out.old.items ++ line (ranked_words touched.now)) }
     ensures err { OnErr result (out.new.items ≡ out.old.items) }
     ensures room { vec_capacity out.old ≤ vec_capacity out.new }
-    ensures fits { vec_len out.old + 64 ≤ vec_capacity out.old → IsOk result }
-    ensures stays { vec_len out.old + 64 ≤ vec_capacity out.old
+    ensures fits { vec_len out.old + REPLY_ROOM ≤ vec_capacity out.old → IsOk result }
+    ensures stays { vec_len out.old + REPLY_ROOM ≤ vec_capacity out.old
         → vec_capacity out.new ≡ vec_capacity out.old }
 {
     let (mut rank, mut net) = ([0; 6], [0; 11]);
@@ -73,8 +76,8 @@ fn write_number(number: u8, out: &mut Vec<u8>) -> Result<(), AllocError>
     ensures ok { OnOk result (out.new.items ≡ out.old.items ++ line (refused_words number)) }
     ensures err { OnErr result (out.new.items ≡ out.old.items) }
     ensures room { vec_capacity out.old ≤ vec_capacity out.new }
-    ensures fits { vec_len out.old + 64 ≤ vec_capacity out.old → IsOk result }
-    ensures stays { vec_len out.old + 64 ≤ vec_capacity out.old
+    ensures fits { vec_len out.old + REPLY_ROOM ≤ vec_capacity out.old → IsOk result }
+    ensures stays { vec_len out.old + REPLY_ROOM ≤ vec_capacity out.old
         → vec_capacity out.new ≡ vec_capacity out.old }
 {
     let mut buffer = Buffer::new();

@@ -6,12 +6,12 @@ use regatta_terms::{
 use std::alloc::Global;
 use std::test::Fail;
 
-/// A boat's score, of which `kept` says whether it counts.
-fn cell(points: u32, mark: Option<Abbrev>, kept: bool) -> Result<Cell, Fail> {
+/// A boat's score, of which `counts` says whether it is added.
+fn cell(points: u32, mark: Option<Abbrev>, counts: bool) -> Result<Cell, Fail> {
     Ok(Cell {
         points: Tenths::new(points).ok_or("points")?,
         mark,
-        dropped: !kept,
+        dropped: !counts,
     })
 }
 
@@ -108,10 +108,10 @@ fn writes_replies(rt: HostRuntime) -> Result<(), Fail> {
     Ok(())
 }
 
-/// The longest reply that the types allow stands in 64 bytes.
+/// The longest reply that the types allow stands in the room for a reply.
 #[test]
 fn writes_long_replies_into_64_bytes(rt: HostRuntime) -> Result<(), Fail> {
-    let mut out = Vec::with_capacity(rt.alloc(), 64)?;
+    let mut out = Vec::with_capacity(rt.alloc(), REPLY_ROOM)?;
     let touched = Touched {
         rank: 65535,
         tied: true,

@@ -1,1 +1,1 @@
-pub mod KeptLines
+pub mod HeardLines

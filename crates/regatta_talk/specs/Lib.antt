@@ -1,2 +1,2 @@
-pub mod KeptLines
+pub mod HeardLines
 pub mod Replies

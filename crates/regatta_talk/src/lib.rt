@@ -7,5 +7,6 @@ mod replies;
 mod room;
 
 pub use cutter::Cutter;
+pub use regatta_tables::REPLY_ROOM;
 pub use replies::{answer_apart, ranked, reply_of};
-pub use room::{REPLY_ROOM, make_room, write_fitting};
+pub use room::{make_room, write_fitting};

@@ -2,13 +2,11 @@
 ghost use Rattle.std.specs.Prelude.{◌≡◌, ◌+◌, ◌≤◌, ◌++◌, IsOk, OnOk, OnErr, vec_len};
 ghost use Rattle.std.specs.Prelude.{vec_capacity};
 ghost use Rattle.regatta_tables.specs.ReplyTexts.{reply_text};
+ghost use Rattle.regatta_tables.specs.declared.replies.TheConstants.{REPLY_ROOM};
 
-use regatta_tables::write_reply;
+use regatta_tables::{REPLY_ROOM, write_reply};
 use regatta_terms::Reply;
 use std::alloc::AllocError;
-
-/// The bytes that a reply has at most, with its LF.
-pub const REPLY_ROOM: usize = 64;
 
 /// Makes room for a reply behind what is written already. Where there is room it takes no memory,
 /// and never fails.

@@ -66,7 +66,7 @@ returns-in-Err-clause-read g c = λ is.
     (sym (c.in-Err.ensures.read (err_as (Option ℕ) _ _ is)))
     (broke_off _ _ now _ _ (g.W.Sink.contents c.turn.new.output) _ _ (point c.turn.new.scribe)
     (INPUT_LIMIT - c.loop-count.most) c.loop-count.invariant.talked
-    (c.in-Err.ensures.kept (err_as (Option ℕ) _ _ is)))
+    (c.in-Err.ensures.stays (err_as (Option ℕ) _ _ is)))
 
 pub returns-in-Err-clause-long : goal.returns-in-Err-clause-long
 returns-in-Err-clause-long g c = λ is.

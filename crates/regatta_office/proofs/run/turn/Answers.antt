@@ -1,7 +1,7 @@
 use Rattle.std.proofs.Common.{◌≡◌, ◌<◌, ◌≤◌, IfSome, Err, length, take, drop, arith, sym, ap, subst}
 use Rattle.std.proofs.lemmas.List.{length-take, length-drop}
 use Rattle.regatta_office.proofs.Streams.{any_stop, given_cut, given_stop, take_front, talked_quit}
-use Rattle.regatta_office.proofs.Streams.{talked_long, within_end, within_quit}
+use Rattle.regatta_office.proofs.Streams.{talked_long, within_quit}
 use Rattle.regatta_office.specs.Coming.{Stops}
 use Rattle.regatta_office.specs.Scribes.{point}
 use Rattle.regatta_office.proofs.Results.{memory_is, write_is}

@@ -1,13 +1,14 @@
 use Rattle.std.proofs.Common.{ap, sym, ◌∙◌, ◌++◌, take}
 use Rattle.std.proofs.lemmas.List.{append_assoc}
-use Rattle.regatta_streams.proofs.KnownBytes.{appends-kept, appends-then, front-written, rest_split}
+use Rattle.regatta_streams.proofs.KnownBytes.{appends-keeps, appends-then}
+use Rattle.regatta_streams.proofs.KnownBytes.{front-written, rest_split}
 use Rattle.regatta_streams.proofs.whole.write_all.Goals as goal
 
 pub returns-in_default-clause-cut : goal.returns-in_default-clause-cut
 returns-in_default-clause-cut g c =
     let (done, split, wrote, same) = c.loop-rest.invariant in
     front-written _ _ c.args.bytes.now done c.loop-rest.rest.now split
-    (appends-kept _ _ _ done wrote c.in_default.ensures.bytes)
+    (appends-keeps _ _ _ done wrote c.in_default.ensures.bytes)
 
 pub loop-rest-preserved : goal.loop-rest-preserved
 loop-rest-preserved g c =

@@ -6,4 +6,4 @@ use Rattle.regatta_tables.proofs.records.without_spaces.Goals as goal
 pub returns : goal.returns
 returns c =
     filter_same _ (λ b. not (is_space b)) _ (λ x b f' k. search rules) _ _ c.retain.ensures.filtered
-    ∙ (λ i. filter (λ b. not (is_space b)) (c.in_ok-kept.ensures.items i))
+    ∙ (λ i. filter (λ b. not (is_space b)) (c.in_ok-rest.ensures.items i))

@@ -1,15 +1,16 @@
 use Rattle.std.proofs.Common.{rules, arith, ◌≡◌, take, vec_len}
 use Rattle.regatta_tables.specs.TableTexts.{cell_text}
-use Rattle.regatta_tables.proofs.LineFacts.{kept, spaced_more}
+use Rattle.regatta_tables.proofs.LineFacts.{start_stays, spaced_more}
 use Rattle.regatta_tables.proofs.tables.push_cells.Goals as goal
 
 pub returns-in_err-push_cell-clause-err : goal.returns-in_err-push_cell-clause-err
 returns-in_err-push_cell-clause-err c =
     let spaced : take (vec_len c.loop-cell.out) c.push_cell.new.out.items ≡ c.loop-cell.out.items =
-    kept _ _ _ _ _ _ c.loop-cell.out.ok.0 c.push.new.self.ok.0 c.in_ok-push.ensures.items
+    start_stays _ _ _ _ _ _ c.loop-cell.out.ok.0 c.push.new.self.ok.0 c.in_ok-push.ensures.items
     c.in_err-push_cell.ensures.err in
     let all : take (vec_len c.args.out.now) c.push_cell.new.out.items ≡ c.args.out.now.items =
-    kept _ _ _ _ _ _ c.args.out.now.ok.0 c.loop-cell.out.ok.0 c.loop-cell.invariant.text spaced in
+    start_stays _ _ _ _ _ _ c.args.out.now.ok.0 c.loop-cell.out.ok.0 c.loop-cell.invariant.text
+    spaced in
     search rules
 
 pub loop-cell-preserved : goal.loop-cell-preserved

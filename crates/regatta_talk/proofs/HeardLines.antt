@@ -1,0 +1,163 @@
+-- What is heard of each line tells as much as the line: its lines are the text's.
+use Rattle.std.proofs.Common.{◌≡◌, ℕ, ◌+◌, ◌-◌, ◌<◌, ◌≤◌, Bool, true, false, cond, List, []}
+use Rattle.std.proofs.Common.{◌∷◌, ◌++◌}
+use Rattle.std.proofs.Common.{length, take, map, Err, refl, sym, ap, ◌∙◌, arith, append-nil}
+use Rattle.std.proofs.Common.{append_assoc}
+use Rattle.std.specs.Prelude.{nat_le, nat_lt}
+use Rattle.std.specs.List.{slice_split, onto_first}
+use Rattle.std.specs.Str.Lines.{strip_carriage_return}
+use Rattle.std.proofs.lemmas.Bool.{cond-false, lt-leb, le-ltb, ltb-false, ltb-true}
+use Rattle.std.proofs.lemmas.List.{length-append, length-take-le, take-append-le, take_all}
+use Rattle.std.proofs.lemmas.List.Splits.{slice_split-cons_yes, slice_split-cons_no}
+use Rattle.std.proofs.lemmas.List.Splits.{length-slice_split}
+use Rattle.regatta_terms.specs.Lines.{line_of, line_of_words}
+use Rattle.regatta_terms.specs.Words.{words}
+use Rattle.regatta_terms.specs.declared.line.LineFault.TheVariants.{TooLong}
+use Rattle.regatta_terms.specs.declared.limits.TheConstants.{MAX_LINE}
+use Rattle.regatta_talk.specs.declared.cutter.TheConstants.{MAX_HEARD}
+use Rattle.regatta_terms.specs.TextLines.{is_line_end, last_line, lines_of_pieces, lines_by}
+use Rattle.regatta_talk.specs.HeardLines.{heard_with, heard_lines}
+
+-- ---- a line of more bytes than a line may have, and a CR, is too long, and so is what is heard
+
+stays_long : (ends : Bool) (line : List ℕ) → MAX_LINE + 1 < length line
+    → MAX_LINE < length (cond ends (take (length line - 1) line) line)
+stays_long true line long = omega (
+  arith,
+  long,
+  length-take-le (length line - 1) line (omega (arith, long)),
+)
+stays_long false line long = omega (arith, long)
+
+too_long : (line : List ℕ) → MAX_LINE + 1 < length line → line_of line ≡ Err TooLong
+unfolding line_of
+too_long line long =
+    cond-false (nat_le (length (strip_carriage_return line)) MAX_LINE)
+    (line_of_words (words (strip_carriage_return line))) (Err TooLong)
+    (lt-leb (length (strip_carriage_return line)) MAX_LINE (stays_long _ line long))
+
+pub heard_reads : (line : List ℕ) → line_of (take MAX_HEARD line) ≡ line_of line
+heard_reads line = by (nat_lt MAX_HEARD (length line)) refl
+  where
+    by : (b : Bool) → nat_lt MAX_HEARD (length line) ≡ b
+        → line_of (take MAX_HEARD line) ≡ line_of line
+    by true is =
+        let long : MAX_HEARD < length line = ltb-true MAX_HEARD (length line) is in
+        too_long (take MAX_HEARD line)
+        (omega (arith, long, length-take-le MAX_HEARD line (omega (arith, long))))
+        ∙ sym (too_long line (omega (arith, long)))
+    by false is = ap line_of (take_all MAX_HEARD line (ltb-false MAX_HEARD (length line) is))
+
+-- ---- what is heard, byte by byte
+
+heard_more : (line : List ℕ) (byte : ℕ)
+    → heard_with (take MAX_HEARD line) byte ≡ take MAX_HEARD (line ++ byte ∷ [])
+heard_more line byte = by (nat_lt (length line) MAX_HEARD) refl
+  where
+    by : (b : Bool) → nat_lt (length line) MAX_HEARD ≡ b
+        → heard_with (take MAX_HEARD line) byte ≡ take MAX_HEARD (line ++ byte ∷ [])
+    by true is =
+        let short : length line < MAX_HEARD = ltb-true (length line) MAX_HEARD is in
+        let whole : take MAX_HEARD line ≡ line = take_all MAX_HEARD line (omega (arith, short)) in
+        ap (λ l. heard_with l byte) whole
+        ∙ ap (λ b. cond b (line ++ byte ∷ []) line) is
+        ∙ sym (take_all MAX_HEARD (line ++ byte ∷ [])
+        (omega (arith, short, length-append line (byte ∷ []))))
+    by false is =
+        let full : MAX_HEARD ≤ length line = ltb-false (length line) MAX_HEARD is in
+        let size : length (take MAX_HEARD line) ≡ MAX_HEARD = length-take-le MAX_HEARD line full in
+        ap (λ b. cond b (take MAX_HEARD line ++ byte ∷ []) (take MAX_HEARD line))
+        (le-ltb (length (take MAX_HEARD line)) MAX_HEARD (omega (arith, size)))
+        ∙ sym (take-append-le MAX_HEARD line (byte ∷ []) full)
+
+-- the pieces of a text that goes on from a line at hand
+abbrev onto : List ℕ → List (List ℕ) → List (List ℕ)
+onto line [] = line ∷ []
+onto line (piece ∷ pieces) = (line ++ piece) ∷ pieces
+
+onto-none : (pieces : List (List ℕ)) → 0 < length pieces → onto [] pieces ≡ pieces
+onto-none [] some = absurd (omega (arith, some))
+onto-none (piece ∷ pieces) some = refl
+
+onto-more : (line : List ℕ) (byte : ℕ) (pieces : List (List ℕ))
+    → onto (line ++ byte ∷ []) pieces ≡ onto line (onto_first byte pieces)
+onto-more line byte [] = refl
+onto-more line byte (piece ∷ pieces) = ap (λ p. p ∷ pieces) (append_assoc line (byte ∷ []) piece)
+
+some_piece : (text : List ℕ) → 0 < length (slice_split is_line_end text)
+some_piece text = omega (arith, length-slice_split is_line_end text)
+
+lines-cons : (counts : Bool) (piece : List ℕ) (pieces : List (List ℕ)) → 0 < length pieces
+    → lines_of_pieces counts (piece ∷ pieces) ≡ piece ∷ lines_of_pieces counts pieces
+lines-cons counts piece [] some = absurd (omega (arith, some))
+lines-cons counts piece (next ∷ pieces) some = refl
+
+heard_last : (counts : Bool) (line : List ℕ) → last_line counts (take MAX_HEARD line)
+    ≡ map (take MAX_HEARD) (last_line counts line)
+heard_last true [] = refl
+heard_last true (byte ∷ line) = refl
+heard_last false [] = refl
+heard_last false (byte ∷ line) = refl
+
+heard_none : (counts : Bool) (line : List ℕ) → heard_lines counts line [] ≡ last_line counts line
+unfolding heard_lines
+heard_none counts line = refl
+
+pub heard_end : (counts : Bool) (line : List ℕ) (byte : ℕ) (text : List ℕ) → is_line_end byte ≡ true
+    → heard_lines counts line (byte ∷ text) ≡ line ∷ heard_lines counts [] text
+unfolding heard_lines
+heard_end counts line byte text is = ap (λ b. cond b (line ∷ heard_lines counts [] text)
+    (heard_lines counts (heard_with line byte) text)) is
+
+pub heard_byte : (counts : Bool) (line : List ℕ) (byte : ℕ) (text : List ℕ)
+    → is_line_end byte ≡ false
+    → heard_lines counts line (byte ∷ text) ≡ heard_lines counts (heard_with line byte) text
+unfolding heard_lines
+heard_byte counts line byte text is = ap (λ b. cond b (line ∷ heard_lines counts [] text)
+    (heard_lines counts (heard_with line byte) text)) is
+
+heard_from : (counts : Bool) (line text : List ℕ)
+    → heard_lines counts (take MAX_HEARD line) text ≡ map (take MAX_HEARD)
+    (lines_of_pieces counts (onto line (slice_split is_line_end text)))
+heard_from counts line [] =
+    heard_none counts (take MAX_HEARD line) ∙ heard_last counts line
+    ∙ ap (λ (l : List ℕ). map (take MAX_HEARD) (last_line counts l)) (sym (append-nil line))
+heard_from counts line (byte ∷ text) = by (is_line_end byte) refl (heard_from counts [] text)
+    (heard_from counts (line ++ byte ∷ []) text)
+  where
+    by : (b : Bool) → is_line_end byte ≡ b
+        → heard_lines counts [] text ≡ map (take MAX_HEARD)
+        (lines_of_pieces counts (onto [] (slice_split is_line_end text)))
+        → heard_lines counts (take MAX_HEARD (line ++ byte ∷ [])) text
+        ≡ map (take MAX_HEARD) (lines_of_pieces counts
+        (onto (line ++ byte ∷ []) (slice_split is_line_end text)))
+        → heard_lines counts (take MAX_HEARD line) (byte ∷ text)
+        ≡ map (take MAX_HEARD) (lines_of_pieces counts
+        (onto line (slice_split is_line_end (byte ∷ text))))
+    by true is next more =
+        let pieces = slice_split is_line_end text in
+        heard_end counts (take MAX_HEARD line) byte text is
+        ∙ ap (λ (ls : List (List ℕ)). take MAX_HEARD line ∷ ls)
+        (next ∙ ap (λ (ps : List (List ℕ)). map (take MAX_HEARD) (lines_of_pieces counts ps))
+        (onto-none pieces (some_piece text)))
+        ∙ sym (ap (map (take MAX_HEARD)) (
+        ap (λ (ps : List (List ℕ)). lines_of_pieces counts (onto line ps))
+        (slice_split-cons_yes is_line_end byte text is)
+        ∙ ap (λ (l : List ℕ). lines_of_pieces counts (l ∷ pieces)) (append-nil line)
+        ∙ lines-cons counts line pieces (some_piece text)))
+    by false is next more =
+        let pieces = slice_split is_line_end text in
+        heard_byte counts (take MAX_HEARD line) byte text is
+        ∙ ap (λ (l : List ℕ). heard_lines counts l text) (heard_more line byte)
+        ∙ more
+        ∙ ap (λ (ps : List (List ℕ)). map (take MAX_HEARD) (lines_of_pieces counts ps))
+        (onto-more line byte pieces ∙ ap (onto line)
+        (sym (slice_split-cons_no is_line_end byte text is)))
+
+-- the lines of a whole text, of each what is heard
+pub heard_of_text : (counts : Bool) (text : List ℕ)
+    → heard_lines counts [] text ≡ map (take MAX_HEARD) (lines_by counts text)
+heard_of_text counts text =
+    heard_from counts [] text
+    ∙ ap (λ (ps : List (List ℕ)). map (take MAX_HEARD) (lines_of_pieces counts ps))
+    (onto-none (slice_split is_line_end text) (some_piece text))

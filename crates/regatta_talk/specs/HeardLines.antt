@@ -1,0 +1,15 @@
+-- What is heard of the lines of a text that comes byte by byte.
+use Rattle.std.specs.Prelude.{ℕ, Bool, List, [], ◌∷◌, ◌++◌, length, nat_lt, if◌then◌else◌}
+use Rattle.regatta_terms.specs.TextLines.{is_line_end, last_line}
+use Rattle.regatta_talk.specs.declared.cutter.TheConstants.{MAX_HEARD}
+
+-- the bytes that are heard of a line, with one more: no more than tell that a line is too long
+abbrev pub heard_with : List ℕ → ℕ → List ℕ
+heard_with line byte = if nat_lt (length line) MAX_HEARD then line ++ byte ∷ [] else line
+
+-- the lines of a text that goes on from the line at hand, of each what is heard
+unfoldable pub heard_lines : Bool → List ℕ → List ℕ → List (List ℕ)
+heard_lines counts line [] = last_line counts line
+heard_lines counts line (byte ∷ text) =
+    if is_line_end byte then line ∷ heard_lines counts [] text
+    else heard_lines counts (heard_with line byte) text
