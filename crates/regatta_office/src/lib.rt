@@ -17,7 +17,8 @@ pub use command_line::program;
 pub use complaint::Complaint;
 pub use form::Form;
 pub use regatta_desk::{
-    Desk, Next, Office, OfficeName, OpenFault, Opened, Pass, Receipt, Sheet, ShowFault, answer_alone,
+    Desk, Next, Office, OfficeName, OpenFault, Opened, Pass, Receipt, Sheet, ShowFault,
+    answer_alone,
 };
 pub use regatta_streams::{Device, Failures, Foreign, Sink, Source, StreamFault, Tape, write_all};
 pub use run::{INPUT_LIMIT, RunFault, replay};
