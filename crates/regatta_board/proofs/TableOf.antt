@@ -24,13 +24,9 @@ use Rattle.regatta_board.specs.Table as all
 use Rattle.regatta_board.specs.Refusals.{is_entered}
 use Rattle.regatta_board.specs.KeptJournal.{number, sheet_of, kept_of, IsOrderly}
 use Rattle.regatta_board.proofs.Lengths.{long_points}
+use Rattle.regatta_board.proofs.Maps.{map_map, map_same}
 use Rattle.regatta_board.proofs.Numbers.{numbers_tell, numbers_are, found_under, all_in, map_known}
-use Rattle.regatta_board.proofs.Numbers.{filter_known, all_kept, in_range, map_over}
-
-map_map : {X Y Z : Type 0} (f : Y → Z) (g : X → Y) (xs : List X)
-    → map f (map g xs) ≡ map (λ x. f (g x)) xs
-map_map f g [] = refl
-map_map f g (x ∷ xs) = ap (λ ys. f (g x) ∷ ys) (map_map f g xs)
+use Rattle.regatta_board.proofs.Numbers.{filter_known, all_passed, in_range, map_over}
 
 zip_map : {X Y Z : Type 0} (f : X → Y) (xs : List X) (zs : List Z)
     → zip (map f xs) zs ≡ map (λ p. (f p.0, p.1)) (zip xs zs)
@@ -118,11 +114,6 @@ cells_are rules journal boat =
     })
     (λ p i. record { points = p.1.0; mark = mark_is rules journal p.0 boat i; dropped = p.1.1 })
     (zip (scored journal) pairs)
-  where
-    map_same : {X Y : Type 0} (g h : X → Y) → ((x : X) → g x ≡ h x) → (xs : List X)
-        → map g xs ≡ map h xs
-    map_same g h same [] = refl
-    map_same g h same (x ∷ xs) = λ i. same x i ∷ map_same g h same xs i
 
 pub row_is : (rules : RulesParts) (journal : Journal) (lines : List BoatScores) (boat : Sail)
     → one.row rules boat (place lines (by_journal.line rules journal boat))
@@ -207,7 +198,7 @@ module _ (rules : RulesParts) (journal : Journal) (orderly : IsOrderly rules jou
 
   scored_in_range : AllByRecursion (λ r. (1 ≤ r) × (r < 1 + MAX_RACES)) (scored journal)
   scored_in_range =
-      all_kept (λ r. (1 ≤ r) × (r < 1 + MAX_RACES)) (is_scored journal) (range_with_len 1 MAX_RACES)
+      all_passed (λ r. (1 ≤ r) × (r < 1 + MAX_RACES)) (is_scored journal) (range_with_len 1 MAX_RACES)
       (in_range 1 MAX_RACES)
 
   sheet_at : (race : ℕ) → (1 ≤ race) × (race < 1 + MAX_RACES)
