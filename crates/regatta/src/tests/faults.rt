@@ -1,3 +1,5 @@
+ghost use Rattle.std.specs.Prelude.{◌<◌};
+
 use super::*;
 
 /// What a run writes over these tapes, and how it ends.
@@ -7,6 +9,21 @@ fn ended(alloc: Global, mut input: Tape, mut output: Tape) -> (Tape, Result<(), 
     (output, ended)
 }
 
+/// Whether a run over this text, in pieces of so many bytes, ends so and writes this.
+fn says(
+    alloc: Global,
+    text: &[u8],
+    piece: usize,
+    how: Result<(), RunFault>,
+    written: &[u8],
+) -> Result<bool, Fail>
+    requires { 0 < piece }
+{
+    let input = giving(alloc, text, piece)?;
+    let (output, found) = ended(alloc, input, taking(alloc, 200)?);
+    Ok(found == how && output.written() == written)
+}
+
 #[test]
 fn a_reader_breaks_off(rt: HostRuntime) -> Result<(), Fail> {
     let text = b"ENTER A\nENTER B";
@@ -14,11 +31,8 @@ fn a_reader_breaks_off(rt: HostRuntime) -> Result<(), Fail> {
     let (output, result) = ended(rt.alloc(), broken, taking(rt.alloc(), 100)?);
     assert_eq!(rt; result, Err(RunFault::Read));
     assert_eq!(rt; output.written(), b"OK 1 1 0.0\n".as_slice());
-    let whole = giving(rt.alloc(), text, 4)?;
-    let (output, result) = ended(rt.alloc(), whole, taking(rt.alloc(), 100)?);
-    assert_eq!(rt; result, Ok(()));
-    let written = "OK 1 1 0.0\nOK 2 1= 0.0\nTABLE 2 RACES\n1= A 0.0\n1= B 0.0\n";
-    assert_eq!(rt; output.written(), written.as_bytes());
+    let written = b"OK 1 1 0.0\nOK 2 1= 0.0\nTABLE 2 RACES\n1= A 0.0\n1= B 0.0\n";
+    assert!(rt; says(rt.alloc(), text, 4, Ok(()), written)?);
     Ok(())
 }
 
@@ -43,57 +57,102 @@ fn long_text(alloc: Global, line: &[u8], count: usize) -> Result<Vec<u8>, Fail> 
 #[test]
 fn an_input_is_too_long(rt: HostRuntime) -> Result<(), Fail> {
     let text = long_text(rt.alloc(), b"ENTER A\n", 1_048_569)?;
-    let input = giving(rt.alloc(), &text, 4096)?;
-    let (output, result) = ended(rt.alloc(), input, taking(rt.alloc(), 100)?);
-    assert_eq!(rt; result, Err(RunFault::InputTooLong));
-    assert_eq!(rt; output.written(), b"OK 1 1 0.0\n".as_slice());
-    let input = giving(rt.alloc(), &text[..text.len().saturating_sub(1)], 4096)?;
-    let (output, result) = ended(rt.alloc(), input, taking(rt.alloc(), 100)?);
-    assert_eq!(rt; result, Ok(()));
-    let written = "OK 1 1 0.0\nNO 20\nTABLE 1 RACES\n1 A 0.0\n";
-    assert_eq!(rt; output.written(), written.as_bytes());
-    let text = long_text(rt.alloc(), b"QUIT\n", 2_000_000)?;
-    let input = giving(rt.alloc(), &text, 4096)?;
-    let (output, result) = ended(rt.alloc(), input, taking(rt.alloc(), 100)?);
-    assert_eq!(rt; result, Ok(()));
-    assert_eq!(rt; output.written(), b"BYE\nTABLE 0 RACES\n".as_slice());
+    let fault = Err(RunFault::InputTooLong);
+    assert!(rt; says(rt.alloc(), &text, 4096, fault, b"OK 1 1 0.0\n")?);
+    let within = &text[..text.len().saturating_sub(1)];
+    let written = b"OK 1 1 0.0\nNO 20\nTABLE 1 RACES\n1 A 0.0\n";
+    assert!(rt; says(rt.alloc(), within, 4096, Ok(()), written)?);
     Ok(())
+}
+
+#[test]
+fn what_follows_quit_is_never_too_long(rt: HostRuntime) -> Result<(), Fail> {
+    let text = long_text(rt.alloc(), b"QUIT\n", 2_000_000)?;
+    assert!(rt; says(rt.alloc(), &text, 4096, Ok(()), b"BYE\nTABLE 0 RACES\n")?);
+    Ok(())
+}
+
+/// So many bytes `X`, and then these lines.
+fn long_first_line(alloc: Global, count: usize, lines: &[u8]) -> Result<Vec<u8>, Fail> {
+    let mut text = long_text(alloc, b"", count)?;
+    text.extend_from_slice(lines)?;
+    Ok(text)
 }
 
 #[test]
 fn quit_ends_within_the_limit(rt: HostRuntime) -> Result<(), Fail> {
-    let mut text = long_text(rt.alloc(), b"", 1_048_570)?;
-    text.extend_from_slice(b"\nQUIT\nENTER A\n")?;
-    let input = giving(rt.alloc(), &text, 4096)?;
-    let (output, result) = ended(rt.alloc(), input, taking(rt.alloc(), 100)?);
-    assert_eq!(rt; result, Ok(()));
-    assert_eq!(rt; output.written(), b"NO 20\nBYE\nTABLE 0 RACES\n".as_slice());
-    let mut text = long_text(rt.alloc(), b"", 1_048_571)?;
-    text.extend_from_slice(b"\nQUIT\n")?;
-    let input = giving(rt.alloc(), &text, 4096)?;
-    let (output, result) = ended(rt.alloc(), input, taking(rt.alloc(), 100)?);
-    assert_eq!(rt; result, Err(RunFault::InputTooLong));
-    assert_eq!(rt; output.written(), b"NO 20\n".as_slice());
+    let text = long_first_line(rt.alloc(), 1_048_570, b"\nQUIT\nENTER A\n")?;
+    assert!(rt;
+        says(
+            rt.alloc(),
+            &text,
+            4096,
+            Ok(()),
+            b"NO 20\nBYE\nTABLE 0 RACES\n"
+        )?
+    );
+    let text = long_first_line(rt.alloc(), 1_048_571, b"\nQUIT\n")?;
+    assert!(rt;
+        says(
+            rt.alloc(),
+            &text,
+            4096,
+            Err(RunFault::InputTooLong),
+            b"NO 20\n"
+        )?
+    );
     Ok(())
 }
 
-#[test]
-fn lines_are_cut_at_their_ends(rt: HostRuntime) -> Result<(), Fail> {
-    let mut text = long_text(rt.alloc(), b"", 81)?;
-    text.push(b'\n')?;
-    text.extend_from_slice(&long_text(rt.alloc(), b"", 5000)?)?;
+/// Two lines that are too long, lines of bytes that are no words, and a line of 80 bytes and a CR.
+fn odd_lines(alloc: Global) -> Result<Vec<u8>, Fail> {
+    let mut text = long_first_line(alloc, 81, b"\n")?;
+    text.extend_from_slice(&long_text(alloc, b"", 5000)?)?;
     text.extend_from_slice(b"\n\xff\0\n\r\nENTER\tA\nSHOW\r\r\nENTER \xc3\xa9\nENTER A")?;
     for _ in 0..73 {
         text.push(b' ')?;
     }
     text.extend_from_slice(b"\r\n")?;
+    Ok(text)
+}
+
+#[test]
+fn lines_are_cut_at_their_ends(rt: HostRuntime) -> Result<(), Fail> {
+    let text = odd_lines(rt.alloc())?;
+    let written = b"NO 20\nNO 20\nNO 21\nNO 21\nNO 21\nNO 21\nNO 23\nOK 1 1 0.0\n\
+        TABLE 1 RACES\n1 A 0.0\n";
     for piece in [1, 80, 82, 4096] {
-        let input = giving(rt.alloc(), &text, piece)?;
-        let (output, result) = ended(rt.alloc(), input, taking(rt.alloc(), 200)?);
-        assert_eq!(rt; result, Ok(()));
-        let written = "NO 20\nNO 20\nNO 21\nNO 21\nNO 21\nNO 21\nNO 23\nOK 1 1 0.0\n\
-            TABLE 1 RACES\n1 A 0.0\n";
-        assert_eq!(rt; output.written(), written.as_bytes());
+        assert!(rt; says(rt.alloc(), &text, piece, Ok(()), written)?);
     }
+    Ok(())
+}
+
+/// So many empty lines.
+fn empty_lines(alloc: Global, count: usize) -> Result<Vec<u8>, Fail> {
+    Ok(vec![in alloc; b'\n'; count]?)
+}
+
+/// So many replies to empty lines, and then the table of nobody.
+fn replies_to_empty_lines(alloc: Global, count: usize) -> Result<Vec<u8>, Fail> {
+    let mut replies = Vec::new(alloc);
+    for _ in 0..count {
+        replies.extend_from_slice(b"NO 21\n")?;
+    }
+    replies.extend_from_slice(b"TABLE 0 RACES\n")?;
+    Ok(replies)
+}
+
+/// More replies to the lines of one piece than are gathered before they are written.
+#[test]
+fn replies_of_a_piece_are_written_in_order(rt: HostRuntime) -> Result<(), Fail> {
+    let text = empty_lines(rt.alloc(), 2000)?;
+    let replies = replies_to_empty_lines(rt.alloc(), 2000)?;
+    let (output, result) = ended(
+        rt.alloc(),
+        giving(rt.alloc(), &text, 4096)?,
+        taking(rt.alloc(), 20_000)?,
+    );
+    assert_eq!(rt; result, Ok(()));
+    assert_eq!(rt; output.written(), replies.as_slice());
     Ok(())
 }

@@ -1,6 +1,6 @@
 use super::*;
 use regatta_office::start_of;
-use regatta_tables::{read_entries, read_journal};
+use regatta_tables::{Journal, Sails, read_entries, read_journal};
 use regatta_terms::{Refusal, Sail};
 
 /// A run without a start: its text, and what it writes.
@@ -111,25 +111,53 @@ fn the_series_rules_are_those_handed_in(rt: HostRuntime) -> Result<(), Fail> {
     Ok(())
 }
 
+/// The entries of a journal file.
+fn journal_of(alloc: Global, text: &[u8]) -> Result<Journal, Fail> {
+    let journal = read_journal(alloc, text).map_err(|_| "a journal")?;
+    Ok(journal)
+}
+
+/// The sails of an entry list.
+fn sails_of(alloc: Global, text: &[u8]) -> Result<Sails, Fail> {
+    let sails = read_entries(alloc, text).map_err(|_| "an entry list")?;
+    Ok(sails)
+}
+
+/// Whether a run of this text from this start ends well and writes this.
+fn writes(
+    alloc: Global,
+    text: &[u8],
+    start: &[Entry],
+    form: Form,
+    written: &[u8],
+) -> Result<bool, Fail> {
+    let (output, ended) = replayed(alloc, text, &default_rules(), start, form)?;
+    Ok(ended == Ok(()) && output.written() == written)
+}
+
 #[test]
 fn a_run_goes_on_from_its_start(rt: HostRuntime) -> Result<(), Fail> {
-    let rules = default_rules();
-    let last = read_journal(rt.alloc(), b"1 4294967295 SCORER ENTER A\n")
-        .ok()
-        .expect(&rt, "a journal");
-    let (output, ended) = replayed(rt.alloc(), b"ENTER B", &rules, last.as_slice(), Form::Table)?;
-    assert_eq!(rt;
-        output.written(),
-        b"NO 3\nTABLE 1 RACES\n1 A 0.0\n".as_slice()
+    let last = journal_of(rt.alloc(), b"1 4294967295 SCORER ENTER A\n")?;
+    let written = b"NO 3\nTABLE 1 RACES\n1 A 0.0\n";
+    assert!(rt;
+        writes(
+            rt.alloc(),
+            b"ENTER B",
+            last.as_slice(),
+            Form::Table,
+            written
+        )?
     );
-    assert_eq!(rt; ended, Ok(()));
-    let refused = read_journal(rt.alloc(), b"1 1 JURY ENTER A\n")
-        .ok()
-        .expect(&rt, "a journal");
+    Ok(())
+}
+
+#[test]
+fn a_start_that_is_refused_ends_the_run(rt: HostRuntime) -> Result<(), Fail> {
+    let refused = journal_of(rt.alloc(), b"1 1 JURY ENTER A\n")?;
     let (output, ended) = replayed(
         rt.alloc(),
         b"ENTER B",
-        &rules,
+        &default_rules(),
         refused.as_slice(),
         Form::Table,
     )?;
@@ -141,23 +169,24 @@ fn a_run_goes_on_from_its_start(rt: HostRuntime) -> Result<(), Fail> {
 
 #[test]
 fn an_entry_list_is_entered_by_the_scorer(rt: HostRuntime) -> Result<(), Fail> {
-    let rules = default_rules();
-    let sails = read_entries(
-        rt.alloc(),
-        b"Boat,Sail,Club\nWind,gbr 12,X\n\"A, B\",NED7\n",
-    )
-    .ok()
-    .expect(&rt, "sails");
+    let list = b"Boat,Sail,Club\nWind,gbr 12,X\n\"A, B\",NED7\n";
+    let sails = sails_of(rt.alloc(), list)?;
     let start = start_of(rt.alloc(), &[], sails.as_slice())?;
-    let (output, ended) = replayed(rt.alloc(), b"", &rules, start.as_slice(), Form::Journal)?;
-    let journal = "1 1 SCORER ENTER GBR12\n1 2 SCORER ENTER NED7\n";
-    assert_eq!(rt; output.written(), journal.as_bytes());
-    assert_eq!(rt; ended, Ok(()));
-    let more: [Sail; 1] = [Sail::read(b"fra9").expect(&rt, "a sail")];
+    let journal = b"1 1 SCORER ENTER GBR12\n1 2 SCORER ENTER NED7\n";
+    assert!(rt; writes(rt.alloc(), b"", start.as_slice(), Form::Journal, journal)?);
+    Ok(())
+}
+
+#[test]
+fn an_entry_list_is_entered_behind_a_journal(rt: HostRuntime) -> Result<(), Fail> {
+    let start = journal_of(
+        rt.alloc(),
+        b"1 1 SCORER ENTER GBR12\n1 2 SCORER ENTER NED7\n",
+    )?;
+    let more: [Sail; 1] = [Sail::read(b"fra9").ok_or("a sail")?];
     let start = start_of(rt.alloc(), start.as_slice(), &more)?;
-    let (output, _) = replayed(rt.alloc(), b"", &rules, start.as_slice(), Form::Journal)?;
-    let journal = "1 1 SCORER ENTER GBR12\n1 2 SCORER ENTER NED7\n1 3 SCORER ENTER FRA9\n";
-    assert_eq!(rt; output.written(), journal.as_bytes());
+    let journal = b"1 1 SCORER ENTER GBR12\n1 2 SCORER ENTER NED7\n1 3 SCORER ENTER FRA9\n";
+    assert!(rt; writes(rt.alloc(), b"", start.as_slice(), Form::Journal, journal)?);
     Ok(())
 }
 
