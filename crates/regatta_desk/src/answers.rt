@@ -5,7 +5,7 @@ ghost use Rattle.regatta_terms.specs.declared.reply.Reply.{Reply as ReplyValue};
 ghost use Rattle.regatta_board.specs.Answers.{rank_of};
 ghost use Rattle.regatta_tables.specs.ReplyTexts.{reply_text};
 ghost use Rattle.regatta_talk.specs.Replies.{ranked as ranked_by, role_after};
-ghost use Rattle.regatta_talk.specs.declared.room.TheConstants.{REPLY_ROOM};
+ghost use Rattle.regatta_tables.specs.declared.replies.TheConstants.{REPLY_ROOM};
 ghost use Rattle.regatta_desk.specs.Replies.{is_for_desk, is_for_pass, next_after};
 ghost use Rattle.regatta_desk.specs.Replies.{DeskReplies, PassReplies};
 

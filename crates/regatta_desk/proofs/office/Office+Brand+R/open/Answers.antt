@@ -1,3 +1,4 @@
+use Rattle.std.proofs.Common.{◌≡◌, ◌∙◌, refl, ap, sym, arith, None}
 use Rattle.regatta_desk.proofs.Starts.{fault_up}
 use Rattle.regatta_desk.proofs.office.Office+Brand+R.open.Goals as goal
 
@@ -6,3 +7,30 @@ returns-in_err-watchers-clause-refused g c =
     fault_up c.from_residual-in_err-watchers.result c.in_err-watchers.field-0.0
     c.args.rules.now c.args.start.now c.in_ok-board.ensures.accepted
     c.from_residual-in_err-watchers.ensures.1 c.in_err-watchers.ensures.fault
+
+pub invariant_of-result : goal.invariant_of-result
+invariant_of-result g c =
+    let shown : c.watchers.new.publisher.published ≡ record {
+      entries = c.in_ok-board.board.entries;
+      rules = c.in_ok-board.board.rules;
+      noted = c.in_ok-board.board.entries;
+      history = c.in-Ok.history.history;
+      last = None;
+    } = ap (λ p. p.published) c.in_ok-watchers.ensures.same ∙ c.in-Ok-open.ensures.published
+    ∙ c.in-Ok-first_copy.ensures.copy in
+    let kept : c.first_copy-2.new.history ≡ c.in-Ok.history =
+    c.in-Ok-first_copy-2.ensures.same ∙ c.in-Ok-first_copy.ensures.same in
+    let start : c.in_ok-board.board.entries ≡ c.args.start.now =
+    ap (λ b. b.entries) c.in_ok-board.ensures.board in (
+      record {
+        list = ap (λ v. v.entries) shown;
+        under = ap (λ v. v.rules) shown;
+        noted = ap (λ v. v.history) shown ∙ ap (λ h. h.history) (sym kept);
+        idle = ap (λ p. p.pending) c.in_ok-watchers.ensures.same ∙ c.in-Ok-open.ensures.pending;
+        known_whole = ap (λ h. h.journal) kept ∙ c.in-Ok.ensures ∙ sym start;
+        named = refl;
+        board_rules = refl;
+      },
+      rw c.in_ok-watchers.ensures.same c.in_ok-watchers.ensures.views,
+      omega (arith, c.in_ok-watchers.ensures.count, c.if-seats-gt-MAX_SEATS.false),
+    )
