@@ -17,7 +17,6 @@ import os
 import random
 import re
 import subprocess
-import sys
 import tempfile
 import time
 
@@ -27,7 +26,7 @@ TALKERS = 11
 MEBIBYTE = 1 << 20
 WORDS = (b"ENTER FINISH TIE BEFORE STRIKE MARK PENALTY REDRESS CLEAR SCORE UNSCORE ROLE RANK SHOW "
          b"QUIT").split()
-SPARE_SESSIONS = 3000
+SESSIONS = 2500
 
 
 class Caller:
@@ -38,7 +37,7 @@ class Caller:
         self.rng = random.Random(seed * 100 + number)
         self.sessions, self.busy, self.lines = 0, 0, 0
         self.accepted, self.wrong = [], []
-        self.client = None
+        self.client, self.full = None, False
 
     def connect(self):
         """A new session, once a seat is free. It is asked a line, so that it has begun."""
@@ -69,7 +68,8 @@ class Caller:
         self.client.close()
 
     def report(self):
-        return self.number, self.sessions, self.busy, self.lines, self.accepted, self.wrong
+        return (self.number, self.sessions, self.busy, self.lines, self.accepted, self.wrong,
+                self.full)
 
 
 class Talker(Caller):
@@ -80,7 +80,7 @@ class Talker(Caller):
         self.boats = [b"S%dX%d" % (number, i) for i in range(3)]
         self.race = number
         self.entered, self.placed, self.scores = set(), set(), False
-        self.role, self.full = b"SCORER", False
+        self.role = b"SCORER"
 
     def command(self):
         """A command, and the number of its refusal; 0 where it is accepted."""
@@ -135,11 +135,14 @@ class Talker(Caller):
             self.role = b"JURY"
             return b"role jury", rb"ROLE JURY"
         line, refusal = self.command()
-        if turn < 0.55 and refusal != 0 or turn > 0.962:
-            if refusal == 0:
-                self.note(line)
-            return line, (b"NO 2|" + (b"NO %d" % refusal if refusal else rb"OK .*"))
-        return self.question()
+        if turn < 0.5 and refusal != 0:
+            return line, b"NO 2|NO %d" % refusal
+        if turn < 0.95:
+            return self.question()
+        while refusal != 0:
+            line, refusal = self.command()
+        self.note(line)
+        return line, rb"NO 2|OK .*"
 
     def burst(self):
         """Sends some lines at once, cut anywhere, and reads their replies."""
@@ -307,17 +310,15 @@ def turned_away(path, wrong):
     return 3
 
 
-def last_session(path, sessions, left, wrong):
+def last_session(path, left, wrong):
     """Uses up the sessions that are left, the last of them to ask for the sheet; who comes then is
     let in no more, though that session still runs."""
     for _ in range(left - 1):
         client = Client(path)
+        client.ask(b"QUIT")
+        client.is_at_end()
         client.close()
-    while True:
-        last = Client(path)
-        if last.ask(b"RANK NOBODY") != b"BUSY":
-            break
-        sys.exit("the last client found no seat")
+    last = Client(path)
     journal, table = last.sheet()
     try:
         late = Client(path)
@@ -372,7 +373,7 @@ def judge(program, journal, accepted, table, printed, wrong):
 
 
 def soak(words, program, lines, seed):
-    server = Server(words, SEATS, SPARE_SESSIONS)
+    server = Server(words, SEATS, SESSIONS)
     kinds = [Talker] * TALKERS + [HangsUp, NeverReads, RandomBytes, LongLines, QuitsEarly]
     gather, reports = multiprocessing.Barrier(SEATS + 1), multiprocessing.Queue()
     processes = [multiprocessing.Process(target=work, args=(
@@ -392,8 +393,10 @@ def soak(words, program, lines, seed):
     time.sleep(0.5)
     memory = server.memory()
     sessions += sum(one[1] for one in told)
-    journal, table = last_session(server.path, sessions, SPARE_SESSIONS - sessions, wrong)
+    journal, table = last_session(server.path, SESSIONS - sessions, wrong)
     status, printed, errors = server.end()
+    if any(one[6] for one in told) and len(journal) < JOURNAL:
+        wrong.append("a journal that isn't full was said to be")
     accepted = [one for report in told for one in report[4]]
     wrong += [text for report in told for text in report[5]]
     if status != 0 or errors:
