@@ -1,0 +1,5 @@
+pub mod Telling
+pub mod Watching
+pub mod Running
+pub mod Seats
+pub mod Starts

@@ -1,0 +1,27 @@
+-- What contracts see of a desk, and what is true of each whenever its lock is free.
+use Rattle.std.specs.Prelude.{◌≡◌, ℕ, []}
+use Rattle.atomic_table.specs.Seated.{TableId}
+use Rattle.regatta_terms.specs.Rules.{RulesParts}
+use Rattle.regatta_scores.specs.Journal.{Journal}
+use Rattle.regatta_board.specs.BoardFacts.{BoardValue}
+use Rattle.regatta_watch.specs.Notes.{NoteValue}
+use Rattle.regatta_watch.specs.Publishers.{PublisherValue}
+
+-- the board's rules and journal, what readers enter, and how many entries they don't see yet
+pub record DeskValue : Type 0 where
+  pub rules : RulesParts
+  pub entries : Journal
+  pub published : Journal
+  pub pending : ℕ
+
+-- the publication and the history have just the journal of the board, under these rules, and
+-- nothing is pending
+pub record AtRest (board : BoardValue) (now : PublisherValue) (known : NoteValue)
+    (rules : RulesParts) (history : TableId) : Type 0 where
+  pub list : now.published.entries ≡ board.entries
+  pub under : now.published.rules ≡ rules
+  pub noted : now.published.history ≡ history
+  pub idle : now.pending ≡ []
+  pub known_whole : known.journal ≡ board.entries
+  pub named : known.history ≡ history
+  pub board_rules : board.rules ≡ rules

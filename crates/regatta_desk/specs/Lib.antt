@@ -1,0 +1,4 @@
+pub mod Receipts
+pub mod Passes
+pub mod Desks
+pub mod Offices

@@ -1,0 +1,53 @@
+-- What contracts see of a pass, and what is true of each.
+use Rattle.std.specs.Prelude.{◌≡◌, ℕ, ◌-◌, ◌<◌, ◌≤◌, List, length, slice_get, Some, IsTrue, All}
+use mathlib.Core.List.{IsPrefix}
+use Rattle.atomic_table.specs.Seated.{TableId}
+use Rattle.regatta_terms.specs.Entries.{EntryParts, is_seat}
+use Rattle.regatta_terms.specs.Rules.{RulesParts}
+use Rattle.regatta_terms.specs.declared.command.Command.{Command}
+use Rattle.regatta_terms.specs.declared.command.Role.{Role}
+use Rattle.regatta_scores.specs.Journal.{Journal}
+use Rattle.regatta_board.specs.Refusals.{next_entry}
+use Rattle.regatta_watch.specs.Views.{journal_of, Names}
+use Rattle.regatta_watch.specs.declared.publication.ReaderView.{ReaderView}
+use Rattle.regatta_desk.specs.Receipts.{EndsWith}
+use Rattle.regatta_desk.specs.declared.pass.Seen.{Seen}
+use Rattle.regatta_desk.specs.declared.pass.Told.{Told}
+
+-- seen: the journal that the pass was shown last. told: the journals that it was told of, in order
+pub record PassValue : Type 0 where
+  pub seat : ℕ
+  pub last : ℕ
+  pub seen : Journal
+  pub told : List Journal
+
+-- the entry that a pass makes next
+abbrev pub entry_of : PassValue → Role → Command → EntryParts
+entry_of pass role command = next_entry pass.seat pass.last role command
+
+-- the journal that a note of it stands for
+abbrev pub seen_of : Seen → Journal
+seen_of seen = journal_of seen.journal.note.journal seen.journal.last
+
+-- how long a journal is, and its last entry, if it has one
+abbrev pub IsKnown : Journal → ℕ → EntryParts → Type 0
+IsKnown journal count last = (count ≡ length journal) × (0 < count → EndsWith journal last)
+
+-- the journal has this entry as the last of its first so many
+abbrev pub Reaches : Journal → ℕ → EntryParts → Type 0
+Reaches journal count last =
+    (count ≤ length journal) × (0 < count → slice_get journal (count - 1) ≡ Some last)
+
+-- what is true of each pass of the office of these rules and this history: its watcher sees no less
+-- than the pass has seen, and each journal that it was told of is a beginning of the longest
+pub record IsPass (rules : RulesParts) (history : TableId) (seat : ℕ) (watcher : ReaderView)
+    (seen : Seen) (told : Told) (shared : TableId) : Type 0 where
+  pub seated : IsTrue (is_seat seat)
+  pub front : IsPrefix (seen_of seen) watcher.seen
+  pub noted : seen.journal.note.history ≡ history
+  pub sees : seen.length ≡ length (seen_of seen)
+  pub names : Names watcher rules history
+  pub listens : told.listener.history ≡ history
+  pub shares : shared ≡ history
+  pub longest : IsKnown told.listener.longest told.length told.last
+  pub each : All (λ j. IsPrefix j told.listener.longest) told.listener.told

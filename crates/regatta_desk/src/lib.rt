@@ -1,0 +1,17 @@
+//! The office under its lock, and the passes by which seats run commands and watch without it.
+#![tactic(auto)]
+
+mod desk;
+mod office;
+mod opening;
+mod pass;
+mod receipt;
+mod sheet;
+
+pub use desk::Desk;
+pub use office::{Office, Opened};
+pub use opening::OpenFault;
+pub use pass::Pass;
+pub use receipt::Receipt;
+pub use regatta_watch::{OfficeName, ShowFault};
+pub use sheet::Sheet;

@@ -1,0 +1,194 @@
+//! How an office is opened, named and shared.
+ghost use Rattle.std.specs.Prelude.{◌≡◌, ◌+◌, ◌<◌, ◌⊎◌, ◌↔◌, [], true, Err, vec_len};
+ghost use Rattle.std.specs.Prelude.{IfOk, IfErr, OnOk};
+ghost use Rattle.regatta_board.specs.Refusals.{limits, is_lawful, last_number};
+ghost use Rattle.regatta_terms.specs.declared.limits.TheConstants.{MAX_SEATS};
+ghost use Rattle.regatta_watch.specs.Views.{Sees};
+ghost use Rattle.regatta_desk.specs.Offices.{IsOpenFault, AreSeated};
+
+use crate::desk::Desk;
+use crate::opening::{OpenFault, board_of, first_copy, history_of, watchers};
+use crate::pass::{Pass, Seen};
+use regatta_board::Board;
+use regatta_terms::{Entry, MAX_SEATS, Rules};
+use regatta_watch::{History, JournalNote, OfficeName, Publisher, SharedHistory, Watcher};
+use std::alloc::{AllocError, Global};
+use std::marker::{Brand, Model};
+use std::sync::{Mutex, MutexGuard, Wait};
+
+/// An office that isn't locked yet.
+///
+/// It is seen as its series rules, its journal and its seats, and which history it has.
+#[derive(Drop)]
+pub struct Opened<R: Wait + Drop> {
+    alloc: Global,
+    board: Board,
+    publisher: Publisher<R>,
+    history: History,
+    watchers: Vec<Watcher>,
+}
+
+impl<R: Wait + Drop> Model for Opened<R> {
+    ghost use Rattle.std.specs.Prelude.{◌≡◌, ◌≤◌, All, vec_len};
+    ghost use Rattle.regatta_terms.specs.declared.limits.TheConstants.{MAX_SEATS};
+    ghost use Rattle.regatta_watch.specs.Views.{looking};
+    ghost use Rattle.regatta_desk.specs.Desks.{AtRest};
+    ghost use Rattle.regatta_desk.specs.Offices.{OpenedValue};
+
+    ghost Value = { OpenedValue };
+
+    ghost view = { λ o. record {
+      rules = o.board.rules;
+      entries = o.board.entries;
+      seats = vec_len o.watchers;
+      history = o.history.history;
+    } };
+
+    ghost invariant = { λ o.
+        AtRest o.board o.publisher o.history o.board.rules o.history.history
+        × All (λ w. w ≡ looking o.publisher.published) o.watchers.items
+        × (vec_len o.watchers ≤ MAX_SEATS) };
+}
+
+/// The desk behind its lock.
+#[derive(Drop)]
+pub struct Office<N: OfficeName, R: Wait + Drop> {
+    desk: Mutex<Desk<N, R>>,
+}
+
+impl<N: OfficeName, R: Wait + Drop> Office<N, R> {
+    /// The one way to the desk: it waits for the lock.
+    pub fn desk<W: Wait>(&self, rt: &W) -> MutexGuard<'_, Desk<N, R>> {
+        self.desk.lock(rt)
+    }
+}
+
+impl<R: Wait + Drop> Office<Brand, R> {
+    /// Opens an office of so many seats, with a journal to begin from. It has no name yet, and
+    /// waits for nobody.
+    ///
+    /// # Errors
+    ///
+    /// `BadSeats` exactly where the seats aren't 1 to 16, else `Refused` with the first entry that
+    /// those before it refuse, or `NoReader` or `NoMemory` where those are wanting.
+    pub fn open(
+        rt: R,
+        alloc: Global,
+        rules: &Rules,
+        seats: u8,
+        start: &[Entry],
+    ) -> Result<Opened<R>, OpenFault>
+        ensures rules { IfOk result (λ o. o.rules ≡ rules.now) }
+        ensures journal { IfOk result (λ o. o.entries ≡ start.now) }
+        ensures seats { IfOk result (λ o. o.seats ≡ seats) }
+        ensures lawful { OnOk result (is_lawful limits rules.now start.now ≡ true) }
+        ensures bad_seats { (result ≡ Err OpenFault.BadSeats)
+            ↔ ((seats ≡ 0) ⊎ (MAX_SEATS < seats)) }
+        ensures refused { IfErr result (IsOpenFault rules.now start.now) }
+    {
+        if seats == 0 || seats > MAX_SEATS {
+            return Err(OpenFault::BadSeats);
+        }
+        let board = board_of(alloc, rules, start)?;
+        // do nothing: their contracts say that the journal is lawful and not too long
+        let _ = board.entries();
+        let _ = board.len();
+        let Ok(mut history) = history_of(alloc, start) else {
+            return Err(OpenFault::NoMemory);
+        };
+        let Ok(first) = first_copy(alloc, &board, &mut history, seats) else {
+            return Err(OpenFault::NoMemory);
+        };
+        let Ok(second) = first_copy(alloc, &board, &mut history, seats) else {
+            return Err(OpenFault::NoMemory);
+        };
+        let Ok(mut publisher) = Publisher::open(alloc, rt, first, second, usize::from(seats)) else {
+            return Err(OpenFault::NoMemory);
+        };
+        let watchers = watchers(alloc, &mut publisher, seats)?;
+        Ok(Opened {
+            alloc,
+            board,
+            publisher,
+            history,
+            watchers,
+        })
+    }
+}
+
+impl<R: Wait + Drop> Opened<R> {
+    /// Puts the desk behind its lock, and gives a pass for each seat, in order from 1. The caller
+    /// picks N for this office.
+    ///
+    /// # Errors
+    ///
+    /// Where memory is wanting. The office is then gone.
+    pub fn split<N: OfficeName>(self) -> Result<(Office<N, R>, Vec<Pass<N>>), AllocError>
+        requires history { self.history ≡ N.history }
+        requires rules { self.rules ≡ N.rules }
+        ensures passes { IfOk result (λ t. AreSeated self.entries t.1.items) }
+        ensures count { IfOk result (λ t. vec_len t.1 ≡ self.seats) }
+    {
+        let Opened {
+            alloc,
+            board,
+            publisher,
+            mut history,
+            watchers,
+        } = self;
+        let mut passes = Vec::with_capacity(alloc, watchers.len())?;
+        for watcher in watchers {
+            let shared = history.share()?;
+            let pass = pass_of(alloc, &board, &mut history, shared, watcher, passes.len());
+            passes.push(pass)?;
+        }
+        let desk = Desk::new(board, publisher, history);
+        Ok((
+            Office {
+                desk: Mutex::new(desk),
+            },
+            passes,
+        ))
+    }
+}
+
+/// The pass of the seat after so many.
+fn pass_of<N: OfficeName>(
+    alloc: Global,
+    board: &Board,
+    history: &mut History,
+    shared: SharedHistory,
+    watcher: Watcher,
+    before: usize,
+) -> Pass<N>
+    requires few { before < MAX_SEATS }
+    requires journal { history.old.journal ≡ board.now.entries }
+    requires history { history.old.history ≡ N.history }
+    requires shared { shared ≡ N.history }
+    requires watcher { Sees watcher board.now.entries N.rules N.history }
+    ensures same { history.new ≡ history.old }
+    ensures pass { result ≡ record {
+      seat = before + 1;
+      last = last_number board.now.entries (before + 1);
+      seen = board.now.entries;
+      told = [];
+    } }
+{
+    let seat = before as u8 + 1;
+    let seen = Seen {
+        journal: JournalNote {
+            note: history.note(),
+            last: None,
+        },
+        length: board.len(),
+    };
+    Pass::new(
+        alloc,
+        seat,
+        board.last_of(seat),
+        watcher,
+        seen,
+        history.listener(),
+        shared,
+    )
+}
