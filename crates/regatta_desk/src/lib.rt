@@ -1,6 +1,7 @@
 //! The office under its lock, and the passes by which seats run commands and watch without it.
 #![tactic(auto)]
 
+mod answers;
 mod desk;
 mod office;
 mod opening;
@@ -8,6 +9,7 @@ mod pass;
 mod receipt;
 mod sheet;
 
+pub use answers::{Next, answer_alone};
 pub use desk::Desk;
 pub use office::{Office, Opened};
 pub use opening::OpenFault;

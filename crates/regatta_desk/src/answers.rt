@@ -1,0 +1,130 @@
+//! What a line is answered, by whoever holds the desk and by a pass alone.
+ghost use Rattle.std.specs.Prelude.{◌≡◌, ◌+◌, ◌≤◌, ◌++◌, true, Ok, IfOk, OnOk, OnErr, vec_len};
+ghost use Rattle.std.specs.Prelude.{vec_capacity};
+ghost use Rattle.regatta_terms.specs.declared.reply.Reply.{Reply as ReplyValue};
+ghost use Rattle.regatta_tables.specs.ReplyTexts.{reply_text};
+ghost use Rattle.regatta_talk.specs.Replies.{role_after};
+ghost use Rattle.regatta_talk.specs.declared.room.TheConstants.{REPLY_ROOM};
+ghost use Rattle.regatta_desk.specs.Replies.{is_for_desk, is_for_pass, next_after};
+ghost use Rattle.regatta_desk.specs.Replies.{DeskReplies, PassReplies};
+
+use crate::desk::Desk;
+use crate::pass::Pass;
+use regatta_tables::write_sheet;
+use regatta_talk::{answer_apart, make_room, ranked, reply_of, write_fitting};
+use regatta_terms::{Line, LineFault, Refusal, Reply, Role};
+use regatta_watch::{OfficeName, ShowFault};
+use std::alloc::AllocError;
+use std::sync::Wait;
+
+/// Whether more lines are answered.
+#[derive(Clone, Copy, Debug, PartialEq, Eq)]
+pub enum Next {
+    /// The session goes on.
+    Go,
+    /// It ends, by QUIT.
+    End,
+}
+
+impl<N: OfficeName, R: Wait + Drop> Desk<N, R> {
+    /// Does what a line asks of the desk, and gives the reply.
+    fn reply<W: Wait>(&mut self, rt: &W, pass: &mut Pass<N>, role: Role, line: Line) -> Reply
+        requires { is_for_desk line ≡ true }
+        ensures { DeskReplies N.rules line role self.old self.new pass.old pass.new result }
+    {
+        match line {
+            Line::Do(command) => match self.run(rt, pass, role, command) {
+                Ok(receipt) => reply_of(Ok(receipt.answer())),
+                Err(why) => reply_of(Err(why)),
+            },
+            Line::Rank(sail) => ranked(self.board().rank(sail)),
+            Line::SetRole(_) | Line::Show | Line::Quit => unreachable!(),
+        }
+    }
+
+    /// Answers a line that asks for a command or a rank: runs the command for the pass in this
+    /// role, or looks the boat up, and appends the reply.
+    ///
+    /// # Errors
+    ///
+    /// Where memory is wanting for the reply. Nothing has changed then.
+    pub fn answer<W: Wait>(
+        &mut self,
+        rt: &W,
+        pass: &mut Pass<N>,
+        role: Role,
+        line: Line,
+        out: &mut Vec<u8>,
+    ) -> Result<(), AllocError>
+        requires { is_for_desk line ≡ true }
+        ensures ok { OnOk result ((reply : ReplyValue)
+            × DeskReplies N.rules line role self.old self.new pass.old pass.new reply
+            × (out.new.items ≡ out.old.items ++ reply_text reply)) }
+        ensures err { OnErr result ((self.new ≡ self.old) × (pass.new ≡ pass.old)
+            × (out.new.items ≡ out.old.items)) }
+    {
+        make_room(out)?;
+        let reply = self.reply(rt, pass, role, line);
+        write_fitting(&reply, out);
+        Ok(())
+    }
+}
+
+/// Appends the sheet of what is published, or the reply that stands for it.
+fn show<N: OfficeName>(pass: &mut Pass<N>, out: &mut Vec<u8>)
+    requires { vec_len out.old + REPLY_ROOM ≤ vec_capacity out.old }
+    ensures { PassReplies N.rules (Ok Line.Show) pass.old pass.new out.old.items out.new.items }
+{
+    let reply = match pass.show() {
+        Ok(sheet) => {
+            let written = write_sheet(sheet.journal.as_slice(), &sheet.standing, out);
+            if written.is_ok() {
+                return;
+            }
+            Reply::Refused(Refusal::NoMemory)
+        }
+        Err(ShowFault::Closed) => Reply::Closed,
+        Err(ShowFault::NoMemory) => Reply::Refused(Refusal::NoMemory),
+    };
+    write_fitting(&reply, out);
+}
+
+/// Answers a line that asks for no command and no rank. It takes no lock, and waits for nobody.
+///
+/// SHOW is answered by a sheet, by CLOSED where the publication lets no reader in, or as refused
+/// where there is no memory for the sheet.
+///
+/// # Errors
+///
+/// Where memory is wanting for a reply. Nothing has changed then.
+pub fn answer_alone<N: OfficeName>(
+    pass: &mut Pass<N>,
+    role: &mut Role,
+    asked: Result<Line, LineFault>,
+    out: &mut Vec<u8>,
+) -> Result<Next, AllocError>
+    requires { is_for_pass asked ≡ true }
+    ensures text { OnOk result
+        (PassReplies N.rules asked pass.old pass.new out.old.items out.new.items) }
+    ensures role { OnOk result (role.new ≡ role_after asked role.old) }
+    ensures next { IfOk result (λ next. next ≡ next_after asked) }
+    ensures err { OnErr result ((role.new ≡ role.old) × (pass.new ≡ pass.old)
+        × (out.new.items ≡ out.old.items)) }
+{
+    match asked {
+        Ok(Line::Show) => {
+            make_room(out)?;
+            show(pass, out);
+            Ok(Next::Go)
+        }
+        Ok(Line::Quit) => {
+            answer_apart(role, asked, out)?;
+            Ok(Next::End)
+        }
+        Ok(Line::SetRole(_)) | Err(_) => {
+            answer_apart(role, asked, out)?;
+            Ok(Next::Go)
+        }
+        Ok(Line::Do(_) | Line::Rank(_)) => unreachable!(),
+    }
+}
