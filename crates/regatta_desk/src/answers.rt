@@ -2,8 +2,9 @@
 ghost use Rattle.std.specs.Prelude.{◌≡◌, ◌+◌, ◌≤◌, ◌++◌, true, Ok, IfOk, OnOk, OnErr, vec_len};
 ghost use Rattle.std.specs.Prelude.{vec_capacity};
 ghost use Rattle.regatta_terms.specs.declared.reply.Reply.{Reply as ReplyValue};
+ghost use Rattle.regatta_board.specs.Answers.{rank_of};
 ghost use Rattle.regatta_tables.specs.ReplyTexts.{reply_text};
-ghost use Rattle.regatta_talk.specs.Replies.{role_after};
+ghost use Rattle.regatta_talk.specs.Replies.{ranked as ranked_by, role_after};
 ghost use Rattle.regatta_talk.specs.declared.room.TheConstants.{REPLY_ROOM};
 ghost use Rattle.regatta_desk.specs.Replies.{is_for_desk, is_for_pass, next_after};
 ghost use Rattle.regatta_desk.specs.Replies.{DeskReplies, PassReplies};
@@ -12,7 +13,7 @@ use crate::desk::Desk;
 use crate::pass::Pass;
 use regatta_tables::write_sheet;
 use regatta_talk::{answer_apart, make_room, ranked, reply_of, write_fitting};
-use regatta_terms::{Line, LineFault, Refusal, Reply, Role};
+use regatta_terms::{Line, LineFault, Refusal, Reply, Role, Sail};
 use regatta_watch::{OfficeName, ShowFault};
 use std::alloc::AllocError;
 use std::sync::Wait;
@@ -27,6 +28,13 @@ pub enum Next {
 }
 
 impl<N: OfficeName, R: Wait + Drop> Desk<N, R> {
+    /// The reply to RANK.
+    fn rank_reply(&self, sail: Sail) -> Reply
+        ensures { result ≡ ranked_by (rank_of N.rules self.now.entries sail) }
+    {
+        ranked(self.board().rank(sail))
+    }
+
     /// Does what a line asks of the desk, and gives the reply.
     fn reply<W: Wait>(&mut self, rt: &W, pass: &mut Pass<N>, role: Role, line: Line) -> Reply
         requires { is_for_desk line ≡ true }
@@ -37,7 +45,7 @@ impl<N: OfficeName, R: Wait + Drop> Desk<N, R> {
                 Ok(receipt) => reply_of(Ok(receipt.answer())),
                 Err(why) => reply_of(Err(why)),
             },
-            Line::Rank(sail) => ranked(self.board().rank(sail)),
+            Line::Rank(sail) => self.rank_reply(sail),
             Line::SetRole(_) | Line::Show | Line::Quit => unreachable!(),
         }
     }
