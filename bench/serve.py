@@ -1,23 +1,26 @@
 #!/usr/bin/env python3
 """Times `regatta serve` over a real Unix socket, or soaks it.
 
-    bench/serve.py [--clients N] [--watchers M] [--entries E] [--rounds R] PROGRAM WORD..
+    bench/serve.py [--clients N] [--watchers M] [--entries E] [--commands C] [--rounds R]
+                   [--beside WORDS] PROGRAM WORD..
     bench/serve.py --soak [--lines L] [--seed S] [--replay PROGRAM] PROGRAM WORD..
 
 PROGRAM WORD.. is what serves, as `crates/regatta/out/regatta serve`; `--socket`, `--clients` and
 `--sessions` are put behind it.
 
-The first form starts the program R times. N clients, each a process with a race of its own, send
-4,000 commands in all, one line at a time, and all of them are accepted; M watchers ask for SHOW
+The first form starts the program R times. N clients, each a process with a race of its own, send C
+commands in all (4,000), one line at a time, and all of them are accepted; M watchers ask for SHOW
 without a pause meanwhile. With E the journal has E entries before the clock starts. Accepted
 commands a second, how long a line waited for its reply, and the peak memory of the program are
-printed.
+printed. With `--beside` the program of those words takes its turn in each round, and the two are
+compared.
 
 The second form is in soak.py, beside this file.
 """
 import argparse
 import multiprocessing
 import os
+import shlex
 import socket
 import statistics
 import subprocess
@@ -103,26 +106,26 @@ class Server:
         return status, self.out.read(), self.errors.read()
 
 
-def timed(client, line):
-    """How long the reply to a line took, and the reply."""
-    start = time.perf_counter()
-    reply = client.ask(line)
-    return time.perf_counter() - start, reply
-
-
 def write_commands(path, race, count, start, results):
     """Sends so many commands of one race, each once the one before was answered."""
     client = Client(path)
     client.ask(b"RANK A")
-    lines = [b"FINISH %d A" % race, b"STRIKE %d A" % race]
+    lines = [b"FINISH %d A\n" % race, b"STRIKE %d A\n" % race] * (count // 2 + 1)
+    # a reply is so short that it comes whole, and a socket without a time limit asks the system
+    # for one call less
+    client.socket.settimeout(None)
+    send, receive, clock = client.socket.send, client.socket.recv, time.perf_counter
+    waits, replies = [], []
     start.wait()
-    waits, accepted = [], 0
-    began = time.perf_counter()
-    for i in range(count):
-        wait, reply = timed(client, lines[i % 2])
-        waits.append(wait)
-        accepted += reply.startswith(b"OK")
-    results.put(("writer", began, time.perf_counter(), accepted, waits))
+    began = clock()
+    for line in lines[:count]:
+        before = clock()
+        send(line)
+        replies.append(receive(128))
+        waits.append(clock() - before)
+    ended = clock()
+    accepted = sum(reply.startswith(b"OK") for reply in replies)
+    results.put(("writer", began, ended, accepted, waits))
     client.ask(b"QUIT")
 
 
@@ -153,11 +156,12 @@ def begin(server, entries):
     time.sleep(0.05)
 
 
-def run_once(words, clients, watchers, entries):
+def run_once(words, asked):
     """One round: the clock's time, what was accepted, the waits of both kinds, and the memory."""
+    clients, watchers, entries = asked.clients, asked.watchers, asked.entries
     server = Server(words, clients + watchers, clients + watchers + 2)
     begin(server, entries)
-    commands = min(COMMANDS, JOURNAL - 2 - entries)
+    commands = min(asked.commands, JOURNAL - 2 - entries)
     start = multiprocessing.Barrier(clients + watchers)
     done, results = multiprocessing.Event(), multiprocessing.Queue()
     shares = [commands // clients + (i < commands % clients) for i in range(clients)]
@@ -195,22 +199,44 @@ def percentiles(waits):
     return "50% {:.0f}, 99% {:.0f}, 99.9% {:.0f} microseconds".format(*(1e6 * x for x in at))
 
 
-def bench(words, asked):
-    rates, waits, shows, memory = [], [], [], 0
+class Told:
+    """What the rounds of one program told."""
+
+    def __init__(self, words):
+        self.words, self.rates, self.waits, self.shows, self.memory = words, [], [], [], 0
+
+    def run(self, asked):
+        seconds, accepted, waits, shows, memory = run_once(self.words, asked)
+        self.rates.append(accepted / seconds)
+        self.waits += waits
+        self.shows += shows
+        self.memory = max(self.memory, memory)
+
+    def rate(self):
+        return statistics.median(self.rates)
+
+    def print(self):
+        print(" ".join(self.words))
+        print(f"  {self.rate():.0f} accepted commands a second "
+              f"({min(self.rates):.0f} to {max(self.rates):.0f})")
+        print(f"  a command waits {percentiles(self.waits)}")
+        if self.shows:
+            print(f"  {len(self.shows)} times SHOW, which waits {percentiles(self.shows)}")
+        print(f"  {self.memory:.1f} MiB at most")
+
+
+def bench(asked):
+    programs = [Told(asked.words)]
+    if asked.beside:
+        programs.append(Told(shlex.split(asked.beside)))
     for _ in range(asked.rounds):
-        seconds, accepted, line_waits, show_waits, held = run_once(
-            words, asked.clients, asked.watchers, asked.entries)
-        rates.append(accepted / seconds)
-        waits += line_waits
-        shows += show_waits
-        memory = max(memory, held)
+        for program in programs:
+            program.run(asked)
     print(f"{asked.clients} clients, {asked.watchers} watchers, {asked.rounds} rounds")
-    print(f"{statistics.median(rates):.0f} accepted commands a second "
-          f"({min(rates):.0f} to {max(rates):.0f})")
-    print(f"a command waits {percentiles(waits)}")
-    if shows:
-        print(f"{len(shows)} times SHOW, which waits {percentiles(shows)}")
-    print(f"{memory:.1f} MiB at most")
+    for program in programs:
+        program.print()
+    if asked.beside:
+        print(f"{programs[0].rate() / programs[1].rate():.2f} times as fast as the other")
     return 0
 
 
@@ -219,7 +245,9 @@ def main():
     parser.add_argument("--clients", type=int, default=4)
     parser.add_argument("--watchers", type=int, default=0)
     parser.add_argument("--entries", type=int, default=0)
+    parser.add_argument("--commands", type=int, default=COMMANDS)
     parser.add_argument("--rounds", type=int, default=5)
+    parser.add_argument("--beside")
     parser.add_argument("--soak", action="store_true")
     parser.add_argument("--lines", type=int, default=100_000)
     parser.add_argument("--seed", type=int, default=1)
@@ -233,7 +261,7 @@ def main():
         return soak(asked.words, asked.replay or asked.words[0], asked.lines, asked.seed)
     if asked.clients < 1 or asked.clients + asked.watchers > SEATS:
         parser.error("there are 16 seats")
-    return bench(asked.words, asked)
+    return bench(asked)
 
 
 if __name__ == "__main__":

@@ -1,6 +1,8 @@
 //! One client's lines, answered one after another.
-ghost use Rattle.std.specs.Prelude.{◌≡◌, ◌+◌, true, None, IfSome};
-ghost use Rattle.regatta_desk.specs.Replies.{is_for_desk, is_for_pass};
+ghost use Rattle.std.specs.Prelude.{◌≡◌, ◌+◌, true, Ok, None, IfSome, IfOk};
+ghost use Rattle.std.specs.Io.KnownBytes.{IsAtEnd};
+ghost use Rattle.regatta_terms.specs.Lines.{line_of};
+ghost use Rattle.regatta_desk.specs.Replies.{is_for_desk, is_for_pass, next_after};
 ghost use Rattle.regatta_service.specs.Ends.{failures_in, failures_so_far};
 
 use crate::gate::Gate;
@@ -25,7 +27,7 @@ pub enum End {
     ReadFault,
     /// A write to the stream failed.
     WriteFault,
-    /// The gate let a line not through.
+    /// The gate didn't let a line through.
     Stopped,
     /// Memory was wanting for a reply.
     NoMemory,
@@ -33,7 +35,8 @@ pub enum End {
 
 /// The line as one that the desk answers, if it is one.
 fn for_desk(asked: &Result<Line, LineFault>) -> Option<Line>
-    ensures some { IfSome result (λ line. is_for_desk line ≡ true) }
+    ensures some { IfSome result (λ line.
+        (asked.now ≡ Ok line) × (is_for_desk line ≡ true)) }
     ensures none { result ≡ None → is_for_pass asked.now ≡ true }
 {
     match asked {
@@ -72,7 +75,9 @@ impl<N: OfficeName, H: Wait + Drop, G: Gate> Talk<'_, N, H, G> {
         &mut self,
         rt: &R,
         asked: Result<Line, LineFault>,
-    ) -> Result<Next, AllocError> {
+    ) -> Result<Next, AllocError>
+        ensures { IfOk result (λ next. next ≡ next_after asked) }
+    {
         self.reply.clear();
         make_room(&mut self.reply)?;
         match for_desk(&asked) {
@@ -86,7 +91,11 @@ impl<N: OfficeName, H: Wait + Drop, G: Gate> Talk<'_, N, H, G> {
 
     /// Answers the line at hand. Some where that ends the session.
     fn end_line<R: Wait, S: Sink>(&mut self, rt: &R, stream: &mut S) -> Option<End>
-        ensures { S.failures stream.new ≡ S.failures stream.old + failures_so_far result }
+        ensures failures { S.failures stream.new
+            ≡ S.failures stream.old + failures_so_far result }
+
+        // Behind a QUIT it doesn't go on.
+        ensures goes_on { result ≡ None → next_after (line_of self.old.cutter) ≡ Next.Go }
     {
         self.line = self.line.saturating_add(1);
         if !self.gate.before(self.pass.seat(), self.line) {
@@ -135,7 +144,8 @@ pub fn session<N: OfficeName, H: Wait + Drop, R: Wait, S: Source + Sink, G: Gate
     gate: &G,
 ) -> End
     // A call of the stream that fails ends the session, which tells it; none failed elsewhere.
-    ensures { S.failures stream.new ≡ S.failures stream.old + failures_in result }
+    ensures failures { S.failures stream.new ≡ S.failures stream.old + failures_in result }
+    ensures closed { result ≡ End.Closed → IsAtEnd (S.remaining stream.new) }
 {
     let mut talk = Talk {
         office,

@@ -2,7 +2,7 @@ ghost use Rattle.std.specs.Prelude.{◌≡◌};
 
 use super::*;
 use regatta_desk::{Office, OfficeName, Opened, Pass};
-use regatta_service::{End, OpenGate, session};
+use regatta_service::{End, Gate, OpenGate, session};
 use regatta_tables::write_journal;
 use regatta_terms::{Command, Refusal, Role, Sail};
 use std::marker::Brand;
@@ -186,5 +186,42 @@ fn break_off<N: OfficeName, H: Wait + Drop, R: Wait + Abort>(
         End::ReadFault,
     );
     assert_eq!(rt; (pass.last(), office.desk(rt).board().len()), (4, 4));
+    Ok(())
+}
+
+/// Lets the first line of a session through, and no other.
+struct OneLine;
+
+impl Gate for OneLine {
+    fn before(&self, _seat: u8, line: u64) -> bool {
+        line == 1
+    }
+
+    fn after(&self, _seat: u8, _line: u64) {}
+
+    fn ended(&self, _seat: u8, _end: End) {}
+}
+
+#[test]
+fn a_gate_stops_a_session(rt: HostRuntime) -> Result<(), Fail> {
+    let opened = Office::open(&rt, rt.alloc(), &default_rules(), 1, &[])?;
+    stop::<Brand, _, _>(&rt, rt.alloc(), opened)
+}
+
+/// The line that isn't let through changes nothing.
+fn stop<N: OfficeName, H: Wait + Drop, R: Wait + Abort>(
+    rt: &R,
+    alloc: Global,
+    opened: Opened<H>,
+) -> Result<(), Fail>
+    requires { (opened.history ≡ N.history) × (opened.rules ≡ N.rules) }
+{
+    let (office, mut passes) = opened.split::<N>()?;
+    let mut pass = passes.pop().ok_or("a pass")?;
+    let mut tape = client(alloc, b"ENTER A\nENTER B\n")?;
+    let ended = session(rt, alloc, &mut tape, &office, &mut pass, &OneLine);
+    assert_eq!(rt; tape.written(), b"OK 1 1 0.0\n".as_slice());
+    assert_eq!(rt; ended, End::Stopped);
+    assert_eq!(rt; (pass.last(), office.desk(rt).board().len()), (1, 1));
     Ok(())
 }
