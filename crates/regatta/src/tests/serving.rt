@@ -3,39 +3,79 @@ ghost use Rattle.std.specs.Prelude.{◌≡◌};
 use super::sessions::journal_text;
 use super::wires::{Hold, Wires, count, sent, wire_of};
 use super::*;
-use regatta_desk::{Office, OfficeName, Opened};
-use regatta_service::{OpenGate, ServeFault, SocketDoor, serve};
-use std::fs;
+use regatta_desk::{Office, OfficeName, Opened, Pass};
+use regatta_service::{Door, Gate, OpenGate, ServeFault, SocketDoor, serve};
 use std::io::{Read, Write};
 use std::marker::Brand;
 use std::net::Net;
 use std::os::unix::net::UnixStream;
-use std::process::Abort;
-use std::rt::Files;
 use std::sync::{Arc, Wait};
-use std::thread::{Threads, join};
+use std::thread::Threads;
+use std::{fs, thread};
 
-#[test]
-fn two_clients_side_by_side(rt: HostRuntime) -> Result<(), Fail> {
-    let opened = Office::open(&rt, rt.alloc(), &default_rules(), 2, &[])?;
-    hold_the_first::<Brand, _, _>(&rt, rt.alloc(), opened)
+/// What serving left: how many passes came back, and the journal.
+#[derive(Drop)]
+struct Served {
+    back: Result<usize, ServeFault>,
+    journal: Vec<u8>,
 }
 
-/// The first client's line is held back until the second's was answered.
-fn hold_the_first<N, H, R>(rt: &R, alloc: Global, opened: Opened<H>) -> Result<(), Fail>
+/// Serves one door after another, each with the passes that came back.
+fn serve_doors<N, H, R, D, G>(
+    rt: &R,
+    alloc: Global,
+    office: &Office<N, H>,
+    passes: Vec<Pass<N>>,
+    doors: &mut [D],
+    gate: &G,
+) -> Result<usize, ServeFault>
 where
     N: OfficeName + Send + Sync,
     H: Wait + Drop + Send,
-    R: Threads + Wait + Abort + Net + Sync,
+    R: Threads + Wait + Sync,
+    D: Door,
+    G: Gate + Sync,
+{
+    let mut passes = passes;
+    for door in doors {
+        passes = serve(rt, alloc, office, door, passes, gate)?;
+    }
+    Ok(passes.len())
+}
+
+/// Serves these doors at this office.
+fn serve_at<N, H, R, D, G>(
+    rt: &R,
+    alloc: Global,
+    opened: Opened<H>,
+    doors: &mut [D],
+    gate: &G,
+) -> Result<Served, Fail>
+where
+    N: OfficeName + Send + Sync,
+    H: Wait + Drop + Send,
+    R: Threads + Wait + Sync,
+    D: Door,
+    G: Gate + Sync,
     requires { (opened.history ≡ N.history) × (opened.rules ≡ N.rules) }
 {
     let (office, passes) = opened.split::<N>()?;
+    let back = serve_doors(rt, alloc, &office, passes, doors, gate);
+    let journal = journal_text(rt, alloc, &office)?;
+    Ok(Served { back, journal })
+}
+
+/// The first client's line is held back until the second's was answered.
+#[test]
+fn two_clients_side_by_side(rt: HostRuntime) -> Result<(), Fail> {
+    let alloc = rt.alloc();
     let (second, writes) = (count(alloc)?, count(alloc)?);
-    let (one, first_end) = wire_of(rt, b"ENTER A\n", false, &writes)?;
-    let (two, second_end) = wire_of(rt, b"ENTER B\n", false, &writes)?;
-    let mut door = Wires::new(vec![in alloc; two, one]?, false);
+    let (one, first_end) = wire_of(&rt, b"ENTER A\n", false, &writes)?;
+    let (two, second_end) = wire_of(&rt, b"ENTER B\n", false, &writes)?;
+    let mut doors = [Wires::new(vec![in alloc; two, one]?, false)];
     let gate = Hold::new(Some(Arc::try_clone(&second)?), second);
-    let back = serve(rt, alloc, &office, &mut door, passes, &gate)?;
+    let opened = Office::open(&rt, alloc, &default_rules(), 2, &[])?;
+    let served = serve_at::<Brand, _, _, _, _>(&rt, alloc, opened, &mut doors, &gate)?;
     assert_eq!(rt;
         sent(alloc, first_end)?.as_slice(),
         b"OK 2 1= 0.0\n".as_slice()
@@ -44,123 +84,81 @@ where
         sent(alloc, second_end)?.as_slice(),
         b"OK 1 1 0.0\n".as_slice()
     );
-    assert_eq!(rt; (gate.ends(), back.len()), (22, 2));
-    let text = journal_text(rt, alloc, &office)?;
-    assert_eq!(rt;
-        text.as_slice(),
-        b"2 1 SCORER ENTER B\n1 1 SCORER ENTER A\n".as_slice()
-    );
+    assert_eq!(rt; (gate.ends(), served.back), (22, Ok(2)));
+    let journal = b"2 1 SCORER ENTER B\n1 1 SCORER ENTER A\n";
+    assert_eq!(rt; served.journal.as_slice(), journal.as_slice());
     Ok(())
 }
 
+/// The one seat is held until the second client was written to.
 #[test]
 fn a_client_finds_no_seat(rt: HostRuntime) -> Result<(), Fail> {
-    let opened = Office::open(&rt, rt.alloc(), &default_rules(), 1, &[])?;
-    turn_away::<Brand, _, _>(&rt, rt.alloc(), opened)
-}
-
-/// The one seat is held until the second client was written to.
-fn turn_away<N, H, R>(rt: &R, alloc: Global, opened: Opened<H>) -> Result<(), Fail>
-where
-    N: OfficeName + Send + Sync,
-    H: Wait + Drop + Send,
-    R: Threads + Wait + Abort + Net + Sync,
-    requires { (opened.history ≡ N.history) × (opened.rules ≡ N.rules) }
-{
-    let (office, passes) = opened.split::<N>()?;
+    let alloc = rt.alloc();
     let (first_writes, second_writes) = (count(alloc)?, count(alloc)?);
-    let (one, first_end) = wire_of(rt, b"ENTER A\n", false, &first_writes)?;
-    let (two, second_end) = wire_of(rt, b"", false, &second_writes)?;
-    let mut door = Wires::new(vec![in alloc; two, one]?, false);
+    let (one, first_end) = wire_of(&rt, b"ENTER A\n", false, &first_writes)?;
+    let (two, second_end) = wire_of(&rt, b"", false, &second_writes)?;
+    let mut doors = [Wires::new(vec![in alloc; two, one]?, false)];
     let gate = Hold::new(Some(second_writes), first_writes);
-    let back = serve(rt, alloc, &office, &mut door, passes, &gate)?;
+    let opened = Office::open(&rt, alloc, &default_rules(), 1, &[])?;
+    let served = serve_at::<Brand, _, _, _, _>(&rt, alloc, opened, &mut doors, &gate)?;
     assert_eq!(rt; sent(alloc, second_end)?.as_slice(), b"BUSY\n".as_slice());
     assert_eq!(rt;
         sent(alloc, first_end)?.as_slice(),
         b"OK 1 1 0.0\n".as_slice()
     );
-    assert_eq!(rt; (gate.ends(), back.len()), (2, 1));
+    assert_eq!(rt; (gate.ends(), served.back), (2, Ok(1)));
     Ok(())
 }
 
+/// The first client's stream fails; the second is served with the pass that came back.
 #[test]
 fn a_pass_serves_again(rt: HostRuntime) -> Result<(), Fail> {
-    let opened = Office::open(&rt, rt.alloc(), &default_rules(), 1, &[])?;
-    serve_twice::<Brand, _, _>(&rt, rt.alloc(), opened)
-}
-
-/// The first client's stream fails; the second is served with the passes that came back.
-fn serve_twice<N, H, R>(rt: &R, alloc: Global, opened: Opened<H>) -> Result<(), Fail>
-where
-    N: OfficeName + Send + Sync,
-    H: Wait + Drop + Send,
-    R: Threads + Wait + Abort + Net + Sync,
-    requires { (opened.history ≡ N.history) × (opened.rules ≡ N.rules) }
-{
-    let (office, passes) = opened.split::<N>()?;
+    let alloc = rt.alloc();
     let writes = count(alloc)?;
-    let (one, first_end) = wire_of(rt, b"ENTER A\n", true, &writes)?;
-    let (two, second_end) = wire_of(rt, b"ENTER B\n", false, &writes)?;
-    let mut door = Wires::new(vec![in alloc; one]?, false);
+    let (one, first_end) = wire_of(&rt, b"ENTER A\n", true, &writes)?;
+    let (two, second_end) = wire_of(&rt, b"ENTER B\n", false, &writes)?;
+    let first = Wires::new(vec![in alloc; one]?, false);
+    let second = Wires::new(vec![in alloc; two]?, false);
+    let mut doors = [first, second];
     let gate = Hold::new(None, writes);
-    let back = serve(rt, alloc, &office, &mut door, passes, &gate)?;
-    assert_eq!(rt; gate.ends(), 3);
+    let opened = Office::open(&rt, alloc, &default_rules(), 1, &[])?;
+    let served = serve_at::<Brand, _, _, _, _>(&rt, alloc, opened, &mut doors, &gate)?;
     assert_eq!(rt;
         sent(alloc, first_end)?.as_slice(),
         b"OK 1 1 0.0\n".as_slice()
     );
-    let mut door = Wires::new(vec![in alloc; two]?, false);
-    serve(rt, alloc, &office, &mut door, back, &gate)?;
     assert_eq!(rt;
         sent(alloc, second_end)?.as_slice(),
         b"OK 2 1= 0.0\n".as_slice()
     );
-    let text = journal_text(rt, alloc, &office)?;
-    assert_eq!(rt;
-        text.as_slice(),
-        b"1 1 SCORER ENTER A\n1 2 SCORER ENTER B\n".as_slice()
-    );
+    assert_eq!(rt; gate.ends(), 5, "a read fault, and then a close");
+    let journal = b"1 1 SCORER ENTER A\n1 2 SCORER ENTER B\n";
+    assert_eq!(rt; served.journal.as_slice(), journal.as_slice());
     Ok(())
 }
 
+/// The client who came before is answered, and what was committed stays.
 #[test]
 fn a_door_fails(rt: HostRuntime) -> Result<(), Fail> {
-    let opened = Office::open(&rt, rt.alloc(), &default_rules(), 1, &[])?;
-    fail_the_door::<Brand, _, _>(&rt, rt.alloc(), opened)
-}
-
-/// The client who came before is answered, and what was committed stays.
-fn fail_the_door<N, H, R>(rt: &R, alloc: Global, opened: Opened<H>) -> Result<(), Fail>
-where
-    N: OfficeName + Send + Sync,
-    H: Wait + Drop + Send,
-    R: Threads + Wait + Abort + Net + Sync,
-    requires { (opened.history ≡ N.history) × (opened.rules ≡ N.rules) }
-{
-    let (office, passes) = opened.split::<N>()?;
-    let (one, first_end) = wire_of(rt, b"ENTER A\n", false, &count(alloc)?)?;
-    let mut door = Wires::new(vec![in alloc; one]?, true);
-    let back = serve(rt, alloc, &office, &mut door, passes, &OpenGate);
-    assert!(rt; matches!(back, Err(ServeFault::Door)));
+    let alloc = rt.alloc();
+    let (one, first_end) = wire_of(&rt, b"ENTER A\n", false, &count(alloc)?)?;
+    let mut doors = [Wires::new(vec![in alloc; one]?, true)];
+    let opened = Office::open(&rt, alloc, &default_rules(), 1, &[])?;
+    let served = serve_at::<Brand, _, _, _, _>(&rt, alloc, opened, &mut doors, &OpenGate)?;
+    assert_eq!(rt; served.back, Err(ServeFault::Door));
     assert_eq!(rt;
         sent(alloc, first_end)?.as_slice(),
         b"OK 1 1 0.0\n".as_slice()
     );
-    assert_eq!(rt; office.desk(rt).board().len(), 1);
+    assert_eq!(rt;
+        served.journal.as_slice(),
+        b"1 1 SCORER ENTER A\n".as_slice()
+    );
     Ok(())
 }
 
 /// Where the socket of the test is bound.
 const SOCKET: &str = "regatta_test.socket";
-
-#[test]
-fn a_client_at_a_socket(rt: HostRuntime) -> Result<(), Fail> {
-    let opened = Office::open(&rt, rt.alloc(), &default_rules(), 1, &[])?;
-    let _ = fs::remove_file(&rt, SOCKET);
-    let served = serve_a_socket::<Brand, _, _>(&rt, rt.alloc(), opened);
-    let _ = fs::remove_file(&rt, SOCKET);
-    served
-}
 
 /// What a client at the socket is sent for this text; none where the stream fails.
 fn asked<R: Net>(rt: &R, alloc: Global, text: &[u8]) -> Option<Vec<u8>> {
@@ -173,23 +171,22 @@ fn asked<R: Net>(rt: &R, alloc: Global, text: &[u8]) -> Option<Vec<u8>> {
 
 /// The client finds her replies and the end of the stream, whatever she sent behind QUIT. The door
 /// was bound for her alone, so who comes then is let in no more.
-fn serve_a_socket<N, H, R>(rt: &R, alloc: Global, opened: Opened<H>) -> Result<(), Fail>
-where
-    N: OfficeName + Send + Sync,
-    H: Wait + Drop + Send,
-    R: Threads + Wait + Abort + Net + Files + Sync,
-    requires { (opened.history ≡ N.history) × (opened.rules ≡ N.rules) }
-{
-    let (office, passes) = opened.split::<N>()?;
-    let mut door = SocketDoor::bind(rt, SOCKET, 1)?;
-    let (replies, back) = join(
-        rt,
-        move || asked(rt, alloc, b"ENTER A\nQUIT\nENTER B\nENTER C\n"),
-        || serve(rt, alloc, &office, &mut door, passes, &OpenGate),
-    );
-    let replies = replies.ok_or("replies")?;
+#[test]
+fn a_client_at_a_socket(rt: HostRuntime) -> Result<(), Fail> {
+    let alloc = rt.alloc();
+    let _ = fs::remove_file(&rt, SOCKET);
+    let mut text = Vec::from_slice(alloc, b"ENTER A\nQUIT\nENTER B\n")?;
+    let unread = vec![in alloc; b'X'; 2000]?;
+    text.extend_from_slice(&unread)?;
+    let mut doors = [SocketDoor::bind(&rt, SOCKET, 1)?];
+    let opened = Office::open(&rt, alloc, &default_rules(), 1, &[])?;
+    let client = thread::spawn(&rt, move || asked(&rt, alloc, &text))?;
+    let served = serve_at::<Brand, _, _, _, _>(&rt, alloc, opened, &mut doors, &OpenGate)?;
+    let replies = client.join(&rt).ok_or("replies")?;
     assert_eq!(rt; replies.as_slice(), b"OK 1 1 0.0\nBYE\n".as_slice());
-    assert_eq!(rt; back?.len(), 1);
-    assert!(rt; UnixStream::connect(rt, SOCKET).is_err());
+    assert_eq!(rt; served.back, Ok(1));
+    let late = UnixStream::connect(&rt, SOCKET);
+    let _ = fs::remove_file(&rt, SOCKET);
+    assert!(rt; late.is_err());
     Ok(())
 }

@@ -29,19 +29,72 @@ fn client(alloc: Global, text: &[u8]) -> Result<Tape, Fail> {
     Ok(Tape::new(alloc, text, 7, PLENTY, PLENTY)?)
 }
 
-/// A session over this tape writes this, and ends so.
-fn talks<N: OfficeName, H: Wait + Drop, R: Wait + Abort>(
+/// What sessions on one pass left: how each ended, the pass's last number, and the journal.
+#[derive(Drop)]
+struct Talked {
+    ends: Vec<End>,
+    last: u32,
+    journal: Vec<u8>,
+}
+
+/// One session after another on this pass.
+fn talk<N: OfficeName, H: Wait + Drop, R: Wait, G: Gate>(
     rt: &R,
     alloc: Global,
     office: &Office<N, H>,
     pass: &mut Pass<N>,
-    mut tape: Tape,
-    written: &[u8],
-    end: End,
-) {
-    let ended = session(rt, alloc, &mut tape, office, pass, &OpenGate);
-    assert_eq!(rt; tape.written(), written);
-    assert_eq!(rt; ended, end);
+    tapes: &mut [Tape],
+    gate: &G,
+) -> Result<Vec<End>, Fail> {
+    let mut ends = Vec::new(alloc);
+    for tape in tapes {
+        ends.push(session(rt, alloc, tape, office, pass, gate))?;
+    }
+    Ok(ends)
+}
+
+/// One session after another on the pass of an office's last seat.
+fn talk_at<N: OfficeName, H: Wait + Drop, R: Wait, G: Gate>(
+    rt: &R,
+    alloc: Global,
+    opened: Opened<H>,
+    tapes: &mut [Tape],
+    gate: &G,
+) -> Result<Talked, Fail>
+    requires { (opened.history ≡ N.history) × (opened.rules ≡ N.rules) }
+{
+    let (office, mut passes) = opened.split::<N>()?;
+    let mut pass = passes.pop().ok_or("a pass")?;
+    let ends = talk(rt, alloc, &office, &mut pass, tapes, gate)?;
+    let journal = journal_text(rt, alloc, &office)?;
+    Ok(Talked {
+        ends,
+        last: pass.last(),
+        journal,
+    })
+}
+
+#[test]
+fn two_sessions_on_one_pass(rt: HostRuntime) -> Result<(), Fail> {
+    let opened = Office::open(&rt, rt.alloc(), &default_rules(), 1, &[])?;
+    let mut tapes = [
+        client(rt.alloc(), b"SHOW\r\nENTER A\nRANK A\nROLE JURY\nNOPE\nENT")?,
+        client(rt.alloc(), b"ENTER B\nQUIT\nENTER C\n")?,
+    ];
+    let talked = talk_at::<Brand, _, _, _>(&rt, rt.alloc(), opened, &mut tapes, &OpenGate)?;
+    let written = "JOURNAL 0\nTABLE 0 RACES\nEND\nOK 1 1 0.0\nRANK 1 0.0\nROLE JURY\nNO 21\n";
+    assert_eq!(rt; tapes[0].written(), written.as_bytes());
+    assert_eq!(rt; tapes[1].written(), b"OK 2 1= 0.0\nBYE\n".as_slice());
+    assert_eq!(rt; talked.ends.as_slice(), [End::Closed, End::Quit].as_slice());
+    let journal = b"1 1 SCORER ENTER A\n1 2 SCORER ENTER B\n";
+    assert_eq!(rt; talked.journal.as_slice(), journal.as_slice());
+    Ok(())
+}
+
+#[test]
+fn the_desk_goes_on_behind_a_session(rt: HostRuntime) -> Result<(), Fail> {
+    let opened = Office::open(&rt, rt.alloc(), &default_rules(), 1, &[])?;
+    go_on::<Brand, _, _>(&rt, rt.alloc(), opened)
 }
 
 fn enter(sail: &[u8]) -> Result<Command, Fail> {
@@ -49,13 +102,20 @@ fn enter(sail: &[u8]) -> Result<Command, Fail> {
     Ok(Command::Enter { sail })
 }
 
-#[test]
-fn two_sessions_on_one_pass(rt: HostRuntime) -> Result<(), Fail> {
-    let opened = Office::open(&rt, rt.alloc(), &default_rules(), 1, &[])?;
-    talk_twice::<Brand, _, _>(&rt, rt.alloc(), opened)
+/// Runs a command by the guard: its place, or the refusal.
+fn place_of<N: OfficeName, H: Wait + Drop, R: Wait>(
+    rt: &R,
+    office: &Office<N, H>,
+    pass: &mut Pass<N>,
+    command: Command,
+) -> Result<u32, Refusal> {
+    let mut desk = office.desk(rt);
+    let receipt = desk.run(rt, pass, Role::Scorer, command)?;
+    Ok(receipt.place())
 }
 
-fn talk_twice<N: OfficeName, H: Wait + Drop, R: Wait + Abort>(
+/// Behind a session the pass runs commands by the guard, and shows what they made.
+fn go_on<N: OfficeName, H: Wait + Drop, R: Wait + Abort>(
     rt: &R,
     alloc: Global,
     opened: Opened<H>,
@@ -64,49 +124,15 @@ fn talk_twice<N: OfficeName, H: Wait + Drop, R: Wait + Abort>(
 {
     let (office, mut passes) = opened.split::<N>()?;
     let mut pass = passes.pop().ok_or("a pass")?;
-    let tape = client(alloc, b"SHOW\r\nENTER A\nRANK A\nROLE JURY\nNOPE\nENT")?;
-    let written = b"JOURNAL 0\nTABLE 0 RACES\nEND\nOK 1 1 0.0\nRANK 1 0.0\nROLE JURY\nNO 21\n";
-    talks(rt, alloc, &office, &mut pass, tape, written, End::Closed);
-    assert_eq!(rt; pass.last(), 1);
-    let tape = client(alloc, b"ENTER B\nQUIT\nENTER C\n")?;
-    talks(
-        rt,
-        alloc,
-        &office,
-        &mut pass,
-        tape,
-        b"OK 2 1= 0.0\nBYE\n",
-        End::Quit,
-    );
-    let text = journal_text(rt, alloc, &office)?;
-    assert_eq!(rt;
-        text.as_slice(),
-        b"1 1 SCORER ENTER A\n1 2 SCORER ENTER B\n".as_slice()
-    );
-    run_by_hand(rt, &office, &mut pass)
-}
-
-/// Behind the sessions the desk runs commands by the guard, and the pass shows what they made.
-fn run_by_hand<N: OfficeName, H: Wait + Drop, R: Wait + Abort>(
-    rt: &R,
-    office: &Office<N, H>,
-    pass: &mut Pass<N>,
-) -> Result<(), Fail> {
-    let refused = office.desk(rt).run(rt, pass, Role::Scorer, enter(b"A")?);
-    assert!(rt; matches!(refused, Err(Refusal::AlreadyEntered)));
-    let third = office.desk(rt).run(rt, pass, Role::Scorer, enter(b"C")?);
-    assert_eq!(rt; third.ok().ok_or("a receipt")?.place(), 3);
-    let fourth = office.desk(rt).run(rt, pass, Role::Scorer, enter(b"D")?);
-    assert_eq!(rt; fourth.ok().ok_or("a receipt")?.place(), 4);
+    let mut tapes = [client(alloc, b"ENTER A\nENTER B\nQUIT\n")?];
+    talk(rt, alloc, &office, &mut pass, &mut tapes, &OpenGate)?;
+    let refused = place_of(rt, &office, &mut pass, enter(b"A")?);
+    assert_eq!(rt; refused, Err(Refusal::AlreadyEntered));
+    assert_eq!(rt; place_of(rt, &office, &mut pass, enter(b"C")?), Ok(3));
+    assert_eq!(rt; place_of(rt, &office, &mut pass, enter(b"D")?), Ok(4));
     let sheet = pass.show().ok().ok_or("a sheet")?;
     assert_eq!(rt; sheet.journal.as_slice().len(), 4);
     Ok(())
-}
-
-#[test]
-fn lines_that_cannot_be_read(rt: HostRuntime) -> Result<(), Fail> {
-    let opened = Office::open(&rt, rt.alloc(), &default_rules(), 1, &[])?;
-    send_foreign_bytes::<Brand, _, _>(&rt, rt.alloc(), opened)
 }
 
 /// Lines that are too long, bytes that are no text, and at last a line that is just short enough.
@@ -122,70 +148,34 @@ fn foreign_bytes(alloc: Global) -> Result<Vec<u8>, Fail> {
     Ok(text)
 }
 
-fn send_foreign_bytes<N: OfficeName, H: Wait + Drop, R: Wait + Abort>(
-    rt: &R,
-    alloc: Global,
-    opened: Opened<H>,
-) -> Result<(), Fail>
-    requires { (opened.history ≡ N.history) × (opened.rules ≡ N.rules) }
-{
-    let (office, mut passes) = opened.split::<N>()?;
-    let mut pass = passes.pop().ok_or("a pass")?;
-    let tape = client(alloc, &foreign_bytes(alloc)?)?;
-    let written = b"NO 20\nNO 20\nNO 21\nNO 21\nNO 21\nNO 21\nNO 23\nOK 1 1 0.0\n";
-    talks(rt, alloc, &office, &mut pass, tape, written, End::Closed);
-    Ok(())
-}
-
 #[test]
-fn streams_that_fail(rt: HostRuntime) -> Result<(), Fail> {
+fn lines_that_cannot_be_read(rt: HostRuntime) -> Result<(), Fail> {
     let opened = Office::open(&rt, rt.alloc(), &default_rules(), 1, &[])?;
-    break_off::<Brand, _, _>(&rt, rt.alloc(), opened)
+    let mut tapes = [client(rt.alloc(), &foreign_bytes(rt.alloc())?)?];
+    let talked = talk_at::<Brand, _, _, _>(&rt, rt.alloc(), opened, &mut tapes, &OpenGate)?;
+    let written = "NO 20\nNO 20\nNO 21\nNO 21\nNO 21\nNO 21\nNO 23\nOK 1 1 0.0\n";
+    assert_eq!(rt; tapes[0].written(), written.as_bytes());
+    assert_eq!(rt; talked.ends.as_slice(), [End::Closed].as_slice());
+    Ok(())
 }
 
 /// What was committed stays, and the next session on the pass goes on from there: behind a write
 /// that failed, of the second reply, and behind a read that failed in mid-line.
-fn break_off<N: OfficeName, H: Wait + Drop, R: Wait + Abort>(
-    rt: &R,
-    alloc: Global,
-    opened: Opened<H>,
-) -> Result<(), Fail>
-    requires { (opened.history ≡ N.history) × (opened.rules ≡ N.rules) }
-{
-    let (office, mut passes) = opened.split::<N>()?;
-    let mut pass = passes.pop().ok_or("a pass")?;
-    let tape = Tape::new(alloc, b"ENTER A\nENTER B\nENTER C\n", 7, PLENTY, 16)?;
-    talks(
-        rt,
-        alloc,
-        &office,
-        &mut pass,
-        tape,
-        b"OK 1 1 0.0\nOK 2 ",
-        End::WriteFault,
-    );
-    assert_eq!(rt; (pass.last(), office.desk(rt).board().len()), (2, 2));
-    let tape = client(alloc, b"ENTER C\n")?;
-    talks(
-        rt,
-        alloc,
-        &office,
-        &mut pass,
-        tape,
-        b"OK 3 1= 0.0\n",
-        End::Closed,
-    );
-    let tape = Tape::new(alloc, b"ENTER D\nENT", 7, 11, PLENTY)?;
-    talks(
-        rt,
-        alloc,
-        &office,
-        &mut pass,
-        tape,
-        b"OK 4 1= 0.0\n",
-        End::ReadFault,
-    );
-    assert_eq!(rt; (pass.last(), office.desk(rt).board().len()), (4, 4));
+#[test]
+fn streams_that_fail(rt: HostRuntime) -> Result<(), Fail> {
+    let opened = Office::open(&rt, rt.alloc(), &default_rules(), 1, &[])?;
+    let mut tapes = [
+        Tape::new(rt.alloc(), b"ENTER A\nENTER B\nENTER C\n", 7, PLENTY, 16)?,
+        client(rt.alloc(), b"ENTER C\n")?,
+        Tape::new(rt.alloc(), b"ENTER D\nENT", 7, 11, PLENTY)?,
+    ];
+    let talked = talk_at::<Brand, _, _, _>(&rt, rt.alloc(), opened, &mut tapes, &OpenGate)?;
+    assert_eq!(rt; tapes[0].written(), b"OK 1 1 0.0\nOK 2 ".as_slice());
+    assert_eq!(rt; tapes[1].written(), b"OK 3 1= 0.0\n".as_slice());
+    assert_eq!(rt; tapes[2].written(), b"OK 4 1= 0.0\n".as_slice());
+    let ends = [End::WriteFault, End::Closed, End::ReadFault];
+    assert_eq!(rt; talked.ends.as_slice(), ends.as_slice());
+    assert_eq!(rt; talked.last, 4);
     Ok(())
 }
 
@@ -202,26 +192,17 @@ impl Gate for OneLine {
     fn ended(&self, _seat: u8, _end: End) {}
 }
 
+/// The line that isn't let through changes nothing.
 #[test]
 fn a_gate_stops_a_session(rt: HostRuntime) -> Result<(), Fail> {
     let opened = Office::open(&rt, rt.alloc(), &default_rules(), 1, &[])?;
-    stop::<Brand, _, _>(&rt, rt.alloc(), opened)
-}
-
-/// The line that isn't let through changes nothing.
-fn stop<N: OfficeName, H: Wait + Drop, R: Wait + Abort>(
-    rt: &R,
-    alloc: Global,
-    opened: Opened<H>,
-) -> Result<(), Fail>
-    requires { (opened.history ≡ N.history) × (opened.rules ≡ N.rules) }
-{
-    let (office, mut passes) = opened.split::<N>()?;
-    let mut pass = passes.pop().ok_or("a pass")?;
-    let mut tape = client(alloc, b"ENTER A\nENTER B\n")?;
-    let ended = session(rt, alloc, &mut tape, &office, &mut pass, &OneLine);
-    assert_eq!(rt; tape.written(), b"OK 1 1 0.0\n".as_slice());
-    assert_eq!(rt; ended, End::Stopped);
-    assert_eq!(rt; (pass.last(), office.desk(rt).board().len()), (1, 1));
+    let mut tapes = [client(rt.alloc(), b"ENTER A\nENTER B\n")?];
+    let talked = talk_at::<Brand, _, _, _>(&rt, rt.alloc(), opened, &mut tapes, &OneLine)?;
+    assert_eq!(rt; tapes[0].written(), b"OK 1 1 0.0\n".as_slice());
+    assert_eq!(rt; talked.ends.as_slice(), [End::Stopped].as_slice());
+    assert_eq!(rt;
+        (talked.last, talked.journal.as_slice()),
+        (1, b"1 1 SCORER ENTER A\n".as_slice())
+    );
     Ok(())
 }

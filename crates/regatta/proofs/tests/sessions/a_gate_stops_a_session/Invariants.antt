@@ -1,5 +1,5 @@
 use Rattle.regatta.proofs.tests.sessions.a_gate_stops_a_session.Given as goal
 
 -- the office that was just opened
-abbrev pub ghosts-stop : goal.ghosts-stop
-ghosts-stop g a = record { history = a.opened.history; rules = a.opened.rules }
+abbrev pub ghosts-talk_at : goal.ghosts-talk_at
+ghosts-talk_at g a = record { history = a.opened.history; rules = a.opened.rules }
