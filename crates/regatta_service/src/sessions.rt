@@ -1,5 +1,5 @@
 //! One client's lines, answered one after another.
-ghost use Rattle.std.specs.Prelude.{◌≡◌, ◌+◌, true, Ok, None, IfSome, IfOk};
+ghost use Rattle.std.specs.Prelude.{◌≡◌, ◌≢◌, ◌+◌, true, Ok, Some, None, IfSome, IfOk};
 ghost use Rattle.std.specs.Io.KnownBytes.{IsAtEnd};
 ghost use Rattle.regatta_terms.specs.Lines.{line_of};
 ghost use Rattle.regatta_desk.specs.Replies.{is_for_desk, is_for_pass, next_after};
@@ -96,6 +96,9 @@ impl<N: OfficeName, H: Wait + Drop, G: Gate> Talk<'_, N, H, G> {
 
         // Behind a QUIT it doesn't go on.
         ensures goes_on { result ≡ None → next_after (line_of self.old.cutter) ≡ Next.Go }
+
+        // No read is made here, so none ends the session.
+        ensures unread { (result ≢ Some End.Closed) × (result ≢ Some End.ReadFault) }
     {
         self.line = self.line.saturating_add(1);
         if !self.gate.before(self.pass.seat(), self.line) {
@@ -118,7 +121,9 @@ impl<N: OfficeName, H: Wait + Drop, G: Gate> Talk<'_, N, H, G> {
 
     /// Answers the lines that end in these bytes. Some where one of them ends the session.
     fn take_all<R: Wait, S: Sink>(&mut self, rt: &R, stream: &mut S, piece: &[u8]) -> Option<End>
-        ensures { S.failures stream.new ≡ S.failures stream.old + failures_so_far result }
+        ensures failures { S.failures stream.new
+            ≡ S.failures stream.old + failures_so_far result }
+        ensures unread { (result ≢ Some End.Closed) × (result ≢ Some End.ReadFault) }
     {
         for byte in piece {
             if self.cutter.take(*byte) {
