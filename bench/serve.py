@@ -1,0 +1,269 @@
+#!/usr/bin/env python3
+"""Times `regatta serve` over a real Unix socket, or soaks it.
+
+    bench/serve.py [--clients N] [--watchers M] [--entries E] [--commands C] [--rounds R]
+                   [--beside WORDS] PROGRAM WORD..
+    bench/serve.py --soak [--lines L] [--seed S] [--replay PROGRAM] PROGRAM WORD..
+
+PROGRAM WORD.. is what serves, as `crates/regatta/out/regatta serve`; `--socket`, `--clients` and
+`--sessions` are put behind it.
+
+The first form starts the program R times. N clients, each a process with a race of its own, send C
+commands in all (4,000), one line at a time, and all of them are accepted; M watchers ask for SHOW
+without a pause meanwhile. With E the journal has E entries before the clock starts. Accepted
+commands a second, how long a line waited for its reply, and the peak memory of the program are
+printed. With `--beside` the program of those words takes its turn in each round, and the two are
+compared.
+
+The second form is in soak.py, beside this file.
+"""
+import argparse
+import multiprocessing
+import os
+import shlex
+import socket
+import statistics
+import subprocess
+import sys
+import tempfile
+import time
+
+SEATS, COMMANDS, RACES, JOURNAL = 16, 4000, 40, 4096
+
+
+class Client:
+    """One connection to the program."""
+
+    def __init__(self, path):
+        self.socket = socket.socket(socket.AF_UNIX, socket.SOCK_STREAM)
+        self.socket.settimeout(60)
+        self.socket.connect(path)
+        self.rest = b""
+
+    def send(self, data):
+        self.socket.sendall(data)
+
+    def line(self):
+        """The next line of a reply without its LF; None at the end of the stream."""
+        while b"\n" not in self.rest:
+            data = self.socket.recv(65536)
+            if not data:
+                return None
+            self.rest += data
+        line, self.rest = self.rest.split(b"\n", 1)
+        return line
+
+    def ask(self, line):
+        self.send(line + b"\n")
+        return self.line()
+
+    def sheet(self):
+        """What SHOW answers: the entries of the journal, and the lines of the table."""
+        lines = [self.ask(b"SHOW")]
+        while lines[-1] not in (b"END", None):
+            lines.append(self.line())
+        count = int(lines[0].removeprefix(b"JOURNAL "))
+        return lines[1:count + 1], lines[count + 1:-1]
+
+    def is_at_end(self):
+        """Whether the stream ends here as it should: no byte more, and no reset."""
+        try:
+            return self.rest == b"" and self.socket.recv(1) == b""
+        except OSError:
+            return False
+
+    def close(self):
+        self.socket.close()
+
+
+class Server:
+    """A program that serves, and the socket at which it does."""
+
+    def __init__(self, words, clients, sessions):
+        self.folder = tempfile.TemporaryDirectory()
+        self.path = os.path.join(self.folder.name, "socket")
+        words = words + ["--socket", self.path, "--clients", str(clients)]
+        self.out = tempfile.TemporaryFile()
+        self.errors = tempfile.TemporaryFile()
+        self.program = subprocess.Popen(words + ["--sessions", str(sessions)],
+                                        stdout=self.out, stderr=self.errors)
+        for _ in range(1000):
+            if os.path.exists(self.path):
+                break
+            time.sleep(0.01)
+
+    def memory(self):
+        """The most memory that the program has held so far, in MiB."""
+        with open(f"/proc/{self.program.pid}/status") as status:
+            kib = next(line.split()[1] for line in status if line.startswith("VmHWM"))
+        return int(kib) / 1024
+
+    def end(self):
+        """Waits for the program: its status, and what it wrote."""
+        status = self.program.wait(timeout=60)
+        self.out.seek(0)
+        self.errors.seek(0)
+        return status, self.out.read(), self.errors.read()
+
+
+def write_commands(path, race, count, start, results):
+    """Sends so many commands of one race, each once the one before was answered."""
+    client = Client(path)
+    client.ask(b"RANK A")
+    lines = [b"FINISH %d A\n" % race, b"STRIKE %d A\n" % race] * (count // 2 + 1)
+    # a reply is so short that it comes whole, and a socket without a time limit asks the system
+    # for one call less
+    client.socket.settimeout(None)
+    send, receive, clock = client.socket.send, client.socket.recv, time.perf_counter
+    waits, replies = [], []
+    start.wait()
+    began = clock()
+    for line in lines[:count]:
+        before = clock()
+        send(line)
+        replies.append(receive(128))
+        waits.append(clock() - before)
+    ended = clock()
+    accepted = sum(reply.startswith(b"OK") for reply in replies)
+    results.put(("writer", began, ended, accepted, waits))
+    client.ask(b"QUIT")
+
+
+def watch(path, done, start, results):
+    """Asks for SHOW until the writers are done."""
+    client = Client(path)
+    client.ask(b"RANK A")
+    start.wait()
+    waits = []
+    began = time.perf_counter()
+    while not done.is_set():
+        before = time.perf_counter()
+        client.sheet()
+        waits.append(time.perf_counter() - before)
+    results.put(("watcher", began, time.perf_counter(), len(waits), waits))
+    client.ask(b"QUIT")
+
+
+def begin(server, entries):
+    """Two boats, and as many entries as are asked for. The client stays for the end."""
+    client = Client(server.path)
+    client.ask(b"ENTER A")
+    client.ask(b"ENTER B")
+    for i in range(entries):
+        client.ask((b"FINISH", b"STRIKE")[i % 2] + b" %d B" % RACES)
+    client.ask(b"QUIT")
+    client.close()
+    time.sleep(0.05)
+
+
+def run_once(words, asked):
+    """One round: the clock's time, what was accepted, the waits of both kinds, and the memory."""
+    clients, watchers, entries = asked.clients, asked.watchers, asked.entries
+    server = Server(words, clients + watchers, clients + watchers + 2)
+    begin(server, entries)
+    commands = min(asked.commands, JOURNAL - 2 - entries)
+    start = multiprocessing.Barrier(clients + watchers)
+    done, results = multiprocessing.Event(), multiprocessing.Queue()
+    shares = [commands // clients + (i < commands % clients) for i in range(clients)]
+    processes = [multiprocessing.Process(target=write_commands,
+                                         args=(server.path, i + 1, share, start, results))
+                 for i, share in enumerate(shares)]
+    processes += [multiprocessing.Process(target=watch, args=(server.path, done, start, results))
+                  for _ in range(watchers)]
+    for process in processes:
+        process.start()
+    told = [results.get(timeout=120)]
+    while len(told) < len(processes):
+        if sum(kind == "writer" for kind, *_ in told) == clients:
+            done.set()
+        told.append(results.get(timeout=120))
+    for process in processes:
+        process.join()
+    memory = server.memory()
+    last = Client(server.path)
+    last.ask(b"QUIT")
+    status, _, errors = server.end()
+    if status != 0:
+        sys.exit(f"the program ended with status {status}: {errors.decode()}")
+    writers = [one for one in told if one[0] == "writer"]
+    seconds = max(one[2] for one in writers) - min(one[1] for one in writers)
+    waits = [wait for one in writers for wait in one[4]]
+    shows = [wait for one in told if one[0] == "watcher" for wait in one[4]]
+    return seconds, sum(one[3] for one in writers), waits, shows, memory
+
+
+def percentiles(waits):
+    """The waits that 50, 99 and 99.9 percent don't exceed, in microseconds."""
+    waits = sorted(waits)
+    at = [waits[min(len(waits) - 1, int(len(waits) * part))] for part in (0.5, 0.99, 0.999)]
+    return "50% {:.0f}, 99% {:.0f}, 99.9% {:.0f} microseconds".format(*(1e6 * x for x in at))
+
+
+class Told:
+    """What the rounds of one program told."""
+
+    def __init__(self, words):
+        self.words, self.rates, self.waits, self.shows, self.memory = words, [], [], [], 0
+
+    def run(self, asked):
+        seconds, accepted, waits, shows, memory = run_once(self.words, asked)
+        self.rates.append(accepted / seconds)
+        self.waits += waits
+        self.shows += shows
+        self.memory = max(self.memory, memory)
+
+    def rate(self):
+        return statistics.median(self.rates)
+
+    def print(self):
+        print(" ".join(self.words))
+        print(f"  {self.rate():.0f} accepted commands a second "
+              f"({min(self.rates):.0f} to {max(self.rates):.0f})")
+        print(f"  a command waits {percentiles(self.waits)}")
+        if self.shows:
+            print(f"  {len(self.shows)} times SHOW, which waits {percentiles(self.shows)}")
+        print(f"  {self.memory:.1f} MiB at most")
+
+
+def bench(asked):
+    programs = [Told(asked.words)]
+    if asked.beside:
+        programs.append(Told(shlex.split(asked.beside)))
+    for _ in range(asked.rounds):
+        for program in programs:
+            program.run(asked)
+    print(f"{asked.clients} clients, {asked.watchers} watchers, {asked.rounds} rounds")
+    for program in programs:
+        program.print()
+    if asked.beside:
+        print(f"{programs[0].rate() / programs[1].rate():.2f} times as fast as the other")
+    return 0
+
+
+def main():
+    parser = argparse.ArgumentParser(usage=__doc__.split("\n\n")[1])
+    parser.add_argument("--clients", type=int, default=4)
+    parser.add_argument("--watchers", type=int, default=0)
+    parser.add_argument("--entries", type=int, default=0)
+    parser.add_argument("--commands", type=int, default=COMMANDS)
+    parser.add_argument("--rounds", type=int, default=5)
+    parser.add_argument("--beside")
+    parser.add_argument("--soak", action="store_true")
+    parser.add_argument("--lines", type=int, default=100_000)
+    parser.add_argument("--seed", type=int, default=1)
+    parser.add_argument("--replay")
+    parser.add_argument("words", nargs=argparse.REMAINDER)
+    asked = parser.parse_args()
+    if not asked.words:
+        parser.error("no program is named")
+    if asked.soak:
+        from soak import soak
+        return soak(asked.words, asked.replay or asked.words[0], asked.lines, asked.seed)
+    if asked.clients < 1 or asked.clients + asked.watchers > SEATS:
+        parser.error("there are 16 seats")
+    return bench(asked)
+
+
+if __name__ == "__main__":
+    multiprocessing.set_start_method("fork")
+    sys.exit(main())

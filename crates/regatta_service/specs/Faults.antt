@@ -1,0 +1,11 @@
+-- What a fault of serving says of its door.
+use Rattle.std.specs.Prelude.{ℕ, Result, Ok, Err}
+use Rattle.regatta_service.specs.declared.serving.ServeFault.{ServeFault}
+
+-- how many calls of the door failed in a serving that ended so: one that failed ends it, and is
+-- told as what it is
+abbrev pub door_failures_in : {A : Type 0} → Result A ServeFault → ℕ
+door_failures_in (Ok _) = 0
+door_failures_in (Err ServeFault.Door) = 1
+door_failures_in (Err ServeFault.Thread) = 0
+door_failures_in (Err ServeFault.NoMemory) = 0

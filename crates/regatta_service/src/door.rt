@@ -1,0 +1,121 @@
+//! Where clients come from.
+ghost use Rattle.std.specs.Prelude.{◌≡◌, ◌≢◌, ◌+◌, ◌↔◌, Ok, Some, None, IfOk, OnOk, OnErr, OnSome};
+ghost use Rattle.regatta_service.specs.Doors.{streams_asked, one_fewer};
+
+use crate::connection::Connection;
+use regatta_streams::{Device, Failures, Foreign, Sink, Source};
+use std::marker::Model;
+use std::net::Net;
+use std::os::unix::net::UnixListener;
+use std::rt::Files;
+use std::sync::Wait;
+use thiserror::Error;
+
+/// A door that failed, for whatever reason.
+#[derive(Clone, Copy, Debug, PartialEq, Eq, Error)]
+#[error("the door failed")]
+pub struct DoorFault;
+
+/// What gives the stream of one client after another. It is seen with the number of its calls that
+/// failed.
+pub trait Door: Device {
+    /// What a client's lines come from, and what their replies go to.
+    type Stream: Source + Sink + Send + Drop + 'static;
+
+    /// The next client's stream, for which it may wait; none once the door is closed.
+    ///
+    /// # Errors
+    ///
+    /// Where the door failed, which is counted.
+    fn next<R: Wait>(&mut self, rt: &R) -> Result<Option<Self::Stream>, DoorFault>
+        ensures well { OnOk result (Self.failures self.new ≡ Self.failures self.old) }
+        ensures failed { OnErr result (Self.failures self.new ≡ Self.failures self.old + 1) };
+}
+
+/// A door over a new Unix socket. It closes behind the last stream that it gives: who comes then is
+/// refused by the system, and doesn't wait for the sessions that still run.
+///
+/// It is seen as how many streams it still gives, where that has an end, and the number of its
+/// calls that failed.
+#[derive(Drop)]
+pub struct SocketDoor {
+    /// None once the door is closed.
+    listener: Option<UnixListener>,
+    left: Option<u32>,
+    failures: Failures,
+}
+
+impl Model for SocketDoor {
+    ghost use Rattle.std.specs.Prelude.{◌≡◌, ◌↔◌, Some, IsNone};
+    ghost use Rattle.regatta_service.specs.Doors.{DoorParts};
+
+    ghost Value = { DoorParts };
+
+    ghost view = { λ d. record { left = d.left; failures = d.failures.count } };
+
+    ghost invariant = { λ d. IsNone d.listener ↔ (d.left ≡ Some 0) };
+}
+
+impl SocketDoor {
+    /// Binds a new socket at this path. The door closes after that many streams; 0 is no end.
+    ///
+    /// # Errors
+    ///
+    /// Where the system gives no such socket, as where the path is there already, or memory is
+    /// wanting.
+    pub fn bind<R: Files + Net>(rt: &R, path: &str, sessions: u32) -> Result<SocketDoor, DoorFault>
+        ensures { IfOk result (λ door. door
+            ≡ record { left = streams_asked sessions; failures = 0 }) }
+    {
+        let Ok(listener) = UnixListener::bind(rt, path) else {
+            return Err(DoorFault);
+        };
+        Ok(SocketDoor {
+            listener: Some(listener),
+            left: if sessions == 0 { None } else { Some(sessions) },
+            failures: Failures::none(),
+        })
+    }
+
+    /// Counts a stream that is given, and closes the door behind the last.
+    fn count_given(&mut self)
+        requires open { self.old.left ≢ Some 0 }
+        ensures { self.new ≡ record self.old { left = one_fewer self.old.left } }
+    {
+        if let Some(left) = self.left {
+            self.left = Some(left - 1);
+            if left == 1 {
+                self.listener = None;
+            }
+        }
+    }
+}
+
+impl Device for SocketDoor {
+    ghost failures = { λ door. door.failures };
+}
+
+impl Door for SocketDoor {
+    type Stream = Foreign<Connection>;
+
+    fn next<R: Wait>(&mut self, _rt: &R) -> Result<Option<Foreign<Connection>>, DoorFault>
+        ensures well { OnOk result (self.new.failures ≡ self.old.failures) }
+        ensures failed { OnErr result (self.new.failures ≡ self.old.failures + 1) }
+
+        // It closes once as many streams were given as it was bound for, and no sooner.
+        ensures closed { (result ≡ Ok None) ↔ (self.old.left ≡ Some 0) }
+        ensures given { IfOk result (λ stream. OnSome stream
+            (self.new.left ≡ one_fewer self.old.left)) }
+        ensures err { OnErr result (self.new.left ≡ self.old.left) }
+    {
+        let Some(listener) = &self.listener else {
+            return Ok(None);
+        };
+        let Ok((stream, _)) = listener.accept() else {
+            self.failures = self.failures.one_more();
+            return Err(DoorFault);
+        };
+        self.count_given();
+        Ok(Some(Foreign::new(Connection::new(stream))))
+    }
+}

@@ -1,0 +1,14 @@
+//! An office that serves clients: each on a thread of its own, line by line.
+#![tactic(auto)]
+
+mod connection;
+mod door;
+mod gate;
+mod pool;
+mod serving;
+mod sessions;
+
+pub use door::{Door, DoorFault, SocketDoor};
+pub use gate::{Gate, OpenGate};
+pub use serving::{ServeFault, serve};
+pub use sessions::{End, session};

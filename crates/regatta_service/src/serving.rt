@@ -1,0 +1,176 @@
+//! Clients served side by side.
+ghost use Rattle.std.specs.Prelude.{◌≡◌, ◌+◌, map, IfOk, OnOk, IsErrOf, IsTrue};
+ghost use Rattle.regatta_service.specs.Faults.{door_failures_in};
+
+use crate::door::Door;
+use crate::gate::Gate;
+use crate::pool::{Lent, Pool};
+use crate::sessions::session;
+use regatta_desk::{Office, OfficeName, Pass};
+use regatta_streams::{Device, write_all};
+use std::alloc::{AllocError, Global};
+use std::sync::{Mutex, Wait};
+use std::thread;
+use std::thread::{Scope, Threads};
+use thiserror::Error;
+
+/// Why serving ended ahead of its time.
+#[derive(Clone, Copy, Debug, PartialEq, Eq, Error)]
+pub enum ServeFault {
+    /// The door failed.
+    #[error("the door failed")]
+    Door,
+    /// A thread wasn't given, or a seat didn't come back.
+    #[error("no thread, or a seat didn't come back")]
+    Thread,
+    /// Memory was wanting.
+    #[error("no memory")]
+    NoMemory,
+}
+
+/// The reply to a client who finds no seat.
+const BUSY: &[u8] = b"BUSY\n";
+
+fn accept_all<'s, E: 's, N, H, R, D, G>(
+    rt: &'s R,
+    alloc: Global,
+    scope: &Scope<'s, E>,
+    office: &'s Office<N, H>,
+    pool: &'s Mutex<Pool<N>>,
+    door: &mut D,
+    gate: &'s G,
+) -> Result<(), ServeFault>
+where
+    N: OfficeName + Send + Sync + 's,
+    H: Wait + Drop + Send + 's,
+    R: Threads + Wait + Sync + 's,
+    D: Door,
+    D::Stream: 's,
+    G: Gate + Sync + 's,
+    ensures { D.failures door.new ≡ D.failures door.old + door_failures_in result }
+{
+    for _ in rt.forever() {
+        let Ok(next) = door.next(&*rt) else {
+            return Err(ServeFault::Door);
+        };
+        let Some(mut stream) = next else {
+            return Ok(());
+        };
+        let Some(mut lent) = pool.lock(&*rt).take() else {
+            // she is turned away, and whether she reads it changes nothing
+            let _ = write_all(&mut stream, BUSY);
+            continue;
+        };
+        let started = scope.spawn(move || {
+            let end = session(rt, alloc, &mut stream, office, &mut lent.pass, gate);
+            gate.ended(lent.pass.seat(), end);
+            // the seat is free before the stream is closed, so that a client who sees the end of
+            // her session may come again at once
+            pool.lock(rt).give(lent);
+        });
+        if started.is_err() {
+            return Err(ServeFault::Thread);
+        }
+    }
+    unreachable!()
+}
+
+/// Does nothing, but this use of a returned reference ties it to the parameter that lent it.
+fn take_back<T>(x: &mut T)
+    ensures { x.new ≡ x.old }
+{}
+
+/// The seats of these passes.
+fn seats_of<N: OfficeName>(alloc: Global, passes: &[Pass<N>]) -> Result<Vec<u8>, AllocError>
+    ensures { IfOk result (λ seats. seats.items ≡ map (λ p. p.seat) passes.now) }
+{
+    let mut seats = Vec::with_capacity(alloc, passes.len())?;
+    for pass in passes {
+        seats.push(pass.seat())?;
+    }
+    Ok(seats)
+}
+
+/// Whether these are the passes of just these seats, in this order.
+fn are_seated<N: OfficeName>(passes: &[Pass<N>], seats: &[u8]) -> bool
+    ensures { IsTrue result → map (λ p. p.seat) passes.now ≡ seats.now }
+{
+    passes.iter().map(|p| p.seat()).eq(seats.iter().copied())
+}
+
+/// The passes, once all of these seats are back in the pool.
+fn passes_back<N: OfficeName>(
+    alloc: Global,
+    pool: Pool<N>,
+    seats: &[u8],
+) -> Result<Vec<Pass<N>>, ServeFault>
+    ensures seats { IfOk result (λ passes. map (λ p. p.seat) passes.items ≡ seats.now) }
+    ensures door { door_failures_in result ≡ 0 }
+{
+    let Ok(back) = pool.into_passes(alloc) else {
+        return Err(ServeFault::NoMemory);
+    };
+    let Some(passes) = back else {
+        return Err(ServeFault::Thread);
+    };
+    if !are_seated(&passes, seats) {
+        return Err(ServeFault::Thread);
+    }
+    Ok(passes)
+}
+
+/// Serves the clients that come by the door, until it closes: each on a thread of its own, at the
+/// lowest seat that is free. A client who finds none is answered `BUSY`, and turned away. All
+/// sessions have ended when this does, and the passes come back in the order in which they were
+/// handed in.
+///
+/// # Errors
+///
+/// `Door` where the door failed, `Thread` where a thread wasn't given or a seat didn't come back,
+/// and `NoMemory` where memory is wanting. What was committed stays, and the passes are gone.
+pub fn serve<N, H, R, D, G>(
+    rt: &R,
+    alloc: Global,
+    office: &Office<N, H>,
+    door: &mut D,
+    passes: Vec<Pass<N>>,
+    gate: &G,
+) -> Result<Vec<Pass<N>>, ServeFault>
+where
+    N: OfficeName + Send + Sync,
+    H: Wait + Drop + Send,
+    R: Threads + Wait + Sync,
+    D: Door,
+    G: Gate + Sync,
+    ensures seats { IfOk result (λ back.
+        map (λ p. p.seat) back.items ≡ map (λ p. p.seat) passes.items) }
+
+    // A call of the door that fails ends the serving, which tells it; none failed elsewhere.
+    ensures door { D.failures door.new ≡ D.failures door.old + door_failures_in result }
+{
+    let Ok(seats) = seats_of(alloc, &passes) else {
+        return Err(ServeFault::NoMemory);
+    };
+    let Ok(pool) = Pool::new(alloc, passes) else {
+        return Err(ServeFault::NoMemory);
+    };
+    let pool = Mutex::new(pool);
+    let shared = &pool;
+    let (served, lent) = thread::scope(
+        thread::scope_env(),
+        rt,
+        move |scope| -> (Result<(), ServeFault>, &mut D)
+            ensures same { result.1.ghost_name ≡ door.entry.ghost_name }
+            ensures failures { D.failures result.1.now
+                ≡ D.failures door.entry.now + door_failures_in result.0 }
+        {
+            let served = accept_all(rt, alloc, scope, office, shared, &mut *door, gate);
+            (served, door)
+        },
+    );
+    take_back(lent);
+    if let Err(fault) = served {
+        return Err(fault);
+    }
+    passes_back(alloc, pool.into_inner(), &seats)
+}

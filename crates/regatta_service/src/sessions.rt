@@ -1,0 +1,177 @@
+//! One client's lines, answered one after another.
+ghost use Rattle.std.specs.Prelude.{◌≡◌, ◌≢◌, ◌+◌, true, Ok, Some, None, IfSome, IfOk};
+ghost use Rattle.std.specs.Io.KnownBytes.{IsAtEnd};
+ghost use Rattle.regatta_terms.specs.Lines.{line_of};
+ghost use Rattle.regatta_desk.specs.Replies.{is_for_desk, is_for_pass, next_after};
+ghost use Rattle.regatta_service.specs.Ends.{failures_in, failures_so_far};
+
+use crate::gate::Gate;
+use regatta_desk::{Next, Office, OfficeName, Pass, answer_alone};
+use regatta_streams::{Device, Sink, Source, write_all};
+use regatta_talk::{Cutter, make_room};
+use regatta_terms::{Line, LineFault, Role, read_line};
+use std::alloc::{AllocError, Global};
+use std::sync::Wait;
+
+/// The bytes that one read asks for at most.
+const PIECE: usize = 512;
+
+/// How a session ended.
+#[derive(Clone, Copy, Debug, PartialEq, Eq)]
+pub enum End {
+    /// By a QUIT, which was answered.
+    Quit,
+    /// The client's lines are at their end.
+    Closed,
+    /// A read of the stream failed.
+    ReadFault,
+    /// A write to the stream failed.
+    WriteFault,
+    /// The gate didn't let a line through.
+    Stopped,
+    /// Memory was wanting for a reply.
+    NoMemory,
+}
+
+/// The line as one that the desk answers, if it is one.
+fn for_desk(asked: &Result<Line, LineFault>) -> Option<Line>
+    ensures some { IfSome result (λ line.
+        (asked.now ≡ Ok line) × (is_for_desk line ≡ true)) }
+    ensures none { result ≡ None → is_for_pass asked.now ≡ true }
+{
+    match asked {
+        Ok(line) => match line {
+            Line::Do(_) | Line::Rank(_) => Some(*line),
+            Line::SetRole(_) | Line::Show | Line::Quit => None,
+        },
+        Err(_) => None,
+    }
+}
+
+/// A client at a seat of the office, and what is kept from line to line: the role of the lines to
+/// come, the number of the last line, what came of the line at hand, and the text of a reply.
+#[derive(Drop)]
+struct Talk<'a, N: OfficeName, H: Wait + Drop, G: Gate> {
+    office: &'a Office<N, H>,
+    pass: &'a mut Pass<N>,
+    gate: &'a G,
+    role: Role,
+    line: u64,
+    cutter: Cutter,
+    reply: Vec<u8>,
+}
+
+impl<N: OfficeName, H: Wait + Drop, G: Gate> Talk<'_, N, H, G> {
+    /// Has the desk answer a line, under its lock.
+    fn ask_desk<R: Wait>(&mut self, rt: &R, line: Line) -> Result<(), AllocError>
+        requires { is_for_desk line ≡ true }
+    {
+        let mut desk = self.office.desk(rt);
+        desk.answer(rt, self.pass, self.role, line, &mut self.reply)
+    }
+
+    /// Does what a line asks for, and makes its reply. Room for it is made ahead of the lock.
+    fn answer<R: Wait>(
+        &mut self,
+        rt: &R,
+        asked: Result<Line, LineFault>,
+    ) -> Result<Next, AllocError>
+        ensures { IfOk result (λ next. next ≡ next_after asked) }
+    {
+        self.reply.clear();
+        make_room(&mut self.reply)?;
+        match for_desk(&asked) {
+            Some(line) => {
+                self.ask_desk(rt, line)?;
+                Ok(Next::Go)
+            }
+            None => answer_alone(self.pass, &mut self.role, asked, &mut self.reply),
+        }
+    }
+
+    /// Answers the line at hand. Some where that ends the session.
+    fn end_line<R: Wait, S: Sink>(&mut self, rt: &R, stream: &mut S) -> Option<End>
+        ensures failures { S.failures stream.new
+            ≡ S.failures stream.old + failures_so_far result }
+
+        // Behind a QUIT it doesn't go on.
+        ensures goes_on { result ≡ None → next_after (line_of self.old.cutter) ≡ Next.Go }
+
+        // No read is made here, so none ends the session.
+        ensures unread { (result ≢ Some End.Closed) × (result ≢ Some End.ReadFault) }
+    {
+        self.line = self.line.saturating_add(1);
+        if !self.gate.before(self.pass.seat(), self.line) {
+            return Some(End::Stopped);
+        }
+        let asked = read_line(self.cutter.line());
+        self.cutter.clear();
+        let Ok(next) = self.answer(rt, asked) else {
+            return Some(End::NoMemory);
+        };
+        if write_all(stream, &self.reply).is_err() {
+            return Some(End::WriteFault);
+        }
+        self.gate.after(self.pass.seat(), self.line);
+        match next {
+            Next::Go => None,
+            Next::End => Some(End::Quit),
+        }
+    }
+
+    /// Answers the lines that end in these bytes. Some where one of them ends the session.
+    fn take_all<R: Wait, S: Sink>(&mut self, rt: &R, stream: &mut S, piece: &[u8]) -> Option<End>
+        ensures failures { S.failures stream.new
+            ≡ S.failures stream.old + failures_so_far result }
+        ensures unread { (result ≢ Some End.Closed) × (result ≢ Some End.ReadFault) }
+    {
+        for byte in piece {
+            if self.cutter.take(*byte) {
+                let ended = self.end_line(rt, stream);
+                if ended.is_some() {
+                    return ended;
+                }
+            }
+        }
+        None
+    }
+}
+
+/// Serves one client: each line that ends in LF is answered, up to QUIT. A line that is too long is
+/// answered once, as such. The first line is sent as the scorer. What was committed stays, however
+/// the session ends.
+pub fn session<N: OfficeName, H: Wait + Drop, R: Wait, S: Source + Sink, G: Gate>(
+    rt: &R,
+    alloc: Global,
+    stream: &mut S,
+    office: &Office<N, H>,
+    pass: &mut Pass<N>,
+    gate: &G,
+) -> End
+    // A call of the stream that fails ends the session, which tells it; none failed elsewhere.
+    ensures failures { S.failures stream.new ≡ S.failures stream.old + failures_in result }
+    ensures closed { result ≡ End.Closed → IsAtEnd (S.remaining stream.new) }
+{
+    let mut talk = Talk {
+        office,
+        pass,
+        gate,
+        role: Role::Scorer,
+        line: 0,
+        cutter: Cutter::new(),
+        reply: Vec::new(alloc),
+    };
+    let mut buffer = [0; PIECE];
+    for _ in rt.forever() {
+        let Ok(count) = stream.read(&mut buffer) else {
+            return End::ReadFault;
+        };
+        if count == 0 {
+            return End::Closed;
+        }
+        if let Some(end) = talk.take_all(rt, stream, &buffer[..count]) {
+            return end;
+        }
+    }
+    unreachable!()
+}
