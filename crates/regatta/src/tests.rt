@@ -7,6 +7,7 @@ use std::test::Fail;
 
 mod complaints;
 mod faults;
+mod offices;
 mod programs;
 mod replays;
 mod weekend;
