@@ -1,33 +1,67 @@
--- The standing of a board, and of one accepted entry more.
-use Rattle.std.proofs.Common.{◌≡◌, true, List, [], ◌∷◌, ◌++◌, ap, ◌∙◌, sym, subst, length, find}
-use Rattle.std.proofs.Common.{Option, None, unwrap_or}
+-- The scores of a board, and of one accepted entry more.
+use Rattle.std.proofs.Common.{◌≡◌, ℕ, ◌<◌, Bool, true, false, cond, List, [], ◌∷◌, ◌++◌, refl, ap, ◌∙◌}
+use Rattle.std.proofs.Common.{sym, subst, arith, length, nat_lt, Option, Some, None}
+use Rattle.std.specs.List.{position, position_or_len}
+use Rattle.std.proofs.lemmas.Bool.Decides.{nat_tests}
+use Rattle.std.proofs.lemmas.List.{length-map}
 use Rattle.std.specs.Option.{option_map}
 use Rattle.regatta_terms.specs.Entries.{EntryParts}
 use Rattle.regatta_terms.specs.Rules.{RulesParts}
 use Rattle.regatta_terms.specs.declared.sail.Sail.{Sail}
-use Rattle.regatta_scores.specs.declared.table.Row.{Row}
-use Rattle.regatta_scores.specs.declared.table.Standing.{Standing}
-use Rattle.regatta_scores.specs.Journal.{Journal, same_sail, scored}
+use Rattle.regatta_scores.specs.Journal.{Journal, same_sail, entered}
 use Rattle.regatta_scores.specs.Standing.{standing}
 use Rattle.regatta_board.specs.Refusals.{limits, refusal, is_lawful}
-use Rattle.regatta_board.specs.Answers.{touched_by, rank_of}
+use Rattle.regatta_board.specs.Answers.{rank_of}
 use Rattle.regatta_board.specs.declared.kept.Revision.{Revision}
 use Rattle.regatta_board.specs.Revisions.{revised}
-use Rattle.regatta_board.specs.Table.{Kept, IsKept, races, table}
+use Rattle.regatta_board.specs.Scoring.{Scoring, IsScoring, touched_at}
+use Rattle.regatta_board.specs.Table.{Kept, IsKept, table}
 use Rattle.regatta_board.specs.KeptJournal.{kept_of}
 use Rattle.regatta_board.specs.BoardFacts.{BoardValue, StagedValue}
 use Rattle.regatta_board.specs.LedgerFacts.{IsRevision}
 use Rattle.regatta_board.proofs.Lawful.{lawful_more}
 use Rattle.regatta_board.proofs.LawfulJournals.{lawful_orderly, lawful_kept}
-use Rattle.regatta_board.proofs.TableOf.{table_is}
+use Rattle.regatta_scores.specs.Ranking.{place}
+use Rattle.regatta_board.proofs.RowFound.{rank_found}
+use Rattle.regatta_board.proofs.ScoringFacts.{lines_by_long}
+use Rattle.regatta_board.proofs.TableOf.{table_is, lines_kept}
 
-pub board_rank : (rules : RulesParts) (entries : Journal) (made : Standing)
-    → made ≡ standing rules entries → (boat : Sail) (rows : List Row) → rows ≡ made.rows
-    → option_map touched_by (find (λ row. same_sail boat row.sail) rows)
-    ≡ rank_of rules entries boat
-board_rank rules entries made stands boat rows e =
-    ap (λ rs. option_map touched_by (find (λ (row : Row). same_sail boat row.sail) rs)) (e
-    ∙ ap (λ s. s.rows) stands)
+-- what an answer tells of a boat is read under her number
+pub board_rank : (rules : RulesParts) (journal : Journal) → is_lawful limits rules journal ≡ true
+    → (scoring : Scoring) → IsScoring rules (kept_of rules journal) scoring → (boat : Sail)
+    → option_map (touched_at scoring) (position (same_sail boat) (entered journal))
+    ≡ rank_of rules journal boat
+board_rank rules journal lawful scoring is boat =
+    let orderly = lawful_orderly rules journal lawful in
+    rank_found rules journal boat orderly.apart scoring
+    (is.lines ∙ lines_kept rules journal orderly) is.places
+
+-- a position is within the list
+pub position_within : {X : Type 0} (p : X → Bool) (xs : List X) (at : ℕ)
+    → position p xs ≡ Some at → at < length xs
+position_within p xs at e = by (nat_lt (position_or_len p xs) (length xs)) refl e
+  where
+    index : Option ℕ → ℕ
+    index (Some n) = n
+    index None = 0
+
+    by : (b : Bool) → nat_lt (position_or_len p xs) (length xs) ≡ b
+        → cond b (Some (position_or_len p xs)) None ≡ Some at → at < length xs
+    by true f h =
+        let same : position_or_len p xs ≡ at = ap (λ (o : Option ℕ). index o) h in
+        rw (← same) (grind (arith, nat_tests))
+    by false f h = absurd (cc)
+
+-- a boat that is entered has a line and a place
+pub line_within : (rules : RulesParts) (journal : Journal) (scoring : Scoring)
+    → IsScoring rules (kept_of rules journal) scoring → (boat : Sail) (at : ℕ)
+    → position (same_sail boat) (entered journal) ≡ Some at
+    → (at < length scoring.lines) × (at < length scoring.places)
+line_within rules journal scoring is boat at e =
+    let lines = ap length is.lines ∙ lines_by_long rules (kept_of rules journal) in
+    let places = ap length is.places ∙ length-map scoring.lines (place scoring.lines) in
+    let within = position_within (same_sail boat) (entered journal) at e in
+    (omega (arith, lines, within), omega (arith, lines, places, within))
 
 -- a command that may be committed was prepared on what the board holds
 pub basis_is : {staged value : StagedValue} {held board : BoardValue} → staged ≡ value
@@ -35,7 +69,7 @@ pub basis_is : {staged value : StagedValue} {held board : BoardValue} → staged
 basis_is staged_is of held_is = ap (λ (v : StagedValue). v.board) staged_is ∙ of ∙ sym held_is
 
 -- the table of what is kept of a lawful journal is its standing
-lawful_table : (rules : RulesParts) (journal : Journal) → is_lawful limits rules journal ≡ true
+pub lawful_table : (rules : RulesParts) (journal : Journal) → is_lawful limits rules journal ≡ true
     → table rules (kept_of rules journal) ≡ standing rules journal
 lawful_table rules journal lawful =
     table_is rules journal (lawful_orderly rules journal lawful)
@@ -47,25 +81,8 @@ module _ (rules : RulesParts) (entries : Journal) (lawful : is_lawful limits rul
   next_lawful : is_lawful limits rules (entries ++ e ∷ []) ≡ true
   next_lawful = lawful_more rules entries e lawful none
 
-  next_is : revised kept revision ≡ kept_of rules (entries ++ e ∷ [])
+  pub next_is : revised kept revision ≡ kept_of rules (entries ++ e ∷ [])
   next_is = ap (λ k. revised k revision) keeps ∙ revises
 
   pub next_kept : IsKept (revised kept revision)
   next_kept = subst IsKept (sym next_is) (lawful_kept rules (entries ++ e ∷ []) next_lawful)
-
-  next_table : table rules (revised kept revision) ≡ standing rules (entries ++ e ∷ [])
-  next_table = ap (table rules) next_is
-      ∙ lawful_table rules (entries ++ e ∷ []) next_lawful
-
-  -- the races that count after it are those of the journal
-  pub races_more : length (races (revised kept revision).counts)
-      ≡ length (scored (entries ++ e ∷ []))
-  races_more = ap (λ (s : Standing). length s.races) next_table
-
-  -- what is made of the new table, where it is, or else the standing as it was
-  pub next_standing : (made : Option Standing)
-      → unwrap_or made (table rules kept) ≡ table rules (revised kept revision)
-      → unwrap_or made (standing rules entries) ≡ standing rules (entries ++ e ∷ [])
-  next_standing made now =
-      ap (unwrap_or made) (sym (ap (table rules) keeps ∙ lawful_table rules entries lawful))
-      ∙ now ∙ next_table

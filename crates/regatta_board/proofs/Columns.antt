@@ -57,3 +57,24 @@ one_long false xs r = omega (arith, length-append xs [])
 pub few_more : (b : Bool) (found new : List ℕ) (i r : ℕ) → new ≡ found ++ cond b (r ∷ []) []
     → length found ≤ i → length new ≤ i + 1
 few_more b found new i r e h = omega (arith, ap length e, one_long b found r)
+
+-- one more race is counted where it counts
+pub counted_more : (counts : List Bool) (i start old new : ℕ)
+    → old ≡ start + length (filter (λ race. get_or counts (race - 1) false) (range_with_len 1 i))
+    → new ≡ old + cond (get_or counts ((i + 1) - 1) false) 1 0
+    → new ≡ start
+    + length (filter (λ race. get_or counts (race - 1) false) (range_with_len 1 (i + 1)))
+counted_more counts i start old new e f =
+    omega (
+      arith,
+      e,
+      f,
+      ap length (races_step counts i)
+          ∙ more_long (get_or counts ((i + 1) - 1) false)
+          (filter (λ race. get_or counts (race - 1) false) (range_with_len 1 i)),
+    )
+  where
+    more_long : (b : Bool) (xs : List ℕ)
+        → length (xs ++ cond b ((i + 1) ∷ []) []) ≡ length xs + cond b 1 0
+    more_long true xs = length-append xs ((i + 1) ∷ [])
+    more_long false xs = length-append xs []

@@ -81,7 +81,9 @@ rows_none f n =
 
 pub ruleset row_facts = (rows_step, rows_none)
 
-line_at : (rules : RulesParts) (columns : List (List Outcome)) (n b : ℕ) (d : BoatScores) → b < n
+-- the line of one boat among all
+pub line_at : (rules : RulesParts) (columns : List (List Outcome)) (n b : ℕ) (d : BoatScores)
+    → b < n
     → get_or (lines rules columns n) b d ≡ boat.line rules (outcomes columns b)
 line_at rules columns n b d h =
     get_or-map-range_with_len (λ b. boat.line rules (outcomes columns b)) 0 n b b d h (omega arith)

@@ -23,6 +23,7 @@ use Rattle.regatta_board.specs.Outcomes as one
 use Rattle.regatta_board.specs.Table as all
 use Rattle.regatta_board.specs.Refusals.{is_entered}
 use Rattle.regatta_board.specs.KeptJournal.{number, sheet_of, kept_of, IsOrderly}
+use Rattle.regatta_board.specs.Scoring.{lines_by}
 use Rattle.regatta_board.proofs.Lengths.{long_points}
 use Rattle.regatta_board.proofs.Maps.{map_map, map_same}
 use Rattle.regatta_board.proofs.Numbers.{numbers_tell, numbers_are, found_under, all_in, map_known}
@@ -188,7 +189,7 @@ module _ (rules : RulesParts) (journal : Journal) (orderly : IsOrderly rules jou
 
   -- ---- the races that count
 
-  races_are : all.races (kept_of rules journal).counts ≡ scored journal
+  pub races_are : all.races (kept_of rules journal).counts ≡ scored journal
   races_are = filter_known (λ r. (1 ≤ r) × (r < 1 + MAX_RACES))
       (λ race. get_or (kept_of rules journal).counts (race - 1) false) (is_scored journal)
       (λ race h. get_or-map-range_with_len (is_scored journal) 1 MAX_RACES (race - 1) race false
@@ -243,6 +244,13 @@ module _ (rules : RulesParts) (journal : Journal) (orderly : IsOrderly rules jou
       (entered journal) [] (record { points = []; excluded = [] })
       (λ b h. ap (one.line rules) (by_boat b h)
       ∙ line_is rules journal (get_or (entered journal) b []))
+
+  -- the lines made from what is kept of the journal are those of the journal
+  pub lines_kept : lines_by rules (kept_of rules journal) ≡ by_journal.lines rules journal
+  lines_kept =
+      (λ i. all.lines rules (all.columns rules (kept_of rules journal).sheets (races_are i))
+      (length (entered journal)))
+      ∙ (λ i. all.lines rules (columns_are i) (length (entered journal))) ∙ lines_are
 
   rows_are : all.rows rules (entered journal)
       (map (λ race. map (one.outcome rules journal race) (entered journal)) (scored journal))

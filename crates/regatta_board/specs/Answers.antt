@@ -1,5 +1,6 @@
 -- The answer to an accepted command.
-use Rattle.std.specs.Prelude.{◌+◌, [], ◌∷◌, ◌++◌, length, find, Option, Some, None}
+use Rattle.std.specs.Prelude.{ℕ, ◌+◌, [], ◌∷◌, ◌++◌, length, find, Option, Some, None}
+use Rattle.std.specs.Prelude.{if◌then◌else◌}
 use Rattle.std.specs.Option.{option_map}
 use Rattle.regatta_terms.specs.Entries.{EntryParts}
 use Rattle.regatta_terms.specs.Rules.{RulesParts}
@@ -11,7 +12,7 @@ use Rattle.regatta_terms.specs.declared.command.Command.TheVariants.{Enter, Fini
 use Rattle.regatta_terms.specs.declared.command.Command.TheVariants.{Strike, Mark, Penalise}
 use Rattle.regatta_terms.specs.declared.command.Command.TheVariants.{Redress, Clear, Score, Unscore}
 use Rattle.regatta_scores.specs.declared.table.Row.{Row}
-use Rattle.regatta_scores.specs.Journal.{Journal, same_sail}
+use Rattle.regatta_scores.specs.Journal.{Journal, same_sail, is_scored, scored}
 use Rattle.regatta_scores.specs.Standing.{standing}
 
 -- the first boat that a command names
@@ -49,3 +50,22 @@ answer rules journal entry =
       place = length journal + 1;
       touched = touched rules (journal ++ entry ∷ []) (boat_named entry.command);
     }
+
+-- 1 for a race that counts, and 0 for one that doesn't
+abbrev pub once_if_scored : Journal → ℕ → ℕ
+once_if_scored journal race = if is_scored journal race then 1 else 0
+
+-- how many races are scored anew at most for a command, by the journal that ends with it: none where
+-- its race doesn't count there, one where it does, and all that count for one more boat
+abbrev pub most_rescored : Journal → Command → ℕ
+most_rescored journal (Enter sail) = length (scored journal)
+most_rescored journal (Finish race sail) = once_if_scored journal race
+most_rescored journal (Tie race sail other) = once_if_scored journal race
+most_rescored journal (Before race sail other) = once_if_scored journal race
+most_rescored journal (Strike race sail) = once_if_scored journal race
+most_rescored journal (Mark race sail code) = once_if_scored journal race
+most_rescored journal (Penalise race sail kind) = once_if_scored journal race
+most_rescored journal (Redress race sail redress) = once_if_scored journal race
+most_rescored journal (Clear race sail) = once_if_scored journal race
+most_rescored journal (Score race) = once_if_scored journal race
+most_rescored journal (Unscore race) = once_if_scored journal race

@@ -12,7 +12,7 @@ use regatta_terms::{MAX_RACES, Rules, Sail, Tenths};
 use std::alloc::{AllocError, Global};
 
 /// What came of one boat in one race.
-#[derive(Clone, Copy)]
+#[derive(Clone, Copy, PartialEq, Eq)]
 pub struct Outcome {
     /// Her points before redress.
     pub plain: Tenths,

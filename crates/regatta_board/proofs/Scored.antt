@@ -1,0 +1,122 @@
+-- What the board keeps of the scores, after one more command.
+use Rattle.std.proofs.Common.{◌≡◌, ◌≢◌, ℕ, ◌+◌, ◌-◌, ◌<◌, Bool, true, false, List, [], ◌∷◌, ◌++◌, refl}
+use Rattle.std.proofs.Common.{ap, ◌∙◌, sym, arith, length, map, get_or, nat_eq}
+use Rattle.std.specs.List.{range_with_len}
+use Rattle.std.proofs.Math.ListN.{set}
+use Rattle.std.proofs.lemmas.List.{get_or-set_other, get_or-set_same, get_or_push, get_or_append_left}
+use Rattle.std.proofs.lemmas.Bool.{eqb-false}
+use borrow.Author.Tests.{eqb-true}
+use Rattle.regatta_terms.specs.Rules.{RulesParts}
+use Rattle.regatta_terms.specs.declared.limits.TheConstants.{MAX_RACES}
+use Rattle.regatta_scores.specs.Sheet.{Sheet, empty_sheet}
+use Rattle.regatta_board.specs.declared.outcomes.Outcome.{Outcome}
+use Rattle.regatta_board.specs.Outcomes.{line}
+use Rattle.regatta_board.specs.Table.{Kept, column, columns, races, outcomes, no_outcome}
+use Rattle.regatta_board.specs.Scoring.{AreColumns}
+use Rattle.regatta_board.proofs.Untouched.{map_passed}
+
+-- by whether two numbers are one
+one_or_other : {P : Type 0} (k r : ℕ) → (k ≡ r → P) → (k ≢ r → P) → P
+one_or_other {P} k r one other = by (nat_eq k r) refl
+  where
+    by : (b : Bool) → nat_eq k r ≡ b → P
+    by true e = one (eqb-true k r e)
+    by false e = other (eqb-false k r e)
+
+module _ (rules : RulesParts) (kept : Kept) (found : List (List Outcome))
+    (are : AreColumns rules kept found) where
+  -- the columns of the races that count are those that their sheets make
+  pub columns_found : map (λ race. get_or found (race - 1) []) (races kept.counts)
+      ≡ columns rules kept.sheets (races kept.counts)
+  columns_found =
+      map_passed (λ race. get_or kept.counts (race - 1) false)
+      (λ race. get_or found (race - 1) [])
+      (λ race. column rules (get_or kept.sheets (race - 1) (empty_sheet 0)))
+      (λ race counts. are (race - 1) counts) (range_with_len 1 MAX_RACES)
+
+  -- one more sheet of a race that doesn't count
+  pub uncounted_sheet : (r : ℕ) (sheet : Sheet) → get_or kept.counts r false ≡ false
+      → AreColumns rules (record kept { sheets = set kept.sheets r sheet }) found
+  uncounted_sheet r sheet none k counts =
+      one_or_other k r
+      (λ e. let no_way : true ≡ false = sym counts ∙ ap (λ n. get_or kept.counts n false) e ∙ none in
+      absurd (cc))
+      (λ apart. are k counts
+      ∙ ap (column rules) (sym (get_or-set_other kept.sheets r k sheet (empty_sheet 0)
+      apart)))
+
+  -- one more sheet, with its column
+  pub counted_sheet : (r : ℕ) (sheet : Sheet) (new : List Outcome) → new ≡ column rules sheet
+      → r < length found → r < length kept.sheets
+      → AreColumns rules (record kept { sheets = set kept.sheets r sheet }) (set found r new)
+  counted_sheet r sheet new is h g k counts =
+      one_or_other k r
+      (λ e. rw e (get_or-set_same found r new [] h ∙ is
+      ∙ ap (column rules) (sym (get_or-set_same kept.sheets r sheet (empty_sheet 0) g))))
+      (λ apart. get_or-set_other found r k new [] apart ∙ are k counts
+      ∙ ap (column rules) (sym (get_or-set_other kept.sheets r k sheet (empty_sheet 0)
+      apart)))
+
+  -- a race that counts from now on, with its column
+  pub scored_race : (r : ℕ) (new : List Outcome)
+      → new ≡ column rules (get_or kept.sheets r (empty_sheet 0)) → r < length found
+      → AreColumns rules (record kept { counts = set kept.counts r true }) (set found r new)
+  scored_race r new is h k counts =
+      one_or_other k r
+      (λ e. rw e (get_or-set_same found r new [] h ∙ is))
+      (λ apart. get_or-set_other found r k new [] apart
+      ∙ are k (sym (get_or-set_other kept.counts r k true false apart) ∙ counts))
+
+  -- a race that counts no more
+  pub unscored_race : (r : ℕ) → r < length kept.counts
+      → AreColumns rules (record kept { counts = set kept.counts r false }) found
+  unscored_race r h k counts =
+      one_or_other k r
+      (λ e. let no_way : true ≡ false = sym counts
+      ∙ ap (λ n. get_or (set kept.counts r false) n false) e
+      ∙ get_or-set_same kept.counts r false false h in absurd (cc))
+      (λ apart. are k (sym (get_or-set_other kept.counts r k false false apart)
+      ∙ counts))
+
+-- a boat for whom the one new column says what the old one said keeps her line
+pub line_stays : (rules : RulesParts) (counts : List Bool) (found : List (List Outcome)) (r b : ℕ)
+    (new : List Outcome)
+    → get_or new b no_outcome ≡ get_or (get_or found r []) b no_outcome → r < length found
+    → line rules (outcomes (map (λ race. get_or (set found r new) (race - 1) []) (races counts)) b)
+    ≡ line rules (outcomes (map (λ race. get_or found (race - 1) []) (races counts)) b)
+line_stays rules counts found r b new same h = ap (line rules) (each (races counts))
+  where
+    each : (rs : List ℕ)
+        → outcomes (map (λ race. get_or (set found r new) (race - 1) []) rs) b
+        ≡ outcomes (map (λ race. get_or found (race - 1) []) rs) b
+    each [] = refl
+    each (x ∷ xs) = λ i. here i ∷ each xs i
+      where
+        here : get_or (get_or (set found r new) (x - 1) []) b no_outcome
+            ≡ get_or (get_or found (x - 1) []) b no_outcome
+        here = one_or_other (x - 1) r
+            (λ e. rw e (ap (λ c. get_or c b no_outcome) (get_or-set_same found r new [] h) ∙ same))
+            (λ apart. ap (λ c. get_or c b no_outcome)
+            (get_or-set_other found r (x - 1) new [] apart))
+
+-- one more column, of the next race
+pub columns_pushed : (rules : RulesParts) (kept : Kept) (i : ℕ) (found new : List (List Outcome))
+    (next : List Outcome) → new ≡ found ++ next ∷ [] → length found ≡ i
+    → ((k : ℕ) → k < i → get_or kept.counts k false ≡ true
+    → get_or found k [] ≡ column rules (get_or kept.sheets k (empty_sheet 0)))
+    → (get_or kept.counts ((i + 1) - 1) false ≡ true
+    → next ≡ column rules (get_or kept.sheets ((i + 1) - 1) (empty_sheet 0)))
+    → (k : ℕ) → k < i + 1 → get_or kept.counts k false ≡ true
+    → get_or new k [] ≡ column rules (get_or kept.sheets k (empty_sheet 0))
+columns_pushed rules kept i found new next e long are is k h counts =
+    one_or_other k i
+    (λ at. let back : (i + 1) - 1 ≡ k = omega (arith, at) in
+    let hers : get_or kept.counts k false ≡ true
+    → next ≡ column rules (get_or kept.sheets k (empty_sheet 0)) = rw back at is in
+    ap (λ xs. get_or xs k []) e ∙ get_or_push found next [] k (long ∙ sym at) ∙ hers counts)
+    (λ apart. ap (λ xs. get_or xs k []) e
+    ∙ get_or_append_left found (next ∷ []) [] k (below k i (length found) h apart long)
+    ∙ are k (below k i i h apart refl) counts)
+  where
+    below : (k i n : ℕ) → k < i + 1 → k ≢ i → n ≡ i → k < n
+    below k i n h apart e = omega (arith, h, apart, e)

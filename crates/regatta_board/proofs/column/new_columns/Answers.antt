@@ -1,0 +1,17 @@
+use Rattle.std.proofs.Common.{◌≡◌, refl, arith, length}
+use Rattle.regatta_board.proofs.LedgerLemmas.{new_sheet_few}
+use Rattle.regatta_board.specs.Scoring.{most_remade}
+use Rattle.regatta_board.specs.Table.{races}
+use Rattle.regatta_board.proofs.column.new_columns.Goals as goal
+
+pub one_column-requires-clause-few : goal.one_column-requires-clause-few
+one_column-requires-clause-few c =
+    new_sheet_few c.args.kept.now c.args.revision.now c.in-Sheet.race c.in-Sheet.sheet c.in-Sheet.is
+    c.requires.next c.get.ensures.range
+
+pub returns-in_ok-columns-in-Enter-clause-counted :
+    goal.returns-in_ok-columns-in-Enter-clause-counted
+returns-in_ok-columns-in-Enter-clause-counted c =
+    let same : length (races c.new.result.counts)
+    ≡ most_remade c.args.kept.now c.args.revision.now = rw c.new.ensures (rw c.in-Enter.is refl) in
+    omega (arith, c.in_ok-columns-in-Enter.ensures.counted, same)

@@ -1,0 +1,18 @@
+use Rattle.std.proofs.Common.{◌∙◌, ap, sym, arith, length}
+use Rattle.regatta_board.specs.Revisions.{revised}
+use Rattle.regatta_board.proofs.ScoringFacts.{untouched_scores, lines_by_long}
+use Rattle.regatta_board.proofs.scoring.new_scores.Goals as goal
+
+pub returns-then-not-touched_by-clause-value : goal.returns-then-not-touched_by-clause-value
+returns-then-not-touched_by-clause-value c =
+    untouched_scores c.args.rules.now c.args.kept.now c.args.revision.now
+    (sym c.touched_by.ensures ∙ c.if-not-touched_by.true)
+
+pub with_places-requires : goal.with_places-requires
+with_places-requires c =
+    omega (
+      arith,
+      ap length c.in_ok-lines.ensures,
+      lines_by_long c.args.rules.now (revised c.args.kept.now c.args.revision.now),
+      c.requires.next.few,
+    )

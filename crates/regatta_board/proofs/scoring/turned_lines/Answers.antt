@@ -1,0 +1,108 @@
+use Rattle.std.proofs.Common.{◌≡◌, ◌-◌, ◌∙◌, [], ap, arith, map, get_or}
+use Rattle.std.proofs.lemmas.Grind.{common_steps}
+use Rattle.regatta_board.specs.Revisions.{revised}
+use Rattle.regatta_board.specs.Scoring.{Scoring, with_columns}
+use Rattle.regatta_board.specs.Table.{Kept, races}
+use Rattle.regatta_board.proofs.ScoringFacts.{old_long, new_long, turned_even, turned_stays}
+use Rattle.regatta_board.proofs.ScoringFacts.{turned_all}
+use Rattle.regatta_board.proofs.scoring.turned_lines.Goals as goal
+
+pub lines_with-requires-clause-even : goal.lines_with-requires-clause-even
+lines_with-requires-clause-even c =
+    let a = c.args in
+    let cols : c.deref.result.now ≡ a.scoring.now.columns =
+    c.deref.ensures.value ∙ ap (λ (s : Scoring). s.columns) c.scoring.view_is in
+    let ls : c.deref-4.result.now ≡ a.scoring.now.lines =
+    c.deref-4.ensures.value ∙ ap (λ (s : Scoring). s.lines) c.scoring.view_is in
+    let rs : c.deref-2.result.now ≡ races (revised a.kept.now a.revision.now).counts =
+    c.deref-2.ensures.value ∙ c.in_ok-races.ensures.value
+    ∙ ap (λ (k : Kept). races k.counts) c.new.ensures in
+    let found : c.deref-5.result.now
+    ≡ map (λ race. get_or (with_columns a.scoring.now.columns a.columns.now) (race - 1) [])
+    c.deref-2.result.now = c.deref-5.ensures.value ∙ c.in_ok-found.ensures
+    ∙ (λ i. map (λ race. get_or (with_columns (cols i) a.columns.now) (race - 1) [])
+    c.deref-2.result.now) in
+    turned_even a.rules.now a.kept.now c.requires.kept a.revision.now c.requires.next
+    a.scoring.now c.requires.scoring a.columns.now c.requires.columns a.race c.get.ensures.range
+    c.requires.counts c.requires.turned c.deref-4.result.now ls
+    c.deref-2.result.now rs c.deref-5.result.now found
+
+pub lines_with-requires-clause-old : goal.lines_with-requires-clause-old
+lines_with-requires-clause-old c =
+    let a = c.args in
+    let cols : c.deref.result.now ≡ a.scoring.now.columns =
+    c.deref.ensures.value ∙ ap (λ (s : Scoring). s.columns) c.scoring.view_is in
+    let ls : c.deref-4.result.now ≡ a.scoring.now.lines =
+    c.deref-4.ensures.value ∙ ap (λ (s : Scoring). s.lines) c.scoring.view_is in
+    let was : c.index-old.result.now ≡ get_or a.scoring.now.columns (a.race - 1) [] =
+    grind (arith, common_steps) in
+    old_long a.rules.now a.kept.now c.requires.kept a.revision.now c.requires.next
+    a.scoring.now c.requires.scoring a.columns.now c.requires.columns a.race c.get.ensures.range
+    c.requires.counts c.requires.turned c.deref-4.result.now ls c.index-old.result.now was
+
+pub lines_with-requires-clause-new : goal.lines_with-requires-clause-new
+lines_with-requires-clause-new c =
+    let a = c.args in
+    let cols : c.deref.result.now ≡ a.scoring.now.columns =
+    c.deref.ensures.value ∙ ap (λ (s : Scoring). s.columns) c.scoring.view_is in
+    let ls : c.deref-4.result.now ≡ a.scoring.now.lines =
+    c.deref-4.ensures.value ∙ ap (λ (s : Scoring). s.lines) c.scoring.view_is in
+    let cols-3 : c.deref-3.result.now ≡ a.scoring.now.columns =
+    c.deref-3.ensures.value ∙ ap (λ (s : Scoring). s.columns) c.scoring.view_is in
+    let hers : c.current-new.result
+    ≡ get_or (with_columns a.scoring.now.columns a.columns.now) (a.race - 1) [] =
+    c.current-new.ensures
+    ∙ (λ i. get_or (with_columns (cols-3 i) a.columns.now) (a.race - 1) []) in
+    new_long a.rules.now a.kept.now c.requires.kept a.revision.now c.requires.next
+    a.scoring.now c.requires.scoring a.columns.now c.requires.columns a.race c.get.ensures.range
+    c.requires.counts c.requires.turned c.deref-4.result.now ls c.current-new.result hers
+
+pub lines_with-requires-clause-stays : goal.lines_with-requires-clause-stays
+lines_with-requires-clause-stays c =
+    let a = c.args in
+    let cols : c.deref.result.now ≡ a.scoring.now.columns =
+    c.deref.ensures.value ∙ ap (λ (s : Scoring). s.columns) c.scoring.view_is in
+    let ls : c.deref-4.result.now ≡ a.scoring.now.lines =
+    c.deref-4.ensures.value ∙ ap (λ (s : Scoring). s.lines) c.scoring.view_is in
+    let rs : c.deref-2.result.now ≡ races (revised a.kept.now a.revision.now).counts =
+    c.deref-2.ensures.value ∙ c.in_ok-races.ensures.value
+    ∙ ap (λ (k : Kept). races k.counts) c.new.ensures in
+    let found : c.deref-5.result.now
+    ≡ map (λ race. get_or (with_columns a.scoring.now.columns a.columns.now) (race - 1) [])
+    c.deref-2.result.now = c.deref-5.ensures.value ∙ c.in_ok-found.ensures
+    ∙ (λ i. map (λ race. get_or (with_columns (cols i) a.columns.now) (race - 1) [])
+    c.deref-2.result.now) in
+    let was : c.index-old.result.now ≡ get_or a.scoring.now.columns (a.race - 1) [] =
+    grind (arith, common_steps) in
+    let cols-3 : c.deref-3.result.now ≡ a.scoring.now.columns =
+    c.deref-3.ensures.value ∙ ap (λ (s : Scoring). s.columns) c.scoring.view_is in
+    let hers : c.current-new.result
+    ≡ get_or (with_columns a.scoring.now.columns a.columns.now) (a.race - 1) [] =
+    c.current-new.ensures
+    ∙ (λ i. get_or (with_columns (cols-3 i) a.columns.now) (a.race - 1) []) in
+    turned_stays a.rules.now a.kept.now c.requires.kept a.revision.now c.requires.next
+    a.scoring.now c.requires.scoring a.columns.now c.requires.columns a.race c.get.ensures.range
+    c.requires.counts c.requires.turned c.deref-4.result.now ls
+    c.deref-2.result.now rs c.deref-5.result.now found c.current-new.result
+    c.index-old.result.now hers was
+
+pub returns : goal.returns
+returns c =
+    let a = c.args in
+    let cols : c.deref.result.now ≡ a.scoring.now.columns =
+    c.deref.ensures.value ∙ ap (λ (s : Scoring). s.columns) c.scoring.view_is in
+    let ls : c.deref-4.result.now ≡ a.scoring.now.lines =
+    c.deref-4.ensures.value ∙ ap (λ (s : Scoring). s.lines) c.scoring.view_is in
+    let rs : c.deref-2.result.now ≡ races (revised a.kept.now a.revision.now).counts =
+    c.deref-2.ensures.value ∙ c.in_ok-races.ensures.value
+    ∙ ap (λ (k : Kept). races k.counts) c.new.ensures in
+    let found : c.deref-5.result.now
+    ≡ map (λ race. get_or (with_columns a.scoring.now.columns a.columns.now) (race - 1) [])
+    c.deref-2.result.now = c.deref-5.ensures.value ∙ c.in_ok-found.ensures
+    ∙ (λ i. map (λ race. get_or (with_columns (cols i) a.columns.now) (race - 1) [])
+    c.deref-2.result.now) in
+    turned_all a.rules.now a.kept.now c.requires.kept a.revision.now c.requires.next
+    a.scoring.now c.requires.scoring a.columns.now c.requires.columns a.race c.get.ensures.range
+    c.requires.counts c.requires.turned c.deref-4.result.now ls
+    c.deref-2.result.now rs c.deref-5.result.now found c.in_ok-lines.lines.items
+    c.in_ok-lines.ensures

@@ -1,0 +1,137 @@
+-- What the board keeps of the scores: a column for each race, a line and a place for each boat.
+use Rattle.std.specs.Prelude.{◌≡◌, ℕ, ◌-◌, true, false, List, [], length, slice_index_or, slice_set}
+use Rattle.std.specs.Prelude.{Option, Some, None, if◌then◌else◌}
+use Rattle.regatta_terms.specs.Rules.{RulesParts}
+use Rattle.regatta_terms.specs.declared.limits.TheConstants.{MAX_RACES}
+use Rattle.regatta_terms.specs.declared.reply.Touched.{Touched}
+use Rattle.regatta_terms.specs.declared.command.Command.{Command}
+use Rattle.regatta_terms.specs.declared.command.Command.TheVariants.{Enter, Finish, Tie, Before}
+use Rattle.regatta_terms.specs.declared.command.Command.TheVariants.{Strike, Mark, Penalise}
+use Rattle.regatta_terms.specs.declared.command.Command.TheVariants.{Redress, Clear, Score, Unscore}
+use Rattle.regatta_scores.specs.declared.boats.Place.{Place}
+use Rattle.regatta_scores.specs.Sheet.{Sheet, empty_sheet}
+use Rattle.regatta_scores.specs.Ranking.{BoatScores, net, places as places_of}
+use Rattle.regatta_board.specs.declared.column.NewColumns.{NewColumns}
+use Rattle.regatta_board.specs.declared.column.NewColumns.TheVariants.{Same, One, All}
+use Rattle.regatta_board.specs.declared.scoring.Ranked.{Ranked}
+use Rattle.regatta_board.specs.declared.scoring.NewScores.{NewScores}
+use Rattle.regatta_board.specs.declared.kept.Revision.{Revision}
+use Rattle.regatta_board.specs.declared.kept.Revision.TheVariants as revision
+use Rattle.regatta_board.specs.declared.outcomes.Outcome.{Outcome}
+use Rattle.regatta_board.specs.Revisions.{revised}
+use Rattle.regatta_board.specs.Table.{Kept, column, columns, races, lines as lines_of}
+use Rattle.regatta_board.specs.Table.{no_line, no_place}
+
+-- for each race of a series a column, which says something only where the race counts; for each
+-- boat her line (RRS A2.1) and her place (RRS A8)
+pub record Scoring : Type 0 where
+  pub columns : List (List Outcome)
+  pub lines : List BoatScores
+  pub places : List Place
+
+-- the column of each race that counts says what its sheet makes of each boat
+abbrev pub AreColumns : RulesParts → Kept → List (List Outcome) → Type 0
+AreColumns rules kept columns =
+    (k : ℕ) → slice_index_or kept.counts k false ≡ true
+    → slice_index_or columns k [] ≡ column rules (slice_index_or kept.sheets k (empty_sheet 0))
+
+-- the columns once the new ones have replaced the old ones
+abbrev pub with_columns : List (List Outcome) → NewColumns → List (List Outcome)
+with_columns old Same = old
+with_columns old (One race column) = slice_set old (race - 1) column
+with_columns old (All columns) = columns.items
+
+-- 1 for a race that counts, and 0 for one that doesn't
+abbrev pub once_if_counted : Kept → ℕ → ℕ
+once_if_counted kept race = if slice_index_or kept.counts (race - 1) false then 1 else 0
+
+-- how many columns a revision makes anew at most: those of all races that count for one more boat,
+-- else that of its race where it counts from then on
+abbrev pub most_remade : Kept → Revision → ℕ
+most_remade kept (revision.Enter boats sheets) = length (races kept.counts)
+most_remade kept (revision.Sheet race sheet) = once_if_counted kept race
+most_remade kept (revision.Counts race counts) = if counts then 1 else 0
+
+-- the same by the command that is accepted
+abbrev pub most_named : Kept → Command → ℕ
+most_named kept (Enter sail) = length (races kept.counts)
+most_named kept (Finish race sail) = once_if_counted kept race
+most_named kept (Tie race sail other) = once_if_counted kept race
+most_named kept (Before race sail other) = once_if_counted kept race
+most_named kept (Strike race sail) = once_if_counted kept race
+most_named kept (Mark race sail code) = once_if_counted kept race
+most_named kept (Penalise race sail kind) = once_if_counted kept race
+most_named kept (Redress race sail redress) = once_if_counted kept race
+most_named kept (Clear race sail) = once_if_counted kept race
+most_named kept (Score race) = 1
+most_named kept (Unscore race) = 0
+
+-- the lines of all boats, made from what is kept of the journal
+abbrev pub lines_by : RulesParts → Kept → List BoatScores
+lines_by rules kept = lines_of rules (columns rules kept.sheets (races kept.counts)) (length kept.sails)
+
+-- each part is as what is kept of the journal makes it
+pub record IsScoring (rules : RulesParts) (kept : Kept) (scoring : Scoring) : Type 0 where
+  pub long : length scoring.columns ≡ MAX_RACES
+  pub columns : AreColumns rules kept scoring.columns
+  pub lines : scoring.lines ≡ lines_by rules kept
+  pub places : scoring.places ≡ places_of scoring.lines
+
+-- lines and places made anew are those of what is kept afterwards; where none are, the lines stay
+abbrev pub AreRanked : RulesParts → Kept → Kept → Option Ranked → Type 0
+AreRanked rules before after None = lines_by rules before ≡ lines_by rules after
+AreRanked rules before after (Some ranked) =
+    (ranked.lines.items ≡ lines_by rules after) × (ranked.places ≡ places_of ranked.lines.items)
+
+-- new columns make those of what is kept before into those of what is kept after
+abbrev pub AreNewColumns : RulesParts → Kept → Kept → NewColumns → Type 0
+AreNewColumns rules before after new =
+    (old : List (List Outcome)) → length old ≡ MAX_RACES → AreColumns rules before old
+    → (length (with_columns old new) ≡ MAX_RACES) × AreColumns rules after (with_columns old new)
+
+-- a new sheet turns the column of its race alone
+abbrev pub TurnsOneColumn : RulesParts → Revision → NewColumns → Type 0
+TurnsOneColumn rules (revision.Enter boats sheets) new = Unit {0}
+TurnsOneColumn rules (revision.Sheet race sheet) new =
+    (old : List (List Outcome)) → with_columns old new ≡ slice_set old (race - 1) (column rules sheet)
+TurnsOneColumn rules (revision.Counts race counts) new = Unit {0}
+
+-- a revision turns the column of this race, and leaves the races that count and the boats as they are
+pub record TurnsOnly (rules : RulesParts) (kept : Kept) (change : Revision) (race : ℕ)
+    (scoring : Scoring) (new : NewColumns) : Type 0 where
+  pub counts : (revised kept change).counts ≡ kept.counts
+  pub sails : (revised kept change).sails ≡ kept.sails
+  pub sheet : Sheet
+  pub column : with_columns scoring.columns new
+      ≡ slice_set scoring.columns (race - 1) (column rules sheet)
+
+-- new scores make those of what is kept before into those of what is kept after
+pub record AreNewScores (rules : RulesParts) (before after : Kept) (new : NewScores) : Type 0 where
+  pub columns : AreNewColumns rules before after new.columns
+  pub ranked : AreRanked rules before after new.ranked
+
+-- lines and places once new ones, if there are any, have replaced them
+abbrev pub lines_after : List BoatScores → Option Ranked → List BoatScores
+lines_after old None = old
+lines_after old (Some ranked) = ranked.lines.items
+
+abbrev pub places_after : List Place → Option Ranked → List Place
+places_after old None = old
+places_after old (Some ranked) = ranked.places
+
+-- the scores once the new ones are moved in
+abbrev pub with_scores : Scoring → NewScores → Scoring
+with_scores old new = record {
+  columns = with_columns old.columns new.columns;
+  lines = lines_after old.lines new.ranked;
+  places = places_after old.places new.ranked;
+}
+
+-- what an answer tells of the boat of this number: rank (RRS A8), whether it is shared, and net
+-- points
+abbrev pub touched_at : Scoring → ℕ → Touched
+touched_at scoring n = record {
+  rank = (slice_index_or scoring.places n no_place).rank;
+  tied = (slice_index_or scoring.places n no_place).tied;
+  net = net (slice_index_or scoring.lines n no_line);
+}

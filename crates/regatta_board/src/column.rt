@@ -1,0 +1,267 @@
+//! Columns: what came of each boat in a race that counts.
+ghost use Rattle.std.specs.Prelude.{◌≡◌, ◌+◌, ◌-◌, ◌<◌, ◌≤◌, ◌^◌, [], true, false, length, List, map};
+ghost use Rattle.std.specs.Prelude.{slice_index_or, slice_set, IfOk, OnOk, if◌then◌else◌};
+ghost use Rattle.regatta_terms.specs.Entries.{IsRace};
+ghost use Rattle.regatta_scores.specs.Sheet.{boats as boats_of, empty_sheet, nothing_held};
+ghost use Rattle.regatta_board.specs.declared.outcomes.Outcome.{Outcome};
+ghost use Rattle.regatta_board.specs.Refusals.{limits};
+ghost use Rattle.regatta_board.specs.Revisions.{revised, touches};
+ghost use Rattle.regatta_board.specs.Scoring.{AreColumns, AreNewColumns, TurnsOneColumn};
+ghost use Rattle.regatta_board.specs.Scoring.{with_columns, most_remade};
+ghost use Rattle.regatta_board.specs.Table.{no_outcome, IsKept, column as column_of, races as races_of};
+
+use crate::kept::{Draft, Kept, Revision};
+use crate::outcomes::Outcome;
+use regatta_scores::{Held, RaceScore, RaceSheet, Work, race_scores};
+use regatta_terms::{MAX_RACES, RaceNo, Redress, Rules};
+use std::alloc::{AllocError, Global};
+use std::marker::Model;
+
+/// What came of each boat in one race, in their order.
+#[derive(Drop)]
+pub struct Column {
+    outcomes: Vec<Outcome>,
+}
+
+impl Model for Column {
+    ghost use Rattle.std.specs.Prelude.{List};
+    ghost use Rattle.regatta_board.specs.declared.outcomes.Outcome.{Outcome};
+
+    ghost Value = { List Outcome };
+
+    ghost view = { λ c. c.outcomes.items };
+}
+
+impl Column {
+    /// That of a race which doesn't count: it says nothing, and takes no memory.
+    pub(crate) fn empty(alloc: Global) -> Column
+        ensures { result ≡ [] }
+    {
+        Column {
+            outcomes: Vec::new(alloc),
+        }
+    }
+
+    /// What came of one boat.
+    pub(crate) fn at(&self, boat: usize) -> Outcome
+        requires { boat < length self.now }
+        ensures { result ≡ slice_index_or self.now boat no_outcome }
+    {
+        self.outcomes[boat]
+    }
+}
+
+/// What came of a boat on a sheet where this is her score.
+fn outcome(sheet: &RaceSheet, score: RaceScore, boat: u16) -> Outcome
+    requires { boat < boats_of sheet.now }
+    ensures { result ≡ record {
+      plain = score.plain;
+      held = slice_index_or sheet.now.held boat nothing_held;
+      placed = score.placed;
+    } }
+{
+    Outcome {
+        plain: score.plain,
+        held: sheet.held(boat),
+        placed: score.placed,
+    }
+}
+
+/// What came of each boat in a race.
+#[tactic(auto, using(crate::proofs::Columns::columns))]
+pub(crate) fn made_column(
+    alloc: Global,
+    sheet: &RaceSheet,
+    rules: &Rules,
+    work: &mut Work,
+) -> Result<Column, AllocError>
+    requires few { boats_of sheet.now ≤ limits.boats }
+    requires work { work.old + 1 < 2 ^ 32 }
+    ensures value { IfOk result (λ column. column ≡ column_of rules.now sheet.now) }
+    ensures long { IfOk result (λ column. length column ≡ boats_of sheet.now) }
+    ensures counted { OnOk result (work.new ≡ work.old + 1) }
+{
+    let scores = race_scores(alloc, sheet, rules, work)?;
+    let scores = scores.as_slice();
+    // rattle must see the types that an outcome is made of
+    let _parts: (Option<Held>, Option<Redress>) = (None, None);
+    let mut column = Vec::with_capacity(alloc, scores.len())?;
+    for boat in 0..scores.len() {
+        column.push(outcome(sheet, scores[boat], boat as u16))?;
+    }
+    Ok(Column { outcomes: column })
+}
+
+/// The columns that a command makes anew.
+#[derive(Drop)]
+pub enum NewColumns {
+    /// None: it names a race that doesn't count.
+    Same,
+    /// That of one race.
+    One { race: RaceNo, column: Column },
+    /// Those of all races that count.
+    All { columns: Vec<Column> },
+}
+
+/// The column of a race, where it counts.
+fn column_if_scored(
+    alloc: Global,
+    draft: &Draft,
+    race: u8,
+    rules: &Rules,
+    work: &mut Work,
+) -> Result<Column, AllocError>
+    requires kept { IsKept draft.now }
+    requires race { IsRace race }
+    requires work { work.old + 1 < 2 ^ 32 }
+    ensures value { IfOk result (λ column.
+        slice_index_or draft.now.counts (race - 1) false ≡ true
+        → column ≡ column_of rules.now
+        (slice_index_or draft.now.sheets (race - 1) (empty_sheet 0))) }
+    ensures counted { OnOk result (work.new ≡ work.old
+        + (if slice_index_or draft.now.counts (race - 1) false then 1 else 0)) }
+    ensures few { OnOk result (work.new ≤ work.old + 1) }
+{
+    let race = RaceNo::new(race).unwrap();
+    if !draft.is_scored(race) {
+        return Ok(Column::empty(alloc));
+    }
+    let column = made_column(alloc, draft.sheet(race), rules, work)?;
+    Ok(column)
+}
+
+/// The columns of all races that count.
+pub(crate) fn all_columns(
+    alloc: Global,
+    draft: &Draft,
+    rules: &Rules,
+    work: &mut Work,
+) -> Result<Vec<Column>, AllocError>
+    requires kept { IsKept draft.now }
+    requires work { work.old + MAX_RACES < 2 ^ 32 }
+    ensures value { IfOk result (λ columns. AreColumns rules.now draft.now columns.items) }
+    ensures long { IfOk result (λ columns. length columns.items ≡ MAX_RACES) }
+    ensures counted { OnOk result (work.new ≡ work.old + length (races_of draft.now.counts)) }
+{
+    let mut columns = Vec::with_capacity(alloc, MAX_RACES as usize)?;
+    for i in 0..MAX_RACES {
+        columns.push(column_if_scored(alloc, draft, i + 1, rules, work)?)?;
+    }
+    Ok(columns)
+}
+
+/// The column of one race, made anew.
+fn one_column(
+    alloc: Global,
+    race: RaceNo,
+    sheet: &RaceSheet,
+    rules: &Rules,
+    work: &mut Work,
+) -> Result<NewColumns, AllocError>
+    requires few { boats_of sheet.now ≤ limits.boats }
+    requires work { work.old + 1 < 2 ^ 32 }
+    ensures value { IfOk result (λ new. (old : List (List Outcome)) →
+        with_columns old new ≡ slice_set old (race - 1) (column_of rules.now sheet.now)) }
+    ensures counted { OnOk result (work.new ≡ work.old + 1) }
+{
+    let column = made_column(alloc, sheet, rules, work)?;
+    Ok(NewColumns::One { race, column })
+}
+
+/// The columns that a revision of what the standing is made from makes anew: at most one, but of all
+/// races that count for one more boat.
+pub(crate) fn new_columns(
+    alloc: Global,
+    kept: &Kept,
+    revision: &Revision,
+    rules: &Rules,
+    work: &mut Work,
+) -> Result<NewColumns, AllocError>
+    requires kept { IsKept kept.now }
+    requires next { IsKept (revised kept.now revision.now) }
+    requires touched { touches kept.now revision.now ≡ true }
+    requires work { work.old + MAX_RACES < 2 ^ 32 }
+    ensures value { IfOk result
+        (AreNewColumns rules.now kept.now (revised kept.now revision.now)) }
+    ensures one { IfOk result (TurnsOneColumn rules.now revision.now) }
+    ensures counted { OnOk result
+        (work.new ≤ work.old + most_remade kept.now revision.now) }
+{
+    match revision {
+        Revision::Enter { .. } => {
+            let columns = all_columns(alloc, &Draft::new(kept, revision), rules, work)?;
+            Ok(NewColumns::All { columns })
+        }
+        Revision::Sheet { race, sheet } => {
+            // does nothing: the proof learns here that the race is one a series may have
+            let _ = race.get();
+            one_column(alloc, *race, sheet, rules, work)
+        }
+        Revision::Counts { race, counts: true } => {
+            one_column(alloc, *race, kept.sheet(*race), rules, work)
+        }
+        Revision::Counts { .. } => Ok(NewColumns::Same),
+    }
+}
+
+/// The column of a race that counts.
+#[derive(Drop)]
+pub struct Counted<'a> {
+    column: &'a Column,
+}
+
+impl<'a> Model for Counted<'a> {
+    ghost use Rattle.std.specs.Prelude.{List};
+    ghost use Rattle.regatta_board.specs.declared.outcomes.Outcome.{Outcome};
+
+    ghost Value = { List Outcome };
+
+    ghost view = { λ c. c.column.now };
+}
+
+impl<'a> Counted<'a> {
+    /// What came of one boat.
+    pub(crate) fn at(&self, boat: usize) -> Outcome
+        requires { boat < length self.now }
+        ensures { result ≡ slice_index_or self.now boat no_outcome }
+    {
+        self.column.at(boat)
+    }
+}
+
+/// The column of a race, once the new ones have replaced the old ones.
+pub(crate) fn current<'a>(old: &'a [Column], new: &'a NewColumns, race: RaceNo) -> Counted<'a>
+    requires old { length old.now ≡ MAX_RACES }
+    requires new { length (with_columns old.now new.now) ≡ MAX_RACES }
+    ensures { result ≡ slice_index_or (with_columns old.now new.now) (race - 1) [] }
+{
+    let at = race.get() as usize - 1;
+    let column = match new {
+        NewColumns::One {
+            race: changed,
+            column,
+        } if changed.get() == race.get() => column,
+        NewColumns::Same | NewColumns::One { .. } => &old[at],
+        NewColumns::All { columns } => &columns[at],
+    };
+    Counted { column }
+}
+
+/// The columns of these races, once the new ones have replaced the old ones.
+pub(crate) fn counted_columns<'a>(
+    alloc: Global,
+    old: &'a [Column],
+    new: &'a NewColumns,
+    races: &[RaceNo],
+) -> Result<Vec<Counted<'a>>, AllocError>
+    requires old { length old.now ≡ MAX_RACES }
+    requires new { length (with_columns old.now new.now) ≡ MAX_RACES }
+    ensures { IfOk result (λ found. found.items
+        ≡ map (λ race. slice_index_or (with_columns old.now new.now) (race - 1) []) races.now) }
+{
+    let mut found = Vec::with_capacity(alloc, races.len())?;
+    for &race in races {
+        found.push(current(old, new, race))?;
+    }
+    Ok(found)
+}
