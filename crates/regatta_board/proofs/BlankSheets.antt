@@ -30,6 +30,8 @@ blank_alike blank changed e =
     (λ k d h. ap (λ sheet. boats (unwrap_or sheet blank))
     (get_or-replicate MAX_RACES k None d (omega (arith, h)))))
 
+pub ruleset blank_facts = (blank_sheets, blank_alike)
+
 pub sheet_at : (blank : Sheet) (changed : List (Option Sheet)) (at : ℕ) (d : Sheet)
     (e : Option Sheet) → at < length changed
     → get_or (sheets_of blank changed) at d ≡ unwrap_or (get_or changed at e) blank

@@ -1,9 +1,10 @@
 -- What the board keeps of the scores, after one more command.
-use Rattle.std.proofs.Common.{◌≡◌, ◌≢◌, ℕ, ◌+◌, ◌-◌, ◌<◌, Bool, true, false, List, [], ◌∷◌, ◌++◌, refl}
-use Rattle.std.proofs.Common.{ap, ◌∙◌, sym, arith, length, map, get_or, nat_eq}
+use Rattle.std.proofs.Common.{◌≡◌, ◌≢◌, ℕ, ◌+◌, ◌-◌, ◌<◌, Bool, true, false, List, [], ◌∷◌, ◌++◌}
+use Rattle.std.proofs.Common.{refl, ap, ◌∙◌, sym, arith, length, map, get_or, nat_eq}
 use Rattle.std.specs.List.{range_with_len}
 use Rattle.std.proofs.Math.ListN.{set}
-use Rattle.std.proofs.lemmas.List.{get_or-set_other, get_or-set_same, get_or_push, get_or_append_left}
+use Rattle.std.proofs.lemmas.List.{get_or-set_other, get_or-set_same, get_or_push}
+use Rattle.std.proofs.lemmas.List.{get_or_append_left}
 use Rattle.std.proofs.lemmas.Bool.{eqb-false}
 use borrow.Author.Tests.{eqb-true}
 use Rattle.regatta_terms.specs.Rules.{RulesParts}
@@ -39,7 +40,8 @@ module _ (rules : RulesParts) (kept : Kept) (found : List (List Outcome))
       → AreColumns rules (record kept { sheets = set kept.sheets r sheet }) found
   uncounted_sheet r sheet none k counts =
       one_or_other k r
-      (λ e. let no_way : true ≡ false = sym counts ∙ ap (λ n. get_or kept.counts n false) e ∙ none in
+      (λ e. let no_way : true ≡ false =
+      sym counts ∙ ap (λ n. get_or kept.counts n false) e ∙ none in
       absurd (cc))
       (λ apart. are k counts
       ∙ ap (column rules) (sym (get_or-set_other kept.sheets r k sheet (empty_sheet 0)

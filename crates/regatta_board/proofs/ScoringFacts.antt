@@ -1,6 +1,7 @@
 -- What the board keeps of the scores is as long as it should be, and stays where it may.
 use Rattle.std.proofs.Common.{◌≡◌, ℕ, zero, suc, ◌+◌, ◌-◌, ◌<◌, ◌≤◌, true, false, List, [], ◌∷◌}
-use Rattle.std.proofs.Common.{ap, ◌∙◌, sym, subst, arith, length, map, get_or, All, Option, Some, None}
+use Rattle.std.proofs.Common.{ap, ◌∙◌, sym, subst, arith, length, map, get_or, All, Option, Some}
+use Rattle.std.proofs.Common.{None}
 use Rattle.std.specs.List.{range_with_len, AllByRecursion}
 use Rattle.std.proofs.lemmas.List.{length-map, get_or-set_same}
 use Rattle.regatta_terms.specs.Entries.{IsRace}
@@ -173,7 +174,8 @@ module _ (rules : RulesParts) (kept : Kept) (is_kept : IsKept kept) (change : Re
       (found : List (List Outcome)) (each : found ≡ map (λ race. get_or slots (race - 1) []) rs)
     where
       pub turned_even : All (λ c. length c ≡ length ls) found
-      turned_even = found_even rules (revised kept change) next slots slots_are rs counted found each
+      turned_even =
+          found_even rules (revised kept change) next slots slots_are rs counted found each
           (length ls) (long ∙ ap length (sym turned.sails))
 
       pub turned_stays : (hers was : List Outcome) → hers ≡ get_or slots (race - 1) []

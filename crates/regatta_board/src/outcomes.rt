@@ -1,4 +1,4 @@
-//! What came of a boat in each race that counts, and the line of the table that it makes.
+//! What came of a boat in each race that counts, and the line and the row that it makes.
 ghost use Rattle.std.specs.Prelude.{◌≡◌, ◌≤◌, length, IfOk};
 ghost use Rattle.regatta_board.specs.Outcomes.{items as items_of, points as points_of, scores_by};
 ghost use Rattle.regatta_board.specs.Outcomes.{flags as flags_of, line as line_of, row_by};

@@ -1,6 +1,6 @@
 //! What is kept of the scores: a column for each race, a line and a place for each boat.
-ghost use Rattle.std.specs.Prelude.{◌≡◌, ◌+◌, ◌-◌, ◌<◌, ◌≤◌, ◌^◌, ℕ, [], true, false, length, All, IfOk, OnOk};
-ghost use Rattle.std.specs.Prelude.{slice_index_or};
+ghost use Rattle.std.specs.Prelude.{◌≡◌, ◌+◌, ◌-◌, ◌<◌, ◌≤◌, ◌^◌, ℕ, [], true, false, length};
+ghost use Rattle.std.specs.Prelude.{slice_index_or, All, IfOk, OnOk};
 ghost use Rattle.regatta_terms.specs.Rules.{RulesParts};
 ghost use Rattle.regatta_scores.specs.Ranking.{places as places_of};
 ghost use Rattle.regatta_board.specs.Outcomes.{line as line_of};
@@ -168,7 +168,7 @@ fn turned_lines(
     requires scoring { IsScoring rules.now kept.now scoring.now }
     requires counts { slice_index_or kept.now.counts (race - 1) false ≡ true }
     requires turned { TurnsOnly rules.now kept.now revision.now race scoring.now columns.now }
-    requires columns { AreNewColumns rules.now kept.now (revised kept.now revision.now) columns.now }
+    requires new { AreNewColumns rules.now kept.now (revised kept.now revision.now) columns.now }
     ensures { IfOk result (λ lines.
         lines.items ≡ lines_by rules.now (revised kept.now revision.now)) }
 {
@@ -193,7 +193,7 @@ fn new_lines(
     requires next { IsKept (revised kept.now revision.now) }
     requires scoring { IsScoring rules.now kept.now scoring.now }
     requires touched { touches kept.now revision.now ≡ true }
-    requires columns { AreNewColumns rules.now kept.now (revised kept.now revision.now) columns.now }
+    requires new { AreNewColumns rules.now kept.now (revised kept.now revision.now) columns.now }
     requires one { TurnsOneColumn rules.now revision.now columns.now }
     ensures { IfOk result (λ lines.
         lines.items ≡ lines_by rules.now (revised kept.now revision.now)) }
