@@ -75,25 +75,22 @@ fn with_places(alloc: Global, lines: Vec<BoatLine>) -> Result<Ranked, AllocError
 /// A boat's line, where one column is made anew: it stays where that says of her what the old one
 /// said.
 fn line_after(
-    alloc: Global,
     line: &BoatLine,
     old: Outcome,
     new: Outcome,
     columns: &[Counted<'_>],
     boat: usize,
     rules: &Rules,
-) -> Result<BoatLine, AllocError>
+) -> BoatLine
     requires within { All (λ column. boat < length column) columns.now }
     requires few { length columns.now ≤ MAX_RACES }
     requires stays { new ≡ old → line.now ≡ line_of rules.now (outcomes_of columns.now boat) }
-    ensures value { IfOk result (λ made.
-        made ≡ line_of rules.now (outcomes_of columns.now boat)) }
+    ensures value { result ≡ line_of rules.now (outcomes_of columns.now boat) }
 {
     if new == old {
-        return Ok(BoatLine::of(line.points(), line.excluded()));
+        return BoatLine::of(line.points(), line.excluded());
     }
-    let made = boat_line(alloc, columns, boat, rules)?;
-    Ok(made)
+    boat_line(columns, boat, rules)
 }
 
 /// The lines, where one column is made anew.
@@ -120,14 +117,13 @@ fn lines_with(
     let mut made = Vec::with_capacity(alloc, lines.len())?;
     for boat in 0..lines.len() {
         let line = line_after(
-            alloc,
             &lines[boat],
             old.at(boat),
             new.at(boat),
             columns,
             boat,
             rules,
-        )?;
+        );
         made.push(line)?;
     }
     Ok(made)
