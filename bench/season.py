@@ -93,12 +93,14 @@ def run(program, words, data):
         child = subprocess.Popen(program + ["replay"] + words, stdin=source, stdout=out)
         _, status, use = os.wait4(child.pid, 0)
         child.returncode = os.waitstatus_to_exitcode(status)
+        if child.returncode != 0:
+            sys.exit(f"{program[0]} ended with {child.returncode}")
+        # line by line: the peak of a child counts what this process held when it started it
         out.seek(0)
-        replies = out.read().split(b"\n")
-    if child.returncode != 0:
-        sys.exit(f"{program[0]} ended with {child.returncode}")
-    accepted = sum(reply.startswith(b"OK") for reply in replies)
-    refused = sum(reply.startswith(b"NO") for reply in replies)
+        accepted, refused = 0, 0
+        for reply in out:
+            accepted += reply.startswith(b"OK")
+            refused += reply.startswith(b"NO")
     return use.ru_utime + use.ru_stime, use.ru_maxrss / 1024, accepted, refused
 
 
