@@ -70,11 +70,7 @@ module _ (blank : Sheet) (changed : List (Option Sheet))
         ∙ sym (ap boats is ∙ one_more blank)))
 
   module _ (few : All (λ sheet. boats sheet < limits.boats) (sheets_of blank changed)) where
-    -- where there are sheets at all, the blank one has room for a boat
-    pub blank_few : 0 < length (sheets_of blank changed) → boats blank < limits.boats
-    blank_few some = subst (λ n. n < limits.boats) (alike 0 blank some) (few 0 blank some)
-
-    -- and so has each
+    -- each sheet that there is has room for a boat
     pub changed_few : All (λ sheet. IfSome sheet (λ found. boats found < limits.boats)) changed
     changed_few k d h = by (get_or changed k d) (few_at k d h)
       where

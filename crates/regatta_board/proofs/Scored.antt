@@ -47,39 +47,6 @@ module _ (rules : RulesParts) (kept : Kept) (found : List (List Outcome))
       ∙ ap (column rules) (sym (get_or-set_other kept.sheets r k sheet (empty_sheet 0)
       apart)))
 
-  -- one more sheet, with its column
-  pub counted_sheet : (r : ℕ) (sheet : Sheet) (new : List Outcome) → new ≡ column rules sheet
-      → r < length found → r < length kept.sheets
-      → AreColumns rules (record kept { sheets = set kept.sheets r sheet }) (set found r new)
-  counted_sheet r sheet new is h g k counts =
-      one_or_other k r
-      (λ e. rw e (get_or-set_same found r new [] h ∙ is
-      ∙ ap (column rules) (sym (get_or-set_same kept.sheets r sheet (empty_sheet 0) g))))
-      (λ apart. get_or-set_other found r k new [] apart ∙ are k counts
-      ∙ ap (column rules) (sym (get_or-set_other kept.sheets r k sheet (empty_sheet 0)
-      apart)))
-
-  -- a race that counts from now on, with its column
-  pub scored_race : (r : ℕ) (new : List Outcome)
-      → new ≡ column rules (get_or kept.sheets r (empty_sheet 0)) → r < length found
-      → AreColumns rules (record kept { counts = set kept.counts r true }) (set found r new)
-  scored_race r new is h k counts =
-      one_or_other k r
-      (λ e. rw e (get_or-set_same found r new [] h ∙ is))
-      (λ apart. get_or-set_other found r k new [] apart
-      ∙ are k (sym (get_or-set_other kept.counts r k true false apart) ∙ counts))
-
-  -- a race that counts no more
-  pub unscored_race : (r : ℕ) → r < length kept.counts
-      → AreColumns rules (record kept { counts = set kept.counts r false }) found
-  unscored_race r h k counts =
-      one_or_other k r
-      (λ e. let no_way : true ≡ false = sym counts
-      ∙ ap (λ n. get_or (set kept.counts r false) n false) e
-      ∙ get_or-set_same kept.counts r false false h in absurd (cc))
-      (λ apart. are k (sym (get_or-set_other kept.counts r k false false apart)
-      ∙ counts))
-
 -- a boat for whom the one new column says what the old one said keeps her line
 pub line_stays : (rules : RulesParts) (counts : List Bool) (found : List (List Outcome)) (r b : ℕ)
     (new : List Outcome)

@@ -91,13 +91,6 @@ sheet_turns rules kept scoring change new one race sheet turned = record {
   column = subst (λ r. TurnsOneColumn rules r new) turned one scoring.columns;
 }
 
--- a sheet that is touched is that of a race that counts
-pub touched_counts : (kept : Kept) (change : Revision) (race : ℕ) (sheet : Sheet)
-    → change ≡ revision.Sheet race sheet → touches kept change ≡ true
-    → get_or kept.counts (race - 1) false ≡ true
-touched_counts kept change race sheet turned touched =
-    subst (λ r. touches kept r ≡ true) turned touched
-
 -- where the column of one race is made anew, the line of a boat stays of whom it says what it said
 module _ (rules : RulesParts) (kept : Kept) (scoring : Scoring)
     (is : IsScoring rules kept scoring) (change : Revision) (new : NewColumns) (race : ℕ)

@@ -5,8 +5,8 @@ ghost use Rattle.regatta_board.specs.Outcomes.{flags as flags_of, line as line_o
 ghost use Rattle.regatta_board.specs.Outcomes.{cell as cell_of, cells_by};
 
 use regatta_scores::{
-    BoatLine, Cell, Held, Items, PerRace, Place, Row, RowItem, Scored, exclusion_flags, is_dne, mark,
-    redressed_points,
+    BoatLine, Cell, Held, Items, PerRace, Place, Row, RowItem, Scored, exclusion_flags, is_dne,
+    mark, redressed_points,
 };
 use regatta_terms::{MAX_RACES, Rules, Sail, Tenths};
 use std::alloc::{AllocError, Global};
