@@ -1,31 +1,41 @@
 #!/usr/bin/env python3
-"""Makes a full season and times `regatta replay` on it.
+"""Makes full seasons and times `regatta replay` on them.
 
-    bench/season.py [--write FILE] [PROGRAM [WORD..]]
+    bench/season.py [--rounds R] [--beside WORDS] PROGRAM [WORD..]
+    bench/season.py --write FILE
 
-The season has 200 boats, 40 races and 4,096 commands, all of them accepted: the boats enter; of
-each race every command is a finish, a tie, a code, a penalty or redress, and one of the last scores
-it. With PROGRAM (the built `regatta`) the season is run `PROGRAM replay WORD..` and the time, the
-commands per second and the peak memory are printed; with --write the lines are written to FILE.
+A season has 200 boats, 40 races and 4,096 commands, all of them accepted: the boats enter; of each
+race every command is a finish, a tie, a code, a penalty or redress, and one of the last scores it.
+PROGRAM (the built `regatta`) is run R times (9) as `PROGRAM replay WORD..` on each of:
+
+- the season;
+- the season with a SHOW after each sixteenth command;
+- the journal of the season as a start, with no line, which makes the standing once;
+- seasons of 25, 50, 100 and 200 boats;
+- 40 late entries, and 40 times UNSCORE and SCORE, where 40 races count: the time of one of them.
+
+The least processor time of each is printed, and the peak memory. With --beside the program of those
+words takes its turn in each round, and the two are compared. With --write the season's lines are
+written to FILE.
 """
-import resource
+import argparse
+import os
+import shlex
 import subprocess
 import sys
-import time
+import tempfile
 
-BOATS, RACES, COMMANDS = 200, 40, 4096
+BOATS, RACES, COMMANDS, SHOW_EVERY, LATE = 200, 40, 4096, 16, 40
 
 
-def race_lines(race, count):
-    """So many commands of a race, its SCORE the last of them."""
-    boats = [(race * 37 + i * 7) % BOATS for i in range(BOATS)]
+def race_lines(race, boats, count):
+    """So many commands of a race, or one for each boat where those are fewer, and its SCORE last."""
+    order = [(race * 37 + i * 7) % boats for i in range(boats)]
     lines = []
-    for i, boat in enumerate(boats):
-        if len(lines) == count - 1:
-            break
+    for i, boat in enumerate(order[:count - 1]):
         sail = f"GBR{boat + 1}"
         if i % 23 == 11:
-            lines.append(f"TIE {race} {sail} GBR{boats[i - 1] + 1}")
+            lines.append(f"TIE {race} {sail} GBR{order[i - 1] + 1}")
         elif i % 17 == 13:
             lines.append(f"MARK {race} {sail} {('DNF', 'RET', 'OCS', 'DNS')[i % 4]}")
         elif i % 19 == 7:
@@ -36,39 +46,131 @@ def race_lines(race, count):
     return lines
 
 
-def season():
-    lines = [f"ENTER GBR{boat + 1}" for boat in range(BOATS)]
-    left = COMMANDS - BOATS - RACES
+def season(boats=BOATS, commands=COMMANDS):
+    """The lines of a season of so many boats and at most so many commands."""
+    lines = [f"ENTER GBR{boat + 1}" for boat in range(boats)]
+    left = commands - boats - RACES
     for race in range(1, RACES + 1):
-        count = left // RACES + (1 if race <= left % RACES else 0)
-        race_part = race_lines(race, count)
-        lines += race_part
+        lines += race_lines(race, boats, left // RACES + (1 if race <= left % RACES else 0))
         if race % 4 == 0:
-            lines += ["ROLE JURY", f"REDRESS {race} GBR{race} ALL", "ROLE SCORER"]
+            lines += ["ROLE JURY", f"REDRESS {race} GBR{(race - 1) % boats + 1} ALL", "ROLE SCORER"]
         else:
-            lines += [f"PENALTY {race} GBR{race + 100} ZFP"]
+            lines += [f"PENALTY {race} GBR{(race + boats // 2 - 1) % boats + 1} ZFP"]
     return lines
 
 
+def with_shows(lines):
+    """The lines with a SHOW after each sixteenth command."""
+    shown, commands = [], 0
+    for line in lines:
+        shown.append(line)
+        commands += not line.startswith("ROLE")
+        if commands % SHOW_EVERY == 0 and not line.startswith("ROLE"):
+            shown.append("SHOW")
+    return shown
+
+
+def journal(lines):
+    """The journal text of the lines, which are all accepted."""
+    role, entries = "SCORER", []
+    for line in lines:
+        if line.startswith("ROLE "):
+            role = line[5:]
+        else:
+            entries.append(f"1 {len(entries) + 1} {role} {line}")
+    return entries
+
+
+def text(lines):
+    return "".join(line + "\n" for line in lines).encode()
+
+
+def run(program, words, data):
+    """The processor seconds, peak MiB, accepted and refused commands of one run."""
+    with tempfile.TemporaryFile() as source, tempfile.TemporaryFile() as out:
+        source.write(data)
+        source.seek(0)
+        child = subprocess.Popen(program + ["replay"] + words, stdin=source, stdout=out)
+        _, status, use = os.wait4(child.pid, 0)
+        child.returncode = os.waitstatus_to_exitcode(status)
+        if child.returncode != 0:
+            sys.exit(f"{program[0]} ended with {child.returncode}")
+        # line by line: the peak of a child counts what this process held when it started it
+        out.seek(0)
+        accepted, refused = 0, 0
+        for reply in out:
+            accepted += reply.startswith(b"OK")
+            refused += reply.startswith(b"NO")
+    return use.ru_utime + use.ru_stime, use.ru_maxrss / 1024, accepted, refused
+
+
+class Bench:
+    """Programs that take turns on the same input."""
+
+    def __init__(self, programs, words, rounds):
+        self.programs, self.words, self.rounds = programs, words, rounds
+
+    def least(self, lines, start=None):
+        """Of each program the least seconds and the greatest memory; all must accept alike."""
+        words, data = list(self.words), text(lines)
+        with tempfile.NamedTemporaryFile() as file:
+            if start is not None:
+                file.write(text(start))
+                file.flush()
+                words += ["--journal", file.name]
+            runs = [[run(program, words, data) for program in self.programs]
+                    for _ in range(self.rounds)]
+        if len({r[2:] for turn in runs for r in turn}) > 1:
+            sys.exit("the programs accept other commands")
+        return [(min(turn[i][0] for turn in runs), max(turn[i][1] for turn in runs), *runs[0][i][2:])
+                for i in range(len(self.programs))]
+
+    def show(self, name, found):
+        parts = [f"{seconds * 1000:8.2f} ms, {peak:5.1f} MiB" for seconds, peak, _, _ in found]
+        if len(found) > 1:
+            parts.append(f"{found[0][0] / max(found[1][0], 1e-9):.2f} times the other")
+        print(f"{name:34} {'   '.join(parts)}")
+
+    def each(self, name, base, more, count):
+        """What one command costs, of so many that come behind the others."""
+        before, after = self.least(base), self.least(base + more)
+        found = [((a[0] - b[0]) / count, a[1], 0, 0) for a, b in zip(after, before)]
+        self.show(name, found)
+
+
+def measure(bench):
+    full = season()
+    found = bench.least(full)
+    print(f"{found[0][2]} commands accepted and {found[0][3]} refused")
+    bench.show("a season", found)
+    bench.show("a season with SHOWs", bench.least(with_shows(full)))
+    bench.show("the standing of its journal", bench.least([], journal(full)))
+    growth = {boats: bench.least(season(boats)) for boats in (25, 50, 100, 200)}
+    for boats, found in growth.items():
+        bench.show(f"{boats} boats, {found[0][2]} commands", found)
+    print(f"{growth[200][0][0] / growth[25][0][0]:.1f} times as long for 200 boats as for 25")
+    base = season(BOATS - LATE, COMMANDS - 4 * LATE)
+    late = [f"ENTER NED{boat + 1}" for boat in range(LATE)]
+    bench.each("one late entry, 40 races counting", base, late, LATE)
+    again = ["UNSCORE 40", "SCORE 40"] * LATE
+    bench.each("one Unscore and Score, the same", base, again, LATE)
+
+
 def main():
-    words = sys.argv[1:]
-    text = ("\n".join(season()) + "\n").encode()
-    if words[:1] == ["--write"]:
-        with open(words[1], "wb") as f:
-            f.write(text)
-        words = words[2:]
-    if not words:
-        return 0
-    start = time.monotonic()
-    run = subprocess.run(words[:1] + ["replay"] + words[1:], input=text, stdout=subprocess.PIPE)
-    seconds = time.monotonic() - start
-    replies = run.stdout.decode().split("\n")
-    accepted = sum(reply.startswith("OK") for reply in replies)
-    refused = sum(reply.startswith("NO") for reply in replies)
-    peak = resource.getrusage(resource.RUSAGE_CHILDREN).ru_maxrss / 1024
-    print(f"{accepted} commands accepted and {refused} refused in {seconds:.2f} s")
-    print(f"{(accepted + refused) / seconds:.0f} commands per second, {peak:.1f} MiB at most")
-    return run.returncode
+    words = argparse.ArgumentParser(description=__doc__.split("\n")[0])
+    words.add_argument("--rounds", type=int, default=9)
+    words.add_argument("--beside", type=shlex.split)
+    words.add_argument("--write")
+    words.add_argument("program", nargs="?")
+    words.add_argument("words", nargs=argparse.REMAINDER)
+    given = words.parse_args()
+    if given.write:
+        with open(given.write, "wb") as file:
+            file.write(text(season()))
+    if given.program:
+        programs = [[given.program]] + ([given.beside] if given.beside else [])
+        measure(Bench(programs, given.words, given.rounds))
+    return 0
 
 
 if __name__ == "__main__":

@@ -30,6 +30,8 @@ blank_alike blank changed e =
     (λ k d h. ap (λ sheet. boats (unwrap_or sheet blank))
     (get_or-replicate MAX_RACES k None d (omega (arith, h)))))
 
+pub ruleset blank_facts = (blank_sheets, blank_alike)
+
 pub sheet_at : (blank : Sheet) (changed : List (Option Sheet)) (at : ℕ) (d : Sheet)
     (e : Option Sheet) → at < length changed
     → get_or (sheets_of blank changed) at d ≡ unwrap_or (get_or changed at e) blank
@@ -68,11 +70,7 @@ module _ (blank : Sheet) (changed : List (Option Sheet))
         ∙ sym (ap boats is ∙ one_more blank)))
 
   module _ (few : All (λ sheet. boats sheet < limits.boats) (sheets_of blank changed)) where
-    -- where there are sheets at all, the blank one has room for a boat
-    pub blank_few : 0 < length (sheets_of blank changed) → boats blank < limits.boats
-    blank_few some = subst (λ n. n < limits.boats) (alike 0 blank some) (few 0 blank some)
-
-    -- and so has each
+    -- each sheet that there is has room for a boat
     pub changed_few : All (λ sheet. IfSome sheet (λ found. boats found < limits.boats)) changed
     changed_few k d h = by (get_or changed k d) (few_at k d h)
       where

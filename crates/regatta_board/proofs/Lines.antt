@@ -2,7 +2,7 @@
 use Rattle.std.proofs.Common.{◌≡◌, ℕ, ◌+◌, ◌-◌, ◌<◌, ◌≤◌, List, [], ◌∷◌, ◌++◌, refl, ap, ◌∙◌, sym}
 use Rattle.std.proofs.Common.{arith, length, map, drop, get_or, add-one, drop-cons}
 use Rattle.std.specs.List.{range_with_len}
-use Rattle.std.proofs.lemmas.List.{get_or-map, length-map}
+use Rattle.std.proofs.lemmas.List.{get_or-map}
 use Rattle.std.proofs.lemmas.List.FromFn.{length-range_with_len, length-map-range_with_len}
 use Rattle.std.proofs.lemmas.List.FromFn.{get_or-range_with_len, get_or-map-range_with_len}
 use Rattle.std.proofs.lemmas.List.FromFn.{map-range_with_len_more}
@@ -30,11 +30,6 @@ lines_long rules columns n =
     length-map-range_with_len (λ b. boat.line rules (outcomes columns b)) 0 n
 
 pub ruleset line_facts = (lines_more, lines_long)
-
-pub places_long : (rules : RulesParts) (columns : List (List Outcome)) (n : ℕ)
-    → length (places (lines rules columns n)) ≡ n
-places_long rules columns n = length-map (lines rules columns n) (place (lines rules columns n))
-    ∙ lines_long rules columns n
 
 pub place_at : (rules : RulesParts) (columns : List (List Outcome)) (n b : ℕ) (d : Place) → b < n
     → get_or (places (lines rules columns n)) b d

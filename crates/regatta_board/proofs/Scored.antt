@@ -1,9 +1,10 @@
 -- What the board keeps of the scores, after one more command.
-use Rattle.std.proofs.Common.{◌≡◌, ◌≢◌, ℕ, ◌+◌, ◌-◌, ◌<◌, Bool, true, false, List, [], ◌∷◌, ◌++◌, refl}
-use Rattle.std.proofs.Common.{ap, ◌∙◌, sym, arith, length, map, get_or, nat_eq}
+use Rattle.std.proofs.Common.{◌≡◌, ◌≢◌, ℕ, ◌+◌, ◌-◌, ◌<◌, Bool, true, false, List, [], ◌∷◌, ◌++◌}
+use Rattle.std.proofs.Common.{refl, ap, ◌∙◌, sym, arith, length, map, get_or, nat_eq}
 use Rattle.std.specs.List.{range_with_len}
 use Rattle.std.proofs.Math.ListN.{set}
-use Rattle.std.proofs.lemmas.List.{get_or-set_other, get_or-set_same, get_or_push, get_or_append_left}
+use Rattle.std.proofs.lemmas.List.{get_or-set_other, get_or-set_same, get_or_push}
+use Rattle.std.proofs.lemmas.List.{get_or_append_left}
 use Rattle.std.proofs.lemmas.Bool.{eqb-false}
 use borrow.Author.Tests.{eqb-true}
 use Rattle.regatta_terms.specs.Rules.{RulesParts}
@@ -39,44 +40,12 @@ module _ (rules : RulesParts) (kept : Kept) (found : List (List Outcome))
       → AreColumns rules (record kept { sheets = set kept.sheets r sheet }) found
   uncounted_sheet r sheet none k counts =
       one_or_other k r
-      (λ e. let no_way : true ≡ false = sym counts ∙ ap (λ n. get_or kept.counts n false) e ∙ none in
+      (λ e. let no_way : true ≡ false =
+      sym counts ∙ ap (λ n. get_or kept.counts n false) e ∙ none in
       absurd (cc))
       (λ apart. are k counts
       ∙ ap (column rules) (sym (get_or-set_other kept.sheets r k sheet (empty_sheet 0)
       apart)))
-
-  -- one more sheet, with its column
-  pub counted_sheet : (r : ℕ) (sheet : Sheet) (new : List Outcome) → new ≡ column rules sheet
-      → r < length found → r < length kept.sheets
-      → AreColumns rules (record kept { sheets = set kept.sheets r sheet }) (set found r new)
-  counted_sheet r sheet new is h g k counts =
-      one_or_other k r
-      (λ e. rw e (get_or-set_same found r new [] h ∙ is
-      ∙ ap (column rules) (sym (get_or-set_same kept.sheets r sheet (empty_sheet 0) g))))
-      (λ apart. get_or-set_other found r k new [] apart ∙ are k counts
-      ∙ ap (column rules) (sym (get_or-set_other kept.sheets r k sheet (empty_sheet 0)
-      apart)))
-
-  -- a race that counts from now on, with its column
-  pub scored_race : (r : ℕ) (new : List Outcome)
-      → new ≡ column rules (get_or kept.sheets r (empty_sheet 0)) → r < length found
-      → AreColumns rules (record kept { counts = set kept.counts r true }) (set found r new)
-  scored_race r new is h k counts =
-      one_or_other k r
-      (λ e. rw e (get_or-set_same found r new [] h ∙ is))
-      (λ apart. get_or-set_other found r k new [] apart
-      ∙ are k (sym (get_or-set_other kept.counts r k true false apart) ∙ counts))
-
-  -- a race that counts no more
-  pub unscored_race : (r : ℕ) → r < length kept.counts
-      → AreColumns rules (record kept { counts = set kept.counts r false }) found
-  unscored_race r h k counts =
-      one_or_other k r
-      (λ e. let no_way : true ≡ false = sym counts
-      ∙ ap (λ n. get_or (set kept.counts r false) n false) e
-      ∙ get_or-set_same kept.counts r false false h in absurd (cc))
-      (λ apart. are k (sym (get_or-set_other kept.counts r k false false apart)
-      ∙ counts))
 
 -- a boat for whom the one new column says what the old one said keeps her line
 pub line_stays : (rules : RulesParts) (counts : List Bool) (found : List (List Outcome)) (r b : ℕ)

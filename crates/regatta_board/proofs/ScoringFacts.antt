@@ -1,6 +1,7 @@
 -- What the board keeps of the scores is as long as it should be, and stays where it may.
 use Rattle.std.proofs.Common.{◌≡◌, ℕ, zero, suc, ◌+◌, ◌-◌, ◌<◌, ◌≤◌, true, false, List, [], ◌∷◌}
-use Rattle.std.proofs.Common.{ap, ◌∙◌, sym, subst, arith, length, map, get_or, All, Option, Some, None}
+use Rattle.std.proofs.Common.{ap, ◌∙◌, sym, subst, arith, length, map, get_or, All, Option, Some}
+use Rattle.std.proofs.Common.{None}
 use Rattle.std.specs.List.{range_with_len, AllByRecursion}
 use Rattle.std.proofs.lemmas.List.{length-map, get_or-set_same}
 use Rattle.regatta_terms.specs.Entries.{IsRace}
@@ -90,13 +91,6 @@ sheet_turns rules kept scoring change new one race sheet turned = record {
   column = subst (λ r. TurnsOneColumn rules r new) turned one scoring.columns;
 }
 
--- a sheet that is touched is that of a race that counts
-pub touched_counts : (kept : Kept) (change : Revision) (race : ℕ) (sheet : Sheet)
-    → change ≡ revision.Sheet race sheet → touches kept change ≡ true
-    → get_or kept.counts (race - 1) false ≡ true
-touched_counts kept change race sheet turned touched =
-    subst (λ r. touches kept r ≡ true) turned touched
-
 -- where the column of one race is made anew, the line of a boat stays of whom it says what it said
 module _ (rules : RulesParts) (kept : Kept) (scoring : Scoring)
     (is : IsScoring rules kept scoring) (change : Revision) (new : NewColumns) (race : ℕ)
@@ -173,7 +167,8 @@ module _ (rules : RulesParts) (kept : Kept) (is_kept : IsKept kept) (change : Re
       (found : List (List Outcome)) (each : found ≡ map (λ race. get_or slots (race - 1) []) rs)
     where
       pub turned_even : All (λ c. length c ≡ length ls) found
-      turned_even = found_even rules (revised kept change) next slots slots_are rs counted found each
+      turned_even =
+          found_even rules (revised kept change) next slots slots_are rs counted found each
           (length ls) (long ∙ ap length (sym turned.sails))
 
       pub turned_stays : (hers was : List Outcome) → hers ≡ get_or slots (race - 1) []

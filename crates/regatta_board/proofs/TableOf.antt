@@ -199,8 +199,8 @@ module _ (rules : RulesParts) (journal : Journal) (orderly : IsOrderly rules jou
 
   scored_in_range : AllByRecursion (λ r. (1 ≤ r) × (r < 1 + MAX_RACES)) (scored journal)
   scored_in_range =
-      all_passed (λ r. (1 ≤ r) × (r < 1 + MAX_RACES)) (is_scored journal) (range_with_len 1 MAX_RACES)
-      (in_range 1 MAX_RACES)
+      all_passed (λ r. (1 ≤ r) × (r < 1 + MAX_RACES)) (is_scored journal)
+      (range_with_len 1 MAX_RACES) (in_range 1 MAX_RACES)
 
   sheet_at : (race : ℕ) → (1 ≤ race) × (race < 1 + MAX_RACES)
       → get_or (kept_of rules journal).sheets (race - 1) (empty_sheet 0)

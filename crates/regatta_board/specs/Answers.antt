@@ -55,8 +55,8 @@ answer rules journal entry =
 abbrev pub once_if_scored : Journal → ℕ → ℕ
 once_if_scored journal race = if is_scored journal race then 1 else 0
 
--- how many races are scored anew at most for a command, by the journal that ends with it: none where
--- its race doesn't count there, one where it does, and all that count for one more boat
+-- how many races are scored anew at most for a command, by the journal that ends with it: none
+-- where its race doesn't count there, one where it does, and all that count for one more boat
 abbrev pub most_rescored : Journal → Command → ℕ
 most_rescored journal (Enter sail) = length (scored journal)
 most_rescored journal (Finish race sail) = once_if_scored journal race

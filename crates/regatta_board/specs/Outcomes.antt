@@ -1,4 +1,4 @@
--- What came of a boat in each race that counts, and the line of the table that it makes.
+-- What came of a boat in each race that counts, and the line and the row that it makes.
 use Rattle.std.specs.Prelude.{ℕ, Bool, List, length, map, zip, Option}
 use Rattle.regatta_terms.specs.Rules.{RulesParts, exclusions_of}
 use Rattle.regatta_terms.specs.declared.sail.Sail.{Sail}

@@ -52,10 +52,6 @@ last_number journal seat =
 abbrev pub number_after : ℕ → ℕ
 number_after last = min (last + 1) 4294967295
 
--- the next number of the seat
-abbrev pub next_number : Journal → ℕ → ℕ
-next_number journal seat = number_after (last_number journal seat)
-
 -- the next entry of a seat whose last number is this one
 abbrev pub next_entry : ℕ → ℕ → Role → Command → EntryParts
 next_entry seat last role command =
@@ -125,7 +121,7 @@ strike_refusal rules journal race boat =
     else if not (is_placed rules journal race boat) then Some NotPlaced
     else None
 
--- of Mark and Redress: a decision of the protest committee stands (our choice)
+-- of Mark and Redress: a decision of the protest committee stands
 abbrev pub decision_refusal : Journal → ℕ → Sail → Option Refusal
 decision_refusal journal race boat =
     if not (is_entered journal boat) then Some NotEntered
@@ -141,7 +137,7 @@ penalty_refusal journal race boat kind =
     else if nat_le MAX_PENALTIES (penalties kind (held journal race boat)) then Some PenaltyLimit
     else None
 
--- of Clear: a decision of the protest committee is cleared by the jury alone (our choice)
+-- of Clear: a decision of the protest committee is cleared by the jury alone
 abbrev pub clear_refusal : Journal → Role → ℕ → Sail → Option Refusal
 clear_refusal journal role race boat =
     if not (is_entered journal boat) then Some NotEntered

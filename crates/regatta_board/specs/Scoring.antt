@@ -68,7 +68,8 @@ most_named kept (Unscore race) = 0
 
 -- the lines of all boats, made from what is kept of the journal
 abbrev pub lines_by : RulesParts → Kept → List BoatScores
-lines_by rules kept = lines_of rules (columns rules kept.sheets (races kept.counts)) (length kept.sails)
+lines_by rules kept =
+    lines_of rules (columns rules kept.sheets (races kept.counts)) (length kept.sails)
 
 -- each part is as what is kept of the journal makes it
 pub record IsScoring (rules : RulesParts) (kept : Kept) (scoring : Scoring) : Type 0 where
@@ -93,10 +94,12 @@ AreNewColumns rules before after new =
 abbrev pub TurnsOneColumn : RulesParts → Revision → NewColumns → Type 0
 TurnsOneColumn rules (revision.Enter boats sheets) new = Unit {0}
 TurnsOneColumn rules (revision.Sheet race sheet) new =
-    (old : List (List Outcome)) → with_columns old new ≡ slice_set old (race - 1) (column rules sheet)
+    (old : List (List Outcome))
+    → with_columns old new ≡ slice_set old (race - 1) (column rules sheet)
 TurnsOneColumn rules (revision.Counts race counts) new = Unit {0}
 
--- a revision turns the column of this race, and leaves the races that count and the boats as they are
+-- a revision turns the column of this race, and leaves the races that count and the boats as they
+-- are
 pub record TurnsOnly (rules : RulesParts) (kept : Kept) (change : Revision) (race : ℕ)
     (scoring : Scoring) (new : NewColumns) : Type 0 where
   pub counts : (revised kept change).counts ≡ kept.counts

@@ -1,6 +1,6 @@
 //! Columns: what came of each boat in a race that counts.
-ghost use Rattle.std.specs.Prelude.{◌≡◌, ◌+◌, ◌-◌, ◌<◌, ◌≤◌, ◌^◌, [], true, false, length, List, map};
-ghost use Rattle.std.specs.Prelude.{slice_index_or, slice_set, IfOk, OnOk, if◌then◌else◌};
+ghost use Rattle.std.specs.Prelude.{◌≡◌, ◌+◌, ◌-◌, ◌<◌, ◌≤◌, ◌^◌, [], true, false, length, List};
+ghost use Rattle.std.specs.Prelude.{map, slice_index_or, slice_set, IfOk, OnOk, if◌then◌else◌};
 ghost use Rattle.regatta_terms.specs.Entries.{IsRace};
 ghost use Rattle.regatta_scores.specs.Sheet.{boats as boats_of, empty_sheet, nothing_held};
 ghost use Rattle.regatta_board.specs.declared.outcomes.Outcome.{Outcome};
@@ -8,7 +8,8 @@ ghost use Rattle.regatta_board.specs.Refusals.{limits};
 ghost use Rattle.regatta_board.specs.Revisions.{revised, touches};
 ghost use Rattle.regatta_board.specs.Scoring.{AreColumns, AreNewColumns, TurnsOneColumn};
 ghost use Rattle.regatta_board.specs.Scoring.{with_columns, most_remade};
-ghost use Rattle.regatta_board.specs.Table.{no_outcome, IsKept, column as column_of, races as races_of};
+ghost use Rattle.regatta_board.specs.Table.{no_outcome, IsKept, column as column_of};
+ghost use Rattle.regatta_board.specs.Table.{races as races_of};
 
 use crate::kept::{Draft, Kept, Revision};
 use crate::outcomes::Outcome;
@@ -168,8 +169,8 @@ fn one_column(
     Ok(NewColumns::One { race, column })
 }
 
-/// The columns that a revision of what the standing is made from makes anew: at most one, but of all
-/// races that count for one more boat.
+/// The columns that a revision of what the standing is made from makes anew: at most one, but of
+/// all races that count for one more boat.
 pub(crate) fn new_columns(
     alloc: Global,
     kept: &Kept,

@@ -1,18 +1,18 @@
-//! What came of a boat in each race that counts, and the line of the table that it makes.
+//! What came of a boat in each race that counts, and the line and the row that it makes.
 ghost use Rattle.std.specs.Prelude.{◌≡◌, ◌≤◌, length, IfOk};
 ghost use Rattle.regatta_board.specs.Outcomes.{items as items_of, points as points_of, scores_by};
 ghost use Rattle.regatta_board.specs.Outcomes.{flags as flags_of, line as line_of, row_by};
 ghost use Rattle.regatta_board.specs.Outcomes.{cell as cell_of, cells_by};
 
 use regatta_scores::{
-    BoatLine, Cell, Held, Items, Place, Points, Row, RowItem, Scored, averages, excluded, is_dne,
-    mark,
+    BoatLine, Cell, Held, Items, PerRace, Place, Row, RowItem, Scored, exclusion_flags, is_dne,
+    mark, redressed_points,
 };
 use regatta_terms::{MAX_RACES, Rules, Sail, Tenths};
 use std::alloc::{AllocError, Global};
 
 /// What came of one boat in one race.
-#[derive(Clone, Copy, PartialEq, Eq)]
+#[derive(Clone, Copy, Default, PartialEq, Eq)]
 pub struct Outcome {
     /// Her points before redress.
     pub plain: Tenths,
@@ -22,74 +22,68 @@ pub struct Outcome {
 }
 
 /// Her scores before redress, and her redress.
-fn items(alloc: Global, outcomes: &[Outcome]) -> Result<Vec<RowItem>, AllocError>
-    ensures { IfOk result (λ found. found.items ≡ items_of outcomes.now) }
+fn items(outcomes: &[Outcome]) -> PerRace<RowItem>
+    requires { length outcomes.now ≤ MAX_RACES }
+    ensures { result.items ≡ items_of outcomes.now }
 {
-    outcomes
-        .iter()
-        .map(|o| RowItem {
+    let mut found = PerRace::new();
+    for o in outcomes {
+        found.push(RowItem {
             plain: o.plain,
             redress: o.held.redress,
-        })
-        .collect(alloc)
+        });
+    }
+    found
 }
 
 /// Her points in each race, with redress (RRS A9).
 #[tactic(auto, using(crate::proofs::Lengths::lengths))]
-fn points(alloc: Global, outcomes: &[Outcome]) -> Result<Points, AllocError>
+fn points(outcomes: &[Outcome]) -> PerRace<Tenths>
     requires { length outcomes.now ≤ MAX_RACES }
-    ensures value { IfOk result (λ found. found ≡ points_of outcomes.now) }
-    ensures long { IfOk result (λ found. length found ≡ length outcomes.now) }
+    ensures value { result.items ≡ points_of outcomes.now }
+    ensures long { length result.items ≡ length outcomes.now }
 {
-    averages(alloc, &items(alloc, outcomes)?)
+    redressed_points(&items(outcomes))
 }
 
 /// Her points, and whether they are a disqualification that is not excludable.
-fn scores(alloc: Global, outcomes: &[Outcome], points: &[Tenths]) -> Result<Vec<Scored>, AllocError>
-    ensures { IfOk result (λ found. found.items ≡ scores_by outcomes.now points.now) }
+#[tactic(auto, using(crate::proofs::Zipped::scores_more))]
+fn scores(outcomes: &[Outcome], points: &[Tenths]) -> PerRace<Scored>
+    requires few { length outcomes.now ≤ MAX_RACES }
+    requires points { length points.now ≡ length outcomes.now }
+    ensures { result.items ≡ scores_by outcomes.now points.now }
 {
-    outcomes
-        .iter()
-        .zip(points.iter())
-        .map(|(o, p)| Scored {
-            points: *p,
-            dne: is_dne(o.held.code),
-        })
-        .collect(alloc)
+    let mut found = PerRace::new();
+    for i in 0..outcomes.len() {
+        found.push(Scored {
+            points: points[i],
+            dne: is_dne(outcomes[i].held.code),
+        });
+    }
+    found
 }
 
 /// Which of her scores are excluded (RRS A2.1).
 #[tactic(auto, using(crate::proofs::Lengths::lengths))]
-fn flags(
-    alloc: Global,
-    outcomes: &[Outcome],
-    points: &[Tenths],
-    rules: &Rules,
-) -> Result<Items<bool>, AllocError>
+fn flags(outcomes: &[Outcome], points: &[Tenths], rules: &Rules) -> PerRace<bool>
     requires few { length outcomes.now ≤ MAX_RACES }
     requires points { points.now ≡ points_of outcomes.now }
-    ensures value { IfOk result (λ found. found ≡ flags_of rules.now outcomes.now) }
-    ensures long { IfOk result (λ found. length found ≡ length outcomes.now) }
+    ensures value { result.items ≡ flags_of rules.now outcomes.now }
+    ensures long { length result.items ≡ length outcomes.now }
 {
-    let scores = scores(alloc, outcomes, points)?;
-    let found = excluded(alloc, &scores, rules)?;
-    Ok(found)
+    exclusion_flags(&scores(outcomes, points), rules)
 }
 
 /// Her line, by which boats are compared.
 #[tactic(auto, using(crate::proofs::Lengths::lengths))]
-pub(crate) fn line(
-    alloc: Global,
-    outcomes: &[Outcome],
-    rules: &Rules,
-) -> Result<BoatLine, AllocError>
+pub(crate) fn line(outcomes: &[Outcome], rules: &Rules) -> BoatLine
     requires { length outcomes.now ≤ MAX_RACES }
-    ensures value { IfOk result (λ found. found ≡ line_of rules.now outcomes.now) }
-    ensures long { IfOk result (λ found. length found.points ≡ length outcomes.now) }
+    ensures value { result ≡ line_of rules.now outcomes.now }
+    ensures long { length result.points ≡ length outcomes.now }
 {
-    let points = points(alloc, outcomes)?;
-    let flags = flags(alloc, outcomes, points.as_slice(), rules)?;
-    BoatLine::new(alloc, points.as_slice(), flags.as_slice())
+    let points = points(outcomes);
+    let flags = flags(outcomes, &points, rules);
+    BoatLine::of(&points, &flags)
 }
 
 /// A cell of the table.

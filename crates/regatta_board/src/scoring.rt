@@ -1,6 +1,6 @@
 //! What is kept of the scores: a column for each race, a line and a place for each boat.
-ghost use Rattle.std.specs.Prelude.{◌≡◌, ◌+◌, ◌-◌, ◌<◌, ◌≤◌, ◌^◌, ℕ, [], true, false, length, All, IfOk, OnOk};
-ghost use Rattle.std.specs.Prelude.{slice_index_or};
+ghost use Rattle.std.specs.Prelude.{◌≡◌, ◌+◌, ◌-◌, ◌<◌, ◌≤◌, ◌^◌, ℕ, [], true, false, length};
+ghost use Rattle.std.specs.Prelude.{slice_index_or, All, IfOk, OnOk};
 ghost use Rattle.regatta_terms.specs.Rules.{RulesParts};
 ghost use Rattle.regatta_scores.specs.Ranking.{places as places_of};
 ghost use Rattle.regatta_board.specs.Outcomes.{line as line_of};
@@ -75,25 +75,22 @@ fn with_places(alloc: Global, lines: Vec<BoatLine>) -> Result<Ranked, AllocError
 /// A boat's line, where one column is made anew: it stays where that says of her what the old one
 /// said.
 fn line_after(
-    alloc: Global,
     line: &BoatLine,
     old: Outcome,
     new: Outcome,
     columns: &[Counted<'_>],
     boat: usize,
     rules: &Rules,
-) -> Result<BoatLine, AllocError>
+) -> BoatLine
     requires within { All (λ column. boat < length column) columns.now }
     requires few { length columns.now ≤ MAX_RACES }
     requires stays { new ≡ old → line.now ≡ line_of rules.now (outcomes_of columns.now boat) }
-    ensures value { IfOk result (λ made.
-        made ≡ line_of rules.now (outcomes_of columns.now boat)) }
+    ensures value { result ≡ line_of rules.now (outcomes_of columns.now boat) }
 {
     if new == old {
-        return Ok(BoatLine::of(line.points(), line.excluded()));
+        return BoatLine::of(line.points(), line.excluded());
     }
-    let made = boat_line(alloc, columns, boat, rules)?;
-    Ok(made)
+    boat_line(columns, boat, rules)
 }
 
 /// The lines, where one column is made anew.
@@ -120,14 +117,13 @@ fn lines_with(
     let mut made = Vec::with_capacity(alloc, lines.len())?;
     for boat in 0..lines.len() {
         let line = line_after(
-            alloc,
             &lines[boat],
             old.at(boat),
             new.at(boat),
             columns,
             boat,
             rules,
-        )?;
+        );
         made.push(line)?;
     }
     Ok(made)
@@ -168,7 +164,7 @@ fn turned_lines(
     requires scoring { IsScoring rules.now kept.now scoring.now }
     requires counts { slice_index_or kept.now.counts (race - 1) false ≡ true }
     requires turned { TurnsOnly rules.now kept.now revision.now race scoring.now columns.now }
-    requires columns { AreNewColumns rules.now kept.now (revised kept.now revision.now) columns.now }
+    requires new { AreNewColumns rules.now kept.now (revised kept.now revision.now) columns.now }
     ensures { IfOk result (λ lines.
         lines.items ≡ lines_by rules.now (revised kept.now revision.now)) }
 {
@@ -193,7 +189,7 @@ fn new_lines(
     requires next { IsKept (revised kept.now revision.now) }
     requires scoring { IsScoring rules.now kept.now scoring.now }
     requires touched { touches kept.now revision.now ≡ true }
-    requires columns { AreNewColumns rules.now kept.now (revised kept.now revision.now) columns.now }
+    requires new { AreNewColumns rules.now kept.now (revised kept.now revision.now) columns.now }
     requires one { TurnsOneColumn rules.now revision.now columns.now }
     ensures { IfOk result (λ lines.
         lines.items ≡ lines_by rules.now (revised kept.now revision.now)) }

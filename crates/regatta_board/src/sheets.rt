@@ -2,18 +2,15 @@
 ghost use Rattle.std.specs.Prelude.{◌≡◌, ◌<◌, length, map, replicate, slice_index_or, slice_set};
 ghost use Rattle.std.specs.Prelude.{All, IfOk, IfSome, None};
 ghost use Rattle.std.specs.Option.{option_map};
+ghost use Rattle.regatta_terms.specs.declared.limits.TheConstants.{MAX_RACES};
 ghost use Rattle.regatta_scores.specs.declared.sheet.Change.TheVariants.{AddBoat};
 ghost use Rattle.regatta_scores.specs.Sheet.{boats, empty_sheet};
 ghost use Rattle.regatta_scores.specs.Changes.{after};
 ghost use Rattle.regatta_board.specs.Refusals.{limits};
 
-use regatta_scores::{Change, RaceSheet};
-use regatta_terms::MAX_RACES;
+use regatta_scores::{Change, RACES, RaceSheet};
 use std::alloc::{AllocError, Global};
 use std::marker::Model;
-
-/// How many races a series has.
-pub(crate) const RACES: usize = MAX_RACES as usize;
 
 /// The sheet of each race, by its index from 0. Races whose sheet was never changed share a blank
 /// one, so that they cost nothing when a boat is entered.
@@ -78,7 +75,7 @@ fn each_with_boat(
 
 impl Sheets {
     /// Blank sheets of all races, without boats.
-    #[tactic(auto, using(crate::proofs::BlankSheets::blank_sheets, crate::proofs::BlankSheets::blank_alike))]
+    #[tactic(auto, using(crate::proofs::BlankSheets::blank_facts))]
     pub(crate) fn new(alloc: Global) -> Result<Sheets, AllocError>
         ensures { IfOk result (λ sheets. sheets ≡ replicate MAX_RACES (empty_sheet 0)) }
     {

@@ -1,5 +1,6 @@
 use super::*;
-use regatta_board::Board;
+use regatta_board::{Board, standing_of};
+use regatta_tables::write_table;
 use regatta_terms::{Refusal, read_entry};
 
 /// A and B tie for first, and C is third. Then A is disqualified.
@@ -12,6 +13,55 @@ static DISQUALIFIED: [&str; 8] = [
     "1 6 FINISH FINISH 1 C",
     "1 7 SCORER SCORE 1",
     "1 8 JURY MARK 1 A DSQ",
+];
+
+/// D is entered late, and C's score for not finishing gets a point worse (RRS A2.2, A5.2).
+static LATE: [&str; 8] = [
+    "1 1 SCORER ENTER A",
+    "1 2 SCORER ENTER B",
+    "1 3 SCORER ENTER C",
+    "1 4 FINISH FINISH 1 A",
+    "1 5 FINISH FINISH 1 B",
+    "1 6 SCORER MARK 1 C DNF",
+    "1 7 SCORER SCORE 1",
+    "1 8 SCORER ENTER D",
+];
+
+/// A's average as redress in race 2 follows her place in race 1 (RRS A9).
+static AVERAGE: [&str; 10] = [
+    "1 1 SCORER ENTER A",
+    "1 2 SCORER ENTER B",
+    "1 3 SCORER FINISH 1 A",
+    "1 4 SCORER FINISH 1 B",
+    "1 5 SCORER FINISH 2 B",
+    "1 6 SCORER SCORE 1",
+    "1 7 SCORER SCORE 2",
+    "1 8 JURY REDRESS 2 A ALL",
+    "1 9 SCORER STRIKE 1 A",
+    "1 10 SCORER BEFORE 1 A B",
+];
+
+/// A has her average in race 1, made of race 2 alone, where a late entry costs her a point more.
+static LATE_AND_AVERAGE: [&str; 9] = [
+    "1 1 SCORER ENTER A",
+    "1 2 SCORER ENTER B",
+    "1 3 SCORER FINISH 1 A",
+    "1 4 SCORER FINISH 1 B",
+    "1 5 SCORER FINISH 2 B",
+    "1 6 SCORER SCORE 1",
+    "1 7 SCORER SCORE 2",
+    "1 8 JURY REDRESS 1 A ALL",
+    "1 9 SCORER ENTER C",
+];
+
+/// Decisions on one boat, each in place of the one before (RRS A5, A9, A10).
+static DECIDED: [&str; 6] = [
+    "1 1 SCORER ENTER A",
+    "1 2 SCORER FINISH 1 A",
+    "1 3 SCORER SCORE 1",
+    "1 4 JURY MARK 1 A DSQ",
+    "1 5 JURY CLEAR 1 A",
+    "1 6 JURY REDRESS 1 A 2.5",
 ];
 
 /// The entries that these lines write.
@@ -30,6 +80,71 @@ fn board_of(alloc: Global, entries: &[Entry]) -> Result<Board, Fail> {
         board.apply(*entry).map_err(|_| "an accepted entry")?;
     }
     Ok(board)
+}
+
+/// The rules that exclude no score.
+fn no_exclusions() -> Rules {
+    Rules::new(Absent::A52, None, &[]).unwrap()
+}
+
+/// The table of the board's standing.
+fn table_of(alloc: Global, board: &Board) -> Result<Vec<u8>, Fail> {
+    let mut text = Vec::new(alloc);
+    write_table(&board.standing()?, &mut text)?;
+    Ok(text)
+}
+
+/// The table of the standing that the board's entries make when they are taken anew.
+fn table_anew(alloc: Global, board: &Board) -> Result<Vec<u8>, Fail> {
+    let mut text = Vec::new(alloc);
+    let standing = standing_of(alloc, board.rules(), board.entries()).map_err(
+        |_| "the standing of a lawful journal",
+    )?;
+    write_table(&standing, &mut text)?;
+    Ok(text)
+}
+
+/// How many races are scored for the entry that the line writes, which the board takes. Its
+/// standing must then be that of its entries taken anew.
+fn taken(alloc: Global, board: &mut Board, line: &str) -> Result<u32, Fail> {
+    let staged = board
+        .prepare(read_entry(line.as_bytes())?)
+        .map_err(|_| "an accepted entry")?;
+    let rescored = staged.rescored();
+    board.commit(staged);
+    if table_of(alloc, board)? != table_anew(alloc, board)? {
+        return Err(Fail::new("the standing of the entries"));
+    }
+    Ok(rescored)
+}
+
+/// How many races are scored for the last of these lines, which are taken one by one.
+fn taken_last(alloc: Global, rules: Rules, lines: &[&str]) -> Result<u32, Fail> {
+    let mut board = Board::open(alloc, rules)?;
+    let mut rescored = 0;
+    for &line in lines {
+        rescored = taken(alloc, &mut board, line)?;
+    }
+    Ok(rescored)
+}
+
+#[test]
+fn a_standing_is_that_of_its_entries(rt: HostRuntime) -> Result<(), Fail> {
+    let alloc = rt.alloc();
+    assert!(rt; taken_last(alloc, default_rules(), &DISQUALIFIED)? <= 1);
+    assert!(rt; taken_last(alloc, default_rules(), &LATE)? <= 1);
+    assert!(rt; taken_last(alloc, default_rules(), &DECIDED)? <= 1);
+    Ok(())
+}
+
+#[test]
+fn averages_are_those_of_the_entries(rt: HostRuntime) -> Result<(), Fail> {
+    let alloc = rt.alloc();
+    assert!(rt; taken_last(alloc, no_exclusions(), &AVERAGE[..9])? <= 1);
+    assert!(rt; taken_last(alloc, no_exclusions(), &AVERAGE)? <= 1);
+    assert!(rt; taken_last(alloc, no_exclusions(), &LATE_AND_AVERAGE[..8])? <= 1);
+    assert!(rt; taken_last(alloc, no_exclusions(), &LATE_AND_AVERAGE)? <= 2);
+    Ok(())
 }
 
 #[test]

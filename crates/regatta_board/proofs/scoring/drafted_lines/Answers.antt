@@ -21,4 +21,4 @@ returns c =
     (c.deref.ensures.value ∙ c.in_ok-races.ensures.value) c.deref-2.result.now
     (c.deref-2.ensures.value ∙ c.in_ok-found.ensures) in
     let n : c.len.result ≡ length c.args.draft.now.sails = cc (c.len.ensures, c.boats.ensures) in
-    c.in_ok-lines.ensures.value ∙ (λ i. lines c.args.rules.now (found i) (n i))
+    c.in_ok-lines.ensures ∙ (λ i. lines c.args.rules.now (found i) (n i))

@@ -23,7 +23,7 @@ lines_with-requires-clause-even c =
     ∙ (λ i. map (λ race. get_or (with_columns (cols i) a.columns.now) (race - 1) [])
     c.deref-2.result.now) in
     turned_even a.rules.now a.kept.now c.requires.kept a.revision.now c.requires.next
-    a.scoring.now c.requires.scoring a.columns.now c.requires.columns a.race c.get.ensures.range
+    a.scoring.now c.requires.scoring a.columns.now c.requires.new a.race c.get.ensures.range
     c.requires.counts c.requires.turned c.deref-4.result.now ls
     c.deref-2.result.now rs c.deref-5.result.now found
 
@@ -37,7 +37,7 @@ lines_with-requires-clause-old c =
     let was : c.index-old.result.now ≡ get_or a.scoring.now.columns (a.race - 1) [] =
     grind (arith, common_steps) in
     old_long a.rules.now a.kept.now c.requires.kept a.revision.now c.requires.next
-    a.scoring.now c.requires.scoring a.columns.now c.requires.columns a.race c.get.ensures.range
+    a.scoring.now c.requires.scoring a.columns.now c.requires.new a.race c.get.ensures.range
     c.requires.counts c.requires.turned c.deref-4.result.now ls c.index-old.result.now was
 
 pub lines_with-requires-clause-new : goal.lines_with-requires-clause-new
@@ -54,7 +54,7 @@ lines_with-requires-clause-new c =
     c.current-new.ensures
     ∙ (λ i. get_or (with_columns (cols-3 i) a.columns.now) (a.race - 1) []) in
     new_long a.rules.now a.kept.now c.requires.kept a.revision.now c.requires.next
-    a.scoring.now c.requires.scoring a.columns.now c.requires.columns a.race c.get.ensures.range
+    a.scoring.now c.requires.scoring a.columns.now c.requires.new a.race c.get.ensures.range
     c.requires.counts c.requires.turned c.deref-4.result.now ls c.current-new.result hers
 
 pub lines_with-requires-clause-stays : goal.lines_with-requires-clause-stays
@@ -81,7 +81,7 @@ lines_with-requires-clause-stays c =
     c.current-new.ensures
     ∙ (λ i. get_or (with_columns (cols-3 i) a.columns.now) (a.race - 1) []) in
     turned_stays a.rules.now a.kept.now c.requires.kept a.revision.now c.requires.next
-    a.scoring.now c.requires.scoring a.columns.now c.requires.columns a.race c.get.ensures.range
+    a.scoring.now c.requires.scoring a.columns.now c.requires.new a.race c.get.ensures.range
     c.requires.counts c.requires.turned c.deref-4.result.now ls
     c.deref-2.result.now rs c.deref-5.result.now found c.current-new.result
     c.index-old.result.now hers was
@@ -102,7 +102,7 @@ returns c =
     ∙ (λ i. map (λ race. get_or (with_columns (cols i) a.columns.now) (race - 1) [])
     c.deref-2.result.now) in
     turned_all a.rules.now a.kept.now c.requires.kept a.revision.now c.requires.next
-    a.scoring.now c.requires.scoring a.columns.now c.requires.columns a.race c.get.ensures.range
+    a.scoring.now c.requires.scoring a.columns.now c.requires.new a.race c.get.ensures.range
     c.requires.counts c.requires.turned c.deref-4.result.now ls
     c.deref-2.result.now rs c.deref-5.result.now found c.in_ok-lines.lines.items
     c.in_ok-lines.ensures

@@ -15,12 +15,14 @@ held-requires-clause-known c =
     let is = c.self.invariant.0 in
     let known : is_entered b.entries.items c.args.boat ≡ true =
     rw (← c.self.view_is) at c.requires in
-    known_is b.rules b.entries.items (ledger_orderly b.rules b.entries.items b.kept b.last is) b.kept is.keeps c.args.boat known
+    known_is b.rules b.entries.items
+    (ledger_orderly b.rules b.entries.items b.kept b.last is) b.kept is.keeps c.args.boat known
 
 pub returns : goal.returns
 returns c =
     let b = c.self.inside in
     let is = c.self.invariant.0 in
     rw (← c.self.view_is) (c.held.ensures.value
-    ∙ held_is b.rules b.entries.items (ledger_orderly b.rules b.entries.items b.kept b.last is) b.kept is.keeps c.args.race c.held.ensures.range
-    c.args.boat)
+    ∙ held_is b.rules b.entries.items
+    (ledger_orderly b.rules b.entries.items b.kept b.last is) b.kept is.keeps c.args.race
+    c.held.ensures.range c.args.boat)

@@ -15,7 +15,8 @@ is_placed-requires-clause-known c =
     let is = c.self.invariant.0 in
     let known : is_entered b.entries.items c.args.boat ≡ true =
     rw (← c.self.view_is) at c.requires in
-    known_is b.rules b.entries.items (ledger_orderly b.rules b.entries.items b.kept b.last is) b.kept is.keeps c.args.boat known
+    known_is b.rules b.entries.items
+    (ledger_orderly b.rules b.entries.items b.kept b.last is) b.kept is.keeps c.args.boat known
 
 pub returns : goal.returns
 returns c =
@@ -24,5 +25,6 @@ returns c =
     let known : is_entered b.entries.items c.args.boat ≡ true =
     rw (← c.self.view_is) at c.requires in
     rw (← c.self.view_is) (c.is_placed.ensures.value
-    ∙ placed_is b.rules b.entries.items (ledger_orderly b.rules b.entries.items b.kept b.last is) b.kept is.keeps c.args.race
+    ∙ placed_is b.rules b.entries.items
+    (ledger_orderly b.rules b.entries.items b.kept b.last is) b.kept is.keeps c.args.race
     c.is_placed.ensures.range c.args.boat known)

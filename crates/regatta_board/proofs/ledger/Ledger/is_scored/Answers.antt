@@ -13,5 +13,6 @@ returns c =
     let b = c.self.inside in
     let is = c.self.invariant.0 in
     rw (← c.self.view_is) (c.is_scored.ensures.value
-    ∙ scored_is b.rules b.entries.items (ledger_orderly b.rules b.entries.items b.kept b.last is) b.kept is.keeps c.args.race
+    ∙ scored_is b.rules b.entries.items
+    (ledger_orderly b.rules b.entries.items b.kept b.last is) b.kept is.keeps c.args.race
     c.is_scored.ensures.range)
