@@ -10,6 +10,7 @@ mod complaints;
 mod faults;
 mod programs;
 mod replays;
+mod texts;
 mod weekend;
 
 /// The rules where none are stated.
