@@ -10,6 +10,8 @@ mod complaints;
 mod faults;
 mod programs;
 mod replays;
+mod streams;
+mod texts;
 mod weekend;
 
 /// The rules where none are stated.

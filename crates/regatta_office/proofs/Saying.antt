@@ -1,13 +1,13 @@
 -- What is said to lines, one after another.
 use Rattle.std.proofs.Common.{◌≡◌, ℕ, ◌<◌, length, arith, Bool, true, false, cond, List, [], ◌∷◌}
-use Rattle.std.proofs.Common.{◌++◌, take, map, Result, refl, sym, ap, ◌∙◌, append_assoc}
+use Rattle.std.proofs.Common.{◌++◌, map, Result, refl, sym, ap, ◌∙◌, append_assoc}
 use Rattle.regatta_terms.specs.Lines.{line_of}
 use Rattle.regatta_terms.specs.Rules.{RulesParts}
 use Rattle.regatta_terms.specs.declared.line.Line.{Line}
 use Rattle.regatta_terms.specs.declared.line.LineFault.{LineFault}
 use Rattle.regatta_terms.specs.TextLines.{is_line_end, lines_by}
 use Rattle.regatta_office.specs.Coming.{Point, Said, ahead, coming, ended, said}
-use Rattle.regatta_talk.specs.HeardLines.{heard_with, heard_lines}
+use Rattle.regatta_talk.specs.HeardLines.{heard, heard_with, heard_lines}
 use Rattle.regatta_office.specs.Coming.{unless}
 use Rattle.regatta_office.specs.Transcript.{Talk, has_quit, is_quit, replies, talk_after}
 use Rattle.regatta_office.specs.Transcript.{talk_at_end, text_after, up_to_quit}
@@ -38,11 +38,11 @@ said-cons rules talk line rest = said-by rules talk line rest (is_quit (line_of 
 
 -- lines that read alike are answered alike
 pub said-heard : (rules : RulesParts) (talk : Talk) (lines : List (List ℕ))
-    → said rules talk (map (take 82) lines) ≡ said rules talk lines
+    → said rules talk (map heard lines) ≡ said rules talk lines
 said-heard rules talk [] = refl
 said-heard rules talk (line ∷ rest) =
-    said-cons rules talk (take 82 line) (map (take 82) rest)
-    ∙ ap (λ (asked : Result Line LineFault). next_said rules talk asked (map (take 82) rest))
+    said-cons rules talk (heard line) (map heard rest)
+    ∙ ap (λ (asked : Result Line LineFault). next_said rules talk asked (map heard rest))
     (heard_reads line)
     ∙ ap (λ (s : Said). ahead (text_after rules talk (line_of line))
     (cond (is_quit (line_of line)) (record {

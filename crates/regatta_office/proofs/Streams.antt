@@ -7,7 +7,7 @@ use Rattle.std.proofs.lemmas.List.{take-append-drop, take-take, take_min, take-a
 use Rattle.std.proofs.Math.Seq.{take-append-add}
 use Rattle.regatta_streams.specs.Texts.{AppendsPrefix, GaveAtMost}
 use Rattle.std.proofs.Math.Seq.{take-append_seam}
-use Rattle.std.specs.Io.KnownBytes.{Appends, Consumes, IsAtEnd, Keeps}
+use Rattle.std.specs.Io.KnownBytes.{Appends, Consumes, Keeps}
 use Rattle.regatta_terms.specs.Lines.{line_of}
 use Rattle.regatta_streams.proofs.KnownBytes.{appends-none, appends-then, consumes-keeps}
 use Rattle.regatta_streams.proofs.KnownBytes.{consumes-then}
@@ -157,15 +157,7 @@ prefix-behind old mid new a b wrote (n, more) = (
       (appends-then old mid new a (take n b) wrote more),
 )
 
--- the write of a line's text failed
-pub line_cut : (old new : Option (List ℕ)) (before : Point) (byte : ℕ) (rest : List ℕ)
-    → is_line_end byte ≡ true
-    → AppendsPrefix old new (text_after before.rules before.talk (line_of before.line))
-    → Cuts old new before (byte ∷ rest)
-line_cut old new before byte rest is cut =
-    subst (λ (s : Said). AppendsPrefix old new s.text) (sym (line_ends true before byte rest is))
-    (prefix-longer old new _ _ cut)
-
+-- the write of a last line's text failed
 pub last_cut : (old new : Option (List ℕ)) (before : Point) → 0 < length before.line
     → AppendsPrefix old new (text_after before.rules before.talk (line_of before.line))
     → Cuts old new before []
@@ -309,15 +301,6 @@ within_quit (Some text) (Some rest) c d p q most given bytes left cut few took u
     in
     inr (ap (λ (s : Said). s.quit) (ap (coming false p) front
     ∙ u.goes false (take (most - length bytes) (left ++ rest))))
-
--- the text is at its end
-pub within_end : (a b : Option (List ℕ)) (p : Point) (most : ℕ) (given : List ℕ) → given ≡ []
-    → Consumes a b given → IsAtEnd b → IfSome a (IsWithin p most)
-within_end None b p most given none took end = tt
-within_end (Some text) None p most given none took end = absurd took
-within_end (Some text) (Some rest) p most given none took end =
-    inl (let size : length text ≡ 0 = ap (λ (t : List ℕ). length t)
-    (took ∙ (λ i. none i ++ end i)) in omega (arith, size))
 
 -- one turn, and then another
 module _ (a b c d e f : Option (List ℕ)) (p q r : Point) (n : ℕ)

@@ -1,6 +1,6 @@
 -- What a replay writes: a reply to each line of a text, and then the table, CSV or journal.
 use Rattle.std.specs.Prelude.{◌≡◌, ◌⊎◌, length, take, ℕ, ◌≤◌, Bool, true, false, List, []}
-use Rattle.std.specs.Prelude.{◌∷◌, ◌++◌, Option, Some, None, Result, Ok, Err, if◌then◌else◌}
+use Rattle.std.specs.Prelude.{◌∷◌, ◌++◌, Option, Result, Ok, Err, if◌then◌else◌}
 use Rattle.std.specs.Io.KnownBytes.{Appends}
 use Rattle.regatta_terms.specs.Entries.{EntryParts}
 use Rattle.regatta_terms.specs.Lines.{line_of}
@@ -12,14 +12,13 @@ use Rattle.regatta_terms.specs.declared.line.Line.{Line}
 use Rattle.regatta_terms.specs.declared.line.Line.TheVariants.{Do, SetRole, Rank, Show, Quit}
 use Rattle.regatta_terms.specs.declared.line.LineFault.{LineFault}
 use Rattle.regatta_terms.specs.declared.reply.Refusal.{Refusal}
-use Rattle.regatta_terms.specs.declared.reply.Answer.{Answer}
 use Rattle.regatta_terms.specs.declared.reply.Refusal.TheVariants.{NoMemory}
 use Rattle.regatta_terms.specs.declared.reply.Reply.{Reply}
 use Rattle.regatta_scores.specs.Journal.{Journal}
 use Rattle.regatta_scores.specs.Standing.{standing}
-use Rattle.regatta_board.specs.Answers.{answer, rank_of}
-use Rattle.regatta_board.specs.Refusals.{limits, refusal, last_number, next_entry}
-use Rattle.regatta_board.specs.declared.journal.TheConstants.{REPLAY_SEAT}
+use Rattle.regatta_board.specs.Answers.{rank_of}
+use Rattle.regatta_board.specs.Refusals.{limits, refusal}
+use Rattle.regatta_board.specs.Runs.{journal_by, reply_by, sent}
 use Rattle.regatta_tables.specs.CsvTexts.{csv_text}
 use Rattle.regatta_tables.specs.JournalTexts.{journal_text}
 use Rattle.regatta_tables.specs.ReplyTexts.{reply_text}
@@ -43,18 +42,7 @@ opening start = record { role = Scorer; journal = start }
 
 -- the entry that a command makes: of the seat of a replay, in the role at hand
 abbrev pub entry_of : Talk → Command → EntryParts
-entry_of talk command =
-    next_entry REPLAY_SEAT (last_number talk.journal REPLAY_SEAT) talk.role command
-
--- what the board answers to an entry, by why the entry is refused
-abbrev pub answered : RulesParts → Journal → EntryParts → Option Refusal → Result Answer Refusal
-answered rules journal entry None = Ok (answer rules journal entry)
-answered rules journal entry (Some why) = Err why
-
--- the journal after it: the longer one where it is accepted
-abbrev pub journal_by : Journal → EntryParts → Option Refusal → Journal
-journal_by journal entry None = journal ++ entry ∷ []
-journal_by journal entry (Some why) = journal
+entry_of talk command = sent talk.journal talk.role command
 
 -- a run ends where memory is wanting: it isn't answered
 abbrev pub is_want_of_memory : Refusal → Bool
@@ -68,7 +56,7 @@ refusal_of rules talk command = refusal limits rules talk.journal (entry_of talk
 -- the reply to a command
 abbrev pub reply_to : RulesParts → Talk → Command → Reply
 reply_to rules talk command =
-    reply_of (answered rules talk.journal (entry_of talk command) (refusal_of rules talk command))
+    reply_of (reply_by rules talk.journal (entry_of talk command) (refusal_of rules talk command))
 
 -- the journal after a command
 abbrev pub journal_after : RulesParts → Talk → Command → Journal

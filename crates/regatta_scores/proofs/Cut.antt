@@ -1,6 +1,7 @@
 -- Groups cut out of one list of boats.
 use Rattle.std.proofs.Common.{◌≡◌, ℕ, zero, suc, ◌+◌, ◌-◌, ◌<◌, ◌≤◌, Bool, true, false, ◌||◌, List}
-use Rattle.std.proofs.Common.{[], ◌∷◌, ◌++◌, refl, ap, ◌∙◌, sym, arith, length, get_or, drop, nat_eq}
+use Rattle.std.proofs.Common.{[], ◌∷◌, ◌++◌, refl, ap, ◌∙◌, sym, arith, length, get_or, drop}
+use Rattle.std.proofs.Common.{nat_eq}
 use Rattle.std.specs.List.{between, list_any}
 use Rattle.std.proofs.lemmas.List.Folds.{list_any-append}
 use Rattle.std.proofs.lemmas.List.{take-append-le, take-append-drop, length-append}
@@ -80,7 +81,8 @@ begin_is ends (suc at) =
     ∙ ap (λ n. get_or ends n 0) (omega arith)
 
 group_from : (boats : List ℕ) (start : ℕ) (ends : List ℕ) (at : ℕ) → at < length ends →
-    get_or (cut boats start ends) at [] ≡ between (begin_from start ends at) (get_or ends at 0) boats
+    get_or (cut boats start ends) at []
+    ≡ between (begin_from start ends at) (get_or ends at 0) boats
 unfolding begin_from
 group_from boats start [] at within = absurd (omega arith)
 group_from boats start (end ∷ ends) zero within = refl

@@ -38,9 +38,9 @@ ahead_later x ys k mine =
     let front : count_by (as_bad mine) (take (suc k) (x ∷ ys))
     ≡ cond (as_bad mine x) 1 0 + count_by (as_bad mine) (take k ys) =
     count_cons (as_bad mine) x (take k ys) in
-    let place : suc k + 1 ≡ suc (k + 1) = omega arith in
+    let index : suc k + 1 ≡ suc (k + 1) = omega arith in
     let back : count_by (worse mine) (drop (suc k + 1) (x ∷ ys))
-    ≡ count_by (worse mine) (drop (k + 1) ys) = rw place refl in
+    ≡ count_by (worse mine) (drop (k + 1) ys) = rw index refl in
     omega (arith, front, back)
 
 both : (dne : Bool) (p q : Bool) → (p ≡ true → q ≡ true) → (not dne && p) ≡ true →
@@ -166,9 +166,9 @@ count_same p q n (y ∷ ys) same =
       count_same p q (n + 1) ys (λ k j z e at. same (suc k) j z (omega (arith, e)) at),
     )
 
-at_place : {X : Type 0} (ys : List X) (k j : ℕ) (y : X) → j ≡ 0 + k → slice_get ys k ≡ Some y →
+at_index : {X : Type 0} (ys : List X) (k j : ℕ) (y : X) → j ≡ 0 + k → slice_get ys k ≡ Some y →
     slice_get ys j ≡ Some y
-at_place ys k j y place at = let same : j ≡ k = omega (arith, place) in ap (slice_get ys) same ∙ at
+at_index ys k j y index at = let same : j ≡ k = omega (arith, index) in ap (slice_get ys) same ∙ at
 
 -- ---- how many are excluded
 
@@ -207,8 +207,8 @@ one_at_most false = omega arith
 ahead_behind : (x : Scored) (ys : List Scored) (j mine : ℕ) →
     excluded_ahead (x ∷ ys) (j + 1) mine ≡ cond (as_bad mine x) 1 0 + excluded_ahead ys j mine
 ahead_behind x ys j mine =
-    let place : j + 1 ≡ suc j = omega arith in
-    ap (λ n. excluded_ahead (x ∷ ys) n mine) place ∙ ahead_later x ys j mine
+    let index : j + 1 ≡ suc j = omega arith in
+    ap (λ n. excluded_ahead (x ∷ ys) n mine) index ∙ ahead_later x ys j mine
 
 -- a DNE at the front changes nothing behind it
 behind_dne : (d : ℕ) (x : Scored) (ys : List Scored) → x.dne ≡ true → (j : ℕ) (y : Scored) →
@@ -297,7 +297,7 @@ flagged_by d x ys rest false false dne e =
     let behind =
     count_same (λ race. is_excluded d (x ∷ ys) (race.0 + 1) race.1)
     (λ race. is_excluded d ys race.0 race.1) 0 ys
-    (λ k j y place at. behind_counting d x ys many j y (at_place ys k j y place at)) in
+    (λ k j y index at. behind_counting d x ys many j y (at_index ys k j y index at)) in
     omega (
       arith,
       flagged_cons d x ys,
@@ -321,7 +321,7 @@ flagged_by (suc d) x ys rest false true dne e =
     let behind =
     count_same (λ race. is_excluded (suc d) (x ∷ ys) (race.0 + 1) race.1)
     (λ race. is_excluded d ys race.0 race.1) 0 ys
-    (λ k j y place at. behind_excluded d x ys dne few j y (at_place ys k j y place at)) in
+    (λ k j y index at. behind_excluded d x ys dne few j y (at_index ys k j y index at)) in
     omega (
       arith,
       flagged_cons (suc d) x ys,
@@ -343,12 +343,12 @@ flagged_is (x ∷ ys) d =
 
 enumerate_at : {X : Type 0} (n : ℕ) (xs : List X) (i j : ℕ) (x : X) → j ≡ n + i →
     slice_get xs i ≡ Some x → slice_get (enumerate_from n xs) i ≡ Some (j, x)
-enumerate_at n [] i j x place at = cc
-enumerate_at n (y ∷ ys) zero j x place at =
-    let first : n ≡ j = omega (arith, place) in
+enumerate_at n [] i j x index at = cc
+enumerate_at n (y ∷ ys) zero j x index at =
+    let first : n ≡ j = omega (arith, index) in
     λ i. Some (first i, read y x x at i)
-enumerate_at n (y ∷ ys) (suc i) j x place at =
-    enumerate_at (n + 1) ys i j x (omega (arith, place)) at
+enumerate_at n (y ∷ ys) (suc i) j x index at =
+    enumerate_at (n + 1) ys i j x (omega (arith, index)) at
 
 flag_at : (d : ℕ) (scores : List Scored) (i : ℕ) (s : Scored) → slice_get scores i ≡ Some s →
     slice_get (excluded d scores) i ≡ Some (is_excluded d scores i s)

@@ -149,7 +149,8 @@ module _ (rules : RulesParts) (journal : Journal) (entry : EntryParts) (race : �
 
   -- the race is what it was but for redress
   race_after : (r : ℕ) → journal_race rules (journal ++ entry ∷ []) r
-      ≡ with_redress (journal_race rules journal r) (λ o. (held (journal ++ entry ∷ []) r o).redress)
+      ≡ with_redress (journal_race rules journal r)
+      (λ o. (held (journal ++ entry ∷ []) r o).redress)
   race_after r i =
       record {
         entered = entered_stays i;
@@ -167,8 +168,8 @@ module _ (rules : RulesParts) (journal : Journal) (entry : EntryParts) (race : �
       ≡ plain same_sail rules (journal_race rules journal r) other
   plain_stays r other =
       ap (λ m. plain same_sail rules m other) (race_after r)
-      ∙ plain_reads_none (journal_race rules journal r) (λ o. (held (journal ++ entry ∷ []) r o).redress)
-      rules other
+      ∙ plain_reads_none (journal_race rules journal r)
+      (λ o. (held (journal ++ entry ∷ []) r o).redress) rules other
 
   -- another boat
   module _ (other : Sail) (another : same_sail other boat ≡ false) where

@@ -17,8 +17,8 @@ use Rattle.regatta_scores.specs.Standing.{line, lines, row, comes_first, standin
 
 -- ---- the comparison of boats
 
--- The comparison (A2.1, A8) is a total order: it answers the other way round when the boats change
--- places, it chains, and boats that it doesn't tell apart compare alike with each other boat.
+-- The comparison (A2.1, A8) is a total order: it answers the other way round when the boats are
+-- swapped, it chains, and boats that it doesn't tell apart compare alike with each other boat.
 abbrev pub ComparisonIsTotal : Type 0
 ComparisonIsTotal = IsTotalOrder comparison
 

@@ -3,7 +3,7 @@ ghost use Rattle.std.specs.Prelude.{◌≡◌};
 ghost use Rattle.regatta_scores.specs.Abbreviations.{abbrev_text};
 
 use crate::items::Items;
-use regatta_terms::{RaceNo, Sail, Tenths};
+use regatta_terms::{Code, PenaltyKind, RaceNo, Sail, Tenths};
 
 /// The abbreviation in a cell (RRS A10).
 #[derive(Clone, Copy, Debug, PartialEq, Eq)]
@@ -40,17 +40,17 @@ impl Abbrev {
         ensures { result.now ≡ abbrev_text self }
     {
         match self {
-            Abbrev::Dnc => "DNC",
-            Abbrev::Dns => "DNS",
-            Abbrev::Ocs => "OCS",
-            Abbrev::Ufd => "UFD",
-            Abbrev::Bfd => "BFD",
-            Abbrev::Dnf => "DNF",
-            Abbrev::Ret => "RET",
-            Abbrev::Dsq => "DSQ",
-            Abbrev::Dne => "DNE",
-            Abbrev::Zfp => "ZFP",
-            Abbrev::Scp => "SCP",
+            Abbrev::Dnc => Code::Dnc.text(),
+            Abbrev::Dns => Code::Dns.text(),
+            Abbrev::Ocs => Code::Ocs.text(),
+            Abbrev::Ufd => Code::Ufd.text(),
+            Abbrev::Bfd => Code::Bfd.text(),
+            Abbrev::Dnf => Code::Dnf.text(),
+            Abbrev::Ret => Code::Ret.text(),
+            Abbrev::Dsq => Code::Dsq.text(),
+            Abbrev::Dne => Code::Dne.text(),
+            Abbrev::Zfp => PenaltyKind::Zfp.text(),
+            Abbrev::Scp => PenaltyKind::Scp.text(),
             Abbrev::Rdg => "RDG",
         }
     }
@@ -70,7 +70,7 @@ pub struct Cell {
 /// One boat's scores, one for each scored race.
 pub type Cells = Items<Cell>;
 
-/// One boat's line of the standing.
+/// One boat's row of the standing.
 #[derive(Drop)]
 pub struct Row {
     /// The boat's sail, as it was entered.

@@ -1,5 +1,5 @@
 -- Known bytes over several reads and writes, here and in a run.
-use Rattle.std.proofs.Common.{refl, sym, ap, ◌∙◌, ◌≡◌, ℕ, List, [], ◌++◌, Option, Some, None}
+use Rattle.std.proofs.Common.{sym, ap, ◌∙◌, ◌≡◌, ℕ, List, [], ◌++◌, Option, Some, None}
 use Rattle.std.proofs.Common.{length, take, drop, ◌-◌}
 use Rattle.std.proofs.lemmas.List.{append-nil, append_assoc, length-drop, take-append-drop}
 use Rattle.std.proofs.Math.Seq.{take-length, take-append_seam}
@@ -23,10 +23,6 @@ appends-keeps None b c x h k = tt
 appends-keeps (Some xs) None c x h k = absurd h
 appends-keeps (Some xs) (Some ys) None x h k = k
 appends-keeps (Some xs) (Some ys) (Some zs) x h k = k ∙ h
-
-pub consumes-none : (a : Option (List ℕ)) → Consumes a a []
-consumes-none None = tt
-consumes-none (Some xs) = refl
 
 pub consumes-keeps : (a b c : Option (List ℕ)) (x : List ℕ) → Consumes a b x → Keeps b c
     → Consumes a c x

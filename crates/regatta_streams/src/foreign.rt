@@ -85,22 +85,3 @@ impl<X: Write> Sink for Foreign<X> {
         }
     }
 }
-
-#[cfg(test)]
-mod tests {
-    use super::*;
-    use std::test::Fail;
-
-    #[test]
-    fn hands_its_bytes_on(rt: HostRuntime) -> Result<(), Fail> {
-        let mut output = Foreign::new(Vec::new(rt.alloc()));
-        assert_eq!(rt; output.write(b"to std"), Ok(6));
-        assert_eq!(rt; output.write(b""), Ok(0));
-        assert_eq!(rt; output.inner.as_slice(), b"to std".as_slice());
-        let mut input = Foreign::new(b"from std".as_slice());
-        let mut buffer = [0; 4];
-        assert_eq!(rt; input.read(&mut buffer), Ok(4));
-        assert_eq!(rt; buffer.as_slice(), b"from".as_slice());
-        Ok(())
-    }
-}

@@ -12,6 +12,3 @@ pub use foreign::Foreign;
 pub use stream::{Device, Sink, Source, StreamFault};
 pub use tape::Tape;
 pub use whole::{ReadFault, read_text, write_all};
-
-#[cfg(test)]
-mod tests;

@@ -16,6 +16,3 @@ pub use replies::{REPLY_ROOM, write_reply};
 pub use results::write_csv;
 pub use sheets::write_sheet;
 pub use tables::write_table;
-
-#[cfg(test)]
-mod tests;

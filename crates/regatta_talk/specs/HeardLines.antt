@@ -1,9 +1,14 @@
 -- What is heard of the lines of a text that comes byte by byte.
-use Rattle.std.specs.Prelude.{ℕ, Bool, List, [], ◌∷◌, ◌++◌, length, nat_lt, if◌then◌else◌}
+use Rattle.std.specs.Prelude.{ℕ, Bool, List, [], ◌∷◌, ◌++◌, length, nat_lt, take}
+use Rattle.std.specs.Prelude.{if◌then◌else◌}
 use Rattle.regatta_terms.specs.TextLines.{is_line_end, last_line}
 use Rattle.regatta_talk.specs.declared.cutter.TheConstants.{MAX_HEARD}
 
--- the bytes that are heard of a line, with one more: no more than tell that a line is too long
+-- what is heard of a line: no more than tells that it is too long
+abbrev pub heard : List ℕ → List ℕ
+heard line = take MAX_HEARD line
+
+-- the bytes that are heard of a line, with one more
 abbrev pub heard_with : List ℕ → ℕ → List ℕ
 heard_with line byte = if nat_lt (length line) MAX_HEARD then line ++ byte ∷ [] else line
 

@@ -1,0 +1,123 @@
+//! Texts that no contract tells: what refusals and faults print. And the final part of a run in
+//! which nothing was entered.
+
+use super::*;
+use regatta_tables::{EntriesFault, JournalFault};
+use regatta_terms::{LineFault, Refusal, RulesFault};
+
+#[test]
+fn prints_each_refusal_with_its_number(rt: HostRuntime) -> Result<(), Fail> {
+    let refusals = [
+        Refusal::NoMemory,
+        Refusal::JournalFull,
+        Refusal::OldNumber { last: 8 },
+        Refusal::NotYours,
+        Refusal::EntryFull,
+        Refusal::AlreadyEntered,
+        Refusal::NotEntered,
+        Refusal::AlreadyPlaced,
+        Refusal::NotPlaced,
+        Refusal::Decided,
+        Refusal::PenaltyLimit,
+        Refusal::NothingToClear,
+        Refusal::AlreadyScored,
+        Refusal::NotScored,
+        Refusal::NoFinisher,
+    ];
+    for refusal in refusals {
+        let text = format!(in rt.alloc(); "{refusal}")?;
+        let begins = format!(in rt.alloc(); "refused {}: ", refusal.number())?;
+        assert!(rt; text.as_str().starts_with(begins.as_str()));
+    }
+    let refusal = format!(in rt.alloc(); "{}", Refusal::OldNumber { last: 8 })?;
+    assert_eq!(rt; refusal.as_str(), "refused 3: the number isn't above 8");
+    Ok(())
+}
+
+#[test]
+fn prints_each_fault_of_a_line_with_its_number(rt: HostRuntime) -> Result<(), Fail> {
+    let faults = [
+        LineFault::TooLong,
+        LineFault::NoSuchWord,
+        LineFault::WrongCount,
+        LineFault::BadSail,
+        LineFault::BadRace,
+        LineFault::BadPoints,
+        LineFault::BadCode,
+        LineFault::BadRole,
+        LineFault::BadNumber,
+    ];
+    for fault in faults {
+        let text = format!(in rt.alloc(); "{fault}")?;
+        let begins = format!(in rt.alloc(); "fault {}: ", fault.number())?;
+        assert!(rt; text.as_str().starts_with(begins.as_str()));
+    }
+    let fault = format!(in rt.alloc(); "{}", LineFault::TooLong)?;
+    assert_eq!(rt; fault.as_str(), "fault 20: more than 80 bytes");
+    Ok(())
+}
+
+#[test]
+fn prints_each_fault_of_rules_with_its_number(rt: HostRuntime) -> Result<(), Fail> {
+    let faults = [
+        RulesFault::ScpOutOfRange,
+        RulesFault::TooMany,
+        RulesFault::NotRising,
+        RulesFault::BelowTwo,
+        RulesFault::AboveForty,
+        RulesFault::BadText,
+    ];
+    for fault in faults {
+        let text = format!(in rt.alloc(); "{fault}")?;
+        let begins = format!(in rt.alloc(); "rules fault {}: ", fault.number())?;
+        assert!(rt; text.as_str().starts_with(begins.as_str()));
+    }
+    let fault = format!(in rt.alloc(); "{}", RulesFault::AboveForty)?;
+    assert_eq!(rt; fault.as_str(), "rules fault 5: a threshold is above 40");
+    Ok(())
+}
+
+#[test]
+fn prints_each_fault_of_a_file_with_its_number(rt: HostRuntime) -> Result<(), Fail> {
+    let faults = [
+        EntriesFault::NoColumn,
+        EntriesFault::BadRow { row: 3 },
+        EntriesFault::BadSail { row: 3 },
+        EntriesFault::Twice { row: 3 },
+        EntriesFault::TooMany { row: 3 },
+        EntriesFault::NoMemory,
+    ];
+    for fault in faults {
+        let text = format!(in rt.alloc(); "{fault}")?;
+        let begins = format!(in rt.alloc(); "entries fault {}: ", fault.number())?;
+        assert!(rt; text.as_str().starts_with(begins.as_str()));
+    }
+    let fault = format!(in rt.alloc(); "{}", EntriesFault::TooMany { row: 3 })?;
+    assert_eq!(rt;
+        fault.as_str(),
+        "entries fault 5: more than 200 sails, from row 3"
+    );
+    let bad_line = JournalFault::BadLine {
+        line: 2,
+        fault: LineFault::WrongCount,
+    };
+    for fault in [bad_line, JournalFault::TooMany, JournalFault::NoMemory] {
+        let text = format!(in rt.alloc(); "{fault}")?;
+        let begins = format!(in rt.alloc(); "journal fault {}: ", fault.number())?;
+        assert!(rt; text.as_str().starts_with(begins.as_str()));
+    }
+    let fault = format!(in rt.alloc(); "{}", JournalFault::TooMany)?;
+    assert_eq!(rt; fault.as_str(), "journal fault 2: more than 4096 lines");
+    Ok(())
+}
+
+#[test]
+fn nobody_has_results_and_a_journal(rt: HostRuntime) -> Result<(), Fail> {
+    let rules = default_rules();
+    let (output, _) = replayed(rt.alloc(), b"", &rules, &[], Form::Csv)?;
+    assert_eq!(rt; output.written(), b"rank,sail,net\n".as_slice());
+    let (output, ended) = replayed(rt.alloc(), b"", &rules, &[], Form::Journal)?;
+    assert_eq!(rt; output.written(), b"".as_slice());
+    assert_eq!(rt; ended, Ok(()));
+    Ok(())
+}
