@@ -1,5 +1,6 @@
 #!/usr/bin/env bash
-# Runs a built program over the weekend of this folder, and compares what it prints.
+# Runs a built program over the weekend of this folder, and over an evening of three clients at a
+# socket, and compares what it prints.
 #   examples/check.sh PROGRAM
 set -euo pipefail
 program=$(realpath "$1")
@@ -9,3 +10,5 @@ for form in table csv journal; do
         | diff - <(cat weekend.replies "weekend.$form")
 done
 echo "the weekend is as it was"
+./evening.py "$program"
+echo "the evening is as it was"

@@ -18,8 +18,11 @@ use Rattle.clap.specs.declared.parser.matches.Found.{Found}
 use Rattle.clap.specs.declared.parser.matches.SubCommand.{SubCommand}
 use Rattle.clap.proofs.OnLiterals.{clap_on_literals}
 use Rattle.clap.proofs.WalkLemmas.{first_value-rows}
-use Rattle.regatta_office.specs.Asked.{Asked}
-use Rattle.regatta_office.specs.Words.{AskHelp, AskRun, asked_by, asked_of, asked_with, regatta}
+use Rattle.regatta_office.specs.Asked.{ReplayAsked, ServingAsked}
+use Rattle.regatta_office.specs.declared.options.Asked.{Asked}
+use Rattle.regatta_office.specs.declared.options.Asked.TheVariants.{Replay, Serve}
+use Rattle.regatta_office.specs.Words.{AskHelp, AskRun, asked_by, asked_of, regatta, replay_with}
+use Rattle.regatta_office.specs.Words.{serving_with}
 
 -- no argument of the command is global, with one more that isn't
 pub stays_local : (new old global : Bool) → new ≡ (old || global) → global ≡ false → new ≡ old
@@ -47,19 +50,25 @@ subcommand_is (Some b) name rows named found =
     same_rows : {x y : List Row} → Some x ≡ Some y → x ≡ y
     same_rows e = cc
 
--- what its options ask for
-pub asked_is : {Z : Type 0} (met : Option (Box SubCommand Z)) (f : Found) (r : Option Asked)
+-- what the options of `replay` ask for
+pub replay_is : {Z : Type 0} (met : Option (Box SubCommand Z)) (f : Found) (asked : ReplayAsked)
     → Some (codes "replay") ≡ option_map (λ b. (out-SubCommand (box_value b)).name.now) met
     → Some (rows_of f) ≡ option_map (λ p. p.1) (subcommand_rows met)
-    → r ≡ asked_with (first_value f)
-    → IfSome r (λ asked. asked_by (subcommand_rows met) ≡ Some asked)
-asked_is met f r named found is = if_some r (asked_by (subcommand_rows met))
-    (ap asked_by (subcommand_is met _ _ named found)
-    ∙ (λ i. asked_with (λ option. sym (first_value-rows f option) i)) ∙ sym is)
-  where
-    if_some : (r o : Option Asked) → o ≡ r → IfSome r (λ asked. o ≡ Some asked)
-    if_some None o e = tt
-    if_some (Some asked) o e = e
+    → Some asked ≡ replay_with (first_value f)
+    → asked_by (subcommand_rows met) ≡ Some (Replay asked)
+replay_is met f asked named found is = ap asked_by (subcommand_is met _ _ named found)
+    ∙ (λ i. option_map Replay (replay_with (λ option. sym (first_value-rows f option) i)))
+    ∙ ap (option_map Replay) (sym is)
+
+-- what the options of `serve` ask for
+pub serving_is : {Z : Type 0} (met : Option (Box SubCommand Z)) (f : Found) (asked : ServingAsked)
+    → Some (codes "serve") ≡ option_map (λ b. (out-SubCommand (box_value b)).name.now) met
+    → Some (rows_of f) ≡ option_map (λ p. p.1) (subcommand_rows met)
+    → serving_with (first_value f) ≡ Some asked
+    → asked_by (subcommand_rows met) ≡ Some (Serve asked)
+serving_is met f asked named found is = ap asked_by (subcommand_is met _ _ named found)
+    ∙ (λ i. option_map Serve (serving_with (λ option. sym (first_value-rows f option) i)))
+    ∙ ap (option_map Serve) is
 
 -- the program's words are of the kind whose matches `clap` tells
 simple : (forms : ValueParser) → is_simple (regatta forms) ≡ true

@@ -8,8 +8,9 @@ use Rattle.regatta_tables.specs.EntryLists.{entries_of_text}
 use Rattle.regatta_tables.specs.JournalFiles.{journal_of}
 use Rattle.regatta_office.specs.declared.start_files.TheConstants.{FILE_LIMIT}
 use Rattle.regatta_office.specs.declared.form.Form.{Form}
+use Rattle.regatta_office.specs.declared.form.Form.TheVariants.{Table}
 use Rattle.regatta_office.specs.Starts.{start_of}
-use Rattle.regatta_office.specs.Transcript.{run_text}
+use Rattle.regatta_office.specs.Transcript.{final_text, run_text}
 
 -- a series: the texts of its rules, and the paths of the files that it starts with
 pub record Series : Type 0 where
@@ -20,9 +21,17 @@ pub record Series : Type 0 where
   pub entries : Option (List ℕ)
 
 -- what `replay` is asked for: the series, and the form of the final part
-pub record Asked : Type 0 where
+pub record ReplayAsked : Type 0 where
   pub series : Series
   pub form : Form
+
+-- what `serve` is asked for: the series, the path of the socket, how many seats there are, and
+-- behind how many clients the door closes (0 is no end)
+pub record ServingAsked : Type 0 where
+  pub series : Series
+  pub socket : List ℕ
+  pub clients : ℕ
+  pub sessions : ℕ
 
 -- the entries that a journal file gives: those of some text, or none where no file is named; no
 -- proof knows what a file holds
@@ -37,15 +46,36 @@ AreSailsAt None sails = sails ≡ []
 AreSailsAt (Some path) sails =
     (text : List ℕ) × (length text ≤ FILE_LIMIT) × (entries_of_text text ≡ Ok sails)
 
--- a whole run was written: under the rules that the texts say, from the journal file and then the
--- entry list, and in the form asked for
-pub record IsRunOf (asked : Asked) (given old new : Option (List ℕ)) : Type 0 where
-  pub rules : RulesParts
-  pub read : rules_of_texts asked.series.absent asked.series.scp asked.series.exclude ≡ Ok rules
+-- what a series begins with: the rules that its texts say, and the entries of the journal file and
+-- then of the entry list, of which none is refused
+pub record Begins (series : Series) (rules : RulesParts) (start : Journal) : Type 0 where
+  pub read : rules_of_texts series.absent series.scp series.exclude ≡ Ok rules
   pub journal : Journal
-  pub from_journal : IsJournalAt asked.series.journal journal
+  pub from_journal : IsJournalAt series.journal journal
   pub sails : List (List ℕ)
-  pub from_entries : AreSailsAt asked.series.entries sails
-  pub lawful : is_lawful limits rules (start_of journal sails) ≡ true
-  pub wrote : IfSome given (λ text. Appends old new
-      (run_text rules (start_of journal sails) asked.form text))
+  pub from_entries : AreSailsAt series.entries sails
+  pub both : start ≡ start_of journal sails
+
+-- a whole replay was written: under the rules and from the entries that the series begins with, and
+-- in the form asked for
+pub record IsReplayOf (asked : ReplayAsked) (given old new : Option (List ℕ)) : Type 0 where
+  pub rules : RulesParts
+  pub start : Journal
+  pub begins : Begins asked.series rules start
+  pub lawful : is_lawful limits rules start ≡ true
+  pub wrote : IfSome given (λ text. Appends old new (run_text rules start asked.form text))
+
+-- the table of a lawful journal was written
+pub record PrintsTable (rules : RulesParts) (old new : Option (List ℕ)) : Type 0 where
+  pub journal : Journal
+  pub lawful : is_lawful limits rules journal ≡ true
+  pub wrote : Appends old new (final_text rules Table journal)
+
+-- clients were served under the rules and from the entries that the series begins with, and the
+-- table was written; no type tells what clients did to the journal
+pub record IsServingOf (asked : ServingAsked) (old new : Option (List ℕ)) : Type 0 where
+  pub rules : RulesParts
+  pub start : Journal
+  pub begins : Begins asked.series rules start
+  pub lawful : is_lawful limits rules start ≡ true
+  pub table : PrintsTable rules old new

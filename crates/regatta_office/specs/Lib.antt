@@ -2,6 +2,7 @@ pub mod Asked
 pub mod Coming
 pub mod Complaints
 pub mod Faults
+pub mod Runs
 pub mod Scribes
 pub mod Starts
 pub mod Transcript

@@ -1,14 +1,19 @@
 -- What the words of the program ask for, as `clap` reads them.
 use Rattle.std.specs.Prelude.{◌≡◌, true, List, [], ◌∷◌, Option, Some, None, map, codes}
-use Rattle.std.specs.Prelude.{option_map, if◌then◌else◌}
+use Rattle.std.specs.Prelude.{ℕ, option_map, if◌then◌else◌}
 use Rattle.std.specs.Borrow.{Bor}
 use Rattle.std.specs.Str.{bytes_eq}
+use Rattle.std.specs.Str.Parse.{digits_value, without_leading_plus}
 use Rattle.clap.specs.Words.{App, IsAmong, Row, Rule, Text, fault_of, first_of, new_app, new_rule}
 use Rattle.clap.specs.Words.{subcommand_of, with_rule, with_subcommand}
 use Rattle.clap.specs.declared.builder.value_parser.ValueParser.{ValueParser}
-use Rattle.clap.specs.declared.builder.value_parser.ValueParser.TheVariants.{Names}
+use Rattle.clap.specs.declared.builder.value_parser.ValueParser.TheVariants.{Names, Unsigned}
 use Rattle.clap.specs.declared.error.kind.ErrorKind.TheVariants.{DisplayHelp}
-use Rattle.regatta_office.specs.Asked.{Asked, Series}
+use Rattle.regatta_terms.specs.declared.limits.TheConstants.{MAX_SEATS}
+use Rattle.regatta_office.specs.Asked.{ReplayAsked, Series, ServingAsked}
+use Rattle.regatta_office.specs.declared.options.Asked.{Asked}
+use Rattle.regatta_office.specs.declared.options.Asked.TheVariants.{Replay, Serve}
+use Rattle.regatta_office.specs.declared.options.TheConstants.{MOST_SESSIONS}
 use Rattle.regatta_office.specs.declared.form.Form.{Form}
 use Rattle.regatta_office.specs.declared.form.Form.TheVariants.{Table, Csv, Journal}
 
@@ -21,6 +26,11 @@ option name = record (new_rule name) { long = Some name; value_names = 1 }
 -- the same, with the value that it has where the words don't give one
 abbrev pub option_or : Text → Text → Rule
 option_or name value = record (option name) { defaults = value ∷ [] }
+
+-- an option that takes a number from the least to the most
+abbrev pub number_option : Text → Text → ℕ → ℕ → Rule
+number_option name value least most =
+    record (option_or name value) { parser = Some (Unsigned least most) }
 
 -- the option of the final part, whose words that parser takes
 abbrev pub form_option : ValueParser → Rule
@@ -43,9 +53,21 @@ with_rules app =
 abbrev pub with_start : App → App
 with_start app = with_rule (with_rule app (option (codes "journal"))) (option (codes "entries"))
 
+-- the options of the socket and its clients: the path has to be given, 4 seats are the default,
+-- and no end
+abbrev pub with_seats : App → App
+with_seats app =
+    with_rule (with_rule (with_rule app (record (option (codes "socket")) { required = true }))
+    (number_option (codes "clients") (codes "4") 1 MAX_SEATS))
+    (number_option (codes "sessions") (codes "0") 0 MOST_SESSIONS)
+
+-- the two subcommands
 abbrev pub replay : ValueParser → App
 replay forms =
     with_rule (with_start (with_rules (new_app (codes "replay")))) (form_option forms)
+
+abbrev pub serve : App
+serve = with_seats (with_start (with_rules (new_app (codes "serve"))))
 
 -- the program has no option of its own, and wants a subcommand
 abbrev pub bare_program : App
@@ -54,7 +76,7 @@ bare_program =
     record app { top = record app.top { no_binary_name = true; subcommand_required = true } }
 
 abbrev pub regatta : ValueParser → App
-regatta forms = with_subcommand bare_program (replay forms).top
+regatta forms = with_subcommand (with_subcommand bare_program (replay forms).top) serve.top
 
 -- ---- what words ask for
 
@@ -84,15 +106,37 @@ form_by (Some word) = if bytes_eq word (codes "csv") then Csv
 form_by None = Table
 
 -- what `replay` is asked for, by the values of its options
-abbrev pub asked_with : (Text → Option Text) → Option Asked
-asked_with value = option_map
+abbrev pub replay_with : (Text → Option Text) → Option ReplayAsked
+replay_with value = option_map
     (λ series. record { series = series; form = form_by (value (codes "print")) })
     (series_with value)
+
+-- the number that a text of decimal digits says
+abbrev pub number_by : Option Text → Option ℕ
+number_by = option_map (λ text. digits_value 10 (without_leading_plus text))
+
+-- what `serve` is asked for, by what the words or the defaults give
+abbrev pub serving_by : Option Series → Option Text → Option ℕ → Option ℕ → Option ServingAsked
+serving_by (Some series) (Some socket) (Some clients) (Some sessions) = Some (record {
+  series = series;
+  socket = socket;
+  clients = clients;
+  sessions = sessions;
+})
+serving_by _ _ _ _ = None
+
+-- the same, by the values of its options
+abbrev pub serving_with : (Text → Option Text) → Option ServingAsked
+serving_with value =
+    serving_by (series_with value) (value (codes "socket")) (number_by (value (codes "clients")))
+    (number_by (value (codes "sessions")))
 
 -- what the subcommand asks for, by its name and its options
 abbrev pub asked_by : Option (Text × List Row) → Option Asked
 asked_by (Some (name, rows)) =
-    if bytes_eq name (codes "replay") then asked_with (λ option. first_of option rows) else None
+    let value = λ (option : Text). first_of option rows in
+    if bytes_eq name (codes "replay") then option_map Replay (replay_with value)
+    else if bytes_eq name (codes "serve") then option_map Serve (serving_with value) else None
 asked_by None = None
 
 -- the run that the options of words ask for

@@ -6,12 +6,15 @@ use Rattle.clap.specs.Words.{fault_of}
 use Rattle.clap.specs.declared.builder.value_parser.ValueParser.{ValueParser}
 use Rattle.clap.specs.declared.error.kind.ErrorKind.TheVariants.{MissingSubcommand, UnknownArgument}
 use Rattle.clap.specs.declared.error.kind.ErrorKind.TheVariants.{ArgumentConflict}
+use Rattle.clap.specs.declared.error.kind.ErrorKind.TheVariants.{MissingRequiredArgument}
+use Rattle.clap.specs.declared.error.kind.ErrorKind.TheVariants.{ValueValidation}
 use Rattle.regatta_office.specs.declared.form.Form.TheVariants.{Table, Csv}
 use Rattle.regatta_office.specs.Words.{AskHelp, asked_of, regatta}
+use Rattle.regatta_office.specs.declared.options.Asked.TheVariants.{Replay, Serve}
 
 -- the defaults: A5.2, 20% for a Scoring Penalty, one score excluded from two races on, no start
 -- file, and a table
-pub defaults : (forms : ValueParser) → asked_of forms (codes "replay" ∷ []) ≡ Some (record {
+pub defaults : (forms : ValueParser) → asked_of forms (codes "replay" ∷ []) ≡ Some (Replay (record {
   series = record {
     absent = codes "a52";
     scp = None;
@@ -20,7 +23,7 @@ pub defaults : (forms : ValueParser) → asked_of forms (codes "replay" ∷ []) 
     entries = None;
   };
   form = Table;
-})
+}))
 unfolding clap_on_literals
 defaults forms = refl
 
@@ -28,7 +31,7 @@ defaults forms = refl
 pub each_option : (forms : ValueParser) → asked_of forms
     (codes "replay" ∷ codes "--print=csv" ∷ codes "--absent" ∷ codes "a53" ∷ codes "--scp=3"
     ∷ codes "--exclude" ∷ codes "none" ∷ codes "--journal" ∷ codes "j" ∷ codes "--entries=e" ∷ [])
-    ≡ Some (record {
+    ≡ Some (Replay (record {
       series = record {
         absent = codes "a53";
         scp = Some (codes "3");
@@ -37,9 +40,44 @@ pub each_option : (forms : ValueParser) → asked_of forms
         entries = Some (codes "e");
       };
       form = Csv;
-    })
+    }))
 unfolding clap_on_literals
 each_option forms = refl
+
+-- a serving with its defaults: four seats, and no end
+pub serving_defaults : (forms : ValueParser) → asked_of forms
+    (codes "serve" ∷ codes "--socket" ∷ codes "s" ∷ []) ≡ Some (Serve (record {
+      series = record {
+        absent = codes "a52";
+        scp = None;
+        exclude = codes "2";
+        journal = None;
+        entries = None;
+      };
+      socket = codes "s";
+      clients = 4;
+      sessions = 0;
+    }))
+unfolding clap_on_literals
+serving_defaults forms = refl
+
+-- with options of its own and of the series
+pub serving_options : (forms : ValueParser) → asked_of forms
+    (codes "serve" ∷ codes "--socket=s" ∷ codes "--clients" ∷ codes "16" ∷ codes "--sessions=1000000"
+    ∷ codes "--scp" ∷ codes "3" ∷ codes "--entries" ∷ codes "e" ∷ []) ≡ Some (Serve (record {
+      series = record {
+        absent = codes "a52";
+        scp = Some (codes "3");
+        exclude = codes "2";
+        journal = None;
+        entries = Some (codes "e");
+      };
+      socket = codes "s";
+      clients = 16;
+      sessions = 1000000;
+    }))
+unfolding clap_on_literals
+serving_options forms = refl
 
 -- help, and words that aren't enough
 pub help : (forms : ValueParser) → AskHelp forms (codes "--help" ∷ [])
@@ -65,3 +103,14 @@ pub option_twice : (forms : ValueParser) → fault_of (regatta forms)
     ≡ ArgumentConflict ∷ []
 unfolding clap_on_literals
 option_twice forms = refl
+
+-- so are a serving without a path, and seventeen seats
+pub no_socket : (forms : ValueParser)
+    → fault_of (regatta forms) (codes "serve" ∷ []) ≡ MissingRequiredArgument ∷ []
+unfolding clap_on_literals
+no_socket forms = refl
+
+pub seventeen_seats : (forms : ValueParser) → fault_of (regatta forms)
+    (codes "serve" ∷ codes "--socket=s" ∷ codes "--clients=17" ∷ []) ≡ ValueValidation ∷ []
+unfolding clap_on_literals
+seventeen_seats forms = refl

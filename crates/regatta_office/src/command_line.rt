@@ -3,20 +3,22 @@ ghost use Rattle.std.specs.Prelude.{◌≡◌, ◌≢◌, ◌⊎◌, ℕ, List, 
 ghost use Rattle.std.specs.Io.KnownBytes.{Appends};
 ghost use Rattle.clap.specs.Words.{kind_of};
 ghost use Rattle.clap.specs.declared.builder.value_parser.ValueParser.{ValueParser};
-ghost use Rattle.regatta_office.specs.Asked.{Asked, IsRunOf};
+ghost use Rattle.regatta_office.specs.Asked.{IsReplayOf};
+ghost use Rattle.regatta_office.specs.Runs.{IsRunOf};
 ghost use Rattle.regatta_office.specs.Words.{AskHelp, AskRun, TakesForms};
 
+use crate::clients::serve_series;
 use crate::complaint::Complaint;
-use crate::form::Form;
-use crate::options::{SeriesOptions, options_of};
+use crate::options::{Asked, ReplayOptions, options_of};
 use crate::run::replay;
-use crate::start_files::{journal_at, sails_at};
-use crate::start_list::start_of;
+use crate::series::beginning_of;
 use clap::error::ErrorKind;
 use regatta_streams::{Sink, Source, write_all};
-use regatta_terms::Rules;
 use std::alloc::Global;
 use std::fs::Files;
+use std::net::Net;
+use std::sync::Wait;
+use std::thread::Threads;
 
 /// The status of words that aren't the program's.
 const BAD_WORDS: u8 = 2;
@@ -81,47 +83,68 @@ fn answer_words<W: Sink, E: Sink>(
 }
 
 /// Replays the input: a run of that series, with its final part in that form.
-fn run<H: Files + AllocGlobal, R: Source, W: Sink>(
+fn replay_series<H: Files + AllocGlobal, R: Source, W: Sink>(
     rt: &H,
-    series: &SeriesOptions<'_>,
-    form: Form,
+    options: &ReplayOptions<'_>,
     input: &mut R,
     output: &mut W,
 ) -> Result<(), Complaint>
-    ensures { OnOk result (IsRunOf (record { series = series.now; form = form })
-        (R.remaining input.old) (W.contents output.old) (W.contents output.new)) }
+    ensures { OnOk result (IsReplayOf options.now (R.remaining input.old)
+        (W.contents output.old) (W.contents output.new)) }
 {
-    let rules = Rules::read(series.absent, series.scp, series.exclude)?;
-    let journal = journal_at(rt, series.journal)?;
-    let sails = sails_at(rt, series.entries)?;
-    let start = start_of(rt.alloc(), journal.as_slice(), sails.as_slice())?;
-    replay(rt.alloc(), input, output, &rules, start.as_slice(), form)?;
+    let alloc = rt.alloc();
+    let begin = beginning_of(rt, &options.series)?;
+    let start = begin.start.as_slice();
+    replay(alloc, input, output, &begin.rules, start, options.form)?;
     Ok(())
+}
+
+/// The run that the words ask for.
+fn run<H, R, W>(rt: &H, asked: &Asked<'_>, input: &mut R, output: &mut W) -> Result<(), Complaint>
+where
+    H: Files + AllocGlobal + Threads + Wait + Net + Sync,
+    R: Source,
+    W: Sink,
+    ensures { OnOk result (IsRunOf R.remaining asked.now input.old input.new
+        (W.contents output.old) (W.contents output.new)) }
+{
+    match asked {
+        Asked::Replay(options) => replay_series(rt, options, input, output),
+        Asked::Serve(options) => serve_series(rt, options, output),
+    }
 }
 
 /// The whole program, from the words after its name to its status.
 ///
-/// `replay` answers the lines that the input gives and prints the final table, CSV or journal.
-/// `--absent`, `--scp` and `--exclude` are the series rules (RRS A5.2 and A5.3, 44.3(c), A2.1),
-/// `--journal` and `--entries` name files to start from, `--print` the form of the final part.
+/// `replay` answers the lines that the input gives and prints the final table, CSV or journal;
+/// `serve` answers those of clients at a new Unix socket, side by side, and prints the final table
+/// once the door is closed. `--absent`, `--scp` and `--exclude` are the series rules (RRS A5.2 and
+/// A5.3, 44.3(c), A2.1), `--journal` and `--entries` name files to start from. `--print` is the form
+/// of a replay's final part; `--socket`, `--clients` and `--sessions` are the path of the socket,
+/// how many seats there are, and behind how many clients the door closes.
 ///
 /// The status is 0 once all is written, 1 where a file, the start or the input is at fault, 2
 /// where the words or the rules are, and 3 where a device fails or memory is wanting. All but 0 say
 /// why on `errors`.
-pub fn program<H: Files + AllocGlobal, R: Source, W: Sink, E: Sink>(
+pub fn program<H, R, W, E>(
     rt: &H,
     words: &[&str],
     input: &mut R,
     output: &mut W,
     errors: &mut E,
 ) -> u8
+where
+    H: Files + AllocGlobal + Threads + Wait + Net + Sync,
+    R: Source,
+    W: Sink,
+    E: Sink,
     // The words ask for help, and it is written; or `clap` finds no fault in them, and all is
     // written of the run that they ask for, with the defaults for what they leave out.
     ensures done { result ≡ 0 → (forms : ValueParser) × TakesForms forms
         × ((AskHelp forms (map (λ word. word.now) words.now) × (input.new ≡ input.old)
         × ((text : List ℕ) × Appends (W.contents output.old) (W.contents output.new) text))
-        ⊎ ((asked : Asked) × AskRun forms (map (λ word. word.now) words.now) asked
-        × IsRunOf asked (R.remaining input.old) (W.contents output.old)
+        ⊎ ((asked : _) × AskRun forms (map (λ word. word.now) words.now) asked
+        × IsRunOf R.remaining asked input.old input.new (W.contents output.old)
         (W.contents output.new))) }
 {
     let alloc = rt.alloc();
@@ -129,11 +152,11 @@ pub fn program<H: Files + AllocGlobal, R: Source, W: Sink, E: Sink>(
         Ok(asked) => asked,
         Err(error) => return answer_words(alloc, &error, output, errors),
     };
-    let Some(options) = asked else {
+    let Some(asked) = asked else {
         let _ = write_all(errors, b"error: no command\n");
         return BAD_WORDS;
     };
-    match run(rt, &options.series, options.form, input, output) {
+    match run(rt, &asked, input, output) {
         Ok(()) => 0,
         Err(complaint) => complain(alloc, errors, complaint),
     }

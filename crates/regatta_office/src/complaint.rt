@@ -3,6 +3,9 @@ ghost use Rattle.std.specs.Prelude.{◌≡◌, ◌≢◌};
 ghost use Rattle.regatta_office.specs.Complaints.{status_of};
 
 use crate::run::RunFault;
+use crate::scribe::ScribeFault;
+use regatta_desk::OpenFault;
+use regatta_service::{DoorFault, ServeFault};
 use regatta_streams::ReadFault;
 use regatta_tables::{EntriesFault, JournalFault};
 use regatta_terms::RulesFault;
@@ -28,7 +31,7 @@ pub enum Complaint {
     /// The input or a start file is too long.
     #[error("regatta: input too long")]
     TooLong,
-    /// A file or a stream fails.
+    /// A file, a stream or a socket fails, or a thread or a reader's place isn't given.
     #[error("regatta: device fault")]
     Device,
     /// Memory is wanting.
@@ -121,6 +124,44 @@ impl From<RunFault> for Complaint {
             RunFault::Read | RunFault::Write => Complaint::Device,
             RunFault::InputTooLong => Complaint::TooLong,
             RunFault::NoMemory => Complaint::NoMemory,
+        }
+    }
+}
+
+impl From<OpenFault> for Complaint {
+    fn from(fault: OpenFault) -> Complaint {
+        match fault {
+            OpenFault::Refused { at, refusal } => Complaint::Start {
+                number: refusal.number(),
+                at,
+            },
+            OpenFault::BadSeats | OpenFault::NoReader => Complaint::Device,
+            OpenFault::NoMemory => Complaint::NoMemory,
+        }
+    }
+}
+
+impl From<DoorFault> for Complaint {
+    fn from(_: DoorFault) -> Complaint {
+        Complaint::Device
+    }
+}
+
+impl From<ServeFault> for Complaint {
+    fn from(fault: ServeFault) -> Complaint {
+        match fault {
+            ServeFault::Door | ServeFault::Thread => Complaint::Device,
+            ServeFault::NoMemory => Complaint::NoMemory,
+        }
+    }
+}
+
+/// Of the final part.
+impl From<ScribeFault> for Complaint {
+    fn from(fault: ScribeFault) -> Complaint {
+        match fault {
+            ScribeFault::Write => Complaint::Device,
+            ScribeFault::NoMemory => Complaint::NoMemory,
         }
     }
 }

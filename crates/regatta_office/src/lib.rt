@@ -1,8 +1,9 @@
-//! The race office: it answers the lines of a scorer over any streams, and of seats that share a
-//! desk under a lock and watch without it.
+//! The race office: it answers the lines of a scorer over any streams, and of clients side by side,
+//! whose seats share a desk under a lock and watch without it.
 #![tactic(auto)]
 
 mod answers;
+mod clients;
 mod command_line;
 mod complaint;
 mod final_part;
@@ -10,6 +11,7 @@ mod form;
 mod options;
 mod run;
 mod scribe;
+mod series;
 mod start_files;
 mod start_list;
 
@@ -19,6 +21,9 @@ pub use form::Form;
 pub use regatta_desk::{
     Desk, Next, Office, OfficeName, OpenFault, Opened, Pass, Receipt, Sheet, ShowFault,
     answer_alone,
+};
+pub use regatta_service::{
+    Door, DoorFault, End, Gate, OpenGate, ServeFault, SocketDoor, serve, session,
 };
 pub use regatta_streams::{Device, Failures, Foreign, Sink, Source, StreamFault, Tape, write_all};
 pub use run::{INPUT_LIMIT, RunFault, replay};

@@ -1,23 +1,30 @@
 //! The options of the program.
-ghost use Rattle.std.specs.Prelude.{◌≡◌, false, map, IfOk, IfErr, IfSome};
+ghost use Rattle.std.specs.Prelude.{◌≡◌, false, true, map, IfOk, IfErr, IfSome};
 ghost use Rattle.std.specs.Option.{option_copied};
 ghost use Rattle.clap.specs.Words.{app_of, first_value, found_of, kind_of, rule_of};
 ghost use Rattle.clap.specs.Words.{subcommand_rows_of};
 ghost use Rattle.clap.specs.declared.builder.command.Command.TheViews.{out-Command};
 ghost use Rattle.clap.specs.declared.builder.value_parser.ValueParser.{ValueParser};
-ghost use Rattle.regatta_office.specs.Asked.{Asked};
-ghost use Rattle.regatta_office.specs.Words.{AskHelp, AskRun, TakesForms, asked_by, asked_with};
+ghost use Rattle.regatta_office.specs.Words.{AskHelp, AskRun, TakesForms, asked_by, number_by};
 ghost use Rattle.regatta_office.specs.Words.{form_by, form_option as form_option_of};
+ghost use Rattle.regatta_office.specs.Words.{number_option as number_option_of, replay_with};
+ghost use Rattle.regatta_office.specs.Words.{serve as serve_of, serving_with};
+ghost use Rattle.regatta_office.specs.Words.{with_seats as with_seats_of};
 ghost use Rattle.regatta_office.specs.Words.{option as option_of, option_or as option_or_of};
 ghost use Rattle.regatta_office.specs.Words.{regatta as regatta_of, replay as replay_of};
 ghost use Rattle.regatta_office.specs.Words.{series_with, with_rules as with_rules_of};
 ghost use Rattle.regatta_office.specs.Words.{with_start as with_start_of};
 
 use crate::form::Form;
+use clap::builder::ValueParser;
 use clap::error::ErrorKind;
 use clap::{Arg, ArgMatches, Command, Error};
+use regatta_terms::MAX_SEATS;
 use std::alloc::{AllocError, Global};
 use std::marker::Model;
+
+/// The most clients behind whom serving may be asked to end.
+const MOST_SESSIONS: u64 = 1_000_000;
 
 /// What the run is to print at its end, by the option's word.
 static FORMS: [&str; 3] = ["table", "csv", "journal"];
@@ -55,9 +62,43 @@ pub(crate) struct ReplayOptions<'a> {
 }
 
 impl<'a> Model for ReplayOptions<'a> {
-    ghost Value = { Asked };
+    ghost use Rattle.regatta_office.specs.Asked.{ReplayAsked};
+
+    ghost Value = { ReplayAsked };
 
     ghost view = { λ options. record { series = options.series; form = options.form } };
+}
+
+/// What `regatta serve` is asked for: the series, the path of the socket, how many seats there are,
+/// and behind how many clients the door closes, where 0 is no end.
+#[derive(Drop)]
+pub(crate) struct ServeOptions<'a> {
+    pub(crate) series: SeriesOptions<'a>,
+    pub(crate) socket: &'a str,
+    pub(crate) clients: u8,
+    pub(crate) sessions: u32,
+}
+
+impl<'a> Model for ServeOptions<'a> {
+    ghost use Rattle.regatta_office.specs.Asked.{ServingAsked};
+
+    ghost Value = { ServingAsked };
+
+    ghost view = { λ options. record {
+      series = options.series;
+      socket = options.socket.now;
+      clients = options.clients;
+      sessions = options.sessions;
+    } };
+}
+
+/// What the words ask for.
+#[derive(Drop)]
+pub(crate) enum Asked<'a> {
+    /// That the lines of the input are answered.
+    Replay(ReplayOptions<'a>),
+    /// That clients at a socket are served.
+    Serve(ServeOptions<'a>),
 }
 
 /// What the help says of the program.
@@ -68,6 +109,12 @@ static ABOUT: &str = "Scores one series of races under Appendix A (Low Point) of
 static REPLAY: &str =
     "Reads lines such as ENTER GBR1, FINISH 1 GBR1 and SCORE 1 on standard input, \
     answers each, and prints the results: `regatta replay --help` says what its options mean";
+
+/// What the help says of `serve`.
+static SERVE: &str =
+    "Answers the same lines of clients at a new Unix socket, side by side, and prints the table \
+    once the last has gone. Example: regatta serve --socket race.sock --entries boats.csv, and in \
+    a second terminal nc -U race.sock";
 
 static ABSENT: &str =
     "What boats score that did not start or finish, retired or were disqualified: \
@@ -91,6 +138,17 @@ static PRINT: &str =
     "The final part, which is printed behind the replies: what follows the line BYE \
     where the lines end with QUIT. Example: regatta replay --print csv < lines.txt \
     | sed '1,/^BYE$/d' > results.csv";
+
+static SOCKET: &str = "The path of the socket, which mustn't be there yet; the file stays \
+    behind, so remove it before the next run. Example: --socket race.sock";
+
+static CLIENTS: &str =
+    "How many clients may be served at a time, from 1 to 16; one more is answered \
+    BUSY and turned away. Example: --clients 3";
+
+static SESSIONS: &str = "Behind how many clients serving ends and the table is printed, those \
+    turned away counted, up to 1000000; with 0 it goes on until it is stopped, and prints none. \
+    Example: --sessions 12";
 
 /// An option that takes one value.
 fn option<'a>(alloc: Global, name: &'a str, value: &'a str, help: &'a str) -> Arg<'a>
@@ -124,6 +182,22 @@ fn form_option<'a>(alloc: Global) -> Arg<'a>
     ensures local { result.global ≡ false }
 {
     option_or(alloc, "print", "FORM", "table", PRINT).value_parser(FORMS.as_slice())
+}
+
+/// An option that takes a number from the least to the most, with the one that it has where the
+/// words don't give one.
+fn number_option<'a>(
+    alloc: Global,
+    name: &'a str,
+    default: &'a str,
+    least: u64,
+    most: u64,
+    help: &'a str,
+) -> Arg<'a>
+    ensures rule { rule_of result ≡ number_option_of name.now default.now least most }
+    ensures local { result.global ≡ false }
+{
+    option_or(alloc, name, "NUMBER", default, help).value_parser(ValueParser::unsigned(least, most))
 }
 
 /// Adds the options of the series rules.
@@ -163,6 +237,30 @@ fn replay<'a>(alloc: Global) -> Result<Command<'a>, AllocError>
     Ok(command)
 }
 
+/// Adds the options of the socket and its clients.
+fn with_seats<'a>(alloc: Global, command: Command<'a>) -> Result<Command<'a>, AllocError>
+    ensures app { IfOk result (λ c. app_of c ≡ with_seats_of (app_of command.entry)) }
+    ensures local { IfOk result (λ c. (out-Command c).has_globals
+        ≡ (out-Command command.entry).has_globals) }
+{
+    let socket = option(alloc, "socket", "PATH", SOCKET).required(true);
+    let clients = number_option(alloc, "clients", "4", 1, u64::from(MAX_SEATS), CLIENTS);
+    let sessions = number_option(alloc, "sessions", "0", 0, MOST_SESSIONS, SESSIONS);
+    let command = command.arg(socket)?.arg(clients)?.arg(sessions)?;
+    Ok(command)
+}
+
+/// `serve` with its options.
+fn serve<'a>(alloc: Global) -> Result<Command<'a>, AllocError>
+    ensures app { IfOk result (λ c. app_of c ≡ serve_of) }
+    ensures local { IfOk result (λ c. (out-Command c).has_globals ≡ false) }
+{
+    let command = Command::new(alloc, "serve").about(SERVE);
+    let command = with_start(alloc, with_rules(alloc, command)?)?;
+    let command = with_seats(alloc, command)?;
+    Ok(command)
+}
+
 /// All that the program understands.
 fn regatta<'a>(alloc: Global) -> Result<Command<'a>, AllocError>
     ensures { IfOk result (λ c. (forms : ValueParser) × TakesForms forms
@@ -174,6 +272,7 @@ fn regatta<'a>(alloc: Global) -> Result<Command<'a>, AllocError>
         .subcommand_required(true)
         .bin_name("regatta")?;
     let command = command.subcommand(replay(alloc)?)?;
+    let command = command.subcommand(serve(alloc)?)?;
     Ok(command)
 }
 
@@ -211,8 +310,8 @@ fn series_of<'a>(options: &ArgMatches<'a>) -> Option<SeriesOptions<'a>>
 }
 
 /// What the options of `replay` ask for.
-fn replay_of<'a>(options: &ArgMatches<'a>) -> Option<ReplayOptions<'a>>
-    ensures { result ≡ asked_with (first_value (found_of options.now)) }
+fn replay_asked<'a>(options: &ArgMatches<'a>) -> Option<ReplayOptions<'a>>
+    ensures { result ≡ replay_with (first_value (found_of options.now)) }
 {
     let series = series_of(options)?;
     Some(ReplayOptions {
@@ -221,14 +320,42 @@ fn replay_of<'a>(options: &ArgMatches<'a>) -> Option<ReplayOptions<'a>>
     })
 }
 
+/// The number of an option. `clap` lets no other text pass.
+fn number_of(options: &ArgMatches<'_>, name: &str) -> Option<u32>
+    ensures { IfSome result (λ number.
+        number_by (first_value (found_of options.now) name.now) ≡ Some number) }
+{
+    options.get_str(name)?.parse::<u32>().ok()
+}
+
+/// What the options of `serve` ask for.
+fn serving_asked<'a>(options: &ArgMatches<'a>) -> Option<ServeOptions<'a>>
+    ensures { IfSome result (λ asked.
+        serving_with (first_value (found_of options.now)) ≡ Some asked) }
+{
+    let series = series_of(options)?;
+    let socket = options.get_str("socket")?;
+    let clients = number_of(options, "clients")?;
+    let sessions = number_of(options, "sessions")?;
+    Some(ServeOptions {
+        series,
+        socket,
+        clients: u8::try_from(clients).ok()?,
+        sessions,
+    })
+}
+
 /// What the subcommand asks for, by its name and its options.
-fn asked<'a>(matches: &ArgMatches<'a>) -> Option<ReplayOptions<'a>>
+fn run_asked<'a>(matches: &ArgMatches<'a>) -> Option<Asked<'a>>
     ensures { IfSome result (λ asked. asked_by (subcommand_rows_of matches.now) ≡ Some asked) }
 {
-    let Some(options) = matches.subcommand_matches("replay") else {
-        return None;
-    };
-    replay_of(options)
+    if let Some(options) = matches.subcommand_matches("replay") {
+        let replay = replay_asked(options)?;
+        return Some(Asked::Replay(replay));
+    }
+    let options = matches.subcommand_matches("serve")?;
+    let serving = serving_asked(options)?;
+    Some(Asked::Serve(serving))
 }
 
 /// What the words ask for. `clap` lets no words pass that have no subcommand.
@@ -239,9 +366,9 @@ fn asked<'a>(matches: &ArgMatches<'a>) -> Option<ReplayOptions<'a>>
 pub(crate) fn options_of<'a>(
     alloc: Global,
     words: &'a [&'a str],
-) -> Result<Option<ReplayOptions<'a>>, Error>
-    ensures asked { IfOk result (λ options. (forms : ValueParser) × TakesForms forms
-        × IfSome options (AskRun forms (map (λ word. word.now) words.entry.now))) }
+) -> Result<Option<Asked<'a>>, Error>
+    ensures asked { IfOk result (λ asked. (forms : ValueParser) × TakesForms forms
+        × IfSome asked (AskRun forms (map (λ word. word.now) words.entry.now))) }
     ensures help { IfErr result (λ e. kind_of e ≡ ErrorKind.DisplayHelp →
         (forms : ValueParser) × TakesForms forms
         × AskHelp forms (map (λ word. word.now) words.entry.now)) }
@@ -250,7 +377,7 @@ pub(crate) fn options_of<'a>(
         return Err(Error::from(AllocError));
     };
     match command.try_get_matches_from(words) {
-        Ok(matches) => Ok(asked(&matches)),
+        Ok(matches) => Ok(run_asked(&matches)),
         Err(error) => Err(error),
     }
 }

@@ -104,6 +104,7 @@ impl Door for SocketDoor {
 
         // It closes once as many streams were given as it was bound for, and no sooner.
         ensures closed { (result ≡ Ok None) ↔ (self.old.left ≡ Some 0) }
+        ensures shut { result ≡ Ok None → self.new ≡ self.old }
         ensures given { IfOk result (λ stream. OnSome stream
             (self.new.left ≡ one_fewer self.old.left)) }
         ensures err { OnErr result (self.new.left ≡ self.old.left) }

@@ -1,5 +1,8 @@
 //! Clients served side by side.
 ghost use Rattle.std.specs.Prelude.{◌≡◌, ◌+◌, map, IfOk, OnOk, IsErrOf, IsTrue};
+ghost use Rattle.std.specs.Io.KnownBytes.{Appends};
+ghost use Rattle.regatta_terms.specs.declared.reply.Reply.TheVariants.{Busy};
+ghost use Rattle.regatta_tables.specs.ReplyTexts.{reply_text};
 ghost use Rattle.regatta_service.specs.Faults.{door_failures_in};
 
 use crate::door::Door;
@@ -7,7 +10,7 @@ use crate::gate::Gate;
 use crate::pool::{Lent, Pool};
 use crate::sessions::session;
 use regatta_desk::{Office, OfficeName, Pass};
-use regatta_streams::{Device, write_all};
+use regatta_streams::{Device, Sink, write_all};
 use std::alloc::{AllocError, Global};
 use std::sync::{Mutex, Wait};
 use std::thread;
@@ -31,6 +34,15 @@ pub enum ServeFault {
 /// The reply to a client who finds no seat.
 const BUSY: &[u8] = b"BUSY\n";
 
+/// Tells a client that there is no seat for her. Whether she reads it changes nothing.
+fn turn_away<S: Sink>(stream: &mut S)
+    ensures { S.failures stream.new ≡ S.failures stream.old →
+        Appends (S.contents stream.old) (S.contents stream.new) (reply_text Busy) }
+{
+    let _ = write_all(stream, BUSY);
+}
+
+/// Lets in one client after another, until the door is closed.
 fn accept_all<'s, E: 's, N, H, R, D, G>(
     rt: &'s R,
     alloc: Global,
@@ -57,8 +69,7 @@ where
             return Ok(());
         };
         let Some(mut lent) = pool.lock(&*rt).take() else {
-            // she is turned away, and whether she reads it changes nothing
-            let _ = write_all(&mut stream, BUSY);
+            turn_away(&mut stream);
             continue;
         };
         let started = scope.spawn(move || {
@@ -98,19 +109,16 @@ fn are_seated<N: OfficeName>(passes: &[Pass<N>], seats: &[u8]) -> bool
     passes.iter().map(|p| p.seat()).eq(seats.iter().copied())
 }
 
-/// The passes, once all of these seats are back in the pool.
+/// The passes, once all of these seats are back in the pool. The empty list has room for them.
 fn passes_back<N: OfficeName>(
-    alloc: Global,
     pool: Pool<N>,
+    empty: Vec<Pass<N>>,
     seats: &[u8],
 ) -> Result<Vec<Pass<N>>, ServeFault>
     ensures seats { IfOk result (λ passes. map (λ p. p.seat) passes.items ≡ seats.now) }
     ensures door { door_failures_in result ≡ 0 }
 {
-    let Ok(back) = pool.into_passes(alloc) else {
-        return Err(ServeFault::NoMemory);
-    };
-    let Some(passes) = back else {
+    let Some(passes) = pool.into_passes(empty) else {
         return Err(ServeFault::Thread);
     };
     if !are_seated(&passes, seats) {
@@ -151,6 +159,10 @@ where
     let Ok(seats) = seats_of(alloc, &passes) else {
         return Err(ServeFault::NoMemory);
     };
+    // asked for now, so that nothing is wanting once clients were served
+    let Ok(empty) = Vec::with_capacity(alloc, passes.len()) else {
+        return Err(ServeFault::NoMemory);
+    };
     let Ok(pool) = Pool::new(alloc, passes) else {
         return Err(ServeFault::NoMemory);
     };
@@ -172,5 +184,5 @@ where
     if let Err(fault) = served {
         return Err(fault);
     }
-    passes_back(alloc, pool.into_inner(), &seats)
+    passes_back(pool.into_inner(), empty, &seats)
 }

@@ -49,7 +49,8 @@ fn for_desk(asked: &Result<Line, LineFault>) -> Option<Line>
 }
 
 /// A client at a seat of the office, and what is kept from line to line: the role of the lines to
-/// come, the number of the last line, what came of the line at hand, and the text of a reply.
+/// come, the number of the last line, what came of the line at hand, the text of a reply, and how
+/// the session ended, which is none while it goes on.
 #[derive(Drop)]
 struct Talk<'a, N: OfficeName, H: Wait + Drop, G: Gate> {
     office: &'a Office<N, H>,
@@ -59,12 +60,14 @@ struct Talk<'a, N: OfficeName, H: Wait + Drop, G: Gate> {
     line: u64,
     cutter: Cutter,
     reply: Vec<u8>,
+    ended: Option<End>,
 }
 
 impl<N: OfficeName, H: Wait + Drop, G: Gate> Talk<'_, N, H, G> {
     /// Has the desk answer a line, under its lock.
     fn ask_desk<R: Wait>(&mut self, rt: &R, line: Line) -> Result<(), AllocError>
         requires { is_for_desk line ≡ true }
+        ensures { self.new.ended ≡ self.old.ended }
     {
         let mut desk = self.office.desk(rt);
         desk.answer(rt, self.pass, self.role, line, &mut self.reply)
@@ -76,7 +79,8 @@ impl<N: OfficeName, H: Wait + Drop, G: Gate> Talk<'_, N, H, G> {
         rt: &R,
         asked: Result<Line, LineFault>,
     ) -> Result<Next, AllocError>
-        ensures { IfOk result (λ next. next ≡ next_after asked) }
+        ensures next { IfOk result (λ next. next ≡ next_after asked) }
+        ensures ended { self.new.ended ≡ self.old.ended }
     {
         self.reply.clear();
         make_room(&mut self.reply)?;
@@ -89,51 +93,60 @@ impl<N: OfficeName, H: Wait + Drop, G: Gate> Talk<'_, N, H, G> {
         }
     }
 
-    /// Answers the line at hand. Some where that ends the session.
-    fn end_line<R: Wait, S: Sink>(&mut self, rt: &R, stream: &mut S) -> Option<End>
+    /// Answers the line at hand, which may end the session.
+    fn end_line<R: Wait, S: Sink>(&mut self, rt: &R, stream: &mut S)
+        // No line is answered behind the end.
+        requires { self.old.ended ≡ None }
         ensures failures { S.failures stream.new
-            ≡ S.failures stream.old + failures_so_far result }
+            ≡ S.failures stream.old + failures_so_far self.new.ended }
 
-        // Behind a QUIT it doesn't go on.
-        ensures goes_on { result ≡ None → next_after (line_of self.old.cutter) ≡ Next.Go }
+        // It ends as quit exactly by a QUIT, and behind that it doesn't go on.
+        ensures goes_on { self.new.ended ≡ None → next_after (line_of self.old.cutter) ≡ Next.Go }
+        ensures quit { self.new.ended ≡ Some End.Quit →
+            next_after (line_of self.old.cutter) ≡ Next.End }
 
         // No read is made here, so none ends the session.
-        ensures unread { (result ≢ Some End.Closed) × (result ≢ Some End.ReadFault) }
+        ensures unread { (self.new.ended ≢ Some End.Closed)
+            × (self.new.ended ≢ Some End.ReadFault) }
     {
         self.line = self.line.saturating_add(1);
         if !self.gate.before(self.pass.seat(), self.line) {
-            return Some(End::Stopped);
+            self.ended = Some(End::Stopped);
+            return;
         }
         let asked = read_line(self.cutter.line());
         self.cutter.clear();
         let Ok(next) = self.answer(rt, asked) else {
-            return Some(End::NoMemory);
+            self.ended = Some(End::NoMemory);
+            return;
         };
         if write_all(stream, &self.reply).is_err() {
-            return Some(End::WriteFault);
+            self.ended = Some(End::WriteFault);
+            return;
         }
         self.gate.after(self.pass.seat(), self.line);
         match next {
-            Next::Go => None,
-            Next::End => Some(End::Quit),
+            Next::Go => {}
+            Next::End => self.ended = Some(End::Quit),
         }
     }
 
-    /// Answers the lines that end in these bytes. Some where one of them ends the session.
-    fn take_all<R: Wait, S: Sink>(&mut self, rt: &R, stream: &mut S, piece: &[u8]) -> Option<End>
+    /// Answers the lines that end in these bytes, up to one that ends the session.
+    fn take_all<R: Wait, S: Sink>(&mut self, rt: &R, stream: &mut S, piece: &[u8])
+        requires { self.old.ended ≡ None }
         ensures failures { S.failures stream.new
-            ≡ S.failures stream.old + failures_so_far result }
-        ensures unread { (result ≢ Some End.Closed) × (result ≢ Some End.ReadFault) }
+            ≡ S.failures stream.old + failures_so_far self.new.ended }
+        ensures unread { (self.new.ended ≢ Some End.Closed)
+            × (self.new.ended ≢ Some End.ReadFault) }
     {
         for byte in piece {
             if self.cutter.take(*byte) {
-                let ended = self.end_line(rt, stream);
-                if ended.is_some() {
-                    return ended;
+                self.end_line(rt, stream);
+                if self.ended.is_some() {
+                    return;
                 }
             }
         }
-        None
     }
 }
 
@@ -160,6 +173,7 @@ pub fn session<N: OfficeName, H: Wait + Drop, R: Wait, S: Source + Sink, G: Gate
         line: 0,
         cutter: Cutter::new(),
         reply: Vec::new(alloc),
+        ended: None,
     };
     let mut buffer = [0; PIECE];
     for _ in rt.forever() {
@@ -169,7 +183,8 @@ pub fn session<N: OfficeName, H: Wait + Drop, R: Wait, S: Source + Sink, G: Gate
         if count == 0 {
             return End::Closed;
         }
-        if let Some(end) = talk.take_all(rt, stream, &buffer[..count]) {
+        talk.take_all(rt, stream, &buffer[..count]);
+        if let Some(end) = talk.ended {
             return end;
         }
     }

@@ -1,9 +1,16 @@
 use super::*;
 use regatta_office::program;
+use std::fs::Files;
+use std::net::Net;
+use std::sync::Wait;
+use std::thread::Threads;
 use std::{env, fs};
 
 /// A run of the program over memory: its status, what it wrote, and what it said.
-fn run(rt: &HostRuntime, words: &[&str], text: &str) -> Result<(u8, Tape, Tape), Fail> {
+fn run<R>(rt: &R, words: &[&str], text: &str) -> Result<(u8, Tape, Tape), Fail>
+where
+    R: Files + AllocGlobal + Threads + Wait + Net + Sync,
+{
     let mut input = giving(rt.alloc(), text.as_bytes(), 5)?;
     let mut output = taking(rt.alloc(), 10_000)?;
     let mut errors = taking(rt.alloc(), 10_000)?;
@@ -99,9 +106,14 @@ fn rules_are_refused_by_number(rt: HostRuntime) -> Result<(), Fail> {
 
 #[test]
 fn other_words_are_refused(rt: HostRuntime) -> Result<(), Fail> {
-    let cases: [&[&str]; 8] = [
+    let cases: [&[&str]; 13] = [
         &[],
         &["serve"],
+        &["serve", "--socket", "s", "--clients", "0"],
+        &["serve", "--socket", "s", "--clients", "17"],
+        &["serve", "--socket", "s", "--sessions", "1000001"],
+        &["serve", "--socket", "s", "--print", "csv"],
+        &["replay", "--socket", "s"],
         &["Replay"],
         &["replay", "replay"],
         &["replay", "--print", "pdf"],
@@ -143,6 +155,44 @@ fn help_names_the_options_and_their_rules(rt: HostRuntime) -> Result<(), Fail> {
     let help = std::str::from_utf8(output.written()).unwrap_or("");
     assert!(rt; help.contains("regatta replay --help"));
     assert_eq!(rt; status, 0);
+    Ok(())
+}
+
+#[test]
+fn help_names_the_options_of_serving(rt: HostRuntime) -> Result<(), Fail> {
+    let (status, output, _) = run(&rt, &["serve", "--help"], "ENTER A\n")?;
+    assert_eq!(rt; status, 0);
+    let help = std::str::from_utf8(output.written()).unwrap_or("");
+    for word in [
+        "regatta serve --socket race.sock",
+        "nc -U race.sock",
+        "--clients",
+        "BUSY",
+        "--sessions",
+        "--entries",
+    ] {
+        assert!(rt; help.contains(word), "at {word}");
+    }
+    Ok(())
+}
+
+/// Rules, start and socket are looked at in this order.
+#[test]
+fn serving_says_why_it_stops_short(rt: HostRuntime) -> Result<(), Fail> {
+    let nowhere = "/no/such/folder/race.sock";
+    let cases: [(&[&str], &str, u8); 3] = [
+        (&["--scp", "0"], "regatta: rules fault 1\n", 2),
+        (&["--journal", "/no/such/file"], "regatta: device fault\n", 3),
+        (&[], "regatta: device fault\n", 3),
+    ];
+    for (more, said, wanted) in cases {
+        let mut words = Vec::from_slice(rt.alloc(), &["serve", "--socket", nowhere])?;
+        words.extend_from_slice(more)?;
+        let (status, output, errors) = run(&rt, &words, "ENTER A\n")?;
+        assert_eq!(rt; errors.written(), said.as_bytes());
+        assert_eq!(rt; output.written(), b"".as_slice());
+        assert_eq!(rt; status, wanted);
+    }
     Ok(())
 }
 

@@ -1,7 +1,7 @@
-use Rattle.std.proofs.Common.{◌≡◌, ℕ, List, Bor, Option, Some, IfSome, map, inl, inr, refl, rules}
+use Rattle.std.proofs.Common.{◌≡◌, List, Bor, ℕ, Option, Some, IfSome, map, inl, inr, refl, rules}
 use Rattle.std.proofs.Common.{subst}
-use Rattle.regatta_office.specs.Asked.{Asked, IsRunOf}
 use Rattle.regatta_office.specs.Words.{AskRun}
+use Rattle.regatta_office.specs.declared.options.Asked.{Asked}
 use Rattle.regatta_office.proofs.command_line.program.Goals as goal
 
 -- the words ask for help
@@ -18,17 +18,15 @@ pub returns-in-Ok-run : goal.returns-in-Ok-run
 returns-in-Ok-run g c = record {
   done = λ zero.
       let asks = c.in-Ok.ensures.asked in
-      let same : c.in-Ok.asked ≡ Some c.in-Some.options = search rules in (
+      let same : c.in-Ok.asked ≡ Some c.in-Some.asked = search rules in (
         asks.0,
         asks.1,
         inr (
-          c.in-Some.options,
+          c.in-Some.asked,
           subst (λ (o : Option Asked). IfSome o (AskRun asks.0
               (map {A = Bor (List ℕ)} {B = List ℕ} (λ word. word.now) c.args.words.now))) same
               asks.2,
-          subst (λ (asked : Asked). IsRunOf asked (g.R.Source.remaining c.args.input.now)
-              (g.W.Sink.contents c.args.output.now) (g.W.Sink.contents c.run.new.output))
-              c.options.view_is c.in-Ok-run.ensures,
+          c.in-Ok-run.ensures,
         ),
       );
 }

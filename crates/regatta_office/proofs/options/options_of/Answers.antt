@@ -13,7 +13,7 @@ returns-in-Ok-try_get_matches_from-clause-asked c =
       matched (app_of c.in-Ok.command) app.0
           (map {A = Bor (List ℕ)} {B = List ℕ} (λ word. word.now) c.args.words.now)
           found.matches app.2 found.ensures.matches found.ensures.kinds
-          c.asked.result c.asked.ensures,
+          c.run_asked.result c.run_asked.ensures,
     )
 
 pub returns-in-Err-clause-help : goal.returns-in-Err-clause-help

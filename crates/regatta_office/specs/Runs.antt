@@ -1,0 +1,13 @@
+-- A run that does what the words ask for.
+use Rattle.std.specs.Prelude.{◌≡◌, ℕ, List, Option}
+use Rattle.regatta_office.specs.Asked.{IsReplayOf, IsServingOf}
+use Rattle.regatta_office.specs.declared.options.Asked.{Asked}
+use Rattle.regatta_office.specs.declared.options.Asked.TheVariants.{Replay, Serve}
+
+-- a whole run: a replay of what the input gives, or a serving, which leaves the input alone
+abbrev pub IsRunOf : {R : Type 0} → (R → Option (List ℕ)) → Asked → R → R → Option (List ℕ)
+    → Option (List ℕ) → Type 0
+IsRunOf remaining (Replay asked) before after old new =
+    IsReplayOf asked (remaining before) old new
+IsRunOf remaining (Serve asked) before after old new =
+    (after ≡ before) × IsServingOf asked old new

@@ -1,0 +1,71 @@
+//! A series that is served to clients at a socket.
+ghost use Rattle.std.specs.Prelude.{◌≡◌, OnOk};
+ghost use Rattle.regatta_office.specs.Asked.{IsServingOf, PrintsTable};
+
+use crate::complaint::Complaint;
+use crate::final_part::print_final;
+use crate::form::Form;
+use crate::options::ServeOptions;
+use crate::series::beginning_of;
+use regatta_desk::{Office, OfficeName, Opened};
+use regatta_service::{OpenGate, SocketDoor, serve};
+use regatta_streams::Sink;
+use std::alloc::Global;
+use std::fs::Files;
+use std::marker::Brand;
+use std::net::Net;
+use std::sync::Wait;
+use std::thread::Threads;
+
+/// Serves the clients who come by the socket at the seats of this office. Once the door is closed
+/// and all have gone, prints the table of the office's journal.
+fn serve_office<N, H, R, W>(
+    rt: &R,
+    alloc: Global,
+    opened: Opened<H>,
+    options: &ServeOptions<'_>,
+    output: &mut W,
+) -> Result<(), Complaint>
+where
+    N: OfficeName + Send + Sync,
+    H: Wait + Drop + Send,
+    R: Files + Net + Threads + Wait + Sync,
+    W: Sink,
+    requires history { opened.history ≡ N.history }
+    requires rules { opened.rules ≡ N.rules }
+    requires seats { opened.seats ≡ options.now.clients }
+    ensures { OnOk result (PrintsTable N.rules (W.contents output.old) (W.contents output.new)) }
+{
+    let (office, passes) = opened.split::<N>()?;
+    let mut door = SocketDoor::bind(rt, options.socket, options.sessions)?;
+    serve(rt, alloc, &office, &mut door, passes, &OpenGate)?;
+    let desk = office.desk(rt);
+    print_final(alloc, desk.board(), Form::Table, output)?;
+    Ok(())
+}
+
+/// Serves the series that the options ask for: opens its office, lets in the clients who come by a
+/// new socket, and prints the table at the end.
+///
+/// # Errors
+///
+/// What is at fault of the rules or the start, before anybody is let in; a socket, a thread or a
+/// write that fails; or want of memory.
+pub(crate) fn serve_series<R, W>(
+    rt: &R,
+    options: &ServeOptions<'_>,
+    output: &mut W,
+) -> Result<(), Complaint>
+where
+    R: Files + AllocGlobal + Net + Threads + Wait + Sync,
+    W: Sink,
+    ensures { OnOk result (IsServingOf options.now (W.contents output.old)
+        (W.contents output.new)) }
+{
+    let alloc = rt.alloc();
+    let begin = beginning_of(rt, &options.series)?;
+    let start = begin.start.as_slice();
+    let opened = Office::open(rt, alloc, &begin.rules, options.clients, start)?;
+    serve_office::<Brand, _, _, _>(rt, alloc, opened, options, output)?;
+    Ok(())
+}
