@@ -1,6 +1,7 @@
 -- What contracts see of a desk, and what is true of each whenever its lock is free.
-use Rattle.std.specs.Prelude.{◌≡◌, ℕ, []}
+use Rattle.std.specs.Prelude.{◌≡◌, ℕ, [], ◌∷◌, ◌++◌}
 use Rattle.atomic_table.specs.Seated.{TableId}
+use Rattle.regatta_terms.specs.Entries.{EntryParts}
 use Rattle.regatta_terms.specs.Rules.{RulesParts}
 use Rattle.regatta_scores.specs.Journal.{Journal}
 use Rattle.regatta_board.specs.BoardFacts.{BoardValue}
@@ -13,6 +14,15 @@ pub record DeskValue : Type 0 where
   pub entries : Journal
   pub published : Journal
   pub pending : ℕ
+
+-- the desk once an entry is appended and published
+abbrev pub desk_with : DeskValue → EntryParts → DeskValue
+desk_with desk entry = record {
+  rules = desk.rules;
+  entries = desk.entries ++ entry ∷ [];
+  published = desk.entries ++ entry ∷ [];
+  pending = 0;
+}
 
 -- the publication and the history have just the journal of the board, under these rules, and
 -- nothing is pending

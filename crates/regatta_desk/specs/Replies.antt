@@ -19,7 +19,7 @@ use Rattle.regatta_board.specs.Refusals.{limits, refusal, is_lawful, number_afte
 use Rattle.regatta_tables.specs.ReplyTexts.{reply_text}
 use Rattle.regatta_tables.specs.SheetTexts.{sheet_text}
 use Rattle.regatta_talk.specs.Replies.{ranked, reply_apart, reply_of}
-use Rattle.regatta_desk.specs.Desks.{DeskValue}
+use Rattle.regatta_desk.specs.Desks.{DeskValue, desk_with}
 use Rattle.regatta_desk.specs.Passes.{PassValue, entry_of}
 use Rattle.regatta_desk.specs.declared.answers.Next.{Next}
 use Rattle.regatta_desk.specs.declared.answers.Next.TheVariants.{Go, End}
@@ -43,12 +43,12 @@ is_for_pass (Err fault) = true
 
 -- ---- under the lock
 
--- a command that was run: its entry is in the journal, the pass has learnt it, and its answer is
--- the reply
+-- a command that was run: its entry is in the journal and published, the pass has learnt it, and
+-- its answer is the reply
 pub record Ran (rules : RulesParts) (role : Role) (command : Command) (old new : DeskValue)
     (before after : PassValue) (reply : Reply) : Type 0 where
   pub accepted : refusal limits rules old.entries (entry_of before role command) ≡ None
-  pub journal : new.entries ≡ old.entries ++ entry_of before role command ∷ []
+  pub desk : new ≡ desk_with old (entry_of before role command)
   pub pass : after ≡ record before {
     last = number_after before.last;
     told = before.told ++ new.entries ∷ [];

@@ -1,6 +1,6 @@
 //! What a line is answered, by whoever holds the desk and by a pass alone.
-ghost use Rattle.std.specs.Prelude.{◌≡◌, ◌+◌, ◌≤◌, ◌++◌, true, Ok, IfOk, OnOk, OnErr, vec_len};
-ghost use Rattle.std.specs.Prelude.{vec_capacity};
+ghost use Rattle.std.specs.Prelude.{◌≡◌, ◌+◌, ◌≤◌, ◌++◌, true, Ok, IsOk, IfOk, OnOk, OnErr};
+ghost use Rattle.std.specs.Prelude.{vec_len, vec_capacity};
 ghost use Rattle.regatta_terms.specs.declared.reply.Reply.{Reply as ReplyValue};
 ghost use Rattle.regatta_board.specs.Answers.{rank_of};
 ghost use Rattle.regatta_tables.specs.ReplyTexts.{reply_text};
@@ -55,7 +55,8 @@ impl<N: OfficeName, R: Wait + Drop> Desk<N, R> {
     ///
     /// # Errors
     ///
-    /// Where memory is wanting for the reply. Nothing has changed then.
+    /// Where memory is wanting for the reply, never where there is room for one. Nothing has changed
+    /// then.
     pub fn answer<W: Wait>(
         &mut self,
         rt: &W,
@@ -68,6 +69,7 @@ impl<N: OfficeName, R: Wait + Drop> Desk<N, R> {
         ensures ok { OnOk result ((reply : ReplyValue)
             × DeskReplies N.rules line role self.old self.new pass.old pass.new reply
             × (out.new.items ≡ out.old.items ++ reply_text reply)) }
+        ensures fits { vec_len out.old + REPLY_ROOM ≤ vec_capacity out.old → IsOk result }
         ensures err { OnErr result ((self.new ≡ self.old) × (pass.new ≡ pass.old)
             × (out.new.items ≡ out.old.items)) }
     {
@@ -104,7 +106,8 @@ fn show<N: OfficeName>(pass: &mut Pass<N>, out: &mut Vec<u8>)
 ///
 /// # Errors
 ///
-/// Where memory is wanting for a reply. Nothing has changed then.
+/// Where memory is wanting for a reply, never where there is room for one. Nothing has changed
+/// then.
 pub fn answer_alone<N: OfficeName>(
     pass: &mut Pass<N>,
     role: &mut Role,
@@ -116,6 +119,7 @@ pub fn answer_alone<N: OfficeName>(
         (PassReplies N.rules asked pass.old pass.new out.old.items out.new.items) }
     ensures role { OnOk result (role.new ≡ role_after asked role.old) }
     ensures next { IfOk result (λ next. next ≡ next_after asked) }
+    ensures fits { vec_len out.old + REPLY_ROOM ≤ vec_capacity out.old → IsOk result }
     ensures err { OnErr result ((role.new ≡ role.old) × (pass.new ≡ pass.old)
         × (out.new.items ≡ out.old.items)) }
 {

@@ -1,6 +1,8 @@
 //! Replies, made apart from the doing of what a line asks for.
-ghost use Rattle.std.specs.Prelude.{◌≡◌, ◌++◌, false, OnOk, OnErr};
+ghost use Rattle.std.specs.Prelude.{◌≡◌, ◌+◌, ◌≤◌, ◌++◌, false, IsOk, OnOk, OnErr, vec_len};
+ghost use Rattle.std.specs.Prelude.{vec_capacity};
 ghost use Rattle.regatta_tables.specs.ReplyTexts.{reply_text};
+ghost use Rattle.regatta_tables.specs.declared.replies.TheConstants.{REPLY_ROOM};
 ghost use Rattle.regatta_talk.specs.Replies.{asks_board, ranked as ranked_by, reply_apart};
 ghost use Rattle.regatta_talk.specs.Replies.{reply_of as reply_by, role_after};
 
@@ -33,7 +35,8 @@ pub fn ranked(row: Option<Touched>) -> Reply
 ///
 /// # Errors
 ///
-/// Where memory is wanting for the reply. The role and what is written are then as they were.
+/// Where memory is wanting for the reply, never where there is room for one. The role and what is
+/// written are then as they were.
 pub fn answer_apart(
     role: &mut Role,
     asked: Result<Line, LineFault>,
@@ -42,6 +45,7 @@ pub fn answer_apart(
     requires { asks_board asked ≡ false }
     ensures text { OnOk result (out.new.items ≡ out.old.items ++ reply_text (reply_apart asked)) }
     ensures role { OnOk result (role.new ≡ role_after asked role.old) }
+    ensures fits { vec_len out.old + REPLY_ROOM ≤ vec_capacity out.old → IsOk result }
     ensures err { OnErr result ((role.new ≡ role.old) × (out.new.items ≡ out.old.items)) }
 {
     make_room(out)?;

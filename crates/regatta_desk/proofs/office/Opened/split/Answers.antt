@@ -12,12 +12,12 @@ loop-watcher-preserved g c =
     let passes = c.loop-watcher.passes in
     let added = c.in_ok-push.ensures in
     let taken = c.in-Some.ensures.steps in
-    let place : c.len-in-loop-watcher.result ≡ length passes.items =
+    let index : c.len-in-loop-watcher.result ≡ length passes.items =
     c.len-in-loop-watcher.ensures ∙ passes.ok.0 in
     let last : c.pass_of-pass.result ≡ seated entries (length passes.items) =
     c.pass_of-pass.ensures.pass
     ∙ ap (λ (w : Journal). seated w c.len-in-loop-watcher.result)
-    (ap (λ o. o.entries) c.self.view_is) ∙ ap (seated entries) place in
+    (ap (λ o. o.entries) c.self.view_is) ∙ ap (seated entries) index in
     let rest : length c.loop-watcher.watcher-iterator.rest.items
     ≡ length (c.in-Some.watcher ∷ c.next.new.self.rest.items) = ap length taken.0 in
     record {
