@@ -10,6 +10,7 @@ mod complaints;
 mod faults;
 mod programs;
 mod replays;
+mod scores;
 mod streams;
 mod texts;
 mod weekend;

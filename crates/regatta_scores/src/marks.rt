@@ -49,6 +49,3 @@ pub fn mark(held: &Held, placed: bool) -> Option<Abbrev>
         None => None,
     }
 }
-
-#[cfg(test)]
-mod tests;

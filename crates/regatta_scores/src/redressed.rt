@@ -138,6 +138,3 @@ pub fn averages(alloc: Global, row: &[RowItem]) -> Result<Points, AllocError>
     let found = Vec::from_slice(alloc, &redressed_points(row))?;
     Ok(Items::new(found))
 }
-
-#[cfg(test)]
-mod tests;

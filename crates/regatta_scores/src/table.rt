@@ -99,6 +99,3 @@ pub struct Standing {
     /// One row for each boat entered, in order of rank and then sail.
     pub rows: Rows,
 }
-
-#[cfg(test)]
-mod tests;

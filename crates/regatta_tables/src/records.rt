@@ -1,12 +1,23 @@
 //! The records of a text of comma-separated values.
 
-ghost use Rattle.std.specs.Prelude.{◌≡◌, true, IfOk, IfErr, map};
-ghost use Rattle.csv.specs.Reading.{default_config, records, stops_reader, strip_bom};
+ghost use Rattle.std.specs.Prelude.{◌≡◌, false, true, IfOk, IfErr, map};
+ghost use Rattle.csv.specs.Reading.{builder_config, builder_is_flexible, builder_names_headers};
+ghost use Rattle.csv.specs.Reading.{builder_trim, default_config, records, stops_reader, strip_bom};
 ghost use Rattle.csv.specs.Records.{fields_of};
 ghost use Rattle.regatta_tables.specs.EntryLists.{without_spaces};
 
 use csv::{ByteRecord, ErrorKind, ReaderBuilder};
 use std::alloc::{AllocError, Global};
+
+/// Sets the reader up for records of any lengths, of which none is set apart as a header.
+fn set_up(settings: &mut ReaderBuilder) -> &mut ReaderBuilder
+    ensures config { builder_config result.now ≡ builder_config settings.old }
+    ensures lengths { builder_is_flexible result.now ≡ true }
+    ensures header { builder_names_headers result.now ≡ false }
+    ensures spaces { builder_trim result.now ≡ builder_trim settings.old }
+{
+    settings.has_headers(false).flexible(true)
+}
 
 /// Every record of a text, of any lengths and with no header set apart. A byte order mark at the
 /// very start is dropped. An error is of the device or of memory: neither the lengths of records
@@ -16,10 +27,7 @@ pub(crate) fn records_of(alloc: Global, text: &[u8]) -> Result<Vec<ByteRecord>, 
         map fields_of rows.items ≡ records default_config (strip_bom text.now)) }
     ensures error { IfErr result (λ kind. stops_reader kind ≡ true) }
 {
-    let reader = ReaderBuilder::new()
-        .has_headers(false)
-        .flexible(true)
-        .from_reader(alloc, text);
+    let reader = set_up(&mut ReaderBuilder::new()).from_reader(alloc, text);
     let mut records = Vec::new(alloc);
     for read in reader.into_byte_records() {
         let row = match read {

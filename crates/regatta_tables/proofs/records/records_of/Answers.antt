@@ -13,17 +13,16 @@ pub loop-read-init : goal.loop-read-init
 unfolding Reached
 loop-read-init c =
     let fr = c.from_reader-reader.ensures in
-    let e = c.has_headers.ensures in
-    let f = c.flexible.ensures in
+    let set = c.set_up.ensures in
     let start = c.into_iter-read-iterator.ensures.into_iter_gives ∙ refl in
     let rdr = c.into_byte_records-read-items.ensures.rdr in
     let left = c.into_byte_records-read-items.ensures.left in
     rw (start, rdr, c.new-records.ensures.items) (
-      rw (f, e) at fr.trim ∙ c.new.ensures.trim,
-      inr (inr (rw (f, e) at fr.has_headers, fr.headers)),
+      fr.trim ∙ set.spaces ∙ c.new.ensures.trim,
+      inr (inr (fr.has_headers ∙ set.header, fr.headers)),
       left,
-      rw (f, e) at fr.config ∙ c.new.ensures.config,
-      rw f at fr.flexible,
+      fr.config ∙ set.config ∙ c.new.ensures.config,
+      fr.flexible ∙ set.lengths,
       strip_bom c.args.text.now,
       fr.source,
       (sym fr.state, refl),

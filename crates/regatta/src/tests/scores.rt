@@ -1,0 +1,65 @@
+//! Calls of scoring that no board makes: what they answer is told by their contracts, and here is
+//! shown that they do answer.
+
+use super::*;
+use regatta_scores::{
+    BoatLine, Place, RaceSheet, RowItem, Scored, Work, averages, excluded, race_points, ranks,
+};
+use regatta_terms::Tenths;
+
+fn tenths(points: u32) -> Result<Tenths, &'static str> {
+    Tenths::new(points).ok_or("points")
+}
+
+/// A score without redress.
+fn item(points: u32) -> Result<RowItem, &'static str> {
+    let plain = tenths(points)?;
+    let redress = None;
+    Ok(RowItem { plain, redress })
+}
+
+/// A score that may be excluded.
+fn score(points: u32) -> Result<Scored, &'static str> {
+    let points = tenths(points)?;
+    Ok(Scored { points, dne: false })
+}
+
+#[test]
+fn a_race_that_nobody_sailed_is_scored(rt: HostRuntime) -> Result<(), Fail> {
+    let sheet = RaceSheet::new(rt.alloc(), 2)?;
+    let mut work = Work::new();
+    let points = race_points(rt.alloc(), &sheet, &default_rules(), &mut work)?;
+    let absent = Tenths::new(30).ok_or("points")?;
+    assert_eq!(rt; points.as_slice(), [absent, absent].as_slice());
+    Ok(())
+}
+
+#[test]
+fn a_score_without_redress_stays(rt: HostRuntime) -> Result<(), Fail> {
+    let row = [item(10)?, item(20)?];
+    let points = averages(rt.alloc(), &row)?;
+    assert_eq!(rt; points.as_slice().len(), 2);
+    Ok(())
+}
+
+#[test]
+fn one_of_two_scores_is_excluded(rt: HostRuntime) -> Result<(), Fail> {
+    let scores = [score(10)?, score(20)?];
+    let flags = excluded(rt.alloc(), &scores, &default_rules())?;
+    assert_eq!(rt; flags.as_slice(), [false, true].as_slice());
+    Ok(())
+}
+
+#[test]
+fn a_boat_alone_is_first(rt: HostRuntime) -> Result<(), Fail> {
+    let alloc = rt.alloc();
+    let points = [tenths(10)?, tenths(20)?];
+    let lines = [BoatLine::new(alloc, &points, &[false, true])?];
+    let places = ranks(alloc, &lines)?;
+    let first = Place {
+        rank: 1,
+        tied: false,
+    };
+    assert_eq!(rt; places.as_slice(), [first].as_slice());
+    Ok(())
+}
