@@ -3,10 +3,10 @@ ghost use Rattle.std.specs.Prelude.{◌≡◌};
 use super::*;
 use regatta_board::{Board, standing_of};
 use regatta_office::{
-    Next, Office, OfficeName, Opened, Pass, Receipt, Sheet, ShowFault, answer_alone,
+    Next, Office, OfficeName, OpenFault, Opened, Pass, Receipt, Sheet, ShowFault, answer_alone,
 };
 use regatta_scores::Standing;
-use regatta_tables::{write_journal, write_table};
+use regatta_tables::{read_journal, write_journal, write_table};
 use regatta_terms::{Command, Line, LineFault, MAX_ENTRIES, RaceNo, Refusal, Role, Sail};
 use std::marker::Brand;
 use std::process::Abort;
@@ -78,6 +78,25 @@ fn is_shown<N: OfficeName, R: Abort>(
     let text = journal_of(alloc, &sheet)?;
     assert_eq!(rt; text.as_slice(), journal);
     Some(())
+}
+
+#[test]
+fn offices_open_by_their_seats_and_start(rt: HostRuntime) -> Result<(), Fail> {
+    let rules = default_rules();
+    for seats in [0, 17] {
+        let opened = Office::open(&rt, rt.alloc(), &rules, seats, &[]);
+        assert_eq!(rt; opened.err(), Some(OpenFault::BadSeats));
+    }
+    let start = read_journal(rt.alloc(), b"1 1 JURY ENTER A\n")
+        .ok()
+        .ok_or("a journal")?;
+    let opened = Office::open(&rt, rt.alloc(), &rules, 16, start.as_slice());
+    let refused = OpenFault::Refused {
+        at: 1,
+        refusal: Refusal::NotYours,
+    };
+    assert_eq!(rt; opened.err(), Some(refused));
+    Ok(())
 }
 
 #[test]
