@@ -1,0 +1,506 @@
+ghost use Rattle.std.specs.Prelude.{◌≡◌};
+
+use super::*;
+use regatta_board::{Board, standing_of};
+use regatta_office::{
+    Next, Office, OfficeName, OpenFault, Opened, Pass, Receipt, Sheet, ShowFault, answer_alone,
+};
+use regatta_scores::Standing;
+use regatta_tables::{read_journal, write_journal, write_table};
+use regatta_terms::{Command, Line, LineFault, MAX_ENTRIES, RaceNo, Refusal, Role, Sail};
+use std::marker::Brand;
+use std::process::Abort;
+use std::sync::Wait;
+use std::thread::{Threads, map_vec};
+
+/// The command that enters a boat.
+fn enter(sail: &[u8]) -> Option<Command> {
+    let sail = Sail::read(sail)?;
+    Some(Command::Enter { sail })
+}
+
+/// What a command as scorer is answered through the lock.
+fn run<N: OfficeName, H: Wait + Drop, R: Wait>(
+    rt: &R,
+    office: &Office<N, H>,
+    pass: &mut Pass<N>,
+    command: Command,
+) -> Result<Receipt<N>, Refusal> {
+    let mut desk = office.desk(rt);
+    desk.run(rt, pass, Role::Scorer, command)
+}
+
+/// The receipt for a boat that is entered.
+fn entered<N: OfficeName, H: Wait + Drop, R: Wait>(
+    rt: &R,
+    office: &Office<N, H>,
+    pass: &mut Pass<N>,
+    sail: &[u8],
+) -> Option<Receipt<N>> {
+    run(rt, office, pass, enter(sail)?).ok()
+}
+
+/// An office and the passes of its two seats.
+fn two_seats<N: OfficeName, H: Wait + Drop>(
+    opened: Opened<H>,
+) -> Option<(Office<N, H>, Pass<N>, Pass<N>)>
+    requires history { opened.history ≡ N.history }
+    requires rules { opened.rules ≡ N.rules }
+{
+    let (office, mut passes) = opened.split::<N>().ok()?;
+    let second = passes.pop()?;
+    let first = passes.pop()?;
+    Some((office, first, second))
+}
+
+/// The journal of a sheet, as text.
+fn journal_of(alloc: Global, sheet: &Sheet) -> Option<Vec<u8>> {
+    let mut text = Vec::new(alloc);
+    write_journal(sheet.journal.as_slice(), &mut text).ok()?;
+    Some(text)
+}
+
+/// A standing, as text.
+fn table_of(alloc: Global, standing: &Standing) -> Option<Vec<u8>> {
+    let mut text = Vec::new(alloc);
+    write_table(standing, &mut text).ok()?;
+    Some(text)
+}
+
+/// Asserts that the pass is shown this journal.
+fn is_shown<N: OfficeName, R: Abort>(
+    rt: &R,
+    alloc: Global,
+    pass: &mut Pass<N>,
+    journal: &[u8],
+) -> Option<()> {
+    let sheet = pass.show().ok()?;
+    let text = journal_of(alloc, &sheet)?;
+    assert_eq!(rt; text.as_slice(), journal);
+    Some(())
+}
+
+#[test]
+fn offices_open_by_their_seats_and_start(rt: HostRuntime) -> Result<(), Fail> {
+    let rules = default_rules();
+    for seats in [0, 17] {
+        let opened = Office::open(&rt, rt.alloc(), &rules, seats, &[]);
+        assert_eq!(rt; opened.err(), Some(OpenFault::BadSeats));
+    }
+    let start = read_journal(rt.alloc(), b"1 1 JURY ENTER A\n")
+        .ok()
+        .ok_or("a journal")?;
+    let opened = Office::open(&rt, rt.alloc(), &rules, 16, start.as_slice());
+    let refused = OpenFault::Refused {
+        at: 1,
+        refusal: Refusal::NotYours,
+    };
+    assert_eq!(rt; opened.err(), Some(refused));
+    Ok(())
+}
+
+#[test]
+fn watchers_see_what_they_were_not_told(rt: HostRuntime) -> Result<(), Fail> {
+    let opened = Office::open(&rt, rt.alloc(), &default_rules(), 2, &[]);
+    let opened = opened.ok().ok_or("an office")?;
+    Ok(watch_untold::<Brand, _, _>(&rt, rt.alloc(), opened).ok_or("two seats")?)
+}
+
+#[test]
+fn seats_show_and_tell(rt: HostRuntime) -> Result<(), Fail> {
+    let opened = Office::open(&rt, rt.alloc(), &default_rules(), 2, &[]);
+    let opened = opened.ok().ok_or("an office")?;
+    show_beside_a_guard::<Brand, _, _>(&rt, rt.alloc(), opened).ok_or("two seats")?;
+    let opened = Office::open(&rt, rt.alloc(), &default_rules(), 2, &[]);
+    let opened = opened.ok().ok_or("an office")?;
+    tell::<Brand, _, _>(&rt, rt.alloc(), opened).ok_or("two seats")?;
+    let opened = Office::open(&rt, rt.alloc(), &default_rules(), 1, &[]);
+    let opened = opened.ok().ok_or("an office")?;
+    Ok(talk::<Brand, _, _>(&rt, rt.alloc(), opened).ok_or("a seat")?)
+}
+
+#[test]
+fn threads_share_an_office(rt: HostRuntime) -> Result<(), Fail> {
+    let opened = Office::open(&rt, rt.alloc(), &default_rules(), 2, &[]);
+    let opened = opened.ok().ok_or("an office")?;
+    race::<Brand, _, _>(&rt, rt.alloc(), opened).ok_or("two seats")?;
+    let opened = Office::open(&rt, rt.alloc(), &default_rules(), 2, &[]);
+    let opened = opened.ok().ok_or("an office")?;
+    Ok(show_at_once::<Brand, _, _>(&rt, opened).ok_or("two seats")?)
+}
+
+#[test]
+fn four_write_and_four_watch(rt: HostRuntime) -> Result<(), Fail> {
+    let opened = Office::open(&rt, rt.alloc(), &default_rules(), 8, &[]);
+    let opened = opened.ok().ok_or("an office")?;
+    Ok(fill::<Brand, _, _>(&rt, rt.alloc(), opened).ok_or("eight seats")?)
+}
+
+static ONE: &[u8] = b"1 1 SCORER ENTER A\n";
+
+static TWO: &[u8] = b"1 1 SCORER ENTER A\n1 2 SCORER ENTER B\n";
+
+/// Seat 1 runs two commands, and seat 2, which learns nothing, sees each.
+fn watch_untold<N: OfficeName, H: Wait + Drop, R: Wait + Abort>(
+    rt: &R,
+    alloc: Global,
+    opened: Opened<H>,
+) -> Option<()>
+    requires history { opened.history ≡ N.history }
+    requires rules { opened.rules ≡ N.rules }
+{
+    let (office, mut first, mut second) = two_seats::<N, H>(opened)?;
+    let _ = entered(rt, &office, &mut first, b"A")?;
+    is_shown(rt, alloc, &mut second, ONE)?;
+    let _ = entered(rt, &office, &mut first, b"B")?;
+    is_shown(rt, alloc, &mut second, TWO)
+}
+
+/// Both seats show while the desk is held, seat 2 once it has learnt what seat 1 ran, and the desk
+/// confirms what they have seen.
+fn show_beside_a_guard<N: OfficeName, H: Wait + Drop, R: Wait + Abort>(
+    rt: &R,
+    alloc: Global,
+    opened: Opened<H>,
+) -> Option<()>
+    requires history { opened.history ≡ N.history }
+    requires rules { opened.rules ≡ N.rules }
+{
+    let (office, mut first, mut second) = two_seats::<N, H>(opened)?;
+    let receipt = entered(rt, &office, &mut first, b"A")?;
+    let mut desk = office.desk(rt);
+    is_shown(rt, alloc, &mut first, ONE)?;
+    second.learn(receipt);
+    is_shown(rt, alloc, &mut second, ONE)?;
+    assert!(rt; desk.confirm(&mut first) && desk.confirm(&mut second));
+    Some(())
+}
+
+/// Each seat enters a boat, and learns the other's receipt.
+fn learn_each_other<N: OfficeName, H: Wait + Drop, R: Wait>(
+    rt: &R,
+    office: &Office<N, H>,
+    first: &mut Pass<N>,
+    second: &mut Pass<N>,
+) -> Option<()> {
+    second.learn(entered(rt, office, first, b"A")?);
+    first.learn(entered(rt, office, second, b"B")?);
+    Some(())
+}
+
+/// Asserts that the pass is shown this journal with this table.
+fn is_shown_with<N: OfficeName, R: Abort>(
+    rt: &R,
+    alloc: Global,
+    pass: &mut Pass<N>,
+    journal: &[u8],
+    table: &[u8],
+) -> Option<()> {
+    let sheet = pass.show().ok()?;
+    let text = journal_of(alloc, &sheet)?;
+    assert_eq!(rt; text.as_slice(), journal);
+    let text = table_of(alloc, &sheet.standing)?;
+    assert_eq!(rt; text.as_slice(), table);
+    Some(())
+}
+
+/// Seat 1 is shown what both ran. Once the office is gone nothing is shown.
+fn tell<N: OfficeName, H: Wait + Drop, R: Wait + Abort>(
+    rt: &R,
+    alloc: Global,
+    opened: Opened<H>,
+) -> Option<()>
+    requires history { opened.history ≡ N.history }
+    requires rules { opened.rules ≡ N.rules }
+{
+    let (office, mut first, mut second) = two_seats::<N, H>(opened)?;
+    learn_each_other(rt, &office, &mut first, &mut second)?;
+    let journal = b"1 1 SCORER ENTER A\n2 1 SCORER ENTER B\n";
+    let table = b"TABLE 2 RACES\n1= A 0.0\n1= B 0.0\n";
+    is_shown_with(rt, alloc, &mut first, journal, table)?;
+    drop(office);
+    assert_eq!(rt; first.show().err(), Some(ShowFault::Closed));
+    Some(())
+}
+
+/// Answers a command by the desk, under the lock.
+fn answer_command<N: OfficeName, H: Wait + Drop, R: Wait>(
+    rt: &R,
+    office: &Office<N, H>,
+    pass: &mut Pass<N>,
+    role: Role,
+    command: Command,
+    out: &mut Vec<u8>,
+) -> Option<()> {
+    let mut desk = office.desk(rt);
+    desk.answer(rt, pass, role, Line::Do(command), out).ok()
+}
+
+/// Answers RANK by the desk, under the lock.
+fn answer_rank<N: OfficeName, H: Wait + Drop, R: Wait>(
+    rt: &R,
+    office: &Office<N, H>,
+    pass: &mut Pass<N>,
+    sail: Sail,
+    out: &mut Vec<u8>,
+) -> Option<()> {
+    let mut desk = office.desk(rt);
+    desk.answer(rt, pass, Role::Scorer, Line::Rank(sail), out)
+        .ok()
+}
+
+/// The first lines of a session: the scorer shows, enters a boat and asks for her rank.
+fn first_lines<N: OfficeName, H: Wait + Drop, R: Wait>(
+    rt: &R,
+    office: &Office<N, H>,
+    pass: &mut Pass<N>,
+    role: &mut Role,
+    out: &mut Vec<u8>,
+) -> Option<()> {
+    let _ = answer_alone(pass, role, Ok(Line::Show), out).ok()?;
+    answer_command(rt, office, pass, *role, enter(b"A")?, out)?;
+    answer_rank(rt, office, pass, Sail::read(b"A")?, out)
+}
+
+/// The last lines: the jury may not enter a boat.
+fn last_lines<N: OfficeName, H: Wait + Drop, R: Wait>(
+    rt: &R,
+    office: &Office<N, H>,
+    pass: &mut Pass<N>,
+    role: &mut Role,
+    out: &mut Vec<u8>,
+) -> Option<Next> {
+    let _ = answer_alone(pass, role, Ok(Line::SetRole(Role::Jury)), out).ok()?;
+    let _ = answer_alone(pass, role, Err(LineFault::NoSuchWord), out).ok()?;
+    answer_command(rt, office, pass, *role, enter(b"B")?, out)?;
+    answer_alone(pass, role, Ok(Line::Quit), out).ok()
+}
+
+static REPLIES: &str = "JOURNAL 0\nTABLE 0 RACES\nEND\nOK 1 1 0.0\nRANK 1 0.0\nROLE JURY\nNO 21\n\
+    NO 4\nBYE\n";
+
+/// The lines of a session, and then commands on the same pass.
+fn talk<N: OfficeName, H: Wait + Drop, R: Wait + Abort>(
+    rt: &R,
+    alloc: Global,
+    opened: Opened<H>,
+) -> Option<()>
+    requires history { opened.history ≡ N.history }
+    requires rules { opened.rules ≡ N.rules }
+{
+    let (office, mut passes) = opened.split::<N>().ok()?;
+    let mut pass = passes.pop()?;
+    let mut role = Role::Scorer;
+    let mut out = Vec::new(alloc);
+    first_lines(rt, &office, &mut pass, &mut role, &mut out)?;
+    let next = last_lines(rt, &office, &mut pass, &mut role, &mut out)?;
+    assert_eq!(rt; next, Next::End);
+    assert_eq!(rt; out.as_slice(), REPLIES.as_bytes());
+    run_again(rt, alloc, &office, &mut pass)
+}
+
+/// One command is refused, and another runs with the next number.
+fn run_again<N: OfficeName, H: Wait + Drop, R: Wait + Abort>(
+    rt: &R,
+    alloc: Global,
+    office: &Office<N, H>,
+    pass: &mut Pass<N>,
+) -> Option<()> {
+    let again = run(rt, office, pass, enter(b"A")?);
+    assert_eq!(rt; again.err(), Some(Refusal::AlreadyEntered));
+    let second = entered(rt, office, pass, b"B")?;
+    assert_eq!(rt; (second.place(), pass.last(), pass.seat()), (2, 2, 1));
+    is_shown(rt, alloc, pass, TWO)
+}
+
+/// Enters ten boats, whose sails begin with a letter of the seat, and gives the last number.
+fn enter_ten<N: OfficeName, H: Wait + Drop, R: Wait>(
+    rt: &R,
+    office: &Office<N, H>,
+    mut pass: Pass<N>,
+) -> u32 {
+    let letter = if pass.seat() == 1 { b'A' } else { b'B' };
+    for digit in b'0'..=b'9' {
+        let _ = entered(rt, office, &mut pass, &[letter, digit]);
+    }
+    pass.last()
+}
+
+/// Two threads enter ten boats each: the numbers of each seat rise, and the standing is that of the
+/// journal.
+fn race<N: OfficeName + Send + Sync, H: Wait + Drop + Send, R: Threads + Wait + Abort + Sync>(
+    rt: &R,
+    alloc: Global,
+    opened: Opened<H>,
+) -> Option<()>
+    requires history { opened.history ≡ N.history }
+    requires rules { opened.rules ≡ N.rules }
+{
+    let (office, passes) = opened.split::<N>().ok()?;
+    let shared = &office;
+    let ended = map_vec(rt, passes, &|pass| enter_ten(rt, shared, pass));
+    assert_eq!(rt; ended.ok()?.as_slice(), [10, 10].as_slice());
+    let desk = office.desk(rt);
+    check_board(rt, alloc, desk.board())
+}
+
+/// The seat's last number once it has this entry, which is higher than the last one.
+fn last_after<R: Abort>(rt: &R, entry: &Entry, seat: u8, last: u32) -> u32 {
+    if entry.seat() != seat {
+        return last;
+    }
+    assert!(rt; last < entry.nth());
+    entry.nth()
+}
+
+/// Asserts that the seat's numbers rise from 1 to 10.
+fn check_numbers<R: Abort>(rt: &R, entries: &[Entry], seat: u8) {
+    let mut last = 0;
+    for entry in entries {
+        last = last_after(rt, entry, seat, last);
+    }
+    assert_eq!(rt; last, 10);
+}
+
+/// Asserts that there are twenty entries, ten of each seat, and that the board has their standing.
+fn check_board<R: Abort>(rt: &R, alloc: Global, board: &Board) -> Option<()> {
+    let entries = board.entries();
+    assert_eq!(rt; entries.len(), 20);
+    check_numbers(rt, entries, 1);
+    check_numbers(rt, entries, 2);
+    let standing = board.standing().ok()?;
+    is_replayed(rt, alloc, entries, &standing)
+}
+
+/// Asserts that the standing is what these entries give anew.
+fn is_replayed<R: Abort>(
+    rt: &R,
+    alloc: Global,
+    entries: &[Entry],
+    standing: &Standing,
+) -> Option<()> {
+    let anew = standing_of(alloc, &default_rules(), entries).ok()?;
+    let (table, replayed) = (table_of(alloc, standing)?, table_of(alloc, &anew)?);
+    assert_eq!(rt; table.as_slice(), replayed.as_slice());
+    Some(())
+}
+
+/// Whether each of so many shows is let in.
+fn are_let_in<N: OfficeName>(mut pass: Pass<N>, shows: u32) -> bool {
+    let mut all = true;
+    for _show in 0..shows {
+        all &= pass.show().is_ok();
+    }
+    all
+}
+
+/// Two threads show again and again, and each is let in each time.
+fn show_at_once<N: OfficeName + Send + Sync, H: Wait + Drop, R: Threads + Abort + Sync>(
+    rt: &R,
+    opened: Opened<H>,
+) -> Option<()>
+    requires history { opened.history ≡ N.history }
+    requires rules { opened.rules ≡ N.rules }
+{
+    let (office, passes) = opened.split::<N>().ok()?;
+    let let_in = map_vec(rt, passes, &|pass| are_let_in(pass, 2_000));
+    assert_eq!(rt; let_in.ok()?.as_slice(), [true, true].as_slice());
+    drop(office);
+    Some(())
+}
+
+/// The seats from 1 that write; the others watch.
+const WRITERS: u8 = 4;
+
+/// Runs as many commands as fill a quarter of the journal, and tells the last number: the seat enters
+/// a boat, places her in race 1 and strikes her out again, by turns.
+fn write_a_quarter<N: OfficeName, H: Wait + Drop, R: Wait>(
+    rt: &R,
+    office: &Office<N, H>,
+    pass: &mut Pass<N>,
+) -> Option<usize> {
+    let sail = Sail::read(&[b'A' + pass.seat()])?;
+    let race = RaceNo::new(1)?;
+    let _ = run(rt, office, pass, Command::Enter { sail }).ok()?;
+    for turn in 1..MAX_ENTRIES / usize::from(WRITERS) {
+        let command = if turn % 2 == 1 {
+            Command::Finish { race, sail }
+        } else {
+            Command::Strike { race, sail }
+        };
+        let _ = run(rt, office, pass, command).ok()?;
+    }
+    Some(pass.last() as usize)
+}
+
+/// The next sheet, where its journal begins with that of the last one.
+fn next_sheet<N: OfficeName>(pass: &mut Pass<N>, last: &Option<Sheet>) -> Option<Sheet> {
+    let sheet = pass.show().ok()?;
+    let before = match last {
+        Some(last) => last.journal.as_slice(),
+        None => &[],
+    };
+    sheet
+        .journal
+        .as_slice()
+        .starts_with(before)
+        .then_some(sheet)
+}
+
+/// Shows until the journal is full, and tells how many entries it has then: each sheet goes on from
+/// the one before, and the last has the standing of its journal.
+fn watch_until_full<N: OfficeName, R: Wait + Abort>(
+    rt: &R,
+    alloc: Global,
+    pass: &mut Pass<N>,
+) -> Option<usize> {
+    let mut last = None;
+    for _show in rt.forever() {
+        let sheet = next_sheet(pass, &last)?;
+        let count = sheet.journal.as_slice().len();
+        if count == MAX_ENTRIES {
+            is_replayed(rt, alloc, sheet.journal.as_slice(), &sheet.standing)?;
+            return Some(count);
+        }
+        last = Some(sheet);
+    }
+    None
+}
+
+/// What a seat does in its thread, and how much of the journal it has made or seen.
+fn take_part<N: OfficeName, H: Wait + Drop, R: Wait + Abort>(
+    rt: &R,
+    alloc: Global,
+    office: &Office<N, H>,
+    mut pass: Pass<N>,
+) -> Option<usize> {
+    if pass.seat() <= WRITERS {
+        write_a_quarter(rt, office, &mut pass)
+    } else {
+        watch_until_full(rt, alloc, &mut pass)
+    }
+}
+
+/// Four threads write the whole journal while four others watch.
+fn fill<N: OfficeName + Send + Sync, H: Wait + Drop + Send, R: Threads + Wait + Abort + Sync>(
+    rt: &R,
+    alloc: Global,
+    opened: Opened<H>,
+) -> Option<()>
+    requires history { opened.history ≡ N.history }
+    requires rules { opened.rules ≡ N.rules }
+{
+    let (office, passes) = opened.split::<N>().ok()?;
+    let shared = &office;
+    let ended = map_vec(
+        rt,
+        passes,
+        &|pass| take_part(rt, alloc, shared, pass).unwrap_or(0),
+    );
+    let (made, seen) = (MAX_ENTRIES / 4, MAX_ENTRIES);
+    assert_eq!(rt;
+        ended.ok()?.as_slice(),
+        [made, made, made, made, seen, seen, seen, seen].as_slice()
+    );
+    Some(())
+}
