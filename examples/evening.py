@@ -4,8 +4,8 @@
     examples/evening.py PROGRAM
 
 In evening.talk `NAME> LINE` is a line that the client of that name sends, and `NAME< LINE` one that
-it has to read next. A client comes with its first line, and finds the end of its stream behind BYE
-or BUSY. At last the program has to end with status 0, and to print evening.table.
+it has to read next. A client comes where its name stands first, and finds the end of its stream
+behind BYE or BUSY. At last the program has to end with status 0, and to print evening.table.
 """
 import os
 import socket
