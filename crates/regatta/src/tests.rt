@@ -10,6 +10,7 @@ mod complaints;
 mod faults;
 mod programs;
 mod replays;
+mod sessions;
 mod weekend;
 
 /// The rules where none are stated.
