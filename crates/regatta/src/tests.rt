@@ -12,6 +12,7 @@ mod offices;
 mod programs;
 mod replays;
 mod scores;
+mod sessions;
 mod streams;
 mod texts;
 mod weekend;

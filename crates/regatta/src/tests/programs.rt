@@ -182,7 +182,11 @@ fn serving_says_why_it_stops_short(rt: HostRuntime) -> Result<(), Fail> {
     let nowhere = "/no/such/folder/race.sock";
     let cases: [(&[&str], &str, u8); 3] = [
         (&["--scp", "0"], "regatta: rules fault 1\n", 2),
-        (&["--journal", "/no/such/file"], "regatta: device fault\n", 3),
+        (
+            &["--journal", "/no/such/file"],
+            "regatta: device fault\n",
+            3,
+        ),
         (&[], "regatta: device fault\n", 3),
     ];
     for (more, said, wanted) in cases {

@@ -1,0 +1,5 @@
+use Rattle.regatta.proofs.tests.sessions.the_desk_goes_on_behind_a_session.Given as goal
+
+-- the office that was just opened
+abbrev pub ghosts-go_on : goal.ghosts-go_on
+ghosts-go_on g a = record { history = a.opened.history; rules = a.opened.rules }

@@ -1,0 +1,207 @@
+ghost use Rattle.std.specs.Prelude.{◌≡◌};
+
+use super::*;
+use regatta_office::{End, Gate, Office, OfficeName, OpenGate, Opened, Pass, session};
+use regatta_tables::write_journal;
+use regatta_terms::{Command, Refusal, Role, Sail};
+use std::marker::Brand;
+use std::process::Abort;
+use std::sync::Wait;
+
+/// More bytes than any session here gives or takes.
+const PLENTY: usize = 100_000;
+
+/// The text of the office's journal.
+pub(crate) fn journal_text<N: OfficeName, H: Wait + Drop, R: Wait>(
+    rt: &R,
+    alloc: Global,
+    office: &Office<N, H>,
+) -> Result<Vec<u8>, Fail> {
+    let desk = office.desk(rt);
+    let mut text = Vec::new(alloc);
+    write_journal(desk.board().entries(), &mut text)?;
+    Ok(text)
+}
+
+/// A tape that gives all of this text, in small pieces, and takes whatever comes.
+fn client(alloc: Global, text: &[u8]) -> Result<Tape, Fail> {
+    Ok(Tape::new(alloc, text, 7, PLENTY, PLENTY)?)
+}
+
+/// What sessions on one pass left: how each ended, the pass's last number, and the journal.
+#[derive(Drop)]
+struct Talked {
+    ends: Vec<End>,
+    last: u32,
+    journal: Vec<u8>,
+}
+
+/// One session after another on this pass.
+fn talk<N: OfficeName, H: Wait + Drop, R: Wait, G: Gate>(
+    rt: &R,
+    alloc: Global,
+    office: &Office<N, H>,
+    pass: &mut Pass<N>,
+    tapes: &mut [Tape],
+    gate: &G,
+) -> Result<Vec<End>, Fail> {
+    let mut ends = Vec::new(alloc);
+    for tape in tapes {
+        ends.push(session(rt, alloc, tape, office, pass, gate))?;
+    }
+    Ok(ends)
+}
+
+/// One session after another on the pass of an office's last seat.
+fn talk_at<N: OfficeName, H: Wait + Drop, R: Wait, G: Gate>(
+    rt: &R,
+    alloc: Global,
+    opened: Opened<H>,
+    tapes: &mut [Tape],
+    gate: &G,
+) -> Result<Talked, Fail>
+    requires { (opened.history ≡ N.history) × (opened.rules ≡ N.rules) }
+{
+    let (office, mut passes) = opened.split::<N>()?;
+    let mut pass = passes.pop().ok_or("a pass")?;
+    let ends = talk(rt, alloc, &office, &mut pass, tapes, gate)?;
+    let journal = journal_text(rt, alloc, &office)?;
+    Ok(Talked {
+        ends,
+        last: pass.last(),
+        journal,
+    })
+}
+
+#[test]
+fn two_sessions_on_one_pass(rt: HostRuntime) -> Result<(), Fail> {
+    let opened = Office::open(&rt, rt.alloc(), &default_rules(), 1, &[])?;
+    let mut tapes = [
+        client(rt.alloc(), b"SHOW\r\nENTER A\nRANK A\nROLE JURY\nNOPE\nENT")?,
+        client(rt.alloc(), b"ENTER B\nQUIT\nENTER C\n")?,
+    ];
+    let talked = talk_at::<Brand, _, _, _>(&rt, rt.alloc(), opened, &mut tapes, &OpenGate)?;
+    let written = "JOURNAL 0\nTABLE 0 RACES\nEND\nOK 1 1 0.0\nRANK 1 0.0\nROLE JURY\nNO 21\n";
+    assert_eq!(rt; tapes[0].written(), written.as_bytes());
+    assert_eq!(rt; tapes[1].written(), b"OK 2 1= 0.0\nBYE\n".as_slice());
+    assert_eq!(rt; talked.ends.as_slice(), [End::Closed, End::Quit].as_slice());
+    let journal = b"1 1 SCORER ENTER A\n1 2 SCORER ENTER B\n";
+    assert_eq!(rt; talked.journal.as_slice(), journal.as_slice());
+    Ok(())
+}
+
+#[test]
+fn the_desk_goes_on_behind_a_session(rt: HostRuntime) -> Result<(), Fail> {
+    let opened = Office::open(&rt, rt.alloc(), &default_rules(), 1, &[])?;
+    go_on::<Brand, _, _>(&rt, rt.alloc(), opened)
+}
+
+fn enter(sail: &[u8]) -> Result<Command, Fail> {
+    let sail = Sail::read(sail).ok_or("a sail")?;
+    Ok(Command::Enter { sail })
+}
+
+/// Runs a command by the guard: its place, or the refusal.
+fn place_of<N: OfficeName, H: Wait + Drop, R: Wait>(
+    rt: &R,
+    office: &Office<N, H>,
+    pass: &mut Pass<N>,
+    command: Command,
+) -> Result<u32, Refusal> {
+    let mut desk = office.desk(rt);
+    let receipt = desk.run(rt, pass, Role::Scorer, command)?;
+    Ok(receipt.place())
+}
+
+/// Behind a session the pass runs commands by the guard, and shows what they made.
+fn go_on<N: OfficeName, H: Wait + Drop, R: Wait + Abort>(
+    rt: &R,
+    alloc: Global,
+    opened: Opened<H>,
+) -> Result<(), Fail>
+    requires { (opened.history ≡ N.history) × (opened.rules ≡ N.rules) }
+{
+    let (office, mut passes) = opened.split::<N>()?;
+    let mut pass = passes.pop().ok_or("a pass")?;
+    let mut tapes = [client(alloc, b"ENTER A\nENTER B\nQUIT\n")?];
+    talk(rt, alloc, &office, &mut pass, &mut tapes, &OpenGate)?;
+    let refused = place_of(rt, &office, &mut pass, enter(b"A")?);
+    assert_eq!(rt; refused, Err(Refusal::AlreadyEntered));
+    assert_eq!(rt; place_of(rt, &office, &mut pass, enter(b"C")?), Ok(3));
+    assert_eq!(rt; place_of(rt, &office, &mut pass, enter(b"D")?), Ok(4));
+    let sheet = pass.show().ok().ok_or("a sheet")?;
+    assert_eq!(rt; sheet.journal.as_slice().len(), 4);
+    Ok(())
+}
+
+/// Lines that are too long, bytes that are no text, and at last a line that is just short enough.
+fn foreign_bytes(alloc: Global) -> Result<Vec<u8>, Fail> {
+    let mut text = vec![in alloc; b'X'; 81]?;
+    text.push(b'\n')?;
+    let long = vec![in alloc; b'X'; 5000]?;
+    text.extend_from_slice(&long)?;
+    text.extend_from_slice(b"\n\xff\x00\n\r\nENTER\tA\nSHOW\r\r\nENTER \xc3\xa9\nENTER A")?;
+    let spaces = vec![in alloc; b' '; 73]?;
+    text.extend_from_slice(&spaces)?;
+    text.extend_from_slice(b"\r\n")?;
+    Ok(text)
+}
+
+#[test]
+fn lines_that_cannot_be_read(rt: HostRuntime) -> Result<(), Fail> {
+    let opened = Office::open(&rt, rt.alloc(), &default_rules(), 1, &[])?;
+    let mut tapes = [client(rt.alloc(), &foreign_bytes(rt.alloc())?)?];
+    let talked = talk_at::<Brand, _, _, _>(&rt, rt.alloc(), opened, &mut tapes, &OpenGate)?;
+    let written = "NO 20\nNO 20\nNO 21\nNO 21\nNO 21\nNO 21\nNO 23\nOK 1 1 0.0\n";
+    assert_eq!(rt; tapes[0].written(), written.as_bytes());
+    assert_eq!(rt; talked.ends.as_slice(), [End::Closed].as_slice());
+    Ok(())
+}
+
+/// What was committed stays, and the next session on the pass goes on from there: behind a write
+/// that failed, of the second reply, and behind a read that failed in mid-line.
+#[test]
+fn streams_that_fail(rt: HostRuntime) -> Result<(), Fail> {
+    let opened = Office::open(&rt, rt.alloc(), &default_rules(), 1, &[])?;
+    let mut tapes = [
+        Tape::new(rt.alloc(), b"ENTER A\nENTER B\nENTER C\n", 7, PLENTY, 16)?,
+        client(rt.alloc(), b"ENTER C\n")?,
+        Tape::new(rt.alloc(), b"ENTER D\nENT", 7, 11, PLENTY)?,
+    ];
+    let talked = talk_at::<Brand, _, _, _>(&rt, rt.alloc(), opened, &mut tapes, &OpenGate)?;
+    assert_eq!(rt; tapes[0].written(), b"OK 1 1 0.0\nOK 2 ".as_slice());
+    assert_eq!(rt; tapes[1].written(), b"OK 3 1= 0.0\n".as_slice());
+    assert_eq!(rt; tapes[2].written(), b"OK 4 1= 0.0\n".as_slice());
+    let ends = [End::WriteFault, End::Closed, End::ReadFault];
+    assert_eq!(rt; talked.ends.as_slice(), ends.as_slice());
+    assert_eq!(rt; talked.last, 4);
+    Ok(())
+}
+
+/// Lets the first line of a session through, and no other.
+struct OneLine;
+
+impl Gate for OneLine {
+    fn before(&self, _seat: u8, line: u64) -> bool {
+        line == 1
+    }
+
+    fn after(&self, _seat: u8, _line: u64) {}
+
+    fn ended(&self, _seat: u8, _end: End) {}
+}
+
+/// The line that isn't let through changes nothing.
+#[test]
+fn a_gate_stops_a_session(rt: HostRuntime) -> Result<(), Fail> {
+    let opened = Office::open(&rt, rt.alloc(), &default_rules(), 1, &[])?;
+    let mut tapes = [client(rt.alloc(), b"ENTER A\nENTER B\n")?];
+    let talked = talk_at::<Brand, _, _, _>(&rt, rt.alloc(), opened, &mut tapes, &OneLine)?;
+    assert_eq!(rt; tapes[0].written(), b"OK 1 1 0.0\n".as_slice());
+    assert_eq!(rt; talked.ends.as_slice(), [End::Stopped].as_slice());
+    assert_eq!(rt;
+        (talked.last, talked.journal.as_slice()),
+        (1, b"1 1 SCORER ENTER A\n".as_slice())
+    );
+    Ok(())
+}
