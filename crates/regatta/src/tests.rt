@@ -10,8 +10,10 @@ mod complaints;
 mod faults;
 mod programs;
 mod replays;
+mod serving;
 mod sessions;
 mod weekend;
+mod wires;
 
 /// The rules where none are stated.
 fn default_rules() -> Rules {
