@@ -12,10 +12,12 @@ mod offices;
 mod programs;
 mod replays;
 mod scores;
+mod serving;
 mod sessions;
 mod streams;
 mod texts;
 mod weekend;
+mod wires;
 
 /// The rules where none are stated.
 fn default_rules() -> Rules {

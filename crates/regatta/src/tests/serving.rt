@@ -1,0 +1,235 @@
+ghost use Rattle.std.specs.Prelude.{◌≡◌};
+
+use super::sessions::journal_text;
+use super::wires::{Hold, Wires, count, sent, wire_of};
+use super::*;
+use regatta_office::{
+    Door, Gate, Office, OfficeName, OpenGate, Opened, Pass, ServeFault, SocketDoor, program, serve,
+};
+use std::io::{Read, Write};
+use std::marker::Brand;
+use std::net::Net;
+use std::os::unix::net::UnixStream;
+use std::sync::{Arc, Wait};
+use std::thread::Threads;
+use std::{fs, thread};
+
+/// What serving left: how many passes came back, and the journal.
+#[derive(Drop)]
+struct Served {
+    back: Result<usize, ServeFault>,
+    journal: Vec<u8>,
+}
+
+/// Serves one door after another, each with the passes that came back.
+fn serve_doors<N, H, R, D, G>(
+    rt: &R,
+    alloc: Global,
+    office: &Office<N, H>,
+    passes: Vec<Pass<N>>,
+    doors: &mut [D],
+    gate: &G,
+) -> Result<usize, ServeFault>
+where
+    N: OfficeName + Send + Sync,
+    H: Wait + Drop + Send,
+    R: Threads + Wait + Sync,
+    D: Door,
+    G: Gate + Sync,
+{
+    let mut passes = passes;
+    for door in doors {
+        passes = serve(rt, alloc, office, door, passes, gate)?;
+    }
+    Ok(passes.len())
+}
+
+/// Serves these doors at this office.
+fn serve_at<N, H, R, D, G>(
+    rt: &R,
+    alloc: Global,
+    opened: Opened<H>,
+    doors: &mut [D],
+    gate: &G,
+) -> Result<Served, Fail>
+where
+    N: OfficeName + Send + Sync,
+    H: Wait + Drop + Send,
+    R: Threads + Wait + Sync,
+    D: Door,
+    G: Gate + Sync,
+    requires { (opened.history ≡ N.history) × (opened.rules ≡ N.rules) }
+{
+    let (office, passes) = opened.split::<N>()?;
+    let back = serve_doors(rt, alloc, &office, passes, doors, gate);
+    let journal = journal_text(rt, alloc, &office)?;
+    Ok(Served { back, journal })
+}
+
+/// The first client's line is held back until the second's was answered.
+#[test]
+fn two_clients_side_by_side(rt: HostRuntime) -> Result<(), Fail> {
+    let alloc = rt.alloc();
+    let (second, writes) = (count(alloc)?, count(alloc)?);
+    let (one, first_end) = wire_of(&rt, b"ENTER A\n", false, &writes)?;
+    let (two, second_end) = wire_of(&rt, b"ENTER B\n", false, &writes)?;
+    let mut doors = [Wires::new(vec![in alloc; two, one]?, false)];
+    let gate = Hold::new(Some(Arc::try_clone(&second)?), second);
+    let opened = Office::open(&rt, alloc, &default_rules(), 2, &[])?;
+    let served = serve_at::<Brand, _, _, _, _>(&rt, alloc, opened, &mut doors, &gate)?;
+    assert_eq!(rt;
+        sent(alloc, first_end)?.as_slice(),
+        b"OK 2 1= 0.0\n".as_slice()
+    );
+    assert_eq!(rt;
+        sent(alloc, second_end)?.as_slice(),
+        b"OK 1 1 0.0\n".as_slice()
+    );
+    assert_eq!(rt; (gate.ends(), served.back), (22, Ok(2)));
+    let journal = b"2 1 SCORER ENTER B\n1 1 SCORER ENTER A\n";
+    assert_eq!(rt; served.journal.as_slice(), journal.as_slice());
+    Ok(())
+}
+
+/// The one seat is held until the second client was written to.
+#[test]
+fn a_client_finds_no_seat(rt: HostRuntime) -> Result<(), Fail> {
+    let alloc = rt.alloc();
+    let (first_writes, second_writes) = (count(alloc)?, count(alloc)?);
+    let (one, first_end) = wire_of(&rt, b"ENTER A\n", false, &first_writes)?;
+    let (two, second_end) = wire_of(&rt, b"", false, &second_writes)?;
+    let mut doors = [Wires::new(vec![in alloc; two, one]?, false)];
+    let gate = Hold::new(Some(second_writes), first_writes);
+    let opened = Office::open(&rt, alloc, &default_rules(), 1, &[])?;
+    let served = serve_at::<Brand, _, _, _, _>(&rt, alloc, opened, &mut doors, &gate)?;
+    assert_eq!(rt; sent(alloc, second_end)?.as_slice(), b"BUSY\n".as_slice());
+    assert_eq!(rt;
+        sent(alloc, first_end)?.as_slice(),
+        b"OK 1 1 0.0\n".as_slice()
+    );
+    assert_eq!(rt; (gate.ends(), served.back), (2, Ok(1)));
+    Ok(())
+}
+
+/// The first client's stream fails; the second is served with the pass that came back.
+#[test]
+fn a_pass_serves_again(rt: HostRuntime) -> Result<(), Fail> {
+    let alloc = rt.alloc();
+    let writes = count(alloc)?;
+    let (one, first_end) = wire_of(&rt, b"ENTER A\n", true, &writes)?;
+    let (two, second_end) = wire_of(&rt, b"ENTER B\n", false, &writes)?;
+    let first = Wires::new(vec![in alloc; one]?, false);
+    let second = Wires::new(vec![in alloc; two]?, false);
+    let mut doors = [first, second];
+    let gate = Hold::new(None, writes);
+    let opened = Office::open(&rt, alloc, &default_rules(), 1, &[])?;
+    let served = serve_at::<Brand, _, _, _, _>(&rt, alloc, opened, &mut doors, &gate)?;
+    assert_eq!(rt;
+        sent(alloc, first_end)?.as_slice(),
+        b"OK 1 1 0.0\n".as_slice()
+    );
+    assert_eq!(rt;
+        sent(alloc, second_end)?.as_slice(),
+        b"OK 2 1= 0.0\n".as_slice()
+    );
+    assert_eq!(rt; gate.ends(), 5, "a read fault, and then a close");
+    let journal = b"1 1 SCORER ENTER A\n1 2 SCORER ENTER B\n";
+    assert_eq!(rt; served.journal.as_slice(), journal.as_slice());
+    Ok(())
+}
+
+/// The client who came before is answered, and what was committed stays.
+#[test]
+fn a_door_fails(rt: HostRuntime) -> Result<(), Fail> {
+    let alloc = rt.alloc();
+    let (one, first_end) = wire_of(&rt, b"ENTER A\n", false, &count(alloc)?)?;
+    let mut doors = [Wires::new(vec![in alloc; one]?, true)];
+    let opened = Office::open(&rt, alloc, &default_rules(), 1, &[])?;
+    let served = serve_at::<Brand, _, _, _, _>(&rt, alloc, opened, &mut doors, &OpenGate)?;
+    assert_eq!(rt; served.back, Err(ServeFault::Door));
+    assert_eq!(rt;
+        sent(alloc, first_end)?.as_slice(),
+        b"OK 1 1 0.0\n".as_slice()
+    );
+    assert_eq!(rt;
+        served.journal.as_slice(),
+        b"1 1 SCORER ENTER A\n".as_slice()
+    );
+    Ok(())
+}
+
+/// Where the socket of the test is bound.
+const SOCKET: &str = "regatta_test.socket";
+
+/// What a client at the socket is sent for this text; none where the stream fails.
+fn asked<R: Net>(rt: &R, alloc: Global, text: &[u8]) -> Option<Vec<u8>> {
+    let mut stream = UnixStream::connect(rt, SOCKET).ok()?;
+    stream.write_all(text).ok()?;
+    let mut replies = Vec::new(alloc);
+    stream.read_to_end(&mut replies).ok()?;
+    Some(replies)
+}
+
+/// The client finds her replies and the end of the stream, whatever she sent behind QUIT. The door
+/// was bound for her alone, so who comes then is let in no more.
+#[test]
+fn a_client_at_a_socket(rt: HostRuntime) -> Result<(), Fail> {
+    let alloc = rt.alloc();
+    let _ = fs::remove_file(&rt, SOCKET);
+    let mut text = Vec::from_slice(alloc, b"ENTER A\nQUIT\nENTER B\n")?;
+    let unread = vec![in alloc; b'X'; 2000]?;
+    text.extend_from_slice(&unread)?;
+    let mut doors = [SocketDoor::bind(&rt, SOCKET, 1)?];
+    let opened = Office::open(&rt, alloc, &default_rules(), 1, &[])?;
+    let client = thread::spawn(&rt, move || asked(&rt, alloc, &text))?;
+    let served = serve_at::<Brand, _, _, _, _>(&rt, alloc, opened, &mut doors, &OpenGate)?;
+    let replies = client.join(&rt).ok_or("replies")?;
+    assert_eq!(rt; replies.as_slice(), b"OK 1 1 0.0\nBYE\n".as_slice());
+    assert_eq!(rt; served.back, Ok(1));
+    let late = UnixStream::connect(&rt, SOCKET);
+    let _ = fs::remove_file(&rt, SOCKET);
+    assert!(rt; late.is_err());
+    Ok(())
+}
+
+/// How often a client tries to come before anybody listens.
+const MOST_TRIES: u32 = 10_000_000;
+
+/// What a client at the socket is sent for this text, once she is let in.
+fn asked_at_last<R: Net>(rt: &R, alloc: Global, text: &[u8]) -> Option<Vec<u8>> {
+    for _ in 0..MOST_TRIES {
+        if let Some(replies) = asked(rt, alloc, text) {
+            return Some(replies);
+        }
+    }
+    None
+}
+
+/// The words that serve one client, and stop then.
+const ONE_CLIENT: [&str; 5] = ["serve", "--socket", SOCKET, "--sessions", "1"];
+
+/// One client is served, and the table is printed; where it can't be, that is a device fault, and
+/// so is a path that is there already.
+#[test]
+fn the_program_serves_a_client(rt: HostRuntime) -> Result<(), Fail> {
+    let alloc = rt.alloc();
+    for (room, wanted, said) in [(100, 0, ""), (10, 3, "regatta: device fault\n")] {
+        let _ = fs::remove_file(&rt, SOCKET);
+        let client = thread::spawn(&rt, move || asked_at_last(&rt, alloc, b"ENTER A\nQUIT\n"))?;
+        let (mut input, mut output) = (giving(alloc, b"ENTER B\n", 7)?, taking(alloc, room)?);
+        let mut errors = taking(alloc, 100)?;
+        let status = program(&rt, &ONE_CLIENT, &mut input, &mut output, &mut errors);
+        let replies = client.join(&rt).ok_or("replies")?;
+        assert_eq!(rt; replies.as_slice(), b"OK 1 1 0.0\nBYE\n".as_slice());
+        assert_eq!(rt; status, wanted);
+        assert_eq!(rt; errors.written(), said.as_bytes());
+        assert!(rt; b"TABLE 1 RACES\n1 A 0.0\n".starts_with(output.written()));
+    }
+    let (mut input, mut output) = (giving(alloc, b"", 7)?, taking(alloc, 100)?);
+    let mut errors = taking(alloc, 100)?;
+    let status = program(&rt, &ONE_CLIENT, &mut input, &mut output, &mut errors);
+    assert_eq!(rt; errors.written(), b"regatta: device fault\n".as_slice());
+    assert_eq!(rt; status, 3);
+    let _ = fs::remove_file(&rt, SOCKET);
+    Ok(())
+}

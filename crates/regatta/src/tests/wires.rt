@@ -1,0 +1,198 @@
+//! Clients made beforehand: streams that may fail, a door that gives them, and a gate that holds
+//! one line back.
+ghost use Rattle.std.specs.Prelude.{None};
+
+use super::*;
+use regatta_office::{
+    Device, Door, DoorFault, End, Failures, Foreign, Gate, Sink, Source, StreamFault,
+};
+use std::io::{Read, Write};
+use std::net::{Net, Shutdown};
+use std::os::unix::net::UnixStream;
+use std::sync::atomic::{AtomicU64, Ordering};
+use std::sync::{Arc, Wait};
+
+/// How often a line that is held back is looked at before it is given up.
+const MOST_TURNS: u64 = 500_000_000;
+
+/// A number that threads share.
+pub(crate) type Count = Arc<AtomicU64, Global>;
+
+pub(crate) fn count(alloc: Global) -> Result<Count, Fail> {
+    Ok(Arc::new(alloc, AtomicU64::new(0))?)
+}
+
+/// The office's end of a client. It counts its writes, and may fail where its lines end.
+#[derive(Drop)]
+pub(crate) struct Wire {
+    stream: Foreign<UnixStream>,
+    fails_at_end: bool,
+    writes: Count,
+    failures: Failures,
+}
+
+impl Device for Wire {
+    ghost failures = { λ w. w.failures.count };
+}
+
+impl Source for Wire {
+    ghost remaining = { λ _. None };
+
+    fn read(&mut self, buf: &mut [u8]) -> Result<usize, StreamFault> {
+        match self.stream.read(buf) {
+            Ok(count) if count > 0 || !self.fails_at_end => Ok(count),
+            _ => {
+                self.failures = self.failures.one_more();
+                Err(StreamFault)
+            }
+        }
+    }
+}
+
+impl Sink for Wire {
+    ghost contents = { λ _. None };
+
+    fn write(&mut self, buf: &[u8]) -> Result<usize, StreamFault> {
+        match self.stream.write(buf) {
+            Ok(taken) => {
+                self.writes.fetch_add(1, Ordering::SeqCst);
+                Ok(taken)
+            }
+            Err(_) => {
+                self.failures = self.failures.one_more();
+                Err(StreamFault)
+            }
+        }
+    }
+}
+
+/// The office's end of a client who sends this text and no more, and the client's own end.
+pub(crate) fn wire_of<R: Net>(
+    rt: &R,
+    text: &[u8],
+    fails_at_end: bool,
+    writes: &Count,
+) -> Result<(Wire, UnixStream), Fail> {
+    let (ours, mut theirs) = UnixStream::pair(rt).ok().ok_or("a pair of sockets")?;
+    theirs.write_all(text).ok().ok_or("a write")?;
+    theirs.shutdown(Shutdown::Write).ok().ok_or("an end")?;
+    let wire = Wire {
+        stream: Foreign::new(ours),
+        fails_at_end,
+        writes: Arc::try_clone(writes)?,
+        failures: Failures::none(),
+    };
+    Ok((wire, theirs))
+}
+
+/// What a client was sent.
+pub(crate) fn sent(alloc: Global, mut theirs: UnixStream) -> Result<Vec<u8>, Fail> {
+    let mut text = Vec::new(alloc);
+    theirs.read_to_end(&mut text).ok().ok_or("an end")?;
+    Ok(text)
+}
+
+/// A door that gives these clients, the last of them first, and then closes or fails.
+#[derive(Drop)]
+pub(crate) struct Wires {
+    pub(crate) clients: Vec<Wire>,
+    pub(crate) fails_at_end: bool,
+    failures: Failures,
+}
+
+impl Wires {
+    pub(crate) fn new(clients: Vec<Wire>, fails_at_end: bool) -> Wires {
+        Wires {
+            clients,
+            fails_at_end,
+            failures: Failures::none(),
+        }
+    }
+}
+
+impl Device for Wires {
+    ghost failures = { λ d. d.failures.count };
+}
+
+impl Door for Wires {
+    type Stream = Wire;
+
+    fn next<R: Wait>(&mut self, _rt: &R) -> Result<Option<Wire>, DoorFault> {
+        if let Some(client) = self.clients.pop() {
+            return Ok(Some(client));
+        }
+        if !self.fails_at_end {
+            return Ok(None);
+        }
+        self.failures = self.failures.one_more();
+        Err(DoorFault)
+    }
+}
+
+/// A gate that may hold line 1 of seat 1 until a count isn't 0, and keeps how sessions ended.
+#[derive(Drop)]
+pub(crate) struct Hold {
+    until: Option<Count>,
+    second: Count,
+    ends: AtomicU64,
+}
+
+impl Hold {
+    /// Holds line 1 of seat 1 until the first count isn't 0, where there is one. The second counts
+    /// once line 1 of seat 2 was answered.
+    pub(crate) fn new(until: Option<Count>, second: Count) -> Hold {
+        Hold {
+            until,
+            second,
+            ends: AtomicU64::new(0),
+        }
+    }
+
+    /// How sessions ended: the sum of a digit for each, ten times as much for another seat than 1.
+    pub(crate) fn ends(&self) -> u64 {
+        self.ends.load(Ordering::SeqCst)
+    }
+}
+
+/// How a session ended, as a digit.
+fn digit(end: End) -> u64 {
+    match end {
+        End::Quit => 1,
+        End::Closed => 2,
+        End::ReadFault => 3,
+        End::WriteFault => 4,
+        End::Stopped => 5,
+        End::NoMemory => 6,
+    }
+}
+
+/// Whether the count stops being 0, looked at for so long and no longer.
+fn comes(count: &Count) -> bool {
+    for _ in 0..MOST_TURNS {
+        if count.load(Ordering::SeqCst) != 0 {
+            return true;
+        }
+    }
+    false
+}
+
+impl Gate for Hold {
+    fn before(&self, seat: u8, line: u64) -> bool {
+        match &self.until {
+            Some(until) if seat == 1 && line == 1 => comes(until),
+            _ => true,
+        }
+    }
+
+    fn after(&self, seat: u8, line: u64) {
+        if seat == 2 && line == 1 {
+            self.second.fetch_add(1, Ordering::SeqCst);
+        }
+    }
+
+    fn ended(&self, seat: u8, end: End) {
+        let place = if seat == 1 { 1u64 } else { 10 };
+        self.ends
+            .fetch_add(digit(end).wrapping_mul(place), Ordering::SeqCst);
+    }
+}
