@@ -55,8 +55,8 @@ impl<N: OfficeName, R: Wait + Drop> Desk<N, R> {
     ///
     /// # Errors
     ///
-    /// Where memory is wanting for the reply, never where there is room for one. Nothing has changed
-    /// then.
+    /// Where memory is wanting for the reply, never where there is room for one. Nothing has
+    /// changed then.
     pub fn answer<W: Wait>(
         &mut self,
         rt: &W,

@@ -412,8 +412,8 @@ fn show_at_once<N: OfficeName + Send + Sync, H: Wait + Drop, R: Threads + Abort 
 /// The seats from 1 that write; the others watch.
 const WRITERS: u8 = 4;
 
-/// Runs as many commands as fill a quarter of the journal, and tells the last number: the seat enters
-/// a boat, places her in race 1 and strikes her out again, by turns.
+/// Runs as many commands as fill a quarter of the journal, and tells the last number: the seat
+/// enters a boat, places her in race 1 and strikes her out again, by turns.
 fn write_a_quarter<N: OfficeName, H: Wait + Drop, R: Wait>(
     rt: &R,
     office: &Office<N, H>,
