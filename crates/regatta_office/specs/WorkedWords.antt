@@ -63,8 +63,9 @@ serving_defaults forms = refl
 
 -- with options of its own and of the series
 pub serving_options : (forms : ValueParser) → asked_of forms
-    (codes "serve" ∷ codes "--socket=s" ∷ codes "--clients" ∷ codes "16" ∷ codes "--sessions=1000000"
-    ∷ codes "--scp" ∷ codes "3" ∷ codes "--entries" ∷ codes "e" ∷ []) ≡ Some (Serve (record {
+    (codes "serve" ∷ codes "--socket=s" ∷ codes "--clients" ∷ codes "16"
+    ∷ codes "--sessions=1000000" ∷ codes "--scp" ∷ codes "3" ∷ codes "--entries" ∷ codes "e"
+    ∷ []) ≡ Some (Serve (record {
       series = record {
         absent = codes "a52";
         scp = Some (codes "3");
