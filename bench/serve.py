@@ -57,13 +57,22 @@ class Client:
         self.send(line + b"\n")
         return self.line()
 
+    def show(self):
+        """What SHOW answers, as it comes. Nothing else is asked for before its end."""
+        self.send(b"SHOW\n")
+        text, self.rest = bytearray(self.rest), b""
+        while not text.endswith(b"\nEND\n"):
+            data = self.socket.recv(1 << 20)
+            if not data:
+                break
+            text += data
+        return bytes(text)
+
     def sheet(self):
         """What SHOW answers: the entries of the journal, and the lines of the table."""
-        lines = [self.ask(b"SHOW")]
-        while lines[-1] not in (b"END", None):
-            lines.append(self.line())
+        lines = self.show().split(b"\n")
         count = int(lines[0].removeprefix(b"JOURNAL "))
-        return lines[1:count + 1], lines[count + 1:-1]
+        return lines[1:count + 1], lines[count + 1:-2]
 
     def is_at_end(self):
         """Whether the stream ends here as it should: no byte more, and no reset."""
@@ -88,9 +97,12 @@ class Server:
         self.program = subprocess.Popen(words + ["--sessions", str(sessions)],
                                         stdout=self.out, stderr=self.errors)
         for _ in range(1000):
-            if os.path.exists(self.path):
+            if os.path.exists(self.path) or self.program.poll() is not None:
                 break
             time.sleep(0.01)
+        if self.program.poll() is not None:
+            status, _, errors = self.end()
+            sys.exit(f"{words[0]} ended with status {status}: {errors.decode()}")
 
     def memory(self):
         """The most memory that the program has held so far, in MiB."""
@@ -138,7 +150,7 @@ def watch(path, done, start, results):
     began = time.perf_counter()
     while not done.is_set():
         before = time.perf_counter()
-        client.sheet()
+        client.show()
         waits.append(time.perf_counter() - before)
     results.put(("watcher", began, time.perf_counter(), len(waits), waits))
     client.ask(b"QUIT")
