@@ -12,6 +12,7 @@ mod offices;
 mod programs;
 mod replays;
 mod scores;
+mod season;
 mod serving;
 mod sessions;
 mod streams;

@@ -13,6 +13,7 @@ use Rattle.regatta_scores.specs.Sheet.{Sheet, boats, nothing_held, empty_sheet}
 use Rattle.regatta_scores.specs.RacePoints.{plain, race_of}
 use Rattle.regatta_scores.specs.Ranking.{BoatScores, place}
 use Rattle.regatta_scores.specs.Standing as scores
+pub use Rattle.regatta_scores.specs.Entrants.{no_line}
 use Rattle.regatta_board.specs.declared.outcomes.Outcome.{Outcome}
 use Rattle.regatta_board.specs.Refusals.{limits}
 use Rattle.regatta_board.specs.Outcomes.{line, row, row_by}
@@ -75,10 +76,6 @@ row_of rules sails columns boat =
 abbrev pub rows : RulesParts → List Sail → List (List Outcome) → List Row
 rows rules sails columns =
     scores.sorted_rows (map (row_of rules sails columns) (range_with_len 0 (length sails)))
-
--- what stands where no boat has this number, in the list of lines
-abbrev pub no_line : BoatScores
-no_line = record { points = []; excluded = [] }
 
 -- what stands where no boat has this number, in the list of places
 abbrev pub no_place : Place

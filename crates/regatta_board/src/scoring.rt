@@ -1,5 +1,5 @@
 //! What is kept of the scores: a column for each race, a line and a place for each boat.
-ghost use Rattle.std.specs.Prelude.{◌≡◌, ◌+◌, ◌-◌, ◌<◌, ◌≤◌, ◌^◌, ℕ, [], true, false, length};
+ghost use Rattle.std.specs.Prelude.{◌≡◌, ◌+◌, ◌-◌, ◌<◌, ◌≤◌, ◌^◌, ℕ, true, false, length};
 ghost use Rattle.std.specs.Prelude.{slice_index_or, All, IfOk, OnOk};
 ghost use Rattle.regatta_terms.specs.Rules.{RulesParts};
 ghost use Rattle.regatta_scores.specs.Ranking.{places as places_of};
@@ -8,8 +8,7 @@ ghost use Rattle.regatta_board.specs.Refusals.{limits};
 ghost use Rattle.regatta_board.specs.Revisions.{revised, touches};
 ghost use Rattle.regatta_board.specs.Scoring.{IsScoring, AreNewScores, AreNewColumns};
 ghost use Rattle.regatta_board.specs.Scoring.{AreColumns, TurnsOneColumn, TurnsOnly};
-ghost use Rattle.regatta_board.specs.Scoring.{lines_by, most_remade};
-ghost use Rattle.regatta_board.specs.Scoring.{with_columns, lines_after, places_after, with_scores};
+ghost use Rattle.regatta_board.specs.Scoring.{lines_by, most_remade, with_columns, with_scores};
 ghost use Rattle.regatta_board.specs.Scoring.{touched_at};
 ghost use Rattle.regatta_board.specs.Table.{no_line, no_outcome, IsKept};
 ghost use Rattle.regatta_board.specs.Table.{outcomes as outcomes_of, lines as lines_of};

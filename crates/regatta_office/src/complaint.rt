@@ -31,7 +31,7 @@ pub enum Complaint {
     /// The input or a start file is too long.
     #[error("regatta: input too long")]
     TooLong,
-    /// A file, a stream or a socket fails, or a thread or a reader's place isn't given.
+    /// A file, a stream or a socket fails, or a thread or a reader isn't given.
     #[error("regatta: device fault")]
     Device,
     /// Memory is wanting.

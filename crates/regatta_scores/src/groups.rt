@@ -1,5 +1,5 @@
 //! A finishing order as one list of boats, and where each group of it ends (RRS A3, A7).
-ghost use Rattle.std.specs.Prelude.{◌≡◌, ◌<◌, ◌++◌, ◌∷◌, [], length, nat_eq, slice_index_or, true};
+ghost use Rattle.std.specs.Prelude.{◌≡◌, ◌<◌, ◌++◌, ◌∷◌, [], length, nat_eq, slice_index_or};
 ghost use Rattle.std.specs.Prelude.{IsTrue, ◌↔◌, IfOk, OnOk};
 ghost use Rattle.regatta_scores.specs.Order.{stands_in};
 ghost use Rattle.regatta_scores.specs.Groups.{begin, cut, Rises};

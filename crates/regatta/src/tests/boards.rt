@@ -1,7 +1,7 @@
 use super::*;
-use regatta_board::{Board, standing_of};
+use regatta_board::{Board, ReplayFault, next_entry, standing_of};
 use regatta_tables::write_table;
-use regatta_terms::{Refusal, read_entry};
+use regatta_terms::{Answer, Code, Command, RaceNo, Refusal, Role, Sail, Touched, read_entry};
 
 /// A and B tie for first, and C is third. Then A is disqualified.
 static DISQUALIFIED: [&str; 8] = [
@@ -80,6 +80,12 @@ fn board_of(alloc: Global, entries: &[Entry]) -> Result<Board, Fail> {
         board.apply(*entry).map_err(|_| "an accepted entry")?;
     }
     Ok(board)
+}
+
+/// The sail of a boat.
+fn sail(text: &str) -> Result<Sail, Fail> {
+    let sail = Sail::read(text.as_bytes()).ok_or("a sail")?;
+    Ok(sail)
 }
 
 /// The rules that exclude no score.
@@ -169,5 +175,74 @@ fn one_boat_is_first_before_any_race(rt: HostRuntime) -> Result<(), Fail> {
     assert_eq!(rt; row.sail.text(), "A");
     assert_eq!(rt; (row.rank, row.tied, row.net), (1, false, 0));
     assert!(rt; row.cells.as_slice().is_empty());
+    Ok(())
+}
+
+/// What is told of A while she is tied for first (RRS A7).
+const TIED: Touched = Touched {
+    rank: 1,
+    tied: true,
+    net: 15,
+};
+
+/// What is told of her once she is disqualified (RRS A5.2).
+const LAST: Touched = Touched {
+    rank: 3,
+    tied: false,
+    net: 40,
+};
+
+#[test]
+fn a_board_tells_what_it_took(rt: HostRuntime) -> Result<(), Fail> {
+    let entries = entries_of(rt.alloc(), &DISQUALIFIED[..7])?;
+    let board = board_of(rt.alloc(), &entries)?;
+    assert_eq!(rt; board.rank(sail("A")?), Some(TIED));
+    assert_eq!(rt; board.rank(sail("D")?), None);
+    assert_eq!(rt; board.rules(), &default_rules());
+    assert_eq!(rt; board.len(), 7);
+    assert_eq!(rt; (board.last_of(1), board.last_of(2)), (7, 0));
+    Ok(())
+}
+
+/// The place of a prepared command, which holds this entry.
+fn prepared(board: &Board, entry: Entry) -> Option<u32> {
+    let staged = board.prepare(entry).ok()?;
+    (*staged.entry() == entry).then_some(staged.place())
+}
+
+/// Prepares an entry and commits it.
+fn committed(board: &mut Board, entry: Entry) -> Option<Answer> {
+    let staged = board.prepare(entry).ok()?;
+    Some(board.commit(staged))
+}
+
+#[test]
+fn a_prepared_command_is_committed(rt: HostRuntime) -> Result<(), Fail> {
+    let entries = entries_of(rt.alloc(), &DISQUALIFIED[..7])?;
+    let mut board = board_of(rt.alloc(), &entries)?;
+    let race = RaceNo::new(1).ok_or("a race")?;
+    let (sail, code) = (sail("A")?, Code::Dsq);
+    let entry = next_entry(2, 0, Role::Jury, Command::Mark { race, sail, code });
+    let place = prepared(&board, entry).ok_or("an accepted entry")?;
+    assert_eq!(rt; place, 8);
+    let touched = Some(LAST);
+    let answer = Answer { place, touched };
+    assert_eq!(rt; committed(&mut board, entry), Some(answer));
+    assert_eq!(rt; board.rank(sail), touched);
+    Ok(())
+}
+
+#[test]
+fn entries_are_replayed(rt: HostRuntime) -> Result<(), Fail> {
+    let (alloc, rules) = (rt.alloc(), no_exclusions());
+    let entries = entries_of(alloc, &["1 1 SCORER ENTER A", "2 1 JURY REDRESS 1 A 7.5"])?;
+    let board = regatta_board::replayed(alloc, &rules, &entries)
+        .ok()
+        .ok_or("a lawful journal")?;
+    assert_eq!(rt; (board.last_of(1), board.last_of(2)), (1, 1));
+    let twice = entries_of(alloc, &["1 1 SCORER ENTER A", "1 1 SCORER ENTER A"])?;
+    let refusal = Refusal::OldNumber { last: 1 };
+    let fault = standing_of(alloc, &rules, &twice).err();
+    assert_eq!(rt; fault, Some(ReplayFault::Refused { at: 2, refusal }));
     Ok(())
 }

@@ -1,5 +1,5 @@
 use super::*;
-use regatta_office::Complaint;
+use regatta_office::{Complaint, DoorFault, OpenFault, ServeFault};
 use regatta_streams::ReadFault;
 use regatta_tables::{EntriesFault, JournalFault};
 use regatta_terms::{LineFault, Refusal, RulesFault};
@@ -87,5 +87,23 @@ fn faults_have_their_complaints(rt: HostRuntime) -> Result<(), Fail> {
         Complaint::NoMemory
     );
     assert_eq!(rt; Complaint::from(ErrorKind::NotFound), Complaint::Device);
+    Ok(())
+}
+
+#[test]
+fn faults_of_serving_have_their_complaints(rt: HostRuntime) -> Result<(), Fail> {
+    let refused = OpenFault::Refused {
+        at: 2,
+        refusal: Refusal::AlreadyEntered,
+    };
+    let start = Complaint::Start { number: 6, at: 2 };
+    assert_eq!(rt; Complaint::from(refused), start);
+    assert_eq!(rt; Complaint::from(OpenFault::BadSeats), Complaint::Device);
+    assert_eq!(rt; Complaint::from(OpenFault::NoReader), Complaint::Device);
+    assert_eq!(rt; Complaint::from(OpenFault::NoMemory), Complaint::NoMemory);
+    assert_eq!(rt; Complaint::from(DoorFault), Complaint::Device);
+    assert_eq!(rt; Complaint::from(ServeFault::Door), Complaint::Device);
+    assert_eq!(rt; Complaint::from(ServeFault::Thread), Complaint::Device);
+    assert_eq!(rt; Complaint::from(ServeFault::NoMemory), Complaint::NoMemory);
     Ok(())
 }

@@ -204,6 +204,17 @@ fn is_shown_with<N: OfficeName, R: Abort>(
     Some(())
 }
 
+/// Asserts that nothing is shown, and that SHOW is answered so.
+fn is_closed<N: OfficeName, R: Abort>(rt: &R, alloc: Global, pass: &mut Pass<N>) -> Option<()> {
+    assert_eq!(rt; pass.show().err(), Some(ShowFault::Closed));
+    let mut role = Role::Scorer;
+    let mut out = Vec::new(alloc);
+    let next = answer_alone(pass, &mut role, Ok(Line::Show), &mut out).ok()?;
+    assert_eq!(rt; next, Next::Go);
+    assert_eq!(rt; out.as_slice(), b"CLOSED\n".as_slice());
+    Some(())
+}
+
 /// Seat 1 is shown what both ran. Once the office is gone nothing is shown.
 fn tell<N: OfficeName, H: Wait + Drop, R: Wait + Abort>(
     rt: &R,
@@ -219,8 +230,7 @@ fn tell<N: OfficeName, H: Wait + Drop, R: Wait + Abort>(
     let table = b"TABLE 2 RACES\n1= A 0.0\n1= B 0.0\n";
     is_shown_with(rt, alloc, &mut first, journal, table)?;
     drop(office);
-    assert_eq!(rt; first.show().err(), Some(ShowFault::Closed));
-    Some(())
+    is_closed(rt, alloc, &mut first)
 }
 
 /// Answers a command by the desk, under the lock.

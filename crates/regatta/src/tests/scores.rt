@@ -38,7 +38,14 @@ fn a_race_that_nobody_sailed_is_scored(rt: HostRuntime) -> Result<(), Fail> {
 fn a_score_without_redress_stays(rt: HostRuntime) -> Result<(), Fail> {
     let row = [item(10)?, item(20)?];
     let points = averages(rt.alloc(), &row)?;
-    assert_eq!(rt; points.as_slice().len(), 2);
+    assert_eq!(rt; points.as_slice(), [tenths(10)?, tenths(20)?].as_slice());
+    Ok(())
+}
+
+#[test]
+fn no_race_gives_no_points(rt: HostRuntime) -> Result<(), Fail> {
+    let points = averages(rt.alloc(), &[])?;
+    assert!(rt; points.as_slice().is_empty());
     Ok(())
 }
 

@@ -18,16 +18,16 @@ invariant_of-result g c =
       last = None;
     } = ap (λ p. p.published) c.in_ok-watchers.ensures.same ∙ c.in-Ok-open.ensures.published
     ∙ c.in-Ok-first_copy.ensures.copy in
-    let kept : c.first_copy-2.new.history ≡ c.in-Ok.history =
+    let unchanged : c.first_copy-2.new.history ≡ c.in-Ok.history =
     c.in-Ok-first_copy-2.ensures.same ∙ c.in-Ok-first_copy.ensures.same in
     let start : c.in_ok-board.board.entries ≡ c.args.start.now =
     ap (λ b. b.entries) c.in_ok-board.ensures.board in (
       record {
         list = ap (λ v. v.entries) shown;
         under = ap (λ v. v.rules) shown;
-        noted = ap (λ v. v.history) shown ∙ ap (λ h. h.history) (sym kept);
+        noted = ap (λ v. v.history) shown ∙ ap (λ h. h.history) (sym unchanged);
         idle = ap (λ p. p.pending) c.in_ok-watchers.ensures.same ∙ c.in-Ok-open.ensures.pending;
-        known_whole = ap (λ h. h.journal) kept ∙ c.in-Ok.ensures ∙ sym start;
+        known_whole = ap (λ h. h.journal) unchanged ∙ c.in-Ok.ensures ∙ sym start;
         named = refl;
         board_rules = refl;
       },

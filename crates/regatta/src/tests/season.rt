@@ -2,11 +2,9 @@
 //! season runs whole, and in a time that a test has.
 ghost use Rattle.std.specs.Prelude.{◌≤◌};
 
-use crate::{Board, next_entry};
-use regatta_terms::{
-    Absent, Code, Command, PenaltyKind, RaceNo, Redress, Refusal, Role, Rules, Sail,
-};
-use std::test::Fail;
+use super::*;
+use regatta_board::{Board, next_entry};
+use regatta_terms::{Code, Command, PenaltyKind, RaceNo, Redress, Refusal, Role, Sail};
 
 /// How many boats finish in each race.
 const FINISHERS: u8 = 94;
