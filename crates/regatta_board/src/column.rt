@@ -98,7 +98,7 @@ pub(crate) fn made_column(
 pub enum NewColumns {
     /// None: it names a race that doesn't count.
     Same,
-    /// That of one race.
+    /// That of one race: empty where it doesn't count any more.
     One { race: RaceNo, column: Column },
     /// Those of all races that count.
     All { columns: Vec<Column> },
