@@ -1,6 +1,6 @@
 -- What the board keeps of the scores, after one more command.
 use Rattle.std.proofs.Common.{◌≡◌, ◌≢◌, ℕ, ◌+◌, ◌-◌, ◌<◌, Bool, true, false, List, [], ◌∷◌, ◌++◌}
-use Rattle.std.proofs.Common.{refl, ap, ◌∙◌, sym, arith, length, map, get_or, nat_eq}
+use Rattle.std.proofs.Common.{refl, ap, ◌∙◌, sym, arith, length, map, get_or, nat_eq, cond}
 use Rattle.std.specs.List.{range_with_len}
 use Rattle.std.proofs.Math.ListN.{set}
 use Rattle.std.proofs.lemmas.List.{get_or-set_other, get_or-set_same, get_or_push}
@@ -13,7 +13,7 @@ use Rattle.regatta_scores.specs.Sheet.{Sheet, empty_sheet}
 use Rattle.regatta_board.specs.declared.outcomes.Outcome.{Outcome}
 use Rattle.regatta_board.specs.Outcomes.{line}
 use Rattle.regatta_board.specs.Table.{Kept, column, columns, races, outcomes, no_outcome}
-use Rattle.regatta_board.specs.Scoring.{AreColumns}
+use Rattle.regatta_board.specs.Scoring.{AreColumns, column_at}
 use Rattle.regatta_board.proofs.Untouched.{map_passed}
 
 -- by whether two numbers are one
@@ -24,6 +24,17 @@ one_or_other {P} k r one other = by (nat_eq k r) refl
     by true e = one (eqb-true k r e)
     by false e = other (eqb-false k r e)
 
+-- the column of a race that counts, and of one that doesn't
+pub counted_at : (rules : RulesParts) (kept : Kept) (k : ℕ) → get_or kept.counts k false ≡ true
+    → column_at rules kept k ≡ column rules (get_or kept.sheets k (empty_sheet 0))
+counted_at rules kept k e =
+    ap (λ b. cond b (column rules (get_or kept.sheets k (empty_sheet 0))) []) e
+
+pub uncounted_at : (rules : RulesParts) (kept : Kept) (k : ℕ) → get_or kept.counts k false ≡ false
+    → column_at rules kept k ≡ []
+uncounted_at rules kept k e =
+    ap (λ b. cond b (column rules (get_or kept.sheets k (empty_sheet 0))) []) e
+
 module _ (rules : RulesParts) (kept : Kept) (found : List (List Outcome))
     (are : AreColumns rules kept found) where
   -- the columns of the races that count are those that their sheets make
@@ -33,19 +44,20 @@ module _ (rules : RulesParts) (kept : Kept) (found : List (List Outcome))
       map_passed (λ race. get_or kept.counts (race - 1) false)
       (λ race. get_or found (race - 1) [])
       (λ race. column rules (get_or kept.sheets (race - 1) (empty_sheet 0)))
-      (λ race counts. are (race - 1) counts) (range_with_len 1 MAX_RACES)
+      (λ race counts. are (race - 1) ∙ counted_at rules kept (race - 1) counts)
+      (range_with_len 1 MAX_RACES)
 
   -- one more sheet of a race that doesn't count
   pub uncounted_sheet : (r : ℕ) (sheet : Sheet) → get_or kept.counts r false ≡ false
       → AreColumns rules (record kept { sheets = set kept.sheets r sheet }) found
-  uncounted_sheet r sheet none k counts =
-      one_or_other k r
-      (λ e. let no_way : true ≡ false =
-      sym counts ∙ ap (λ n. get_or kept.counts n false) e ∙ none in
-      absurd (cc))
-      (λ apart. are k counts
-      ∙ ap (column rules) (sym (get_or-set_other kept.sheets r k sheet (empty_sheet 0)
-      apart)))
+  uncounted_sheet r sheet none k = are k
+      ∙ one_or_other k r
+      (λ e. let off : get_or kept.counts k false ≡ false =
+      ap (λ n. get_or kept.counts n false) e ∙ none in
+      uncounted_at rules kept k off
+      ∙ sym (uncounted_at rules (record kept { sheets = set kept.sheets r sheet }) k off))
+      (λ apart. ap (λ s. cond (get_or kept.counts k false) (column rules s) [])
+      (sym (get_or-set_other kept.sheets r k sheet (empty_sheet 0) apart)))
 
 -- a boat for whom the one new column says what the old one said keeps her line
 pub line_stays : (rules : RulesParts) (counts : List Bool) (found : List (List Outcome)) (r b : ℕ)
@@ -71,21 +83,17 @@ line_stays rules counts found r b new same h = ap (line rules) (each (races coun
 -- one more column, of the next race
 pub columns_pushed : (rules : RulesParts) (kept : Kept) (i : ℕ) (found new : List (List Outcome))
     (next : List Outcome) → new ≡ found ++ next ∷ [] → length found ≡ i
-    → ((k : ℕ) → k < i → get_or kept.counts k false ≡ true
-    → get_or found k [] ≡ column rules (get_or kept.sheets k (empty_sheet 0)))
-    → (get_or kept.counts ((i + 1) - 1) false ≡ true
-    → next ≡ column rules (get_or kept.sheets ((i + 1) - 1) (empty_sheet 0)))
-    → (k : ℕ) → k < i + 1 → get_or kept.counts k false ≡ true
-    → get_or new k [] ≡ column rules (get_or kept.sheets k (empty_sheet 0))
-columns_pushed rules kept i found new next e long are is k h counts =
+    → ((k : ℕ) → k < i → get_or found k [] ≡ column_at rules kept k)
+    → next ≡ column_at rules kept ((i + 1) - 1)
+    → (k : ℕ) → k < i + 1 → get_or new k [] ≡ column_at rules kept k
+columns_pushed rules kept i found new next e long are is k h =
     one_or_other k i
     (λ at. let back : (i + 1) - 1 ≡ k = omega (arith, at) in
-    let hers : get_or kept.counts k false ≡ true
-    → next ≡ column rules (get_or kept.sheets k (empty_sheet 0)) = rw back at is in
-    ap (λ xs. get_or xs k []) e ∙ get_or_push found next [] k (long ∙ sym at) ∙ hers counts)
+    ap (λ xs. get_or xs k []) e ∙ get_or_push found next [] k (long ∙ sym at) ∙ is
+    ∙ ap (column_at rules kept) back)
     (λ apart. ap (λ xs. get_or xs k []) e
     ∙ get_or_append_left found (next ∷ []) [] k (below k i (length found) h apart long)
-    ∙ are k (below k i i h apart refl) counts)
+    ∙ are k (below k i i h apart refl))
   where
     below : (k i n : ℕ) → k < i + 1 → k ≢ i → n ≡ i → k < n
     below k i n h apart e = omega (arith, h, apart, e)

@@ -30,7 +30,7 @@ use Rattle.regatta_board.proofs.Lengths.{long_points}
 use Rattle.regatta_board.proofs.LedgerLemmas.{sheet_long}
 use Rattle.regatta_board.proofs.Lines.{line_at, lines_long}
 use Rattle.regatta_board.proofs.Numbers.{all_passed, in_range}
-use Rattle.regatta_board.proofs.Scored.{columns_found, line_stays, uncounted_sheet}
+use Rattle.regatta_board.proofs.Scored.{columns_found, counted_at, line_stays, uncounted_sheet}
 use Rattle.regatta_board.proofs.Untouched.{untouched_columns}
 
 -- the columns of the races that count have an outcome for each boat
@@ -72,7 +72,8 @@ pub column_even : (rules : RulesParts) (kept : Kept) → IsKept kept
     → get_or kept.counts (race - 1) false ≡ true
     → length (get_or found (race - 1) []) ≡ length kept.sails
 column_even rules kept is found are race within counts =
-    ap length (are (race - 1) counts) ∙ column_long rules (sheet_in kept race)
+    ap length (are (race - 1) ∙ counted_at rules kept (race - 1) counts)
+    ∙ column_long rules (sheet_in kept race)
     ∙ sheet_long kept is race within
 
 pub lines_by_long : (rules : RulesParts) (kept : Kept) → length (lines_by rules kept)

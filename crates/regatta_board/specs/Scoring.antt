@@ -22,18 +22,23 @@ use Rattle.regatta_board.specs.Revisions.{revised}
 use Rattle.regatta_board.specs.Table.{Kept, column, columns, races, lines as lines_of}
 use Rattle.regatta_board.specs.Table.{no_line, no_place}
 
--- for each race of a series a column, which says something only where the race counts; for each
+-- for each race of a series a column, which says nothing where the race doesn't count; for each
 -- boat her line (RRS A2.1) and her place (RRS A8)
 pub record Scoring : Type 0 where
   pub columns : List (List Outcome)
   pub lines : List BoatScores
   pub places : List Place
 
--- the column of each race that counts says what its sheet makes of each boat
+-- what the column at an index says: what the race's sheet makes of each boat where the race counts,
+-- and nothing where it doesn't
+abbrev pub column_at : RulesParts → Kept → ℕ → List Outcome
+column_at rules kept k =
+    if slice_index_or kept.counts k false
+    then column rules (slice_index_or kept.sheets k (empty_sheet 0)) else []
+
+-- each column is what it should be
 abbrev pub AreColumns : RulesParts → Kept → List (List Outcome) → Type 0
-AreColumns rules kept columns =
-    (k : ℕ) → slice_index_or kept.counts k false ≡ true
-    → slice_index_or columns k [] ≡ column rules (slice_index_or kept.sheets k (empty_sheet 0))
+AreColumns rules kept columns = (k : ℕ) → slice_index_or columns k [] ≡ column_at rules kept k
 
 -- the columns once the new ones have replaced the old ones
 abbrev pub with_columns : List (List Outcome) → NewColumns → List (List Outcome)

@@ -7,7 +7,7 @@ ghost use Rattle.regatta_board.specs.declared.outcomes.Outcome.{Outcome};
 ghost use Rattle.regatta_board.specs.Refusals.{limits};
 ghost use Rattle.regatta_board.specs.Revisions.{revised, touches};
 ghost use Rattle.regatta_board.specs.Scoring.{AreColumns, AreNewColumns, TurnsOneColumn};
-ghost use Rattle.regatta_board.specs.Scoring.{with_columns, most_remade};
+ghost use Rattle.regatta_board.specs.Scoring.{column_at, with_columns, most_remade};
 ghost use Rattle.regatta_board.specs.Table.{no_outcome, IsKept, column as column_of};
 ghost use Rattle.regatta_board.specs.Table.{races as races_of};
 
@@ -98,7 +98,7 @@ pub(crate) fn made_column(
 pub enum NewColumns {
     /// None: it names a race that doesn't count.
     Same,
-    /// That of one race.
+    /// That of one race: empty where it doesn't count any more.
     One { race: RaceNo, column: Column },
     /// Those of all races that count.
     All { columns: Vec<Column> },
@@ -115,10 +115,7 @@ fn column_if_scored(
     requires kept { IsKept draft.now }
     requires race { IsRace race }
     requires work { work.old + 1 < 2 ^ 32 }
-    ensures value { IfOk result (λ column.
-        slice_index_or draft.now.counts (race - 1) false ≡ true
-        → column ≡ column_of rules.now
-        (slice_index_or draft.now.sheets (race - 1) (empty_sheet 0))) }
+    ensures value { IfOk result (λ column. column ≡ column_at rules.now draft.now (race - 1)) }
     ensures counted { OnOk result (work.new ≡ work.old
         + (if slice_index_or draft.now.counts (race - 1) false then 1 else 0)) }
     ensures few { OnOk result (work.new ≤ work.old + 1) }
@@ -169,6 +166,17 @@ fn one_column(
     Ok(NewColumns::One { race, column })
 }
 
+/// The column of one race that doesn't count any more.
+fn no_column(alloc: Global, race: RaceNo) -> NewColumns
+    ensures { (old : List (List Outcome)) →
+        with_columns old result ≡ slice_set old (race - 1) [] }
+{
+    NewColumns::One {
+        race,
+        column: Column::empty(alloc),
+    }
+}
+
 /// The columns that a revision of what the standing is made from makes anew: at most one, but of
 /// all races that count for one more boat.
 pub(crate) fn new_columns(
@@ -201,7 +209,7 @@ pub(crate) fn new_columns(
         Revision::Counts { race, counts: true } => {
             one_column(alloc, *race, kept.sheet(*race), rules, work)
         }
-        Revision::Counts { .. } => Ok(NewColumns::Same),
+        Revision::Counts { race, .. } => Ok(no_column(alloc, *race)),
     }
 }
 

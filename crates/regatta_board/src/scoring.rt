@@ -87,7 +87,7 @@ fn line_after(
     ensures value { result ≡ line_of rules.now (outcomes_of columns.now boat) }
 {
     if new == old {
-        return BoatLine::of(line.points(), line.excluded());
+        return line.copy();
     }
     boat_line(columns, boat, rules)
 }
