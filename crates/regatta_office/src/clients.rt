@@ -1,5 +1,6 @@
 //! A series that is served to clients at a socket.
-ghost use Rattle.std.specs.Prelude.{◌≡◌, OnOk};
+ghost use Rattle.std.specs.Prelude.{◌≡◌, IfOk, OnOk};
+ghost use Rattle.regatta_service.specs.Doors.{streams_asked};
 ghost use Rattle.regatta_office.specs.Asked.{IsServingOf, PrintsTable};
 
 use crate::complaint::Complaint;
@@ -8,7 +9,7 @@ use crate::form::Form;
 use crate::options::ServeOptions;
 use crate::series::beginning_of;
 use regatta_desk::{Office, OfficeName, Opened};
-use regatta_service::{OpenGate, SocketDoor, serve};
+use regatta_service::{DoorFault, OpenGate, SocketDoor, serve};
 use regatta_streams::Sink;
 use std::alloc::Global;
 use std::fs::Files;
@@ -16,6 +17,14 @@ use std::marker::Brand;
 use std::net::Net;
 use std::sync::Wait;
 use std::thread::Threads;
+
+/// The door that the options ask for.
+fn door_of<R: Files + Net>(rt: &R, options: &ServeOptions<'_>) -> Result<SocketDoor, DoorFault>
+    ensures { IfOk result (λ door. door.left ≡ streams_asked options.now.sessions) }
+{
+    let door = SocketDoor::bind(rt, options.socket, options.sessions)?;
+    Ok(door)
+}
 
 /// Serves the clients who come by the socket at the seats of this office. Once the door is closed
 /// and all have gone, prints the table of the office's journal.
@@ -37,7 +46,7 @@ where
     ensures { OnOk result (PrintsTable N.rules (W.contents output.old) (W.contents output.new)) }
 {
     let (office, passes) = opened.split::<N>()?;
-    let mut door = SocketDoor::bind(rt, options.socket, options.sessions)?;
+    let mut door = door_of(rt, options)?;
     serve(rt, alloc, &office, &mut door, passes, &OpenGate)?;
     let desk = office.desk(rt);
     print_final(alloc, desk.board(), Form::Table, output)?;

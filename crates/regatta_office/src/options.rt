@@ -112,9 +112,9 @@ static REPLAY: &str =
 
 /// What the help says of `serve`.
 static SERVE: &str =
-    "Answers the same lines of clients at a new Unix socket, side by side, and prints the table \
-    once the last has gone. Example: regatta serve --socket race.sock --entries boats.csv, and in \
-    a second terminal nc -U race.sock";
+    "Answers lines such as FINISH 1 GBR1 of clients at a new Unix socket, side by side (SHOW gives \
+    the journal and the table). Example: regatta serve --socket race.sock --sessions 3 --entries \
+    boats.csv, and in a second terminal nc -U race.sock";
 
 static ABSENT: &str =
     "What boats score that did not start or finish, retired or were disqualified: \
@@ -128,8 +128,9 @@ static EXCLUDE: &str = "From how many races on one more worst score is excluded 
     four rising numbers from 2 to 40, or none. Example: --exclude 5,9 excludes one score from 5 \
     races on and two from 9 on";
 
-static JOURNAL: &str = "A journal file to start from: the final part that --print journal writes, \
-    without the replies before it. Example: --journal saturday.txt";
+static JOURNAL: &str =
+    "A journal file to start from: what `regatta replay --print journal` ends with, \
+    or the lines between JOURNAL and TABLE of a SHOW. Example: --journal saturday.txt";
 
 static ENTRIES: &str = "An entry list to start from: CSV with a column Sail, SailNo or SailNumber. \
     Example: --entries boats.csv";
@@ -146,7 +147,7 @@ static CLIENTS: &str =
     "How many clients may be served at a time, from 1 to 16; one more is answered \
     BUSY and turned away. Example: --clients 3";
 
-static SESSIONS: &str = "Behind how many clients serving ends and the table is printed, those \
+static SESSIONS: &str = "After how many clients serving ends and the table is printed, those \
     turned away counted, up to 1000000; with 0 it goes on until it is stopped, and prints none. \
     Example: --sessions 12";
 

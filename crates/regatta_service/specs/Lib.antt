@@ -1,3 +1,4 @@
 pub mod Doors
 pub mod Ends
 pub mod Faults
+pub mod Lines

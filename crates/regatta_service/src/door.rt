@@ -1,5 +1,6 @@
 //! Where clients come from.
-ghost use Rattle.std.specs.Prelude.{◌≡◌, ◌≢◌, ◌+◌, ◌↔◌, Ok, Some, None, IfOk, OnOk, OnErr, OnSome};
+ghost use Rattle.std.specs.Prelude.{◌≡◌, ◌≢◌, ◌+◌, ◌<◌, ◌↔◌, Ok, Some, None, length, IfOk, OnOk};
+ghost use Rattle.std.specs.Prelude.{OnErr, OnSome};
 ghost use Rattle.regatta_service.specs.Doors.{streams_asked, one_fewer};
 
 use crate::connection::Connection;
@@ -32,8 +33,8 @@ pub trait Door: Device {
         ensures failed { OnErr result (Self.failures self.new ≡ Self.failures self.old + 1) };
 }
 
-/// A door over a new Unix socket. It closes behind the last stream that it gives: who comes then is
-/// refused by the system, and doesn't wait for the sessions that still run.
+/// A door over a new Unix socket. It closes behind the last stream that it gives, or where it
+/// fails: who comes then is refused by the system, and doesn't wait for the sessions that run.
 ///
 /// It is seen as how many streams it still gives, where that has an end, and the number of its
 /// calls that failed.
@@ -61,12 +62,16 @@ impl SocketDoor {
     ///
     /// # Errors
     ///
-    /// Where the system gives no such socket, as where the path is there already, or memory is
-    /// wanting.
+    /// Where the path is empty (Linux would make a socket of it that no client can name), the
+    /// system gives no such socket, as where the path is there already, or memory is wanting.
     pub fn bind<R: Files + Net>(rt: &R, path: &str, sessions: u32) -> Result<SocketDoor, DoorFault>
-        ensures { IfOk result (λ door. door
+        ensures door { IfOk result (λ door. door
             ≡ record { left = streams_asked sessions; failures = 0 }) }
+        ensures named { OnOk result (0 < length path.now) }
     {
+        if path.is_empty() {
+            return Err(DoorFault);
+        }
         let Ok(listener) = UnixListener::bind(rt, path) else {
             return Err(DoorFault);
         };
@@ -75,6 +80,14 @@ impl SocketDoor {
             left: if sessions == 0 { None } else { Some(sessions) },
             failures: Failures::none(),
         })
+    }
+
+    /// Closes the door.
+    fn close(&mut self)
+        ensures { self.new ≡ record self.old { left = Some 0 } }
+    {
+        self.listener = None;
+        self.left = Some(0);
     }
 
     /// Counts a stream that is given, and closes the door behind the last.
@@ -107,13 +120,16 @@ impl Door for SocketDoor {
         ensures shut { result ≡ Ok None → self.new ≡ self.old }
         ensures given { IfOk result (λ stream. OnSome stream
             (self.new.left ≡ one_fewer self.old.left)) }
-        ensures err { OnErr result (self.new.left ≡ self.old.left) }
+
+        // A door that failed gives no more.
+        ensures err { OnErr result (self.new.left ≡ Some 0) }
     {
         let Some(listener) = &self.listener else {
             return Ok(None);
         };
         let Ok((stream, _)) = listener.accept() else {
             self.failures = self.failures.one_more();
+            self.close();
             return Err(DoorFault);
         };
         self.count_given();

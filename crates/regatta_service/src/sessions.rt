@@ -1,9 +1,13 @@
 //! One client's lines, answered one after another.
-ghost use Rattle.std.specs.Prelude.{◌≡◌, ◌≢◌, ◌+◌, true, Ok, Some, None, IfSome, IfOk};
+ghost use Rattle.std.specs.Prelude.{◌≡◌, ◌≢◌, ◌+◌, [], true, Ok, Some, None, IfSome, IfOk, OnOk};
+ghost use Rattle.std.specs.Prelude.{◌<◌, ◌≤◌, IsOk, OnErr, vec_capacity, vec_len};
 ghost use Rattle.std.specs.Io.KnownBytes.{IsAtEnd};
 ghost use Rattle.regatta_terms.specs.Lines.{line_of};
+ghost use Rattle.regatta_talk.specs.Replies.{role_after};
+ghost use Rattle.regatta_tables.specs.declared.replies.TheConstants.{REPLY_ROOM};
 ghost use Rattle.regatta_desk.specs.Replies.{is_for_desk, is_for_pass, next_after};
 ghost use Rattle.regatta_service.specs.Ends.{failures_in, failures_so_far};
+ghost use Rattle.regatta_service.specs.Lines.{Answers, DeskAnswers, Replied, is_replied};
 
 use crate::gate::Gate;
 use regatta_desk::{Next, Office, OfficeName, Pass, answer_alone};
@@ -64,13 +68,23 @@ struct Talk<'a, N: OfficeName, H: Wait + Drop, G: Gate> {
 }
 
 impl<N: OfficeName, H: Wait + Drop, G: Gate> Talk<'_, N, H, G> {
-    /// Has the desk answer a line, under its lock.
+    /// Has the desk answer a line, under its lock, in the session's role.
     fn ask_desk<R: Wait>(&mut self, rt: &R, line: Line) -> Result<(), AllocError>
         requires { is_for_desk line ≡ true }
-        ensures { self.new.ended ≡ self.old.ended }
+        ensures ok { OnOk result (DeskAnswers N.rules line self.old.role self.old.pass.now
+            self.new.pass.now self.old.reply.items self.new.reply.items) }
+        ensures fits { vec_len self.old.reply + REPLY_ROOM ≤ vec_capacity self.old.reply
+            → IsOk result }
+        ensures err { OnErr result (self.new.pass.now ≡ self.old.pass.now) }
+        ensures role { self.new.role ≡ self.old.role }
+        ensures cutter { self.new.cutter ≡ self.old.cutter }
+        ensures ended { self.new.ended ≡ self.old.ended }
     {
         let mut desk = self.office.desk(rt);
-        desk.answer(rt, self.pass, self.role, line, &mut self.reply)
+        // does nothing: its contract says that the journal is lawful
+        let _ = desk.board();
+        desk.answer(rt, self.pass, self.role, line, &mut self.reply)?;
+        Ok(())
     }
 
     /// Does what a line asks for, and makes its reply. Room for it is made ahead of the lock.
@@ -79,7 +93,14 @@ impl<N: OfficeName, H: Wait + Drop, G: Gate> Talk<'_, N, H, G> {
         rt: &R,
         asked: Result<Line, LineFault>,
     ) -> Result<Next, AllocError>
+        ensures ok { OnOk result (Answers N.rules asked self.old.role self.old.pass.now
+            self.new.pass.now [] self.new.reply.items) }
+        ensures role { OnOk result (self.new.role ≡ role_after asked self.old.role) }
         ensures next { IfOk result (λ next. next ≡ next_after asked) }
+        ensures fits { REPLY_ROOM ≤ vec_capacity self.old.reply → IsOk result }
+        ensures err { OnErr result ((self.new.pass.now ≡ self.old.pass.now)
+            × (self.new.role ≡ self.old.role)) }
+        ensures cutter { self.new.cutter ≡ self.old.cutter }
         ensures ended { self.new.ended ≡ self.old.ended }
     {
         self.reply.clear();
@@ -89,7 +110,10 @@ impl<N: OfficeName, H: Wait + Drop, G: Gate> Talk<'_, N, H, G> {
                 self.ask_desk(rt, line)?;
                 Ok(Next::Go)
             }
-            None => answer_alone(self.pass, &mut self.role, asked, &mut self.reply),
+            None => {
+                let next = answer_alone(self.pass, &mut self.role, asked, &mut self.reply)?;
+                Ok(next)
+            }
         }
     }
 
@@ -104,6 +128,20 @@ impl<N: OfficeName, H: Wait + Drop, G: Gate> Talk<'_, N, H, G> {
         ensures goes_on { self.new.ended ≡ None → next_after (line_of self.old.cutter) ≡ Next.Go }
         ensures quit { self.new.ended ≡ Some End.Quit →
             next_after (line_of self.old.cutter) ≡ Next.End }
+
+        // The line is answered in the session's role, and just its reply is written; the next line
+        // begins anew.
+        ensures replied { is_replied self.new.ended ≡ true →
+            Replied N.rules (line_of self.old.cutter) self.old.role self.new.role
+            self.old.pass.now self.new.pass.now (S.contents stream.old) (S.contents stream.new) }
+        ensures cut { is_replied self.new.ended ≡ true → self.new.cutter ≡ [] }
+
+        // A line that isn't let through, or whose reply has no room and gets none, does nothing.
+        ensures stopped { self.new.ended ≡ Some End.Stopped →
+            (stream.new ≡ stream.old) × (self.new.pass.now ≡ self.old.pass.now) }
+        ensures wanting { self.new.ended ≡ Some End.NoMemory →
+            (stream.new ≡ stream.old) × (self.new.pass.now ≡ self.old.pass.now)
+            × (vec_capacity self.old.reply < REPLY_ROOM) }
 
         // No read is made here, so none ends the session.
         ensures unread { (self.new.ended ≢ Some End.Closed)

@@ -164,8 +164,11 @@ fn help_names_the_options_of_serving(rt: HostRuntime) -> Result<(), Fail> {
     assert_eq!(rt; status, 0);
     let help = std::str::from_utf8(output.written()).unwrap_or("");
     for word in [
+        "FINISH 1 GBR1",
+        "SHOW",
         "regatta serve --socket race.sock",
         "nc -U race.sock",
+        "regatta replay --print journal",
         "--clients",
         "BUSY",
         "--sessions",
@@ -176,27 +179,69 @@ fn help_names_the_options_of_serving(rt: HostRuntime) -> Result<(), Fail> {
     Ok(())
 }
 
-/// Rules, start and socket are looked at in this order.
+/// Rules, journal file, entry list, start and socket are looked at in this order. A socket without
+/// a path is none.
 #[test]
 fn serving_says_why_it_stops_short(rt: HostRuntime) -> Result<(), Fail> {
+    let folder = new_folder(&rt)?;
+    let boats = format!(in rt.alloc(); "{folder}/boats.csv")?;
+    let journal = format!(in rt.alloc(); "{folder}/journal.txt")?;
     let nowhere = "/no/such/folder/race.sock";
-    let cases: [(&[&str], &str, u8); 3] = [
-        (&["--scp", "0"], "regatta: rules fault 1\n", 2),
+    let cases: [(&str, &str, &str, &str, &str, u8); 6] = [
+        (nowhere, "0", "X\n", "Boat\n", "regatta: rules fault 1\n", 2),
         (
-            &["--journal", "/no/such/file"],
-            "regatta: device fault\n",
-            3,
+            nowhere,
+            "1",
+            "1 1 JURY ENTER A\nX\n",
+            "Boat\n",
+            "regatta: journal fault 1 line 2\n",
+            1,
         ),
-        (&[], "regatta: device fault\n", 3),
+        (
+            nowhere,
+            "1",
+            "1 1 JURY ENTER A\n",
+            "Boat\n",
+            "regatta: entries fault 1 row 1\n",
+            1,
+        ),
+        (
+            nowhere,
+            "1",
+            "1 1 JURY ENTER A\n",
+            "Sail\n",
+            "regatta: start refused 4 at 1\n",
+            1,
+        ),
+        (nowhere, "1", "", "Sail\n", "regatta: device fault\n", 3),
+        ("", "1", "", "Sail\n", "regatta: device fault\n", 3),
     ];
-    for (more, said, wanted) in cases {
-        let mut words = Vec::from_slice(rt.alloc(), &["serve", "--socket", nowhere])?;
-        words.extend_from_slice(more)?;
+    for (socket, scp, entries, sails, said, wanted) in cases {
+        fs::write(&rt, journal.as_str(), entries)?;
+        fs::write(&rt, boats.as_str(), sails)?;
+        let words = [
+            "serve",
+            "--socket",
+            socket,
+            "--sessions",
+            "1",
+            "--scp",
+            scp,
+            "--journal",
+            journal.as_str(),
+            "--entries",
+            boats.as_str(),
+        ];
         let (status, output, errors) = run(&rt, &words, "ENTER A\n")?;
         assert_eq!(rt; errors.written(), said.as_bytes());
         assert_eq!(rt; output.written(), b"".as_slice());
         assert_eq!(rt; status, wanted);
     }
+    fs::remove_dir_all(&rt, folder.as_str())?;
+    let words = ["serve", "--socket", nowhere, "--journal", "/no/such/file"];
+    let (status, _, errors) = run(&rt, &words, "")?;
+    assert_eq!(rt; errors.written(), b"regatta: device fault\n".as_slice());
+    assert_eq!(rt; status, 3);
     Ok(())
 }
 

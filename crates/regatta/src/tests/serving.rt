@@ -170,8 +170,9 @@ fn asked<R: Net>(rt: &R, alloc: Global, text: &[u8]) -> Option<Vec<u8>> {
     Some(replies)
 }
 
-/// The client finds her replies and the end of the stream, whatever she sent behind QUIT. The door
-/// was bound for her alone, so who comes then is let in no more.
+/// The client finds her replies and the end of the stream, whatever she sent behind QUIT. When she
+/// comes again, she is given the lowest seat once more. The door was bound for these two streams
+/// alone, so who comes then is let in no more.
 #[test]
 fn a_client_at_a_socket(rt: HostRuntime) -> Result<(), Fail> {
     let alloc = rt.alloc();
@@ -179,13 +180,18 @@ fn a_client_at_a_socket(rt: HostRuntime) -> Result<(), Fail> {
     let mut text = Vec::from_slice(alloc, b"ENTER A\nQUIT\nENTER B\n")?;
     let unread = vec![in alloc; b'X'; 2000]?;
     text.extend_from_slice(&unread)?;
-    let mut doors = [SocketDoor::bind(&rt, SOCKET, 1)?];
-    let opened = Office::open(&rt, alloc, &default_rules(), 1, &[])?;
-    let client = thread::spawn(&rt, move || asked(&rt, alloc, &text))?;
+    let mut doors = [SocketDoor::bind(&rt, SOCKET, 2)?];
+    let opened = Office::open(&rt, alloc, &default_rules(), 2, &[])?;
+    let client = thread::spawn(&rt, move || {
+        asked(&rt, alloc, &text).zip(asked(&rt, alloc, b"ENTER B\nQUIT\n"))
+    })?;
     let served = serve_at::<Brand, _, _, _, _>(&rt, alloc, opened, &mut doors, &OpenGate)?;
-    let replies = client.join(&rt).ok_or("replies")?;
+    let (replies, again) = client.join(&rt).ok_or("replies")?;
     assert_eq!(rt; replies.as_slice(), b"OK 1 1 0.0\nBYE\n".as_slice());
-    assert_eq!(rt; served.back, Ok(1));
+    assert_eq!(rt; again.as_slice(), b"OK 2 1= 0.0\nBYE\n".as_slice());
+    assert_eq!(rt; served.back, Ok(2));
+    let journal = b"1 1 SCORER ENTER A\n1 2 SCORER ENTER B\n";
+    assert_eq!(rt; served.journal.as_slice(), journal.as_slice());
     let late = UnixStream::connect(&rt, SOCKET);
     let _ = fs::remove_file(&rt, SOCKET);
     assert!(rt; late.is_err());
@@ -213,7 +219,11 @@ const ONE_CLIENT: [&str; 5] = ["serve", "--socket", SOCKET, "--sessions", "1"];
 #[test]
 fn the_program_serves_a_client(rt: HostRuntime) -> Result<(), Fail> {
     let alloc = rt.alloc();
-    for (room, wanted, said) in [(100, 0, ""), (10, 3, "regatta: device fault\n")] {
+    let cases: [(usize, &str, &str, u8); 2] = [
+        (100, "TABLE 1 RACES\n1 A 0.0\n", "", 0),
+        (10, "TABLE 1 RA", "regatta: device fault\n", 3),
+    ];
+    for (room, written, said, wanted) in cases {
         let _ = fs::remove_file(&rt, SOCKET);
         let client = thread::spawn(&rt, move || asked_at_last(&rt, alloc, b"ENTER A\nQUIT\n"))?;
         let (mut input, mut output) = (giving(alloc, b"ENTER B\n", 7)?, taking(alloc, room)?);
@@ -223,7 +233,7 @@ fn the_program_serves_a_client(rt: HostRuntime) -> Result<(), Fail> {
         assert_eq!(rt; replies.as_slice(), b"OK 1 1 0.0\nBYE\n".as_slice());
         assert_eq!(rt; status, wanted);
         assert_eq!(rt; errors.written(), said.as_bytes());
-        assert!(rt; b"TABLE 1 RACES\n1 A 0.0\n".starts_with(output.written()));
+        assert_eq!(rt; output.written(), written.as_bytes());
     }
     let (mut input, mut output) = (giving(alloc, b"", 7)?, taking(alloc, 100)?);
     let mut errors = taking(alloc, 100)?;
@@ -231,5 +241,68 @@ fn the_program_serves_a_client(rt: HostRuntime) -> Result<(), Fail> {
     assert_eq!(rt; errors.written(), b"regatta: device fault\n".as_slice());
     assert_eq!(rt; status, 3);
     let _ = fs::remove_file(&rt, SOCKET);
+    Ok(())
+}
+
+/// The start file of the test.
+const START: &str = "regatta_test.journal";
+
+/// The words that serve three clients at one seat, from a start file.
+const ONE_SEAT: [&str; 9] = [
+    "serve",
+    "--socket",
+    SOCKET,
+    "--sessions",
+    "3",
+    "--clients",
+    "1",
+    "--journal",
+    START,
+];
+
+/// The stream of a client, once she is let in.
+fn connected<R: Net>(rt: &R) -> Option<UnixStream> {
+    for _ in 0..MOST_TRIES {
+        if let Ok(stream) = UnixStream::connect(rt, SOCKET) {
+            return Some(stream);
+        }
+    }
+    None
+}
+
+/// What three clients are sent: the first has her seat while the second comes, and has gone when
+/// the third does.
+fn three_in_turn<R: Net>(rt: &R, alloc: Global) -> Option<Vec<u8>> {
+    let mut first = connected(rt)?;
+    first.write_all(b"ENTER B\n").ok()?;
+    let mut replies = vec![in alloc; 0; b"OK 2 1= 0.0\n".len()].ok()?;
+    first.read_exact(&mut replies).ok()?;
+    let second = asked(rt, alloc, b"")?;
+    replies.extend_from_slice(&second).ok()?;
+    first.write_all(b"QUIT\n").ok()?;
+    first.read_to_end(&mut replies).ok()?;
+    let third = asked(rt, alloc, b"ENTER C\nQUIT\n")?;
+    replies.extend_from_slice(&third).ok()?;
+    Some(replies)
+}
+
+/// The program has as many seats, and ends behind as many clients, as it is told.
+#[test]
+fn the_program_serves_three_at_one_seat(rt: HostRuntime) -> Result<(), Fail> {
+    let alloc = rt.alloc();
+    let _ = fs::remove_file(&rt, SOCKET);
+    fs::write(&rt, START, "1 1 SCORER ENTER A\n")?;
+    let clients = thread::spawn(&rt, move || three_in_turn(&rt, alloc))?;
+    let (mut input, mut output) = (giving(alloc, b"", 7)?, taking(alloc, 100)?);
+    let mut errors = taking(alloc, 100)?;
+    let status = program(&rt, &ONE_SEAT, &mut input, &mut output, &mut errors);
+    let replies = clients.join(&rt).ok_or("replies")?;
+    let wanted = "OK 2 1= 0.0\nBUSY\nBYE\nOK 3 1= 0.0\nBYE\n";
+    assert_eq!(rt; replies.as_slice(), wanted.as_bytes());
+    let table = "TABLE 3 RACES\n1= A 0.0\n1= B 0.0\n1= C 0.0\n";
+    assert_eq!(rt; output.written(), table.as_bytes());
+    assert_eq!(rt; status, 0);
+    let _ = fs::remove_file(&rt, SOCKET);
+    let _ = fs::remove_file(&rt, START);
     Ok(())
 }

@@ -1,12 +1,16 @@
 ghost use Rattle.std.specs.Prelude.{◌≡◌};
 
+use super::wires::{Count, count, wire_of};
 use super::*;
-use regatta_office::{End, Gate, Office, OfficeName, OpenGate, Opened, Pass, session};
+use regatta_office::{
+    End, Gate, Office, OfficeName, OpenGate, Opened, Pass, Sink, Source, session,
+};
 use regatta_tables::write_journal;
 use regatta_terms::{Command, Refusal, Role, Sail};
 use std::marker::Brand;
 use std::process::Abort;
 use std::sync::Wait;
+use std::sync::atomic::{AtomicU64, Ordering};
 
 /// More bytes than any session here gives or takes.
 const PLENTY: usize = 100_000;
@@ -37,34 +41,34 @@ struct Talked {
 }
 
 /// One session after another on this pass.
-fn talk<N: OfficeName, H: Wait + Drop, R: Wait, G: Gate>(
+fn talk<N: OfficeName, H: Wait + Drop, R: Wait, S: Source + Sink, G: Gate>(
     rt: &R,
     alloc: Global,
     office: &Office<N, H>,
     pass: &mut Pass<N>,
-    tapes: &mut [Tape],
+    streams: &mut [S],
     gate: &G,
 ) -> Result<Vec<End>, Fail> {
     let mut ends = Vec::new(alloc);
-    for tape in tapes {
-        ends.push(session(rt, alloc, tape, office, pass, gate))?;
+    for stream in streams {
+        ends.push(session(rt, alloc, stream, office, pass, gate))?;
     }
     Ok(ends)
 }
 
 /// One session after another on the pass of an office's last seat.
-fn talk_at<N: OfficeName, H: Wait + Drop, R: Wait, G: Gate>(
+fn talk_at<N: OfficeName, H: Wait + Drop, R: Wait, S: Source + Sink, G: Gate>(
     rt: &R,
     alloc: Global,
     opened: Opened<H>,
-    tapes: &mut [Tape],
+    streams: &mut [S],
     gate: &G,
 ) -> Result<Talked, Fail>
     requires { (opened.history ≡ N.history) × (opened.rules ≡ N.rules) }
 {
     let (office, mut passes) = opened.split::<N>()?;
     let mut pass = passes.pop().ok_or("a pass")?;
-    let ends = talk(rt, alloc, &office, &mut pass, tapes, gate)?;
+    let ends = talk(rt, alloc, &office, &mut pass, streams, gate)?;
     let journal = journal_text(rt, alloc, &office)?;
     Ok(Talked {
         ends,
@@ -73,19 +77,26 @@ fn talk_at<N: OfficeName, H: Wait + Drop, R: Wait, G: Gate>(
     })
 }
 
+/// What a jury sends: its role holds from `ROLE` on, and may enter no boat.
+const JURY_LINES: &[u8] = b"SHOW\r\nENTER A\nRANK A\nROLE JURY\nENTER B\nMARK 1 A DSQ\nNOPE\nENT";
+
+/// What it is sent.
+const JURY_REPLIES: &[u8] = b"JOURNAL 0\nTABLE 0 RACES\nEND\nOK 1 1 0.0\nRANK 1 0.0\nROLE JURY\n\
+    NO 4\nOK 2 1 0.0\nNO 21\n";
+
+/// The second session begins as the scorer, whatever the first ended as.
 #[test]
 fn two_sessions_on_one_pass(rt: HostRuntime) -> Result<(), Fail> {
     let opened = Office::open(&rt, rt.alloc(), &default_rules(), 1, &[])?;
     let mut tapes = [
-        client(rt.alloc(), b"SHOW\r\nENTER A\nRANK A\nROLE JURY\nNOPE\nENT")?,
+        client(rt.alloc(), JURY_LINES)?,
         client(rt.alloc(), b"ENTER B\nQUIT\nENTER C\n")?,
     ];
-    let talked = talk_at::<Brand, _, _, _>(&rt, rt.alloc(), opened, &mut tapes, &OpenGate)?;
-    let written = "JOURNAL 0\nTABLE 0 RACES\nEND\nOK 1 1 0.0\nRANK 1 0.0\nROLE JURY\nNO 21\n";
-    assert_eq!(rt; tapes[0].written(), written.as_bytes());
-    assert_eq!(rt; tapes[1].written(), b"OK 2 1= 0.0\nBYE\n".as_slice());
+    let talked = talk_at::<Brand, _, _, _, _>(&rt, rt.alloc(), opened, &mut tapes, &OpenGate)?;
+    assert_eq!(rt; tapes[0].written(), JURY_REPLIES);
+    assert_eq!(rt; tapes[1].written(), b"OK 3 1= 0.0\nBYE\n".as_slice());
     assert_eq!(rt; talked.ends.as_slice(), [End::Closed, End::Quit].as_slice());
-    let journal = b"1 1 SCORER ENTER A\n1 2 SCORER ENTER B\n";
+    let journal = b"1 1 SCORER ENTER A\n1 2 JURY MARK 1 A DSQ\n1 3 SCORER ENTER B\n";
     assert_eq!(rt; talked.journal.as_slice(), journal.as_slice());
     Ok(())
 }
@@ -151,7 +162,7 @@ fn foreign_bytes(alloc: Global) -> Result<Vec<u8>, Fail> {
 fn lines_that_cannot_be_read(rt: HostRuntime) -> Result<(), Fail> {
     let opened = Office::open(&rt, rt.alloc(), &default_rules(), 1, &[])?;
     let mut tapes = [client(rt.alloc(), &foreign_bytes(rt.alloc())?)?];
-    let talked = talk_at::<Brand, _, _, _>(&rt, rt.alloc(), opened, &mut tapes, &OpenGate)?;
+    let talked = talk_at::<Brand, _, _, _, _>(&rt, rt.alloc(), opened, &mut tapes, &OpenGate)?;
     let written = "NO 20\nNO 20\nNO 21\nNO 21\nNO 21\nNO 21\nNO 23\nOK 1 1 0.0\n";
     assert_eq!(rt; tapes[0].written(), written.as_bytes());
     assert_eq!(rt; talked.ends.as_slice(), [End::Closed].as_slice());
@@ -168,7 +179,7 @@ fn streams_that_fail(rt: HostRuntime) -> Result<(), Fail> {
         client(rt.alloc(), b"ENTER C\n")?,
         Tape::new(rt.alloc(), b"ENTER D\nENT", 7, 11, PLENTY)?,
     ];
-    let talked = talk_at::<Brand, _, _, _>(&rt, rt.alloc(), opened, &mut tapes, &OpenGate)?;
+    let talked = talk_at::<Brand, _, _, _, _>(&rt, rt.alloc(), opened, &mut tapes, &OpenGate)?;
     assert_eq!(rt; tapes[0].written(), b"OK 1 1 0.0\nOK 2 ".as_slice());
     assert_eq!(rt; tapes[1].written(), b"OK 3 1= 0.0\n".as_slice());
     assert_eq!(rt; tapes[2].written(), b"OK 4 1= 0.0\n".as_slice());
@@ -178,12 +189,12 @@ fn streams_that_fail(rt: HostRuntime) -> Result<(), Fail> {
     Ok(())
 }
 
-/// Lets the first line of a session through, and no other.
-struct OneLine;
+/// Lets all lines of a session through but the fourth.
+struct NoFourth;
 
-impl Gate for OneLine {
+impl Gate for NoFourth {
     fn before(&self, _seat: u8, line: u64) -> bool {
-        line == 1
+        line != 4
     }
 
     fn after(&self, _seat: u8, _line: u64) {}
@@ -191,17 +202,74 @@ impl Gate for OneLine {
     fn ended(&self, _seat: u8, _end: End) {}
 }
 
-/// The line that isn't let through changes nothing.
+/// An unknown word, a line that is too long, and two commands.
+fn four_lines(alloc: Global) -> Result<Vec<u8>, Fail> {
+    let mut text = Vec::from_slice(alloc, b"NOPE\n")?;
+    let long = vec![in alloc; b'X'; 81]?;
+    text.extend_from_slice(&long)?;
+    text.extend_from_slice(b"\nENTER A\nENTER B\nENTER C\n")?;
+    Ok(text)
+}
+
+/// Lines that can't be read count, too, and the line that isn't let through changes nothing.
 #[test]
 fn a_gate_stops_a_session(rt: HostRuntime) -> Result<(), Fail> {
     let opened = Office::open(&rt, rt.alloc(), &default_rules(), 1, &[])?;
-    let mut tapes = [client(rt.alloc(), b"ENTER A\nENTER B\n")?];
-    let talked = talk_at::<Brand, _, _, _>(&rt, rt.alloc(), opened, &mut tapes, &OneLine)?;
-    assert_eq!(rt; tapes[0].written(), b"OK 1 1 0.0\n".as_slice());
+    let mut tapes = [client(rt.alloc(), &four_lines(rt.alloc())?)?];
+    let talked = talk_at::<Brand, _, _, _, _>(&rt, rt.alloc(), opened, &mut tapes, &NoFourth)?;
+    assert_eq!(rt;
+        tapes[0].written(),
+        b"NO 21\nNO 20\nOK 1 1 0.0\n".as_slice()
+    );
     assert_eq!(rt; talked.ends.as_slice(), [End::Stopped].as_slice());
     assert_eq!(rt;
         (talked.last, talked.journal.as_slice()),
         (1, b"1 1 SCORER ENTER A\n".as_slice())
     );
+    Ok(())
+}
+
+/// Notes two digits for each line that it is told of: the line's number, and how often its client
+/// had been written to.
+#[derive(Drop)]
+struct Notes {
+    writes: Count,
+    told: AtomicU64,
+}
+
+impl Gate for Notes {
+    fn before(&self, _seat: u8, _line: u64) -> bool {
+        true
+    }
+
+    fn after(&self, _seat: u8, line: u64) {
+        let earlier = self.told.load(Ordering::SeqCst).wrapping_mul(100);
+        let writes = self.writes.load(Ordering::SeqCst);
+        let digits = line.wrapping_mul(10).wrapping_add(writes);
+        self.told
+            .store(earlier.wrapping_add(digits), Ordering::SeqCst);
+    }
+
+    fn ended(&self, _seat: u8, _end: End) {}
+}
+
+/// The gate is told of each line behind its reply, and not where that can't be written: the second
+/// client has gone.
+#[test]
+fn a_gate_is_told_of_replies(rt: HostRuntime) -> Result<(), Fail> {
+    let writes = count(rt.alloc())?;
+    let (one, _first_end) = wire_of(&rt, b"ENTER A\nENTER B\n", false, &writes)?;
+    let (two, second_end) = wire_of(&rt, b"ENTER C\n", false, &writes)?;
+    drop(second_end);
+    let gate = Notes {
+        writes,
+        told: AtomicU64::new(0),
+    };
+    let opened = Office::open(&rt, rt.alloc(), &default_rules(), 1, &[])?;
+    let mut wires = [one, two];
+    let talked = talk_at::<Brand, _, _, _, _>(&rt, rt.alloc(), opened, &mut wires, &gate)?;
+    assert_eq!(rt; gate.told.load(Ordering::SeqCst), 1122);
+    let ends = [End::Closed, End::WriteFault];
+    assert_eq!(rt; talked.ends.as_slice(), ends.as_slice());
     Ok(())
 }

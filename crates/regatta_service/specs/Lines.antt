@@ -1,0 +1,63 @@
+-- What the lines of a session are answered.
+use Rattle.std.specs.Prelude.{◌≡◌, ℕ, Bool, true, false, List, [], ◌++◌, Option, Some, None}
+use Rattle.std.specs.Prelude.{Result, Ok, Err}
+use Rattle.std.specs.Io.KnownBytes.{Appends}
+use Rattle.regatta_terms.specs.Rules.{RulesParts}
+use Rattle.regatta_terms.specs.declared.command.Role.{Role}
+use Rattle.regatta_terms.specs.declared.line.Line.{Line}
+use Rattle.regatta_terms.specs.declared.line.Line.TheVariants.{Do, SetRole, Rank, Show, Quit}
+use Rattle.regatta_terms.specs.declared.line.LineFault.{LineFault}
+use Rattle.regatta_terms.specs.declared.reply.Reply.{Reply}
+use Rattle.regatta_board.specs.Refusals.{limits, is_lawful}
+use Rattle.regatta_tables.specs.ReplyTexts.{reply_text}
+use Rattle.regatta_talk.specs.Replies.{role_after}
+use Rattle.regatta_desk.specs.Desks.{DeskValue}
+use Rattle.regatta_desk.specs.Passes.{PassValue}
+use Rattle.regatta_desk.specs.Replies.{DeskReplies, PassReplies}
+use Rattle.regatta_service.specs.declared.sessions.End.{End}
+
+-- a line that a desk answered for a pass in this role: it was found with a lawful journal, and did
+-- what the line asks, and its reply is appended; no proof knows what lies under a lock, so this
+-- says no more of what was found
+pub record DeskAnswers (rules : RulesParts) (line : Line) (role : Role) (before after : PassValue)
+    (old new : List ℕ) : Type 0 where
+  pub found : DeskValue
+  pub left : DeskValue
+  pub reply : Reply
+  pub lawful : is_lawful limits rules found.entries ≡ true
+  pub replied : DeskReplies rules line role found left before after reply
+  pub text : new ≡ old ++ reply_text reply
+
+-- what is appended for a line of a session, and what it leaves of the pass: a desk answers a
+-- command or a rank, and the pass alone the others
+abbrev pub Answers : RulesParts → Result Line LineFault → Role → PassValue → PassValue → List ℕ
+    → List ℕ → Type 0
+Answers rules (Ok (Do command)) role before after old new =
+    DeskAnswers rules (Do command) role before after old new
+Answers rules (Ok (Rank sail)) role before after old new =
+    DeskAnswers rules (Rank sail) role before after old new
+Answers rules (Ok (SetRole next)) role before after old new =
+    PassReplies rules (Ok (SetRole next)) before after old new
+Answers rules (Ok Show) role before after old new = PassReplies rules (Ok Show) before after old new
+Answers rules (Ok Quit) role before after old new = PassReplies rules (Ok Quit) before after old new
+Answers rules (Err fault) role before after old new =
+    PassReplies rules (Err fault) before after old new
+
+-- whether the reply to the last line was written whole, where its session ended so or goes on
+abbrev pub is_replied : Option End → Bool
+is_replied None = true
+is_replied (Some End.Quit) = true
+is_replied (Some End.Closed) = false
+is_replied (Some End.ReadFault) = false
+is_replied (Some End.WriteFault) = false
+is_replied (Some End.Stopped) = false
+is_replied (Some End.NoMemory) = false
+
+-- a line that was answered in this role, and what it leaves: the role of the lines behind it, the
+-- pass, and the stream, to which just its reply was written
+pub record Replied (rules : RulesParts) (asked : Result Line LineFault) (role later : Role)
+    (before after : PassValue) (old new : Option (List ℕ)) : Type 0 where
+  pub text : List ℕ
+  pub answered : Answers rules asked role before after [] text
+  pub role_set : later ≡ role_after asked role
+  pub wrote : Appends old new text
