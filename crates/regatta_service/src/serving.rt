@@ -1,5 +1,6 @@
 //! Clients served side by side.
-ghost use Rattle.std.specs.Prelude.{◌≡◌, ◌+◌, map, IfOk, OnOk, IsErrOf, IsTrue};
+ghost use Rattle.std.specs.Prelude.{◌≡◌, ◌+◌, nat_cmp, map, IfOk, OnOk, IsErrOf, IsTrue};
+ghost use Rattle.std.specs.List.Sorted.{IsPermutation, IsSorted};
 ghost use Rattle.std.specs.Io.KnownBytes.{Appends};
 ghost use Rattle.regatta_terms.specs.declared.reply.Reply.TheVariants.{Busy};
 ghost use Rattle.regatta_tables.specs.ReplyTexts.{reply_text};
@@ -91,14 +92,17 @@ fn take_back<T>(x: &mut T)
     ensures { x.new ≡ x.old }
 {}
 
-/// The seats of these passes.
+/// The seats of these passes, the lowest first.
 fn seats_of<N: OfficeName>(alloc: Global, passes: &[Pass<N>]) -> Result<Vec<u8>, AllocError>
-    ensures { IfOk result (λ seats. seats.items ≡ map (λ p. p.seat) passes.now) }
+    ensures same { IfOk result (λ seats.
+        IsPermutation (map (λ p. p.seat) passes.now) seats.items) }
+    ensures sorted { IfOk result (λ seats. IsSorted nat_cmp seats.items) }
 {
     let mut seats = Vec::with_capacity(alloc, passes.len())?;
     for pass in passes {
         seats.push(pass.seat())?;
     }
+    seats.sort_unstable();
     Ok(seats)
 }
 
@@ -129,8 +133,7 @@ fn passes_back<N: OfficeName>(
 
 /// Serves the clients that come by the door, until it closes: each on a thread of its own, at the
 /// lowest seat that is free. A client who finds none is answered `BUSY`, and turned away. All
-/// sessions have ended when this does, and the passes come back in the order in which they were
-/// handed in.
+/// sessions have ended when this does, and the passes come back in order of seat.
 ///
 /// # Errors
 ///
@@ -150,8 +153,10 @@ where
     R: Threads + Wait + Sync,
     D: Door,
     G: Gate + Sync,
+    // The seats that were handed in, each as often as it was, and the lowest first.
     ensures seats { IfOk result (λ back.
-        map (λ p. p.seat) back.items ≡ map (λ p. p.seat) passes.items) }
+        IsPermutation (map (λ p. p.seat) passes.entry.items) (map (λ p. p.seat) back.items)) }
+    ensures sorted { IfOk result (λ back. IsSorted nat_cmp (map (λ p. p.seat) back.items)) }
 
     // A call of the door that fails ends the serving, which tells it; none failed elsewhere.
     ensures door { D.failures door.new ≡ D.failures door.old + door_failures_in result }
@@ -163,6 +168,8 @@ where
     let Ok(empty) = Vec::with_capacity(alloc, passes.len()) else {
         return Err(ServeFault::NoMemory);
     };
+    let mut passes = passes;
+    passes.sort_unstable_by_key(|pass| pass.seat());
     let Ok(pool) = Pool::new(alloc, passes) else {
         return Err(ServeFault::NoMemory);
     };
