@@ -2,3 +2,4 @@ pub mod Doors
 pub mod Ends
 pub mod Faults
 pub mod Lines
+pub mod Pools

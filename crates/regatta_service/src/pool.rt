@@ -1,4 +1,7 @@
 //! The passes, while clients are served.
+ghost use Rattle.std.specs.Prelude.{◌≡◌, ◌+◌, ◌<◌, ◌++◌, Some, None, map, take, length, All};
+ghost use Rattle.std.specs.Prelude.{IfOk, IfSome, slice_get, slice_set, vec_len};
+ghost use Rattle.regatta_service.specs.Pools.{Finds, IsLowest};
 
 use regatta_desk::{OfficeName, Pass};
 use std::alloc::{AllocError, Global};
@@ -17,13 +20,42 @@ pub(crate) struct Lent<N: OfficeName> {
     pub(crate) pass: Pass<N>,
 }
 
+/// The lowest of the passes in the slots up to this one, with its seat, where `found` is that of
+/// those before it.
+#[tactic(auto, using(crate::proofs::Lowest::more_empty, crate::proofs::Lowest::more_same, crate::proofs::Lowest::more_first, crate::proofs::Lowest::more_lower))]
+fn lowest_to<N: OfficeName>(
+    slots: &[Option<Pass<N>>],
+    slot: usize,
+    found: Option<(usize, u8)>,
+) -> Option<(usize, u8)>
+    requires slot { slot < length slots.now }
+    requires before { Finds (take slot slots.now) found }
+    ensures { Finds (take (slot + 1) slots.now) result }
+{
+    let Some(pass) = &slots[slot] else {
+        return found;
+    };
+    match found {
+        None => Some((slot, pass.seat())),
+        Some((_, seat)) => {
+            if seat <= pass.seat() {
+                return found;
+            }
+            Some((slot, pass.seat()))
+        }
+    }
+}
+
 impl<N: OfficeName> Pool<N> {
     /// A pool of these passes. Nobody has one yet.
     ///
     /// # Errors
     ///
     /// Where memory is wanting for it.
-    pub(crate) fn new(alloc: Global, passes: Vec<Pass<N>>) -> Result<Pool<N>, AllocError> {
+    #[tactic(auto, using(crate::proofs::Lowest::slot_more))]
+    pub(crate) fn new(alloc: Global, passes: Vec<Pass<N>>) -> Result<Pool<N>, AllocError>
+        ensures { IfOk result (λ pool. pool.slots.items ≡ map Some passes.items) }
+    {
         let mut slots = Vec::with_capacity(alloc, passes.len())?;
         for pass in passes {
             slots.push(Some(pass))?;
@@ -31,30 +63,36 @@ impl<N: OfficeName> Pool<N> {
         Ok(Pool { slots })
     }
 
-    /// The slot of the pass with the lowest seat, of those that nobody has.
-    fn lowest(&self) -> Option<usize> {
-        let mut lowest = None;
-        let mut seat = u8::MAX;
-        for (slot, pass) in self.slots.iter().enumerate() {
-            if let Some(pass) = pass
-                && pass.seat() < seat
-            {
-                seat = pass.seat();
-                lowest = Some(slot);
-            }
+    /// The slot of the pass with the lowest seat, of those that nobody has, and that seat.
+    #[tactic(auto, using(crate::proofs::Lowest::finds_all))]
+    fn lowest(&self) -> Option<(usize, u8)>
+        ensures { Finds self.now.slots.items result }
+    {
+        let mut found = None;
+        for slot in 0..self.slots.len() {
+            found = lowest_to(&self.slots, slot, found);
         }
-        lowest
+        found
     }
 
     /// Lends the pass with the lowest seat, if there is one.
-    pub(crate) fn take(&mut self) -> Option<Lent<N>> {
-        let slot = self.lowest()?;
+    pub(crate) fn take(&mut self) -> Option<Lent<N>>
+        ensures none { result ≡ None → All (λ slot. slot ≡ None) self.old.slots.items }
+        ensures lent { IfSome result (λ lent.
+            (slice_get self.old.slots.items lent.slot ≡ Some (Some lent.pass))
+            × IsLowest self.old.slots.items lent.slot lent.pass.seat) }
+        ensures left { IfSome result (λ lent. self.new.slots.items
+            ≡ slice_set self.old.slots.items lent.slot None) }
+    {
+        let (slot, _) = self.lowest()?;
         let pass = self.slots.get_mut(slot)?.take()?;
         Some(Lent { slot, pass })
     }
 
     /// Puts a pass back into its slot.
-    pub(crate) fn give(&mut self, lent: Lent<N>) {
+    pub(crate) fn give(&mut self, lent: Lent<N>)
+        ensures { self.new.slots.items ≡ slice_set self.old.slots.items lent.slot (Some lent.pass) }
+    {
         let Lent { slot, pass } = lent;
         if let Some(empty) = self.slots.get_mut(slot) {
             *empty = Some(pass);
@@ -63,7 +101,11 @@ impl<N: OfficeName> Pool<N> {
 
     /// The passes in the order of their slots, once all are back: appended to a list that has room
     /// for them.
-    pub(crate) fn into_passes(self, mut passes: Vec<Pass<N>>) -> Option<Vec<Pass<N>>> {
+    #[tactic(auto, using(crate::proofs::Lowest::pass_more))]
+    pub(crate) fn into_passes(self, mut passes: Vec<Pass<N>>) -> Option<Vec<Pass<N>>>
+        ensures { IfSome result (λ back. map Some back.items
+            ≡ map Some passes.items ++ self.slots.items) }
+    {
         let Pool { slots } = self;
         for slot in slots {
             passes.push(slot?).ok()?;
