@@ -1,6 +1,7 @@
 //! Clients served side by side.
-ghost use Rattle.std.specs.Prelude.{◌≡◌, ◌+◌, nat_cmp, map, IfOk, OnOk, IsErrOf, IsTrue};
+ghost use Rattle.std.specs.Prelude.{◌≡◌, ◌+◌, map, IfOk, OnOk, IsErrOf, IsTrue};
 ghost use Rattle.std.specs.List.Sorted.{IsPermutation, IsSorted};
+ghost use Rattle.std.specs.Ordering.{nat_cmp};
 ghost use Rattle.std.specs.Io.KnownBytes.{Appends};
 ghost use Rattle.regatta_terms.specs.declared.reply.Reply.TheVariants.{Busy};
 ghost use Rattle.regatta_tables.specs.ReplyTexts.{reply_text};
@@ -155,7 +156,7 @@ where
     G: Gate + Sync,
     // The seats that were handed in, each as often as it was, and the lowest first.
     ensures seats { IfOk result (λ back.
-        IsPermutation (map (λ p. p.seat) passes.entry.items) (map (λ p. p.seat) back.items)) }
+        IsPermutation (map (λ p. p.seat) passes.items) (map (λ p. p.seat) back.items)) }
     ensures sorted { IfOk result (λ back. IsSorted nat_cmp (map (λ p. p.seat) back.items)) }
 
     // A call of the door that fails ends the serving, which tells it; none failed elsewhere.
