@@ -127,6 +127,8 @@ more_lower xs i slot seat pass within is low le =
     (subst (λ (k : ℕ). IsLowest (take i xs ++ Some pass ∷ []) k pass.seat)
     (length-take-le i xs short) (finds_lower (take i xs) slot seat pass low le))
 
+pub ruleset one_more = (more_empty, more_same, more_first, more_lower)
+
 -- so it is of all, once all were looked at
 pub finds_all : (xs : Slots) (n : ℕ) (found : Option (ℕ × ℕ)) → length xs ≤ n
     → Finds (take n xs) found → Finds xs found

@@ -22,7 +22,7 @@ pub(crate) struct Lent<N: OfficeName> {
 
 /// The lowest of the passes in the slots up to this one, with its seat, where `found` is that of
 /// those before it.
-#[tactic(auto, using(crate::proofs::Lowest::more_empty, crate::proofs::Lowest::more_same, crate::proofs::Lowest::more_first, crate::proofs::Lowest::more_lower))]
+#[tactic(auto, using(crate::proofs::Lowest::one_more))]
 fn lowest_to<N: OfficeName>(
     slots: &[Option<Pass<N>>],
     slot: usize,
