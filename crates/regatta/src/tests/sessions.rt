@@ -96,6 +96,7 @@ fn two_sessions_on_one_pass(rt: HostRuntime) -> Result<(), Fail> {
     assert_eq!(rt; tapes[0].written(), JURY_REPLIES);
     assert_eq!(rt; tapes[1].written(), b"OK 3 1= 0.0\nBYE\n".as_slice());
     assert_eq!(rt; talked.ends.as_slice(), [End::Closed, End::Quit].as_slice());
+    assert_eq!(rt; talked.last, 3);
     let journal = b"1 1 SCORER ENTER A\n1 2 JURY MARK 1 A DSQ\n1 3 SCORER ENTER B\n";
     assert_eq!(rt; talked.journal.as_slice(), journal.as_slice());
     Ok(())
