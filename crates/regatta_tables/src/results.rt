@@ -144,7 +144,7 @@ fn row_record(alloc: Global, row: &Row) -> Result<Vec<Vec<u8>>, AllocError>
     let (mut rank, mut net) = ([0; 6], [0; 11]);
     let mut record = Vec::new(alloc);
     record.push(Vec::from_slice(alloc, rank_word(&mut rank, row.rank, row.tied))?)?;
-    record.push(Vec::from_slice(alloc, row.sail.text().as_bytes())?)?;
+    record.push(Vec::from_slice(alloc, row.sail.as_bytes())?)?;
     record.push(Vec::from_slice(alloc, points_word(&mut net, row.net))?)?;
     push_cell_fields(alloc, row.cells.as_slice(), &mut record)?;
     Ok(record)
