@@ -179,6 +179,31 @@ fn help_names_the_options_of_serving(rt: HostRuntime) -> Result<(), Fail> {
     Ok(())
 }
 
+/// A run of `serve` at this socket, with this amount of a Scoring Penalty, and with the journal file
+/// and the entry list of this folder.
+fn served<R>(rt: &R, folder: &str, socket: &str, scp: &str) -> Result<(u8, Tape, Tape), Fail>
+where
+    R: Files + AllocGlobal + Threads + Wait + Net + Sync,
+{
+    let journal = format!(in rt.alloc(); "{folder}/journal.txt")?;
+    let boats = format!(in rt.alloc(); "{folder}/boats.csv")?;
+    let words = [
+        "serve",
+        "--socket",
+        socket,
+        "--sessions",
+        "1",
+        "--scp",
+        scp,
+        "--journal",
+        journal.as_str(),
+        "--entries",
+        boats.as_str(),
+    ];
+    let ended = run(rt, &words, "ENTER A\n")?;
+    Ok(ended)
+}
+
 /// Rules, journal file, entry list, start and socket are looked at in this order. A socket without
 /// a path is none.
 #[test]
@@ -219,20 +244,7 @@ fn serving_says_why_it_stops_short(rt: HostRuntime) -> Result<(), Fail> {
     for (socket, scp, entries, sails, said, wanted) in cases {
         fs::write(&rt, journal.as_str(), entries)?;
         fs::write(&rt, boats.as_str(), sails)?;
-        let words = [
-            "serve",
-            "--socket",
-            socket,
-            "--sessions",
-            "1",
-            "--scp",
-            scp,
-            "--journal",
-            journal.as_str(),
-            "--entries",
-            boats.as_str(),
-        ];
-        let (status, output, errors) = run(&rt, &words, "ENTER A\n")?;
+        let (status, output, errors) = served(&rt, folder.as_str(), socket, scp)?;
         assert_eq!(rt; errors.written(), said.as_bytes());
         assert_eq!(rt; output.written(), b"".as_slice());
         assert_eq!(rt; status, wanted);
