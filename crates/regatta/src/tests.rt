@@ -22,7 +22,7 @@ mod wires;
 
 /// The rules where none are stated.
 fn default_rules() -> Rules {
-    Rules::new(Absent::A52, None, &[2]).unwrap()
+    Rules::new(Absent::A52, None, &[2], false).unwrap()
 }
 
 /// A tape that gives this text in pieces of so many bytes.

@@ -1,5 +1,5 @@
 -- Worked examples, by computation: the default rules, no start, and the table at the end.
-use Rattle.std.specs.Prelude.{◌≡◌, ℕ, List, [], ◌∷◌, ◌++◌, None, refl, codes}
+use Rattle.std.specs.Prelude.{◌≡◌, ℕ, List, [], ◌∷◌, ◌++◌, None, refl, codes, false}
 use Rattle.std.specs.Fmt.{digits}
 use Rattle.regatta_terms.specs.Lines.{line_of, line_of_words, command_of_words, command_after}
 use Rattle.regatta_terms.specs.Rules.{RulesParts}
@@ -11,11 +11,11 @@ use Rattle.regatta_office.specs.Transcript.{replies, talk_at_end, up_to_quit, ru
 
 -- A5.2, 20% for a Scoring Penalty, one score excluded from the second race on
 abbrev default_rules : RulesParts
-default_rules = record { absent = A52; scp = None; thresholds = 2 ∷ [] }
+default_rules = record { absent = A52; scp = None; thresholds = 2 ∷ []; handicap = false }
 
 -- the same with no score excluded
 abbrev no_exclusions : RulesParts
-no_exclusions = record { absent = A52; scp = None; thresholds = [] }
+no_exclusions = record { absent = A52; scp = None; thresholds = []; handicap = false }
 
 -- what a run from no start writes, under the default rules
 abbrev run : List ℕ → List ℕ

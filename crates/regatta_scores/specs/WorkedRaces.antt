@@ -1,5 +1,5 @@
 -- Worked examples of race points, by computation.
-use Rattle.std.specs.Prelude.{◌≡◌, refl, ℕ, [], ◌∷◌, Option, Some, None}
+use Rattle.std.specs.Prelude.{◌≡◌, refl, ℕ, false, [], ◌∷◌, Option, Some, None}
 use Rattle.regatta_terms.specs.Rules.{RulesParts}
 use Rattle.regatta_terms.specs.declared.rules.Absent.TheVariants.{A52, A53}
 use Rattle.regatta_terms.specs.declared.command.Code.{Code}
@@ -20,11 +20,11 @@ coded code = record { code = Some code; zfp = 0; scp = 0; redress = None }
 
 -- a score of N + 1 for every code (A5.2)
 abbrev pub by_entries : Option ℕ → RulesParts
-by_entries scp = record { absent = A52; scp = scp; thresholds = 2 ∷ [] }
+by_entries scp = record { absent = A52; scp = scp; thresholds = 2 ∷ []; handicap = false }
 
 -- a score by who came to the starting area (A5.3)
 abbrev pub by_who_came : RulesParts
-by_who_came = record { absent = A53; scp = None; thresholds = 2 ∷ [] }
+by_who_came = record { absent = A53; scp = None; thresholds = 2 ∷ []; handicap = false }
 
 -- ten boats in order; the first holds SCP, the second ZFP and SCP, the last three ZFP each
 abbrev pub ten_in_order : Sheet

@@ -11,7 +11,7 @@ ghost use Rattle.regatta_scores.specs.declared.sheet.Change.TheVariants.{Ahead, 
 
 use crate::groups::Groups;
 use crate::orders;
-use regatta_terms::{Code, Redress};
+use regatta_terms::{Code, Redress, Seconds};
 use std::alloc::{AllocError, Global};
 use std::marker::Model;
 
@@ -118,6 +118,7 @@ impl RaceSheet {
             Change::Last { boat } => self.with_last(boat),
             Change::Join { boat, other } => self.joined(boat, other),
             Change::Ahead { boat, other } => self.with_ahead(boat, other),
+            Change::Timed { boat, .. } => self.with_last(boat),
             Change::Out { boat } => self.without(boat),
             Change::Hold { boat, held } => self.with_held(boat, held),
         }
@@ -229,6 +230,9 @@ pub enum Change {
     Join { boat: u16, other: u16 },
     /// The boat, unplaced so far, in a group of her own directly ahead of the other's group.
     Ahead { boat: u16, other: u16 },
+    /// The boat, unplaced so far, at the place of this corrected time (RRS A3), in one group with
+    /// those of the same time (RRS A7).
+    Timed { boat: u16, seconds: Seconds },
     /// The boat out of the order; a group that this leaves empty goes.
     Out { boat: u16 },
     /// What the boat holds from now on, in place of what she held.

@@ -90,7 +90,7 @@ fn sail(text: &str) -> Result<Sail, Fail> {
 
 /// The rules that exclude no score.
 fn no_exclusions() -> Rules {
-    Rules::new(Absent::A52, None, &[]).unwrap()
+    Rules::new(Absent::A52, None, &[], false).unwrap()
 }
 
 /// The table of the board's standing.

@@ -218,6 +218,7 @@ impl Ledger {
             Command::Finish { race, sail } => self.place_refusal(race, sail),
             Command::Tie { race, sail, other } => self.place_by_refusal(race, sail, other),
             Command::Before { race, sail, other } => self.place_by_refusal(race, sail, other),
+            Command::Time { race, sail, .. } => self.place_refusal(race, sail),
             Command::Strike { race, sail } => self.strike_refusal(race, sail),
             Command::Mark { race, sail, .. } => self.decision_refusal(race, sail),
             Command::Redress { race, sail, .. } => self.decision_refusal(race, sail),

@@ -44,6 +44,7 @@ fn award_is_in_range(command: Command)
         | Command::Finish { .. }
         | Command::Tie { .. }
         | Command::Before { .. }
+        | Command::Time { .. }
         | Command::Strike { .. }
         | Command::Mark { .. }
         | Command::Penalise { .. }
