@@ -1,6 +1,6 @@
 -- Worked examples of the rules of a series and their texts, by computation.
 use Rattle.std.specs.Prelude.{◌≡◌, refl, List, ℕ, Option, Some, None, Result, Ok, Err, ◌∷◌, []}
-use Rattle.std.specs.Prelude.{codes, Bool, true, false}
+use Rattle.std.specs.Prelude.{codes, true, false}
 use Rattle.regatta_terms.specs.declared.rules.Absent.{Absent}
 use Rattle.regatta_terms.specs.declared.rules.Absent.TheVariants.{A52, A53}
 use Rattle.regatta_terms.specs.declared.rules.RulesFault.{RulesFault}

@@ -1,5 +1,6 @@
 ghost use Rattle.std.specs.Prelude.{◌≡◌};
 
+use super::handicap::{REPLIES, TIMES, handicap_rules};
 use super::wires::{Count, count, wire_of};
 use super::*;
 use regatta_office::{
@@ -166,6 +167,26 @@ fn lines_that_cannot_be_read(rt: HostRuntime) -> Result<(), Fail> {
     let written = "NO 20\nNO 20\nNO 21\nNO 21\nNO 21\nNO 21\nNO 23\nOK 1 1 0.0\n";
     assert_eq!(rt; tapes[0].written(), written.as_bytes());
     assert_eq!(rt; talked.ends.as_slice(), [End::Closed].as_slice());
+    Ok(())
+}
+
+/// Under corrected times a session answers as a replay does.
+#[test]
+fn corrected_times_in_a_session(rt: HostRuntime) -> Result<(), Fail> {
+    let opened = Office::open(&rt, rt.alloc(), &handicap_rules(), 1, &[])?;
+    let mut tapes = [
+        client(rt.alloc(), TIMES.as_bytes())?,
+        client(
+            rt.alloc(),
+            b"STRIKE 1 A\nTIME 1 A 0003599\nTIME 1 A 03599\nFINISH 1 B\n",
+        )?,
+    ];
+    let talked = talk_at::<Brand, _, _, _, _>(&rt, rt.alloc(), opened, &mut tapes, &OpenGate)?;
+    assert_eq!(rt; tapes[0].written(), REPLIES.as_bytes());
+    let replies = b"OK 8 3 4.0\nNO 29\nOK 9 1 1.0\nNO 16\n";
+    assert_eq!(rt; tapes[1].written(), replies.as_slice());
+    let last = b"1 8 SCORER STRIKE 1 A\n1 9 SCORER TIME 1 A 3599\n";
+    assert!(rt; talked.journal.ends_with(last));
     Ok(())
 }
 
