@@ -175,7 +175,7 @@ all_among (x ∷ xs) P each = (
 -- the number after those below it and ahead of those above it, once
 abbrev pub put : ℕ → List ℕ → List ℕ
 put s xs =
-    filter (λ x. nat_lt x s) xs ++ s ∷ filter (λ x. not (nat_lt x s || nat_eq x s)) xs
+    filter (λ x. nat_lt x s) xs ++ s ∷ filter (λ x. nat_lt s x) xs
 
 lower_passed : (s : ℕ) (xs : List ℕ) →
     AllByRecursion (λ x. x < s) (filter (λ x. nat_lt x s) xs)
@@ -189,23 +189,17 @@ lower_passed s (x ∷ xs) = by (nat_lt x s) refl (lower_passed s xs)
     by true e rest = (ltb-true x s e, rest)
     by false e rest = rest
 
-neither : (x s : ℕ) → nat_lt x s ≡ false → nat_eq x s ≡ false → s < x
-neither x s e f =
-    let low = ltb-false x s e in let apart = eqb-false x s f in omega (arith, low, apart)
-
 later_passed : (s : ℕ) (xs : List ℕ) →
-    AllByRecursion (λ x. s < x) (filter (λ x. not (nat_lt x s || nat_eq x s)) xs)
+    AllByRecursion (λ x. s < x) (filter (λ x. nat_lt s x) xs)
 later_passed s [] = tt
-later_passed s (x ∷ xs) = by (nat_lt x s) refl (nat_eq x s) refl (later_passed s xs)
+later_passed s (x ∷ xs) = by (nat_lt s x) refl (later_passed s xs)
   where
-    by : (t : Bool) → nat_lt x s ≡ t → (u : Bool) → nat_eq x s ≡ u →
-        AllByRecursion (λ y. s < y) (filter (λ y. not (nat_lt y s || nat_eq y s)) xs) →
-        AllByRecursion (λ y. s < y) (cond (not (t || u))
-        (x ∷ filter (λ y. not (nat_lt y s || nat_eq y s)) xs)
-        (filter (λ y. not (nat_lt y s || nat_eq y s)) xs))
-    by true e u f rest = rest
-    by false e true f rest = rest
-    by false e false f rest = (neither x s e f, rest)
+    by : (t : Bool) → nat_lt s x ≡ t →
+        AllByRecursion (λ y. s < y) (filter (λ y. nat_lt s y) xs) →
+        AllByRecursion (λ y. s < y)
+        (cond t (x ∷ filter (λ y. nat_lt s y) xs) (filter (λ y. nat_lt s y) xs))
+    by true e rest = (ltb-true s x e, rest)
+    by false e rest = rest
 
 above_more : (x s : ℕ) (ys : List ℕ) → x < s → AllByRecursion (λ y. s < y) ys →
     AllByRecursion (λ y. x < y) ys
@@ -227,29 +221,29 @@ joined_rise s (x ∷ xs) ys rises lower more later =
 pub put_rises : (s : ℕ) (xs : List ℕ) → Rises xs → Rises (put s xs)
 put_rises s xs rises =
     joined_rise s (filter (λ x. nat_lt x s) xs)
-    (filter (λ x. not (nat_lt x s || nat_eq x s)) xs) (some_rise (λ x. nat_lt x s) xs rises)
-    (lower_passed s xs) (some_rise (λ x. not (nat_lt x s || nat_eq x s)) xs rises)
+    (filter (λ x. nat_lt s x) xs) (some_rise (λ x. nat_lt x s) xs rises)
+    (lower_passed s xs) (some_rise (λ x. nat_lt s x) xs rises)
     (later_passed s xs)
 
 pub among_put : (r s : ℕ) (xs : List ℕ) → among r (put s xs) ≡ (nat_eq s r || among r xs)
 among_put r s xs =
     list_any-append (λ x. nat_eq x r) (filter (λ x. nat_lt x s) xs)
-    (s ∷ filter (λ x. not (nat_lt x s || nat_eq x s)) xs)
+    (s ∷ filter (λ x. nat_lt s x) xs)
     ∙ (λ i. among_some (λ x. nat_lt x s) r xs i
-    || (nat_eq s r || among_some (λ x. not (nat_lt x s || nat_eq x s)) r xs i))
-    ∙ by (nat_eq s r) refl (nat_lt r s) refl (nat_eq r s) refl (among r xs)
+    || (nat_eq s r || among_some (λ x. nat_lt s x) r xs i))
+    ∙ by (nat_eq s r) refl (nat_lt r s) refl (nat_lt s r) refl (among r xs)
   where
     by : (t : Bool) → nat_eq s r ≡ t → (u : Bool) → nat_lt r s ≡ u → (v : Bool) →
-        nat_eq r s ≡ v → (a : Bool) →
-        ((a && u) || (t || (a && not (u || v)))) ≡ (t || a)
+        nat_lt s r ≡ v → (a : Bool) → ((a && u) || (t || (a && v))) ≡ (t || a)
     by true e u f v g a = or_true (a && u)
     by false e true f v g true = refl
     by false e true f v g false = refl
-    by false e false f true g a =
-        let same = eqb-true r s g in
-        let apart : false ≡ true = sym e ∙ eq-eqb s r (sym same) in cc
-    by false e false f false g true = refl
-    by false e false f false g false = refl
+    by false e false f true g true = refl
+    by false e false f true g false = refl
+    by false e false f false g a =
+        let low = ltb-false r s f in
+        let high = ltb-false s r g in
+        let apart : false ≡ true = sym e ∙ eq-eqb s r (omega (arith, low, high)) in cc
 
 -- the numbers that equal one of rising numbers: it alone, or none
 pub equal_one : (s : ℕ) (xs : List ℕ) → Rises xs →

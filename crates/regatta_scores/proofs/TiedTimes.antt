@@ -19,7 +19,7 @@ use Rattle.regatta_scores.proofs.RisingNumbers.{among_put, risen}
 
 -- ---- lists
 
-map_filter : {X Y : Type 0} (f : X → Y) (p : Y → Bool) (xs : List X) →
+pub map_filter : {X Y : Type 0} (f : X → Y) (p : Y → Bool) (xs : List X) →
     filter p (map f xs) ≡ map f (filter (λ x. p (f x)) xs)
 map_filter f p [] = refl
 map_filter f p (x ∷ xs) = by (p (f x)) (map_filter f p xs)
@@ -30,7 +30,7 @@ map_filter f p (x ∷ xs) = by (p (f x)) (map_filter f p xs)
     by true rest = ap (λ ys. f x ∷ ys) rest
     by false rest = rest
 
-map_twice : {X Y Z : Type 0} (f : Y → Z) (g : X → Y) (xs : List X) →
+pub map_twice : {X Y Z : Type 0} (f : Y → Z) (g : X → Y) (xs : List X) →
     map f (map g xs) ≡ map (λ x. f (g x)) xs
 map_twice f g [] = refl
 map_twice f g (x ∷ xs) = ap (λ ys. f (g x) ∷ ys) (map_twice f g xs)
@@ -40,7 +40,7 @@ map_agree : {X Y : Type 0} (P : X → Type 0) (f g : X → Y) → ((x : X) → P
 map_agree P f g same [] all = refl
 map_agree P f g same (x ∷ xs) all = λ i. same x all.0 i ∷ map_agree P f g same xs all.1 i
 
-filter_agree : {X : Type 0} (P : X → Type 0) (p q : X → Bool) → ((x : X) → P x → p x ≡ q x) →
+pub filter_agree : {X : Type 0} (P : X → Type 0) (p q : X → Bool) → ((x : X) → P x → p x ≡ q x) →
     (xs : List X) → AllByRecursion P xs → filter p xs ≡ filter q xs
 filter_agree P p q same [] all = refl
 filter_agree P p q same (x ∷ xs) all =
@@ -377,17 +377,14 @@ module _ {X : Type 0} (key : X → ℕ) where
       in_groups (xs ++ x ∷ [])
       ≡ map (those xs) (filter (λ r. nat_lt r (key x)) rs)
       ++ (those xs (key x) ++ x ∷ [])
-      ∷ map (those xs) (filter (λ r. not (nat_lt r (key x) || nat_eq r (key x))) rs)
+      ∷ map (those xs) (filter (λ r. nat_lt (key x) r) rs)
   groups_of_more xs x rs rises are =
       let s = key x in
       let all = xs ++ x ∷ [] in
+      let itself : nat_lt s s ≡ false = not_lower s s (omega arith) in
       let hers : those all s ≡ those xs s ++ x ∷ [] =
       filter-append (has s) xs (x ∷ []) ∙ rw (is_itself s) refl in
       groups_are all (put s rs) (put_rises s rs rises) (more_keys xs x rs are)
-      ∙ map-append (those all) (filter (λ r. nat_lt r s) rs)
-      (s ∷ filter (λ r. not (nat_lt r s || nat_eq r s)) rs)
-      ∙ (λ i. other_keys xs x (λ r. nat_lt r s) (not_lower s s (omega arith)) rs i
-      ++ hers i ∷ other_keys xs x (λ r. not (nat_lt r s || nat_eq r s)) (out s) rs i)
-    where
-      out : (s : ℕ) → not (nat_lt s s || nat_eq s s) ≡ false
-      out s = rw (not_lower s s (omega arith), is_itself s) refl
+      ∙ map-append (those all) (filter (λ r. nat_lt r s) rs) (s ∷ filter (λ r. nat_lt s r) rs)
+      ∙ (λ i. other_keys xs x (λ r. nat_lt r s) itself rs i
+      ++ hers i ∷ other_keys xs x (λ r. nat_lt s r) itself rs i)
