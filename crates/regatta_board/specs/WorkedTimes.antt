@@ -1,10 +1,9 @@
 -- Worked examples of runs by corrected times (RRS A3, A7): what each command is answered.
 use Rattle.std.specs.Prelude.{◌≡◌, refl, false, true, List, [], ◌∷◌, ◌++◌, Some, Err}
-use Rattle.regatta_terms.specs.declared.command.Code.TheVariants as code
 use Rattle.regatta_terms.specs.declared.command.Role.{Role}
 use Rattle.regatta_terms.specs.declared.command.Command.{Command}
 use Rattle.regatta_terms.specs.declared.command.Command.TheVariants.{Enter, Finish, Tie, Before}
-use Rattle.regatta_terms.specs.declared.command.Command.TheVariants.{Time, Strike, Mark, Score}
+use Rattle.regatta_terms.specs.declared.command.Command.TheVariants.{Time}
 use Rattle.regatta_terms.specs.declared.reply.Refusal.TheVariants.{WrongSystem, AlreadyPlaced}
 use Rattle.regatta_terms.specs.declared.reply.Refusal.TheVariants.{NotEntered, NotYours}
 use Rattle.regatta_scores.specs.Standing.{standing}
