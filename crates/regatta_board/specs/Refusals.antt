@@ -24,11 +24,10 @@ use Rattle.regatta_terms.specs.declared.reply.Refusal.TheVariants.{AlreadyEntere
 use Rattle.regatta_terms.specs.declared.reply.Refusal.TheVariants.{AlreadyPlaced, NotPlaced}
 use Rattle.regatta_terms.specs.declared.reply.Refusal.TheVariants.{Decided, PenaltyLimit}
 use Rattle.regatta_terms.specs.declared.reply.Refusal.TheVariants.{NothingToClear, AlreadyScored}
-use Rattle.regatta_terms.specs.declared.reply.Refusal.TheVariants.{NotScored, NoFinisher}
-use Rattle.regatta_terms.specs.declared.reply.Refusal.TheVariants.{WrongSystem}
+use Rattle.regatta_terms.specs.declared.reply.Refusal.TheVariants.{NotScored, NoFinisher, WrongSystem}
 use Rattle.regatta_scores.specs.declared.sheet.Held.{Held}
 use Rattle.regatta_scores.specs.Journal.{Journal, same_sail, entered, order, held, is_scored}
-use Rattle.regatta_scores.specs.Journal.{last_item}
+use Rattle.regatta_scores.specs.Journal.{last_item, is_of_other_system}
 use Rattle.regatta_scores.specs.Order.{stands_in, is_empty}
 
 -- how many boats may be entered, and how many entries a journal may hold
@@ -91,22 +90,6 @@ is_jury role.Finish = false
 is_jury role.Jury = true
 is_jury role.Scorer = false
 
--- the command is one of this series: where corrected times determine the places (RRS A3), boats
--- have times, else they finish
-abbrev pub is_of_series : RulesParts → Command → Bool
-is_of_series rules (Enter sail) = true
-is_of_series rules (Finish race sail) = not rules.handicap
-is_of_series rules (Tie race sail other) = not rules.handicap
-is_of_series rules (Before race sail other) = not rules.handicap
-is_of_series rules (Time race sail seconds) = rules.handicap
-is_of_series rules (Strike race sail) = true
-is_of_series rules (Mark race sail code) = true
-is_of_series rules (Penalise race sail kind) = true
-is_of_series rules (Redress race sail redress) = true
-is_of_series rules (Clear race sail) = true
-is_of_series rules (Score race) = true
-is_of_series rules (Unscore race) = true
-
 -- ---- the refusals of each command, in their order
 
 -- of Enter: a boat is entered once (RRS A2.2), while there is room for her
@@ -116,7 +99,7 @@ enter_refusal most journal boat =
     else if nat_le most.boats (length (entered journal)) then Some EntryFull
     else None
 
--- of Finish and Time: a boat has one place in a race (RRS A3)
+-- of Finish and Time: a boat is placed once in a race (RRS A3)
 abbrev pub place_refusal : RulesParts → Journal → ℕ → Sail → Option Refusal
 place_refusal rules journal race boat =
     if not (is_entered journal boat) then Some NotEntered
@@ -201,7 +184,7 @@ refusal most rules journal entry =
     else if nat_le entry.nth (last_number journal entry.seat) then
     Some (OldNumber (last_number journal entry.seat))
     else if not (may_send entry.role entry.command) then Some NotYours
-    else if not (is_of_series rules entry.command) then Some WrongSystem
+    else if is_of_other_system rules entry.command then Some WrongSystem
     else command_refusal most rules journal entry.role entry.command
 
 -- what a call may answer: the refusal that is due, or want of memory where none is due

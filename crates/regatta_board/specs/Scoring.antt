@@ -6,7 +6,7 @@ use Rattle.regatta_terms.specs.declared.limits.TheConstants.{MAX_RACES}
 use Rattle.regatta_terms.specs.declared.reply.Touched.{Touched}
 use Rattle.regatta_terms.specs.declared.command.Command.{Command}
 use Rattle.regatta_terms.specs.declared.command.Command.TheVariants.{Enter, Finish, Tie, Before}
-use Rattle.regatta_terms.specs.declared.command.Command.TheVariants.{Strike, Mark, Penalise}
+use Rattle.regatta_terms.specs.declared.command.Command.TheVariants.{Time, Strike, Mark, Penalise}
 use Rattle.regatta_terms.specs.declared.command.Command.TheVariants.{Redress, Clear, Score, Unscore}
 use Rattle.regatta_scores.specs.declared.boats.Place.{Place}
 use Rattle.regatta_scores.specs.Sheet.{Sheet, empty_sheet}
@@ -63,6 +63,7 @@ most_named kept (Enter sail) = length (races kept.counts)
 most_named kept (Finish race sail) = once_if_counted kept race
 most_named kept (Tie race sail other) = once_if_counted kept race
 most_named kept (Before race sail other) = once_if_counted kept race
+most_named kept (Time race sail seconds) = once_if_counted kept race
 most_named kept (Strike race sail) = once_if_counted kept race
 most_named kept (Mark race sail code) = once_if_counted kept race
 most_named kept (Penalise race sail kind) = once_if_counted kept race

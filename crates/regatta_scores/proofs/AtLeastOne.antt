@@ -19,7 +19,7 @@ use Rattle.regatta_terms.specs.declared.command.Redress as redress_type
 use Rattle.regatta_terms.specs.declared.command.Redress.TheVariants.{Points, AllRaces, RacesBefore}
 use Rattle.regatta_terms.specs.declared.command.Command.{Command}
 use Rattle.regatta_terms.specs.declared.command.Command.TheVariants.{Enter, Finish, Tie, Before}
-use Rattle.regatta_terms.specs.declared.command.Command.TheVariants.{Strike, Mark, Penalise}
+use Rattle.regatta_terms.specs.declared.command.Command.TheVariants.{Time, Strike, Mark, Penalise}
 use Rattle.regatta_terms.specs.declared.command.Command.TheVariants.{Redress, Clear, Score, Unscore}
 use Rattle.regatta_scores.specs.declared.boats.RowItem.{RowItem}
 use Rattle.regatta_scores.specs.declared.table.Cell.{Cell}
@@ -229,6 +229,7 @@ entry_award (Enter sail) is = tt
 entry_award (Finish race sail) is = tt
 entry_award (Tie race sail other) is = tt
 entry_award (Before race sail other) is = tt
+entry_award (Time race sail seconds) is = tt
 entry_award (Strike race sail) is = tt
 entry_award (Mark race sail code) is = tt
 entry_award (Penalise race sail kind) is = tt

@@ -5,7 +5,7 @@ use Rattle.regatta_terms.specs.Rules.{RulesParts}
 use Rattle.regatta_terms.specs.declared.sail.Sail.{Sail}
 use Rattle.regatta_terms.specs.declared.command.Command.{Command}
 use Rattle.regatta_terms.specs.declared.command.Command.TheVariants.{Enter, Finish, Tie, Before}
-use Rattle.regatta_terms.specs.declared.command.Command.TheVariants.{Strike, Mark, Penalise}
+use Rattle.regatta_terms.specs.declared.command.Command.TheVariants.{Time, Strike, Mark, Penalise}
 use Rattle.regatta_terms.specs.declared.command.Command.TheVariants.{Redress, Clear, Score, Unscore}
 use Rattle.regatta_scores.specs.declared.table.Cell.{Cell}
 use Rattle.regatta_scores.specs.declared.table.Row.{Row}
@@ -20,6 +20,7 @@ HasAwardInRange (Enter sail) = Unit {0}
 HasAwardInRange (Finish race sail) = Unit {0}
 HasAwardInRange (Tie race sail other) = Unit {0}
 HasAwardInRange (Before race sail other) = Unit {0}
+HasAwardInRange (Time race sail seconds) = Unit {0}
 HasAwardInRange (Strike race sail) = Unit {0}
 HasAwardInRange (Mark race sail code) = Unit {0}
 HasAwardInRange (Penalise race sail kind) = Unit {0}

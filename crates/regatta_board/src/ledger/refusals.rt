@@ -10,7 +10,7 @@ use crate::ledger::Ledger;
 use regatta_scores::Held;
 use regatta_terms::{
     Code, Command, Entry, MAX_BOATS, MAX_ENTRIES, MAX_PENALTIES, PenaltyKind, RaceNo, Refusal,
-    Role, Rules, Sail, may,
+    Role, Sail, may,
 };
 
 /// Whether she holds a decision of the protest committee.
@@ -35,25 +35,6 @@ fn holds_nothing(held: &Held) -> bool
     ensures { result ≡ refusals.holds_nothing held.now }
 {
     held.code.is_none() && held.zfp == 0 && held.scp == 0 && held.redress.is_none()
-}
-
-/// Whether the command is one of this series: where corrected times determine the places (RRS A3),
-/// boats have times, else they finish.
-fn is_of_series(rules: &Rules, command: &Command) -> bool
-    ensures { result ≡ refusals.is_of_series rules.now command.now }
-{
-    match command {
-        Command::Finish { .. } | Command::Tie { .. } | Command::Before { .. } => !rules.handicap(),
-        Command::Time { .. } => rules.handicap(),
-        Command::Enter { .. }
-        | Command::Strike { .. }
-        | Command::Mark { .. }
-        | Command::Penalise { .. }
-        | Command::Redress { .. }
-        | Command::Clear { .. }
-        | Command::Score { .. }
-        | Command::Unscore { .. } => true,
-    }
 }
 
 impl Ledger {
@@ -114,7 +95,7 @@ impl Ledger {
         }
     }
 
-    /// Of Finish and Time.
+    /// Of Finish.
     fn place_refusal(&self, race: RaceNo, boat: Sail) -> Option<Refusal>
         ensures { result ≡ refusals.place_refusal self.now.rules self.now.entries race boat }
     {
@@ -261,9 +242,6 @@ impl Ledger {
         }
         if !may(entry.role(), &entry.command()) {
             return Some(Refusal::NotYours);
-        }
-        if !is_of_series(&self.rules, &entry.command()) {
-            return Some(Refusal::WrongSystem);
         }
         self.command_refusal(entry.role(), entry.command())
     }
