@@ -139,7 +139,7 @@ module _ (commands : List Command) (race : ℕ) (boat : Sail) where
       ∙ ap held_by (after_last_hit is_clear ds c refl)
 
 -- one boat's record is replaced, under her number
-pub held_replaced : (f g : Sail → Held) (s : Sail) (xs : List Sail)
+pub held_replaced : {V : Type 0} (f g : Sail → V) (s : Sail) (xs : List Sail)
     → ((x : Sail) → same_sail x s ≡ false → g x ≡ f x)
     → ((i j : ℕ) (d : Sail) → i < j → j < length xs
     → same_sail (get_or xs j d) (get_or xs i d) ≡ false)

@@ -1,12 +1,14 @@
 -- The finishing order by numbers after one more change.
 use Rattle.std.proofs.Common.{◌≡◌, ℕ, ◌+◌, Bool, true, false, cond, not, ◌||◌, List, [], ◌∷◌, ◌++◌}
-use Rattle.std.proofs.Common.{refl, ap, ◌∙◌, map, filter, nat_eq}
+use Rattle.std.proofs.Common.{refl, ap, ◌∙◌, map, filter, flat_map, nat_eq, Option}
 use Rattle.std.specs.List.{list_any}
 use Rattle.std.proofs.lemmas.List.{map-append}
 use Rattle.regatta_terms.specs.declared.sail.Sail.{Sail}
 use Rattle.regatta_scores.specs.Journal.{same_sail}
 use Rattle.regatta_scores.specs.Order.{is_empty, in_group, stands_in, with_last, joined, with_ahead}
 use Rattle.regatta_scores.specs.Order.{without}
+use Rattle.regatta_scores.specs.CorrectedTimes.{is_lower, is_equal, is_later, group_time}
+use Rattle.regatta_scores.specs.CorrectedTimes.{lower_groups, equal_boats, later_groups, with_time}
 use Rattle.regatta_board.proofs.Numbers.{place_in, numbers_tell, is_same}
 
 pub last_numbered : (boats : List Sail) (order : List (List Sail)) (sail : Sail)
@@ -100,6 +102,68 @@ pub without_numbered : (boats : List Sail) (order : List (List Sail)) (sail : Sa
 without_numbered boats order sail known =
     kept_numbered (place_in boats) (map (filter (λ o. not (same_sail o sail))) order)
     ∙ ap (filter (λ (g : List ℕ). not (is_empty g))) (struck_groups boats sail known order)
+
+-- ---- one more time
+
+module _ (boats : List Sail) (time : Sail → Option ℕ) (times : ℕ → Option ℕ) where
+  -- under her number each boat of the order has her time
+  abbrev AreNumbered : List (List Sail) → Type 0
+  AreNumbered order =
+      (x : Sail) → stands_in same_sail x order ≡ true → times (place_in boats x) ≡ time x
+
+  group_timed : (g : List Sail) → ((x : Sail) → in_group same_sail x g ≡ true
+      → times (place_in boats x) ≡ time x)
+      → group_time times (map (place_in boats) g) ≡ group_time time g
+  group_timed [] known = refl
+  group_timed (x ∷ xs) known = known x (rw (is_same x) refl)
+
+  groups_timed : (p : Option ℕ → Bool) (order : List (List Sail)) → AreNumbered order
+      → map (map (place_in boats)) (filter (λ g. p (group_time time g)) order)
+      ≡ filter (λ g. p (group_time times g)) (map (map (place_in boats)) order)
+  groups_timed p [] known = refl
+  groups_timed p (g ∷ gs) known =
+      by (p (group_time time g))
+      (ap p (group_timed g (λ x h. known x (first (in_group same_sail x g) _ h))))
+      (groups_timed p gs (λ x h. known x (second (in_group same_sail x g) _ h)))
+    where
+      first : (a b : Bool) → a ≡ true → (a || b) ≡ true
+      first true b k = refl
+      first false b k = absurd (cc)
+
+      second : (a b : Bool) → b ≡ true → (a || b) ≡ true
+      second true b k = refl
+      second false b k = k
+
+      by : (t : Bool) → p (group_time times (map (place_in boats) g)) ≡ t
+          → map (map (place_in boats)) (filter (λ h. p (group_time time h)) gs)
+          ≡ filter (λ h. p (group_time times h)) (map (map (place_in boats)) gs)
+          → map (map (place_in boats)) (cond t (g ∷ filter (λ h. p (group_time time h)) gs)
+          (filter (λ h. p (group_time time h)) gs))
+          ≡ filter (λ h. p (group_time times h)) (map (map (place_in boats)) (g ∷ gs))
+      by true e rest = rw e (ap (λ hs. map (place_in boats) g ∷ hs) rest)
+      by false e rest = rw e rest
+
+  all_numbered : (gs : List (List Sail))
+      → map (place_in boats) (flat_map (λ g. g) gs) ≡ flat_map (λ g. g) (map (map (place_in boats)) gs)
+  all_numbered [] = refl
+  all_numbered (g ∷ gs) =
+      map-append (place_in boats) g (flat_map (λ h. h) gs)
+      ∙ ap (λ ns. map (place_in boats) g ++ ns) (all_numbered gs)
+
+  pub timed_numbered : (order : List (List Sail)) (sail : Sail) (seconds : ℕ) → AreNumbered order
+      → map (map (place_in boats)) (with_time time order sail seconds)
+      ≡ with_time times (map (map (place_in boats)) order) (place_in boats sail) seconds
+  timed_numbered order sail seconds known =
+      let equal = equal_boats time order seconds in
+      map-append (map (place_in boats)) (lower_groups time order seconds)
+      ((equal ++ sail ∷ []) ∷ later_groups time order seconds)
+      ∙ (λ i. groups_timed (λ o. is_lower o seconds) order known i
+      ++ (map-append (place_in boats) equal (sail ∷ [])
+      ∙ ap (λ ns. ns ++ place_in boats sail ∷ [])
+      (all_numbered (filter (λ g. is_equal (group_time time g) seconds) order)
+      ∙ ap (flat_map (λ (g : List ℕ). g))
+      (groups_timed (λ o. is_equal o seconds) order known))) i
+      ∷ groups_timed (λ o. is_later o seconds) order known i)
 
 -- ---- one more boat in the entry list
 

@@ -269,7 +269,7 @@ order_with time order (Clear race sail) = order
 order_with time order (Score race) = order
 order_with time order (Unscore race) = order
 
-no_time : (c : Command) → places c ≡ false →
+pub no_time : (c : Command) → places c ≡ false →
     (time_given c ≡ None) × ((boat : Sail) → ends_time boat c ≡ false)
     × ((order : List (List Sail)) → order_after order c ≡ order)
 no_time (Enter sail) h = (refl, λ boat. refl, λ order. refl)
@@ -347,6 +347,44 @@ timed_by rules cs race sail seconds h full out =
     ∙ ap (λ order. without same_sail order sail) (sym now)
     ∙ stays_by same_sail sail (order_by rules cs)
     (recursion_from_All (λ group. is_empty group ≡ false) (order_by rules cs) full) out)
+
+pub apart_back : (x y : Sail) → same_sail x y ≡ false → same_sail y x ≡ false
+apart_back x y h = by (same_sail y x) refl
+  where
+    by : (b : Bool) → same_sail y x ≡ b → b ≡ false
+    by true e =
+        let no_way : true ≡ false =
+        sym (is_same x) ∙ ap (same_sail x) (sym (same_is y x e)) ∙ h in cc
+    by false e = refl
+
+-- the time of a boat that a command doesn't end
+pub time_of_others : (cs : List Command) (c : Command) (boat : Sail) → ends_time boat c ≡ false →
+    time_by (cs ++ c ∷ []) boat ≡ time_by cs boat
+time_of_others cs (Time race sail seconds) boat h =
+    others_timed cs race sail seconds boat (apart_back boat sail h)
+time_of_others cs (Strike race sail) boat h =
+    others_struck cs race sail boat (apart_back boat sail h)
+time_of_others cs (Enter sail) boat h =
+    ap (λ ts. time_in same_sail ts boat) (times_stay cs (Enter sail) refl (λ x. refl))
+time_of_others cs (Finish race sail) boat h =
+    ap (λ ts. time_in same_sail ts boat) (times_stay cs (Finish race sail) refl (λ x. refl))
+time_of_others cs (Tie race sail other) boat h =
+    ap (λ ts. time_in same_sail ts boat) (times_stay cs (Tie race sail other) refl (λ x. refl))
+time_of_others cs (Before race sail other) boat h =
+    ap (λ ts. time_in same_sail ts boat) (times_stay cs (Before race sail other) refl (λ x. refl))
+time_of_others cs (Mark race sail code) boat h =
+    ap (λ ts. time_in same_sail ts boat) (times_stay cs (Mark race sail code) refl (λ x. refl))
+time_of_others cs (Penalise race sail kind) boat h =
+    ap (λ ts. time_in same_sail ts boat) (times_stay cs (Penalise race sail kind) refl (λ x. refl))
+time_of_others cs (Redress race sail redress) boat h =
+    ap (λ ts. time_in same_sail ts boat)
+    (times_stay cs (Redress race sail redress) refl (λ x. refl))
+time_of_others cs (Clear race sail) boat h =
+    ap (λ ts. time_in same_sail ts boat) (times_stay cs (Clear race sail) refl (λ x. refl))
+time_of_others cs (Score race) boat h =
+    ap (λ ts. time_in same_sail ts boat) (times_stay cs (Score race) refl (λ x. refl))
+time_of_others cs (Unscore race) boat h =
+    ap (λ ts. time_in same_sail ts boat) (times_stay cs (Unscore race) refl (λ x. refl))
 
 -- what a command asks of the order that it changes: it belongs to the system of the rules, and who
 -- is timed doesn't stand in the order

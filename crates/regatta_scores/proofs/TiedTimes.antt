@@ -108,7 +108,7 @@ or_under : (a b c : Bool) → (b ≡ true → c ≡ true) → (a || b) ≡ true 
 or_under true b c f h = refl
 or_under false b c f h = f h
 
-any_filter : {X : Type 0} (p q : X → Bool) (xs : List X) → list_any p (filter q xs) ≡ true →
+pub any_filter : {X : Type 0} (p q : X → Bool) (xs : List X) → list_any p (filter q xs) ≡ true →
     list_any p xs ≡ true
 any_filter p q [] h = h
 any_filter p q (x ∷ xs) h = by (q x) (any_filter p q xs) h
