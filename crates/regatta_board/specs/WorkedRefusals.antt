@@ -1,20 +1,18 @@
 -- Worked examples: the refusals of commands.
-use Rattle.std.specs.Prelude.{◌≡◌, refl, false, true, List, [], ◌∷◌, Err}
-use Rattle.regatta_terms.specs.Rules.{RulesParts}
+use Rattle.std.specs.Prelude.{◌≡◌, refl, false, List, [], ◌∷◌, Err}
 use Rattle.regatta_terms.specs.declared.command.Code.TheVariants as code
 use Rattle.regatta_terms.specs.declared.command.PenaltyKind.TheVariants as kind
 use Rattle.regatta_terms.specs.declared.command.Redress.TheVariants as redress
 use Rattle.regatta_terms.specs.declared.command.Role.{Role}
 use Rattle.regatta_terms.specs.declared.command.Command.{Command}
 use Rattle.regatta_terms.specs.declared.command.Command.TheVariants.{Enter, Finish, Tie, Strike}
-use Rattle.regatta_terms.specs.declared.command.Command.TheVariants.{Time, Mark, Penalise, Redress}
-use Rattle.regatta_terms.specs.declared.command.Command.TheVariants.{Before, Clear, Score, Unscore}
+use Rattle.regatta_terms.specs.declared.command.Command.TheVariants.{Mark, Penalise, Redress, Clear}
+use Rattle.regatta_terms.specs.declared.command.Command.TheVariants.{Score, Unscore}
 use Rattle.regatta_terms.specs.declared.reply.Refusal.TheVariants.{NotYours, AlreadyEntered}
 use Rattle.regatta_terms.specs.declared.reply.Refusal.TheVariants.{NotEntered, AlreadyPlaced}
 use Rattle.regatta_terms.specs.declared.reply.Refusal.TheVariants.{NotPlaced, Decided}
 use Rattle.regatta_terms.specs.declared.reply.Refusal.TheVariants.{NothingToClear, AlreadyScored}
 use Rattle.regatta_terms.specs.declared.reply.Refusal.TheVariants.{NotScored, NoFinisher}
-use Rattle.regatta_terms.specs.declared.reply.Refusal.TheVariants.{WrongSystem}
 use Rattle.regatta_scores.specs.declared.table.Abbrev.TheVariants as abbreviation
 use Rattle.regatta_scores.specs.Standing.{standing}
 use Rattle.regatta_scores.specs.WorkedStandings.{a, b, scorer, jury, default_rules, table, row}
@@ -85,40 +83,3 @@ pub each_refusal_table :
     standing default_rules (journal_after default_rules [] each_refusal_commands)
     ≡ table (1 ∷ []) (row a 1 false 25 (marked 25 abbreviation.Rdg ∷ []) ∷ [])
 each_refusal_table = refl
-
--- a series by corrected times (RRS A3)
-abbrev pub by_times : RulesParts
-by_times = record default_rules { handicap = true }
-
--- what is not of the series is refused ahead of what else is wrong: B isn't entered, and A has no
--- place yet; a role comes ahead of it
-abbrev pub other_system_commands : List (Role × Command)
-other_system_commands =
-    scorer (Enter a)
-    ∷ scorer (Finish 1 b)
-    ∷ scorer (Tie 1 a a)
-    ∷ scorer (Before 1 a a)
-    ∷ jury (Finish 1 a)
-    ∷ scorer (Time 1 b 5)
-    ∷ scorer (Time 1 a 5)
-    ∷ scorer (Time 1 a 4)
-    ∷ []
-
-pub other_system_replies :
-    replies by_times [] other_system_commands
-    ≡ ok 1 1 false 0
-    ∷ Err WrongSystem
-    ∷ Err WrongSystem
-    ∷ Err WrongSystem
-    ∷ Err NotYours
-    ∷ Err NotEntered
-    ∷ ok 2 1 false 0
-    ∷ Err AlreadyPlaced
-    ∷ []
-other_system_replies = refl
-
--- and without corrected times a time is
-pub time_among_finishes :
-    replies default_rules [] (scorer (Enter a) ∷ scorer (Time 1 b 5) ∷ jury (Time 1 a 5) ∷ [])
-    ≡ ok 1 1 false 0 ∷ Err WrongSystem ∷ Err NotYours ∷ []
-time_among_finishes = refl
