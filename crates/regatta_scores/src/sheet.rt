@@ -11,8 +11,7 @@ ghost use Rattle.regatta_scores.specs.declared.sheet.Change.TheVariants.{Ahead, 
 ghost use Rattle.regatta_scores.specs.declared.sheet.Change.TheVariants.{Out, Hold as Holds};
 
 use crate::groups::Groups;
-use crate::orders;
-use crate::timed;
+use crate::{orders, timed};
 use regatta_terms::{Code, Redress, Seconds};
 use std::alloc::{AllocError, Global};
 use std::marker::Model;

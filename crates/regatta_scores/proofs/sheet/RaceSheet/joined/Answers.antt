@@ -10,5 +10,5 @@ invariant_of-result c =
     let may = rw (← c.self.view_is) at c.requires in
     whole_sheet (joined nat_eq order c.args.boat c.args.other) _ held _ _ (cc c.in_ok-order.ensures)
     (cc c.in_ok-held.ensures.items)
-    (ap length c.in_ok-seconds.ensures.items ∙ c.self.invariant.timed)
+    (ap length (cc c.in_ok-seconds.ensures.items) ∙ c.self.invariant.timed)
     (joined_sheet order held c.args.boat c.args.other c.self.invariant.sheet may.0.0 may.0.1)
