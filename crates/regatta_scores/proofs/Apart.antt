@@ -1,5 +1,5 @@
 -- A command of one race changes no other race.
-use Rattle.std.proofs.Common.{◌≡◌, ◌≢◌, ℕ, Bool, true, false, cond, List, [], ◌∷◌, ◌++◌, refl, ap}
+use Rattle.std.proofs.Common.{◌≡◌, ◌≢◌, ℕ, Bool, true, false, cond, [], ◌∷◌, ◌++◌, refl, ap}
 use Rattle.std.proofs.Common.{◌∙◌, sym, filter, filter_map, nat_eq, None}
 use Rattle.std.specs.List.{cons_option, after_last}
 use Rattle.std.proofs.lemmas.List.{map-append, append-nil}

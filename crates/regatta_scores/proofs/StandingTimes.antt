@@ -16,7 +16,7 @@ use Rattle.regatta_terms.specs.declared.command.Command.TheVariants.{Redress, Cl
 use Rattle.regatta_scores.specs.Order.{is_empty, stands_in, HasNoEmptyGroup, without}
 use Rattle.regatta_scores.specs.CorrectedTimes.{CorrectedTime, order_of_times, time_in, with_time}
 use Rattle.regatta_scores.specs.Journal.{same_sail, order_after, order_by, time_given, ends_time}
-use Rattle.regatta_scores.specs.Journal.{lasting, standing_times, is_of_other_system}
+use Rattle.regatta_scores.specs.Journal.{lasting, standing_times}
 use Rattle.regatta_scores.proofs.RisingNumbers.{or_false}
 use Rattle.regatta_scores.proofs.TimedOrders.{order_with_time, order_without, stays_by}
 

@@ -1,14 +1,14 @@
 -- Groups of equal numbers, counted from a whole list, by the rising numbers of that list.
 use Rattle.std.proofs.Common.{◌≡◌, ℕ, suc, ◌+◌, ◌<◌, ◌≤◌, Bool, true, false, cond, not, ◌&&◌, ◌||◌}
 use Rattle.std.proofs.Common.{List, [], ◌∷◌, ◌++◌, refl, ap, ◌∙◌, sym, arith, length, filter, map}
-use Rattle.std.proofs.Common.{flat_map, count_by, nat_eq, nat_lt}
+use Rattle.std.proofs.Common.{count_by, nat_eq, nat_lt}
 use Rattle.std.specs.Cmp.{both_ways}
 use Rattle.std.specs.List.{list_any, range_with_len, AllByRecursion}
 use Rattle.std.proofs.lemmas.List.{append-nil, map-append}
 use Rattle.std.proofs.lemmas.List.Elements.{filter-append}
 use Rattle.std.proofs.lemmas.List.Folds.{list_any-append}
 use Rattle.std.proofs.lemmas.List.Sums.{count_by-le-length}
-use borrow.Author.Tests.{eqb-true, eq-eqb, eqb-false, ltb-true, ltb-false, lt-ltb}
+use borrow.Author.Tests.{eqb-true, eq-eqb, ltb-true, ltb-false, lt-ltb}
 use Rattle.regatta_scores.specs.Order.{is_empty}
 use Rattle.regatta_scores.proofs.Counts.{count_cons}
 use Rattle.regatta_scores.proofs.Members.{le_by, count_le}
