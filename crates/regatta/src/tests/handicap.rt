@@ -31,7 +31,7 @@ static LAST_TABLE: &str = "TABLE 3 RACES 1\n1 A 1.0 1.0\n2 B 2.0 2.0\n3 C 3.0 3.
 /// Texts one behind the other.
 fn joined(alloc: Global, parts: &[&str]) -> Result<Vec<u8>, Fail> {
     let mut text = Vec::new(alloc);
-    for part in parts {
+    for &part in parts {
         text.extend_from_slice(part.as_bytes())?;
     }
     Ok(text)
@@ -96,7 +96,7 @@ fn a_journal_of_the_other_system_is_refused(rt: HostRuntime) -> Result<(), Fail>
 
 #[test]
 fn seconds_are_written_without_leading_zeros(rt: HostRuntime) -> Result<(), Fail> {
-    let entry = read_entry(b"1 4 scorer time 1 a 007").map_err(|_| "an entry")?;
+    let entry = read_entry(b"1 4 scorer time 1 a 007")?;
     let mut text = Vec::new(rt.alloc());
     write_entry(&entry, &mut text)?;
     assert_eq!(rt; text.as_slice(), b"1 4 SCORER TIME 1 A 7".as_slice());
