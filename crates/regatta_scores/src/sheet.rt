@@ -232,7 +232,7 @@ impl RaceSheet {
         let order = orders::without(alloc, &self.order, boat)?;
         let held = Vec::from_slice(alloc, &self.held)?;
         let mut seconds = Vec::from_slice(alloc, &self.seconds)?;
-        seconds[boat as usize] = None;
+        timed::take_away(&mut seconds, boat);
         Ok(RaceSheet {
             order,
             held,
