@@ -30,7 +30,7 @@ take_map f zero xs = refl
 take_map f (suc n) [] = refl
 take_map f (suc n) (x ∷ xs) = ap (λ ys. f x ∷ ys) (take_map f n xs)
 
-pub before_map : {X Y : Type 0} (f : X → Y) (p : Y → Bool) (q : X → Bool) → ((x : X) → p (f x) ≡ q x) →
+before_map : {X Y : Type 0} (f : X → Y) (p : Y → Bool) (q : X → Bool) → ((x : X) → p (f x) ≡ q x) →
     (xs : List X) → before_first p (map f xs) ≡ map f (before_first q xs)
 before_map f p q same xs =
     ap (λ n. take n (map f xs)) (prefix_map f (λ y. not (p y)) (λ x. not (q x))
@@ -64,7 +64,7 @@ count_map_known Known f p q same (x ∷ xs) all =
     count_cons p (f x) (map f xs) ∙ (λ i. cond (same x all.0 i) 1 0
     + count_map_known Known f p q same xs all.1 i) ∙ sym (count_cons q x xs)
 
-pub sum_map : {X Y : Type 0} (f : X → Y) (g : Y → ℕ) (h : X → ℕ) → ((x : X) → g (f x) ≡ h x) →
+sum_map : {X Y : Type 0} (f : X → Y) (g : Y → ℕ) (h : X → ℕ) → ((x : X) → g (f x) ≡ h x) →
     (xs : List X) → sum_by g (map f xs) ≡ sum_by h xs
 sum_map f g h same [] = refl
 sum_map f g h same (x ∷ xs) =

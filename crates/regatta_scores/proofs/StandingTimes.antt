@@ -24,7 +24,7 @@ use Rattle.regatta_scores.proofs.TimedOrders.{order_with_time, order_without, st
 abbrev pub time_by : List Command → Sail → Option ℕ
 time_by commands boat = time_in same_sail (standing_times commands) boat
 
-pub same_is : (x y : Sail) → same_sail x y ≡ true → x ≡ y
+same_is : (x y : Sail) → same_sail x y ≡ true → x ≡ y
 same_is x y e = (bytes_decides x y).0 e
 
 is_same : (x : Sail) → same_sail x x ≡ true
@@ -79,7 +79,7 @@ times_stay cs c none no_end =
 
 -- ---- each boat has one time
 
-abbrev pub Distinct : List (CorrectedTime Sail) → Type 0
+Distinct : List (CorrectedTime Sail) → Type 0
 Distinct [] = Unit {0}
 Distinct (t ∷ ts) = AllByRecursion (λ o. same_sail t.boat o.boat ≡ false) ts × Distinct ts
 
@@ -113,6 +113,7 @@ none_stands boat (d ∷ cs) h =
 
 distinct_more : (given : Option (CorrectedTime Sail)) (cs : List Command) →
     Distinct (standing_times cs) → Distinct (lasting given cs ++ standing_times cs)
+unfolding Distinct
 distinct_more None cs rest = rest
 distinct_more (Some t) cs rest = by (list_any (ends_time t.boat) cs) refl
   where
@@ -121,12 +122,14 @@ distinct_more (Some t) cs rest = by (list_any (ends_time t.boat) cs) refl
     by true e = rest
     by false e = (none_stands t.boat cs e, rest)
 
-pub distinct : (cs : List Command) → Distinct (standing_times cs)
+distinct : (cs : List Command) → Distinct (standing_times cs)
+unfolding Distinct
 distinct [] = tt
 distinct (d ∷ cs) = distinct_more (time_given d) cs (distinct cs)
 
 own_time : (ts : List (CorrectedTime Sail)) → Distinct ts →
     AllByRecursion (λ t. time_in same_sail ts t.boat ≡ Some t.seconds) ts
+unfolding Distinct
 own_time [] apart = tt
 own_time (t ∷ ts) apart = (
   rw (is_same t.boat) refl,

@@ -2,7 +2,6 @@
 ghost use Rattle.regatta_scores.specs.RaceLaws.{RacesAreApart, EnterKeepsRaces};
 ghost use Rattle.regatta_scores.specs.RaceLaws.{CodedBoatsLeaveTheOrder, TiesShareEqually};
 ghost use Rattle.regatta_scores.specs.RaceLaws.{OrdersHaveNoEmptyGroup, PlacesAreSharedOut};
-ghost use Rattle.regatta_scores.specs.TimeLaws.{TimesDeterminePlaces};
 
 /// A command of one race changes nothing of another race: its finishing order, what boats hold
 /// there, who finished, its DNF score and its points before redress. Enter changes no finishing
@@ -30,11 +29,4 @@ pub fn coded_boats_leave_the_order()
 pub fn places_are_shared_out()
     ensures ties { TiesShareEqually }
     ensures places { PlacesAreSharedOut }
-{}
-
-/// Where corrected times determine the places, as many boats are ahead of a boat with a time as
-/// finished with lower times (RRS A3), and those that finished with her time share her place
-/// (RRS A7).
-pub fn times_determine_places()
-    ensures { TimesDeterminePlaces }
 {}
