@@ -149,7 +149,8 @@ module _ (rules : RulesParts) (journal : Journal) (o : IsOrderly rules journal) 
     fits role (Enter s) r none =
         let room : length (entered journal) < limits.boats =
         has_room rules journal role (Enter s) none (λ h. cc) in
-        let new : is_entered journal s ≡ false = may_step rules journal role (Enter s) refl none in (
+        let new : is_entered journal s ≡ false =
+        may_step rules journal role (Enter s) refl none in (
           (let within : length kept.sails < limits.boats = omega (arith, boats_are) in within),
           entered_is s ∙ new,
         )

@@ -326,12 +326,14 @@ module _ (rules : RulesParts) (journal : Journal) (o : IsOrderly rules journal)
       }
     where
       on : (race : ℕ) (t : Bool) → names_race race c ≡ t → IsOnSheet (entered journal)
-          (cond t (order_with (time journal race) (order rules journal race) c) (order rules journal race))
+          (cond t (order_with (time journal race) (order rules journal race) c)
+          (order rules journal race))
       on race true named = on_after rules journal race (o.once race) (o.known race) c named may
       on race false named = o.once race
 
       by : (race : ℕ) (b : Sail) (t : Bool)
-          → stands_in same_sail b (cond t (order_with (time journal race) (order rules journal race) c)
+          → stands_in same_sail b
+          (cond t (order_with (time journal race) (order rules journal race) c)
           (order rules journal race))
           ≡ true → is_entered journal b ≡ true
       by race b true h = stands_entered rules journal o c race may b h

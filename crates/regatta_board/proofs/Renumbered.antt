@@ -144,7 +144,8 @@ module _ (boats : List Sail) (time : Sail → Option ℕ) (times : ℕ → Optio
       by false e rest = rw e rest
 
   all_numbered : (gs : List (List Sail))
-      → map (place_in boats) (flat_map (λ g. g) gs) ≡ flat_map (λ g. g) (map (map (place_in boats)) gs)
+      → map (place_in boats) (flat_map (λ g. g) gs)
+      ≡ flat_map (λ g. g) (map (map (place_in boats)) gs)
   all_numbered [] = refl
   all_numbered (g ∷ gs) =
       map-append (place_in boats) g (flat_map (λ h. h) gs)

@@ -24,7 +24,8 @@ use Rattle.regatta_terms.specs.declared.reply.Refusal.TheVariants.{AlreadyEntere
 use Rattle.regatta_terms.specs.declared.reply.Refusal.TheVariants.{AlreadyPlaced, NotPlaced}
 use Rattle.regatta_terms.specs.declared.reply.Refusal.TheVariants.{Decided, PenaltyLimit}
 use Rattle.regatta_terms.specs.declared.reply.Refusal.TheVariants.{NothingToClear, AlreadyScored}
-use Rattle.regatta_terms.specs.declared.reply.Refusal.TheVariants.{NotScored, NoFinisher, WrongSystem}
+use Rattle.regatta_terms.specs.declared.reply.Refusal.TheVariants.{NotScored, NoFinisher}
+use Rattle.regatta_terms.specs.declared.reply.Refusal.TheVariants.{WrongSystem}
 use Rattle.regatta_scores.specs.declared.sheet.Held.{Held}
 use Rattle.regatta_scores.specs.Journal.{Journal, same_sail, entered, order, held, is_scored}
 use Rattle.regatta_scores.specs.Journal.{last_item, is_of_other_system}

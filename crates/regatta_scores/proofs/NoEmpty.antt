@@ -152,7 +152,8 @@ times_have_none : (times : List (CorrectedTime Sail)) → HasNoEmptyGroup (order
 times_have_none times =
     All-from_recursion HasBoats (order_of_times times)
     (named (λ (time : CorrectedTime Sail). time.boat) (tied_times times)
-    (with_boats {B = CorrectedTime Sail} (λ a b. true) (map (times_behind times) (range_with_len 0 (length times)))))
+    (with_boats {B = CorrectedTime Sail} (λ a b. true)
+    (map (times_behind times) (range_with_len 0 (length times)))))
 
 -- no order that commands of a race make has an empty group
 pub order_has_none : (rules : RulesParts) (commands : List Command) →

@@ -39,8 +39,8 @@ pub const NOTHING_HELD: Held = Held {
     redress: None,
 };
 
-/// One race: the finishing order, in groups of tied boats (RRS A3, A7), what each boat holds, and the
-/// corrected time of each boat that was placed by one.
+/// One race: the finishing order, in groups of tied boats (RRS A3, A7), what each boat holds, and
+/// the corrected time of each boat that was placed by one.
 /// Boats are numbers from 0, in the order of the entry list, and at most
 /// [`MAX_BOATS`](regatta_terms::MAX_BOATS).
 #[derive(Drop)]
@@ -120,9 +120,9 @@ impl RaceSheet {
     /// A copy of the sheet after a change that the sheet allows.
     ///
     /// A boat is added where there are fewer than [`MAX_BOATS`](regatta_terms::MAX_BOATS). Boats
-    /// that the change names are among the sheet's. Who is placed, last, tied, ahead or by her time,
-    /// doesn't stand in the order yet; the other boat that she joins or goes ahead of, and a boat
-    /// that goes out, stand in it. What a boat holds from now on has at most
+    /// that the change names are among the sheet's. Who is placed, last, tied, ahead or by her
+    /// time, doesn't stand in the order yet; the other boat that she joins or goes ahead of, and a
+    /// boat that goes out, stand in it. What a boat holds from now on has at most
     /// [`MAX_PENALTIES`](regatta_terms::MAX_PENALTIES) penalties of each kind. The one error is
     /// want of memory.
     pub fn after(&self, change: Change) -> Result<RaceSheet, AllocError>

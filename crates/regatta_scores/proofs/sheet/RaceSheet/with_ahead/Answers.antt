@@ -8,7 +8,7 @@ invariant_of-result c =
     let order = c.self.inside.order in
     let held = c.self.inside.held.items in
     let may = rw (← c.self.view_is) at c.requires in
-    whole_sheet (with_ahead nat_eq order c.args.boat c.args.other) _ held _ _ (cc c.in_ok-order.ensures)
-    (cc c.in_ok-held.ensures.items)
+    whole_sheet (with_ahead nat_eq order c.args.boat c.args.other) _ held _ _
+    (cc c.in_ok-order.ensures) (cc c.in_ok-held.ensures.items)
     (ap length (cc c.in_ok-seconds.ensures.items) ∙ c.self.invariant.timed)
     (ahead_sheet order held c.args.boat c.args.other c.self.invariant.sheet may.0.0 may.0.1)
