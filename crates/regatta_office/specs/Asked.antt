@@ -1,5 +1,6 @@
 -- What a run may be asked for, and a run that does it.
-use Rattle.std.specs.Prelude.{◌≡◌, ◌≤◌, ℕ, Bool, true, length, List, [], Option, Some, None, IfSome, Ok}
+use Rattle.std.specs.Prelude.{◌≡◌, ◌≤◌, ℕ, Bool, true, length, List, [], Option, Some, None}
+use Rattle.std.specs.Prelude.{IfSome, Ok}
 use Rattle.std.specs.Io.KnownBytes.{Appends}
 use Rattle.regatta_terms.specs.Rules.{RulesParts, rules_of_texts}
 use Rattle.regatta_scores.specs.Journal.{Journal}
