@@ -10,6 +10,9 @@ use std::process::ExitCode;
 /// The status where the words aren't text.
 const BAD_WORDS: u8 = 2;
 
+/// The status where standard error fails.
+const DEVICE_FAULT: u8 = 3;
+
 /// The status where memory is wanting.
 const NO_MEMORY: u8 = 3;
 
@@ -24,7 +27,9 @@ fn texts_of(alloc: Global, words: &[String]) -> Result<Vec<&str>, AllocError> {
 
 /// The status where the words aren't text, which is said on standard error.
 fn bad_words<E: Sink>(errors: &mut E) -> ExitCode {
-    let _ = write_all(errors, b"error: a word isn't UTF-8\n");
+    if write_all(errors, b"error: a word isn't UTF-8\n").is_err() {
+        return ExitCode::from(DEVICE_FAULT);
+    }
     ExitCode::from(BAD_WORDS)
 }
 
