@@ -132,6 +132,38 @@ const LOOKS_FIRST: &[u8] = b"SHOW\r\nENTER A\nRANK A\nROLE JURY\nNOPE\nENT";
 const FIRST_REPLIES: &[u8] = b"JOURNAL 0\nTABLE 0 RACES\nEND\nOK 1 1 0.0\nRANK 1 0.0\nROLE JURY\n\
     NO 21\n";
 
+/// The first session on the pass.
+fn look_first<N: OfficeName, H: Wait + Drop, R: Wait + Abort>(
+    rt: &R,
+    alloc: Global,
+    office: &Office<N, H>,
+    pass: &mut Pass<N>,
+) -> Result<(), Fail> {
+    let mut tape = client(alloc, LOOKS_FIRST)?;
+    let end = session(rt, alloc, &mut tape, office, pass, &OpenGate);
+    assert_eq!(rt; tape.written(), FIRST_REPLIES);
+    assert_eq!(rt; end, End::Closed);
+    assert_eq!(rt; pass.last(), 1);
+    Ok(())
+}
+
+/// The second session begins as the scorer, whatever the first ended as.
+fn enter_next<N: OfficeName, H: Wait + Drop, R: Wait + Abort>(
+    rt: &R,
+    alloc: Global,
+    office: &Office<N, H>,
+    pass: &mut Pass<N>,
+) -> Result<(), Fail> {
+    let mut tape = client(alloc, b"ENTER B\nQUIT\n")?;
+    let end = session(rt, alloc, &mut tape, office, pass, &OpenGate);
+    assert_eq!(rt; tape.written(), b"OK 2 1= 0.0\nBYE\n".as_slice());
+    assert_eq!(rt; end, End::Quit);
+    let journal = journal_text(rt, alloc, office)?;
+    let wanted = b"1 1 SCORER ENTER A\n1 2 SCORER ENTER B\n";
+    assert_eq!(rt; journal.as_slice(), wanted.as_slice());
+    Ok(())
+}
+
 /// Behind two sessions, one after the other, the pass runs commands by the guard, and shows what
 /// they made.
 fn go_on<N: OfficeName, H: Wait + Drop, R: Wait + Abort>(
@@ -143,20 +175,8 @@ fn go_on<N: OfficeName, H: Wait + Drop, R: Wait + Abort>(
 {
     let (office, mut passes) = opened.split::<N>()?;
     let mut pass = passes.pop().ok_or("a pass")?;
-    let mut first = [client(alloc, LOOKS_FIRST)?];
-    let end = talk(rt, alloc, &office, &mut pass, &mut first, &OpenGate)?;
-    assert_eq!(rt; first[0].written(), FIRST_REPLIES);
-    assert_eq!(rt; end.as_slice(), [End::Closed].as_slice());
-    assert_eq!(rt; pass.last(), 1);
-    let mut second = [client(alloc, b"ENTER B\nQUIT\n")?];
-    let end = talk(rt, alloc, &office, &mut pass, &mut second, &OpenGate)?;
-    assert_eq!(rt; second[0].written(), b"OK 2 1= 0.0\nBYE\n".as_slice());
-    assert_eq!(rt; end.as_slice(), [End::Quit].as_slice());
-    let journal = journal_text(rt, alloc, &office)?;
-    assert_eq!(rt;
-        journal.as_slice(),
-        b"1 1 SCORER ENTER A\n1 2 SCORER ENTER B\n".as_slice()
-    );
+    look_first(rt, alloc, &office, &mut pass)?;
+    enter_next(rt, alloc, &office, &mut pass)?;
     run_by_guard(rt, &office, &mut pass)
 }
 
