@@ -4,14 +4,28 @@
 use regatta_office::{Foreign, Sink, program, write_all};
 use std::alloc::{AllocError, Global};
 use std::env;
+use std::env::Args;
 use std::io::ErrorKind;
 use std::process::ExitCode;
 
 /// The status where the words aren't text.
 const BAD_WORDS: u8 = 2;
 
+/// The status where standard error fails.
+const DEVICE_FAULT: u8 = 3;
+
 /// The status where memory is wanting.
 const NO_MEMORY: u8 = 3;
+
+/// The program's words, behind its own name. Each growth is asked for once, so that one that is
+/// refused is answered.
+fn words_of(alloc: Global, args: Args<Global>) -> Result<Vec<String>, AllocError> {
+    let mut words = Vec::new(alloc);
+    for word in args.skip(1) {
+        words.push(word)?;
+    }
+    Ok(words)
+}
 
 /// The words as borrowed text.
 fn texts_of(alloc: Global, words: &[String]) -> Result<Vec<&str>, AllocError> {
@@ -24,7 +38,9 @@ fn texts_of(alloc: Global, words: &[String]) -> Result<Vec<&str>, AllocError> {
 
 /// The status where the words aren't text, which is said on standard error.
 fn bad_words<E: Sink>(errors: &mut E) -> ExitCode {
-    let _ = write_all(errors, b"error: a word isn't UTF-8\n");
+    if write_all(errors, b"error: a word isn't UTF-8\n").is_err() {
+        return ExitCode::from(DEVICE_FAULT);
+    }
     ExitCode::from(BAD_WORDS)
 }
 
@@ -41,8 +57,7 @@ fn main(rt: HostRuntime) -> ExitCode {
         Err(error) if error.kind() == ErrorKind::OutOfMemory => return no_memory(&mut errors),
         Err(_) => return bad_words(&mut errors),
     };
-    let collected: Result<Vec<String>, AllocError> = args.skip(1).collect(rt.alloc());
-    let Ok(words) = collected else {
+    let Ok(words) = words_of(rt.alloc(), args) else {
         return no_memory(&mut errors);
     };
     let Ok(texts) = texts_of(rt.alloc(), &words) else {

@@ -1,7 +1,8 @@
 -- `==` of outcomes is equality.
 use Rattle.std.proofs.Common.{◌≡◌, ℕ, Bool, true, false, ◌&&◌, refl, ap, Option, Some, None}
 use Rattle.std.specs.Option.{option_eq}
-use Rattle.std.specs.Prelude.{◌==◌}
+use Rattle.std.specs.Prelude.{◌==◌, List, [], ◌∷◌}
+use Rattle.std.specs.Cmp.Lexicographic.{pointwise}
 use Rattle.std.proofs.lemmas.Bool.Decides.{Decides-eqb}
 use Rattle.regatta_terms.specs.contracts.command.Code as code
 use Rattle.regatta_terms.proofs.EqualFacts.{redress_one}
@@ -47,3 +48,11 @@ outcome_one a b h =
       };
       placed = bool_one a.placed b.placed q.1 i;
     }
+
+pub outcomes_one : (xs ys : List Outcome) → pointwise outcomes.ghosts.eq xs ys ≡ true → xs ≡ ys
+outcomes_one [] [] h = refl
+outcomes_one [] (y ∷ ys) h = absurd (cc)
+outcomes_one (x ∷ xs) [] h = absurd (cc)
+outcomes_one (x ∷ xs) (y ∷ ys) h =
+    let p = both _ _ h in
+    λ i. outcome_one x y p.0 i ∷ outcomes_one xs ys p.1 i

@@ -18,7 +18,7 @@ use Rattle.regatta_board.specs.Outcomes.{line}
 use Rattle.regatta_board.specs.Revisions.{revised, touches}
 use Rattle.regatta_board.specs.Scoring.{Scoring, IsScoring, AreColumns, AreNewColumns}
 use Rattle.regatta_board.specs.Scoring.{TurnsOneColumn, TurnsOnly, with_columns, lines_by}
-use Rattle.regatta_board.specs.Scoring.{AreNewScores}
+use Rattle.regatta_board.specs.Scoring.{AreNewScores, SaysTheSame}
 use Rattle.regatta_board.specs.Scoring.{AreRanked, lines_after, places_after, with_scores}
 use Rattle.regatta_board.specs.declared.scoring.NewScores.{NewScores}
 use Rattle.regatta_board.specs.declared.scoring.Ranked.{Ranked}
@@ -221,3 +221,17 @@ untouched_scores rules kept (revision.Sheet race sheet) e = record {
   ranked = λ i. lines rules (sym (untouched_columns rules kept race sheet e) i)
       (length kept.sails);
 }
+
+-- where a new sheet says of each boat what the old one said, no line changes
+pub unchanged_lines : (rules : RulesParts) (kept : Kept) (scoring : Scoring)
+    → IsScoring rules kept scoring → (change : Revision) (new : NewColumns)
+    → AreNewColumns rules kept (revised kept change) new → SaysTheSame scoring change new
+    → lines_by rules kept ≡ lines_by rules (revised kept change)
+unchanged_lines rules kept scoring is (revision.Enter boats sheets) new are same = absurd same
+unchanged_lines rules kept scoring is (revision.Counts race counts) new are same = absurd same
+unchanged_lines rules kept scoring is (revision.Sheet race sheet) new are same =
+    ap (λ cs. lines rules cs (length kept.sails))
+    (sym (columns_found rules kept scoring.columns is.columns)
+    ∙ (λ i. map (λ race. get_or ((sym same) i) (race - 1) []) (races kept.counts))
+    ∙ columns_found rules (revised kept (revision.Sheet race sheet))
+    (with_columns scoring.columns new) (are scoring.columns is.long is.columns).1)

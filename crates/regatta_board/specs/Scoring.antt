@@ -114,6 +114,13 @@ pub record TurnsOnly (rules : RulesParts) (kept : Kept) (change : Revision) (rac
   pub column : with_columns scoring.columns new
       ≡ slice_set scoring.columns (race - 1) (column rules sheet)
 
+-- a new sheet says of each boat what the old one said
+abbrev pub SaysTheSame : Scoring → Revision → NewColumns → Type 0
+SaysTheSame scoring (revision.Enter boats sheets) new = ⊥
+SaysTheSame scoring (revision.Sheet race sheet) new =
+    with_columns scoring.columns new ≡ scoring.columns
+SaysTheSame scoring (revision.Counts race counts) new = ⊥
+
 -- new scores make those of what is kept before into those of what is kept after
 pub record AreNewScores (rules : RulesParts) (before after : Kept) (new : NewScores) : Type 0 where
   pub columns : AreNewColumns rules before after new.columns

@@ -50,6 +50,13 @@ impl Column {
     {
         self.outcomes[boat]
     }
+
+    /// Whether it says of each boat what the other says.
+    pub(crate) fn is_same(&self, other: &Column) -> bool
+        ensures { result ≡ true → self.now ≡ other.now }
+    {
+        self.outcomes.as_slice() == other.outcomes.as_slice()
+    }
 }
 
 /// What came of a boat on a sheet where this is her score.

@@ -7,7 +7,7 @@ ghost use Rattle.regatta_board.specs.Outcomes.{line as line_of};
 ghost use Rattle.regatta_board.specs.Refusals.{limits};
 ghost use Rattle.regatta_board.specs.Revisions.{revised, touches};
 ghost use Rattle.regatta_board.specs.Scoring.{IsScoring, AreNewScores, AreNewColumns};
-ghost use Rattle.regatta_board.specs.Scoring.{AreColumns, TurnsOneColumn, TurnsOnly};
+ghost use Rattle.regatta_board.specs.Scoring.{AreColumns, TurnsOneColumn, TurnsOnly, SaysTheSame};
 ghost use Rattle.regatta_board.specs.Scoring.{lines_by, most_remade, with_columns, with_scores};
 ghost use Rattle.regatta_board.specs.Scoring.{touched_at};
 ghost use Rattle.regatta_board.specs.Table.{no_line, no_outcome, IsKept};
@@ -202,6 +202,19 @@ fn new_lines(
     Ok(lines)
 }
 
+/// Whether a new sheet says of each boat what the old one said, so that no line changes.
+fn says_the_same(scoring: &Scoring, revision: &Revision, columns: &NewColumns) -> bool
+    requires { length scoring.now.columns ≡ MAX_RACES }
+    ensures { result ≡ true → SaysTheSame scoring.now revision.now columns.now }
+{
+    match (revision, columns) {
+        (Revision::Sheet { .. }, NewColumns::One { race, column }) => {
+            column.is_same(&scoring.columns[race.get() as usize - 1])
+        }
+        _ => false,
+    }
+}
+
 /// What a revision changes of the scores.
 pub(crate) fn new_scores(
     alloc: Global,
@@ -227,6 +240,12 @@ pub(crate) fn new_scores(
         });
     }
     let columns = new_columns(alloc, kept, revision, rules, work)?;
+    if says_the_same(scoring, revision, &columns) {
+        return Ok(NewScores {
+            columns,
+            ranked: None,
+        });
+    }
     let lines = new_lines(alloc, scoring, kept, revision, &columns, rules)?;
     let ranked = with_places(alloc, lines)?;
     Ok(NewScores {

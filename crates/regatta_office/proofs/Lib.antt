@@ -4,5 +4,6 @@ pub mod Gathering
 pub mod Refused
 pub mod Results
 pub mod Saying
+pub mod ShownFacts
 pub mod Streams
 pub mod Whole

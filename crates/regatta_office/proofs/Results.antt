@@ -6,6 +6,7 @@ use Rattle.regatta_office.specs.Faults.{IsRunFaultOf, scribe_fault}
 use Rattle.regatta_office.specs.Starts.{IsRunFault}
 use Rattle.regatta_office.specs.declared.run.RunFault.{RunFault}
 use Rattle.regatta_office.specs.declared.run.RunFault.TheVariants.{Read, Write, NoMemory}
+use Rattle.regatta_office.specs.declared.run.RunFault.TheVariants.{InputTooLong}
 use Rattle.regatta_office.specs.declared.scribe.ScribeFault.{ScribeFault}
 use Rattle.regatta_office.specs.declared.scribe.ScribeFault.TheVariants as scribe
 
@@ -48,6 +49,18 @@ read_is_no_write scribe.Write r P made is = absurd (differ (sym made ∙ error_i
 read_is_no_write scribe.NoMemory r P made is = absurd (differ (sym made ∙ error_is r Read is))
   where
     differ : NoMemory ≡ Read → ⊥
+    differ e = cc
+
+pub long_is_no_write : {T : Type 0} (fault : ScribeFault) (r : RunFault) (P : Type 0)
+    → r ≡ scribe_fault fault → IsErrOf {T = T} (Err r) InputTooLong → P
+long_is_no_write scribe.Write r P made is = absurd (differ (sym made ∙ error_is r InputTooLong is))
+  where
+    differ : Write ≡ InputTooLong → ⊥
+    differ e = cc
+long_is_no_write scribe.NoMemory r P made is =
+    absurd (differ (sym made ∙ error_is r InputTooLong is))
+  where
+    differ : NoMemory ≡ InputTooLong → ⊥
     differ e = cc
 
 -- where the writing broke off, no entry of the start is refused

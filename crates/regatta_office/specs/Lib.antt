@@ -4,6 +4,7 @@ pub mod Complaints
 pub mod Faults
 pub mod Runs
 pub mod Scribes
+pub mod ShownText
 pub mod Starts
 pub mod Transcript
 pub mod Words

@@ -1,23 +1,21 @@
 //! What a line of a replay asks for, done and answered.
 ghost use Rattle.std.specs.Prelude.{◌≡◌, ◌++◌, IfOk, OnOk, OnErr};
-ghost use Rattle.regatta_scores.specs.Standing.{standing};
 ghost use Rattle.regatta_board.specs.Answers.{rank_of};
 ghost use Rattle.regatta_tables.specs.ReplyTexts.{reply_text};
-ghost use Rattle.regatta_tables.specs.SheetTexts.{sheet_text};
 ghost use Rattle.regatta_talk.specs.Replies.{ranked as ranked_by};
 ghost use Rattle.regatta_office.specs.Transcript.{entry_of as entry_by, is_quit as is_quit_of};
 ghost use Rattle.regatta_office.specs.Transcript.{is_want_of_memory as is_want_of_memory_by};
 ghost use Rattle.regatta_office.specs.Transcript.{journal_after, reply_to, talk_after, talk_for};
 ghost use Rattle.regatta_office.specs.Transcript.{text_after, text_for};
 
-use regatta_board::{Board, REPLAY_SEAT, next_entry};
-use regatta_tables::write_sheet;
+use crate::shown::Shown;
+use regatta_board::{REPLAY_SEAT, next_entry};
 use regatta_talk::{answer_apart, make_room, ranked, reply_of, write_fitting};
 use regatta_terms::{Command, Entry, Line, LineFault, Refusal, Reply, Role, Sail};
 use std::alloc::AllocError;
 
 /// The entry that a command makes on this board, in this role.
-fn entry_of(board: &Board, role: Role, command: Command) -> Entry
+fn entry_of(board: &Shown, role: Role, command: Command) -> Entry
     ensures { result
         ≡ entry_by (record { role = role; journal = board.now.entries }) command }
 {
@@ -32,7 +30,7 @@ fn is_want_of_memory(why: Refusal) -> bool
 }
 
 /// Does a command, and gives its reply. Want of memory is no reply: the run ends by it.
-fn do_command(board: &mut Board, role: Role, command: Command) -> Result<Reply, AllocError>
+fn do_command(board: &mut Shown, role: Role, command: Command) -> Result<Reply, AllocError>
     ensures reply { IfOk result (λ reply. reply ≡ reply_to board.old.rules
         (record { role = role; journal = board.old.entries }) command) }
     ensures journal { OnOk result (board.new ≡ record board.old {
@@ -53,7 +51,7 @@ fn do_command(board: &mut Board, role: Role, command: Command) -> Result<Reply, 
 
 /// Does a command, once there is room for its reply, and appends that.
 fn answer_command(
-    board: &mut Board,
+    board: &mut Shown,
     role: Role,
     command: Command,
     out: &mut Vec<u8>,
@@ -74,7 +72,7 @@ fn answer_command(
 }
 
 /// Appends the reply to a boat's rank.
-fn answer_rank(board: &Board, sail: Sail, out: &mut Vec<u8>) -> Result<(), AllocError>
+fn answer_rank(board: &Shown, sail: Sail, out: &mut Vec<u8>) -> Result<(), AllocError>
     ensures text { OnOk result (out.new.items ≡ out.old.items
         ++ reply_text (ranked_by (rank_of board.now.rules board.now.entries sail))) }
     ensures err { OnErr result (out.new.items ≡ out.old.items) }
@@ -84,19 +82,9 @@ fn answer_rank(board: &Board, sail: Sail, out: &mut Vec<u8>) -> Result<(), Alloc
     Ok(())
 }
 
-/// Appends the sheet of the board: its journal and its standing.
-fn show(board: &Board, out: &mut Vec<u8>) -> Result<(), AllocError>
-    ensures text { OnOk result (out.new.items ≡ out.old.items
-        ++ sheet_text board.now.entries (standing board.now.rules board.now.entries)) }
-    ensures err { OnErr result (out.new.items ≡ out.old.items) }
-{
-    let standing = board.standing()?;
-    write_sheet(board.entries(), &standing, out)
-}
-
 /// Does what a line asks for, and appends what is written for it.
 fn answer_line(
-    board: &mut Board,
+    board: &mut Shown,
     role: &mut Role,
     line: Line,
     out: &mut Vec<u8>,
@@ -112,7 +100,7 @@ fn answer_line(
     match line {
         Line::Do(command) => answer_command(board, *role, command, out),
         Line::Rank(sail) => answer_rank(board, sail, out),
-        Line::Show => show(board, out),
+        Line::Show => board.show(out),
         Line::SetRole(next) => answer_apart(role, Ok(Line::SetRole(next)), out),
         Line::Quit => answer_apart(role, Ok(Line::Quit), out),
     }
@@ -120,7 +108,7 @@ fn answer_line(
 
 /// Does what a line asks for, if it can be read, and appends what is written for it.
 pub(crate) fn answer(
-    board: &mut Board,
+    board: &mut Shown,
     role: &mut Role,
     asked: Result<Line, LineFault>,
     out: &mut Vec<u8>,

@@ -12,6 +12,7 @@ mod options;
 mod run;
 mod scribe;
 mod series;
+mod shown;
 mod start_files;
 mod start_list;
 

@@ -116,7 +116,7 @@ static REPLAY: &str =
 
 /// What the help says of `serve`.
 static SERVE: &str =
-    "Answers lines such as FINISH 1 GBR1 of clients at a new Unix socket, side by side (SHOW gives \
+    "Answers lines such as FINISH 1 GBR7 of clients at a new Unix socket, side by side (SHOW gives \
     the journal and the table). Example: regatta serve --socket race.sock --sessions 3 --entries \
     boats.csv, and in a second terminal nc -U race.sock";
 

@@ -10,6 +10,7 @@ ghost use Rattle.regatta_office.specs.Transcript.{is_quit as is_quit_of, talk_af
 ghost use Rattle.regatta_terms.specs.declared.command.Role.TheVariants.{Scorer};
 
 use crate::answers::{answer, is_quit};
+use crate::shown::Shown;
 use regatta_board::Board;
 use regatta_streams::{Sink, StreamFault, write_all};
 use regatta_talk::Cutter;
@@ -31,7 +32,7 @@ pub(crate) enum ScribeFault {
 /// The board, the role of the lines to come, the line at hand, and what is due and not yet written.
 #[derive(Drop)]
 pub(crate) struct Scribe {
-    board: Board,
+    board: Shown,
     role: Role,
     cutter: Cutter,
     due: Vec<u8>,
@@ -47,7 +48,7 @@ impl Scribe {
         } }
     {
         Scribe {
-            board,
+            board: Shown::new(alloc, board),
             role: Role::Scorer,
             cutter: Cutter::new(),
             due: Vec::new(alloc),
@@ -59,7 +60,7 @@ impl Scribe {
         ensures rules { result.now.rules ≡ (point self.now).rules }
         ensures journal { result.now.entries ≡ (point self.now).talk.journal }
     {
-        &self.board
+        self.board.board()
     }
 
     /// Does what the line at hand asks for; what is due for it joins what is due already. True

@@ -137,8 +137,8 @@ impl<N: OfficeName, H: Wait + Drop, G: Gate> Talk<'_, N, H, G> {
         ensures cut { is_replied self.new.ended ≡ true → self.new.cutter ≡ [] }
 
         // A line that isn't let through, or whose reply has no room and gets none, does nothing.
-        ensures stopped { self.new.ended ≡ Some End.Stopped →
-            (stream.new ≡ stream.old) × (self.new.pass.now ≡ self.old.pass.now) }
+        ensures stopped { self.new.ended ≡ Some End.Stopped → (stream.new ≡ stream.old)
+            × (self.new.pass.now ≡ self.old.pass.now) × (self.new.cutter ≡ self.old.cutter) }
         ensures wanting { self.new.ended ≡ Some End.NoMemory →
             (stream.new ≡ stream.old) × (self.new.pass.now ≡ self.old.pass.now)
             × (vec_capacity self.old.reply < REPLY_ROOM) }

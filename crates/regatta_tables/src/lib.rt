@@ -14,5 +14,5 @@ pub use entries::{EntriesFault, Sails, read_entries};
 pub use journals::{Journal, JournalFault, read_journal, write_journal};
 pub use replies::{REPLY_ROOM, write_reply};
 pub use results::write_csv;
-pub use sheets::write_sheet;
+pub use sheets::{write_sheet, write_sheet_of};
 pub use tables::write_table;

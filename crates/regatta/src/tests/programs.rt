@@ -178,7 +178,7 @@ fn help_names_the_options_of_serving(rt: HostRuntime) -> Result<(), Fail> {
     assert_eq!(rt; status, 0);
     let help = std::str::from_utf8(output.written()).unwrap_or("");
     for word in [
-        "FINISH 1 GBR1",
+        "FINISH 1 GBR7",
         "SHOW",
         "regatta serve --socket race.sock",
         "nc -U race.sock",
@@ -265,7 +265,19 @@ fn serving_says_why_it_stops_short(rt: HostRuntime) -> Result<(), Fail> {
         assert_eq!(rt; status, wanted);
     }
     fs::remove_dir_all(&rt, folder.as_str())?;
-    let words = ["serve", "--socket", nowhere, "--journal", "/no/such/file"];
+    Ok(())
+}
+
+/// A journal file that isn't there is a device fault.
+#[test]
+fn serving_wants_its_journal_file(rt: HostRuntime) -> Result<(), Fail> {
+    let words = [
+        "serve",
+        "--socket",
+        "/no/such/folder/race.sock",
+        "--journal",
+        "/no/such/file",
+    ];
     let (status, _, errors) = run(&rt, &words, "")?;
     assert_eq!(rt; errors.written(), b"regatta: device fault\n".as_slice());
     assert_eq!(rt; status, 3);

@@ -69,6 +69,29 @@ fn one_of_two_scores_is_excluded(rt: HostRuntime) -> Result<(), Fail> {
     Ok(())
 }
 
+/// Two boats with the same scores share the first rank, and the next is third.
+#[test]
+fn a_complete_tie_shares_a_rank(rt: HostRuntime) -> Result<(), Fail> {
+    let alloc = rt.alloc();
+    let (shared, last) = ([tenths(15)?; 2], [tenths(30)?; 2]);
+    let lines = [
+        BoatLine::new(alloc, &shared, &[false; 2])?,
+        BoatLine::new(alloc, &shared, &[false; 2])?,
+        BoatLine::new(alloc, &last, &[false; 2])?,
+    ];
+    let places = ranks(alloc, &lines)?;
+    let first = Place {
+        rank: 1,
+        tied: true,
+    };
+    let third = Place {
+        rank: 3,
+        tied: false,
+    };
+    assert_eq!(rt; places.as_slice(), [first, first, third].as_slice());
+    Ok(())
+}
+
 #[test]
 fn a_boat_alone_is_first(rt: HostRuntime) -> Result<(), Fail> {
     let alloc = rt.alloc();

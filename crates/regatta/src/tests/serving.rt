@@ -60,7 +60,9 @@ where
     G: Gate + Sync,
     requires { (opened.history ≡ N.history) × (opened.rules ≡ N.rules) }
 {
-    let (office, passes) = opened.split::<N>()?;
+    let (office, mut passes) = opened.split::<N>()?;
+    // the lowest seat is lent first, and they come back in order, however they are handed in
+    passes.reverse();
     let back = serve_doors(rt, alloc, &office, passes, doors, gate);
     let journal = journal_text(rt, alloc, &office)?;
     Ok(Served { back, journal })
@@ -211,8 +213,16 @@ fn asked_at_last<R: Net>(rt: &R, alloc: Global, text: &[u8]) -> Option<Vec<u8>> 
     None
 }
 
-/// The words that serve one client, and stop then.
-const ONE_CLIENT: [&str; 5] = ["serve", "--socket", SOCKET, "--sessions", "1"];
+/// The words that serve one client at one seat, and stop then.
+const ONE_CLIENT: [&str; 7] = [
+    "serve",
+    "--socket",
+    SOCKET,
+    "--sessions",
+    "1",
+    "--clients",
+    "1",
+];
 
 /// One client is served, and the table is printed; where it can't be, that is a device fault, and
 /// so is a path that is there already.
@@ -270,20 +280,22 @@ fn connected<R: Net>(rt: &R) -> Option<UnixStream> {
     None
 }
 
-/// What three clients are sent: the first has her seat while the second comes, and has gone when
-/// the third does.
-fn three_in_turn<R: Net>(rt: &R, alloc: Global) -> Option<Vec<u8>> {
+/// What three clients are sent: the first has her seat while the second comes, and has said
+/// goodbye when the third does. The second finds no seat, and what she sent is never read. Both
+/// keep their ends of the stream, so that nobody waits for them to go.
+fn three_in_turn<R: Net>(rt: &R, alloc: Global) -> Option<(Vec<u8>, [UnixStream; 2])> {
     let mut first = connected(rt)?;
     first.write_all(b"ENTER B\n").ok()?;
     let mut replies = vec![in alloc; 0; b"OK 2 1= 0.0\n".len()].ok()?;
     first.read_exact(&mut replies).ok()?;
-    let second = asked(rt, alloc, b"")?;
-    replies.extend_from_slice(&second).ok()?;
+    let mut second = connected(rt)?;
+    let _ = second.write_all(b"SHOW\n");
+    second.read_to_end(&mut replies).ok()?;
     first.write_all(b"QUIT\n").ok()?;
     first.read_to_end(&mut replies).ok()?;
     let third = asked(rt, alloc, b"ENTER C\nQUIT\n")?;
     replies.extend_from_slice(&third).ok()?;
-    Some(replies)
+    Some((replies, [first, second]))
 }
 
 /// The program has as many seats, and ends behind as many clients, as it is told.
@@ -296,7 +308,7 @@ fn the_program_serves_three_at_one_seat(rt: HostRuntime) -> Result<(), Fail> {
     let (mut input, mut output) = (giving(alloc, b"", 7)?, taking(alloc, 100)?);
     let mut errors = taking(alloc, 100)?;
     let status = program(&rt, &ONE_SEAT, &mut input, &mut output, &mut errors);
-    let replies = clients.join(&rt).ok_or("replies")?;
+    let (replies, _still_open) = clients.join(&rt).ok_or("replies")?;
     let wanted = "OK 2 1= 0.0\nBUSY\nBYE\nOK 3 1= 0.0\nBYE\n";
     assert_eq!(rt; replies.as_slice(), wanted.as_bytes());
     let table = "TABLE 3 RACES\n1= A 0.0\n1= B 0.0\n1= C 0.0\n";

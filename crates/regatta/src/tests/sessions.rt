@@ -97,13 +97,14 @@ fn two_sessions_on_one_pass(rt: HostRuntime) -> Result<(), Fail> {
     assert_eq!(rt; tapes[0].written(), JURY_REPLIES);
     assert_eq!(rt; tapes[1].written(), b"OK 3 1= 0.0\nBYE\n".as_slice());
     assert_eq!(rt; talked.ends.as_slice(), [End::Closed, End::Quit].as_slice());
+    assert_eq!(rt; talked.last, 3);
     let journal = b"1 1 SCORER ENTER A\n1 2 JURY MARK 1 A DSQ\n1 3 SCORER ENTER B\n";
     assert_eq!(rt; talked.journal.as_slice(), journal.as_slice());
     Ok(())
 }
 
 #[test]
-fn the_desk_goes_on_behind_a_session(rt: HostRuntime) -> Result<(), Fail> {
+fn the_desk_goes_on_behind_two_sessions(rt: HostRuntime) -> Result<(), Fail> {
     let opened = Office::open(&rt, rt.alloc(), &default_rules(), 1, &[])?;
     go_on::<Brand, _, _>(&rt, rt.alloc(), opened)
 }
@@ -125,7 +126,47 @@ fn place_of<N: OfficeName, H: Wait + Drop, R: Wait>(
     Ok(receipt.place())
 }
 
-/// Behind a session the pass runs commands by the guard, and shows what they made.
+/// What a watcher sends who comes to enter a boat, and goes in mid-line.
+const LOOKS_FIRST: &[u8] = b"SHOW\r\nENTER A\nRANK A\nROLE JURY\nNOPE\nENT";
+
+/// What she is sent.
+const FIRST_REPLIES: &[u8] = b"JOURNAL 0\nTABLE 0 RACES\nEND\nOK 1 1 0.0\nRANK 1 0.0\nROLE JURY\n\
+    NO 21\n";
+
+/// The first session on the pass.
+fn look_first<N: OfficeName, H: Wait + Drop, R: Wait + Abort>(
+    rt: &R,
+    alloc: Global,
+    office: &Office<N, H>,
+    pass: &mut Pass<N>,
+) -> Result<(), Fail> {
+    let mut tape = client(alloc, LOOKS_FIRST)?;
+    let end = session(rt, alloc, &mut tape, office, pass, &OpenGate);
+    assert_eq!(rt; tape.written(), FIRST_REPLIES);
+    assert_eq!(rt; end, End::Closed);
+    assert_eq!(rt; pass.last(), 1);
+    Ok(())
+}
+
+/// The second session begins as the scorer, whatever the first ended as.
+fn enter_next<N: OfficeName, H: Wait + Drop, R: Wait + Abort>(
+    rt: &R,
+    alloc: Global,
+    office: &Office<N, H>,
+    pass: &mut Pass<N>,
+) -> Result<(), Fail> {
+    let mut tape = client(alloc, b"ENTER B\nQUIT\n")?;
+    let end = session(rt, alloc, &mut tape, office, pass, &OpenGate);
+    assert_eq!(rt; tape.written(), b"OK 2 1= 0.0\nBYE\n".as_slice());
+    assert_eq!(rt; end, End::Quit);
+    let journal = journal_text(rt, alloc, office)?;
+    let wanted = b"1 1 SCORER ENTER A\n1 2 SCORER ENTER B\n";
+    assert_eq!(rt; journal.as_slice(), wanted.as_slice());
+    Ok(())
+}
+
+/// Behind two sessions, one after the other, the pass runs commands by the guard, and shows what
+/// they made.
 fn go_on<N: OfficeName, H: Wait + Drop, R: Wait + Abort>(
     rt: &R,
     alloc: Global,
@@ -135,12 +176,21 @@ fn go_on<N: OfficeName, H: Wait + Drop, R: Wait + Abort>(
 {
     let (office, mut passes) = opened.split::<N>()?;
     let mut pass = passes.pop().ok_or("a pass")?;
-    let mut tapes = [client(alloc, b"ENTER A\nENTER B\nQUIT\n")?];
-    talk(rt, alloc, &office, &mut pass, &mut tapes, &OpenGate)?;
-    let refused = place_of(rt, &office, &mut pass, enter(b"A")?);
+    look_first(rt, alloc, &office, &mut pass)?;
+    enter_next(rt, alloc, &office, &mut pass)?;
+    run_by_guard(rt, &office, &mut pass)
+}
+
+/// One command is refused, two more are taken, and the sheet has the four entries.
+fn run_by_guard<N: OfficeName, H: Wait + Drop, R: Wait + Abort>(
+    rt: &R,
+    office: &Office<N, H>,
+    pass: &mut Pass<N>,
+) -> Result<(), Fail> {
+    let refused = place_of(rt, office, pass, enter(b"A")?);
     assert_eq!(rt; refused, Err(Refusal::AlreadyEntered));
-    assert_eq!(rt; place_of(rt, &office, &mut pass, enter(b"C")?), Ok(3));
-    assert_eq!(rt; place_of(rt, &office, &mut pass, enter(b"D")?), Ok(4));
+    assert_eq!(rt; place_of(rt, office, pass, enter(b"C")?), Ok(3));
+    assert_eq!(rt; place_of(rt, office, pass, enter(b"D")?), Ok(4));
     let sheet = pass.show().ok().ok_or("a sheet")?;
     assert_eq!(rt; sheet.journal.as_slice().len(), 4);
     Ok(())
@@ -190,23 +240,39 @@ fn corrected_times_in_a_session(rt: HostRuntime) -> Result<(), Fail> {
     Ok(())
 }
 
-/// What was committed stays, and the next session on the pass goes on from there: behind a write
-/// that failed, of the second reply, and behind a read that failed in mid-line.
+/// The second reply can't be written: what was committed stays, and the next session on the pass
+/// goes on from there.
 #[test]
-fn streams_that_fail(rt: HostRuntime) -> Result<(), Fail> {
+fn a_write_that_fails(rt: HostRuntime) -> Result<(), Fail> {
     let opened = Office::open(&rt, rt.alloc(), &default_rules(), 1, &[])?;
     let mut tapes = [
         Tape::new(rt.alloc(), b"ENTER A\nENTER B\nENTER C\n", 7, PLENTY, 16)?,
         client(rt.alloc(), b"ENTER C\n")?,
-        Tape::new(rt.alloc(), b"ENTER D\nENT", 7, 11, PLENTY)?,
     ];
     let talked = talk_at::<Brand, _, _, _, _>(&rt, rt.alloc(), opened, &mut tapes, &OpenGate)?;
     assert_eq!(rt; tapes[0].written(), b"OK 1 1 0.0\nOK 2 ".as_slice());
     assert_eq!(rt; tapes[1].written(), b"OK 3 1= 0.0\n".as_slice());
-    assert_eq!(rt; tapes[2].written(), b"OK 4 1= 0.0\n".as_slice());
-    let ends = [End::WriteFault, End::Closed, End::ReadFault];
-    assert_eq!(rt; talked.ends.as_slice(), ends.as_slice());
-    assert_eq!(rt; talked.last, 4);
+    assert_eq!(rt;
+        talked.ends.as_slice(),
+        [End::WriteFault, End::Closed].as_slice()
+    );
+    let journal = b"1 1 SCORER ENTER A\n1 2 SCORER ENTER B\n1 3 SCORER ENTER C\n";
+    assert_eq!(rt; talked.journal.as_slice(), journal.as_slice());
+    Ok(())
+}
+
+/// A read fails in mid-line.
+#[test]
+fn a_read_that_fails(rt: HostRuntime) -> Result<(), Fail> {
+    let opened = Office::open(&rt, rt.alloc(), &default_rules(), 1, &[])?;
+    let mut tapes = [Tape::new(rt.alloc(), b"ENTER A\nENT", 7, 11, PLENTY)?];
+    let talked = talk_at::<Brand, _, _, _, _>(&rt, rt.alloc(), opened, &mut tapes, &OpenGate)?;
+    assert_eq!(rt; tapes[0].written(), b"OK 1 1 0.0\n".as_slice());
+    assert_eq!(rt; talked.ends.as_slice(), [End::ReadFault].as_slice());
+    assert_eq!(rt;
+        talked.journal.as_slice(),
+        b"1 1 SCORER ENTER A\n".as_slice()
+    );
     Ok(())
 }
 

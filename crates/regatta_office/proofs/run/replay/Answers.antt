@@ -3,7 +3,8 @@ use Rattle.std.specs.Io.KnownBytes.{Appends}
 use Rattle.regatta_office.specs.Transcript.{WroteSome}
 use Rattle.regatta_office.specs.declared.run.TheConstants.{INPUT_LIMIT}
 use Rattle.regatta_office.specs.Scribes.{point}
-use Rattle.regatta_office.proofs.Results.{memory_is, read_is_no_write, start_stands, write_is}
+use Rattle.regatta_office.proofs.Results.{long_is_no_write, memory_is, read_is_no_write}
+use Rattle.regatta_office.proofs.Results.{start_stands, write_is}
 use Rattle.regatta_office.proofs.Results.{writer_failed}
 use Rattle.regatta_office.proofs.Streams.{prefix-behind}
 use Rattle.regatta_streams.proofs.KnownBytes.{appends-then}
@@ -81,6 +82,10 @@ returns-clause-cut g c = λ is.
 
 pub returns-clause-read : goal.returns-clause-read
 returns-clause-read g c = λ is. read_is_no_write c.in-Err-print_final.fault c.scribe_fault.result _
+    c.scribe_fault.ensures is
+
+pub returns-clause-long : goal.returns-clause-long
+returns-clause-long g c = λ is. long_is_no_write c.in-Err-print_final.fault c.scribe_fault.result _
     c.scribe_fault.ensures is
 
 pub returns-clause-start : goal.returns-clause-start

@@ -1,4 +1,4 @@
-use Rattle.regatta.proofs.tests.sessions.streams_that_fail.Given as goal
+use Rattle.regatta.proofs.tests.sessions.a_read_that_fails.Given as goal
 
 -- the office that was just opened
 abbrev pub ghosts-talk_at : goal.ghosts-talk_at

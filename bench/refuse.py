@@ -1,0 +1,234 @@
+#!/usr/bin/env python3
+"""Runs a built `regatta` with each of its requests for memory refused in turn.
+
+    bench/refuse.py PROGRAM
+
+The Nth request of a run is refused, for N = 1, 2, .. up to as many as the run makes: of replays of
+the weekend of `examples/` with and without start files, in each form, of help, of words that aren't
+the program's, and of serving one client. A heap that refuses one request (refuse.c, beside this
+file) is built with the machine's C compiler and preloaded.
+
+A refused run must answer `regatta: no memory` with status 3, and print nothing but whole replies to
+some first lines. Where `clap` refuses the words, it asks again for its own text, so that the
+ordinary answer may be given. Serving may also end as a device fault, where the refused request was
+for a thread, or well, where a session met the refusal: the client then reads whole replies to some
+first lines, of which one may be `NO 1`. Each other answer is told, and the script then ends with
+status 1.
+"""
+import os
+import socket
+import subprocess
+import sys
+import tempfile
+import threading
+import time
+
+HERE = os.path.dirname(os.path.abspath(__file__))
+EXAMPLES = os.path.join(os.path.dirname(HERE), "examples")
+NO_MEMORY = (3, b"regatta: no memory\n")
+DEVICE_FAULT = (3, b"regatta: device fault\n")
+COMMANDS = b"""ENTER A
+ENTER B
+ENTER C
+FINISH 1 A
+TIE 1 B A
+BEFORE 1 C A
+STRIKE 1 B
+SCORE 1
+MARK 1 B DNF
+PENALTY 1 A ZFP
+FINISH 2 B
+SCORE 2
+ROLE JURY
+REDRESS 1 C ALL
+CLEAR 1 B
+ROLE SCORER
+UNSCORE 2
+NOPE
+RANK A
+SHOW
+ENTER D
+QUIT
+"""
+
+
+def example(name):
+    with open(os.path.join(EXAMPLES, name), "rb") as file:
+        return file.read()
+
+
+def heap(folder):
+    """The heap that refuses a request, as a library to preload."""
+    path = os.path.join(folder, "refuse.so")
+    source = os.path.join(HERE, "refuse.c")
+    for compiler in (os.environ.get("CC"), "cc", "gcc", "clang"):
+        words = [compiler, "-O2", "-shared", "-fPIC", "-o", path, source]
+        try:
+            if compiler and subprocess.run(words).returncode == 0:
+                return path
+        except FileNotFoundError:
+            pass
+    sys.exit("no C compiler is to be had")
+
+
+class Run:
+    """A run of the program, which may be made again and again: each refuses one more request."""
+
+    def __init__(self, folder, program, name, words, text=b"", asks_again=False):
+        self.folder, self.program, self.name = folder, program, name
+        self.words, self.text, self.asks_again = words, text, asks_again
+        self.lines, self.again = text.splitlines(keepends=True), 0
+        self.count = os.path.join(folder, "count")
+
+    def start(self, library, refused, words, **streams):
+        with open(self.count, "wb") as file:
+            file.write(bytes(8))
+        env = {"LD_PRELOAD": library, "REFUSE_NTH": str(refused), "REFUSE_COUNT": self.count}
+        return subprocess.Popen([self.program] + words, env=env, **streams)
+
+    def ended(self, library, refused, words=None, text=None):
+        """The status, what was said on standard error, and what was printed."""
+        pipe = subprocess.PIPE
+        run = self.start(library, refused, self.words if words is None else words,
+                         stdin=pipe, stdout=pipe, stderr=pipe)
+        printed, said = run.communicate(self.text if text is None else text, timeout=60)
+        return run.returncode, said, printed
+
+    def requests(self):
+        with open(self.count, "rb") as file:
+            return int.from_bytes(file.read(), sys.byteorder)
+
+    def first_replies(self, library):
+        """What may be printed: the replies to the first lines, of none, one, two, .."""
+        words = list(self.words)
+        if "--print" in words:
+            words[words.index("--print") + 1] = "table"
+        replies = {b""}
+        for count in range(len(self.lines) + 1) if self.words[:1] == ["replay"] else ():
+            _, _, printed = self.ended(library, 0, words, b"".join(self.lines[:count]))
+            replies.add(printed[:printed.rfind(b"TABLE ")])
+        return replies
+
+    def sweep(self, library):
+        """How many requests the run makes, and each answer that isn't want of memory."""
+        whole = self.ended(library, 0)
+        requests = self.requests()
+        replies = self.first_replies(library)
+        others = []
+        for refused in range(1, requests + 1):
+            status, said, printed = self.ended(library, refused)
+            if self.asks_again and (status, said, printed) == whole:
+                self.again += 1
+            elif (status, said) != NO_MEMORY or printed not in replies:
+                same = " (the ordinary answer)" if (status, said, printed) == whole else ""
+                others.append(f"request {refused}: status {status}, {said[:60]!r}, "
+                              f"{len(printed)} bytes printed{same}")
+        return requests, others
+
+
+class Serving(Run):
+    """A run of `serve`, with a client who sends all her lines at once and reads to the end."""
+
+    def asked(self, path, replies):
+        for _ in range(20_000):
+            try:
+                with socket.socket(socket.AF_UNIX, socket.SOCK_STREAM) as client:
+                    client.settimeout(60)
+                    client.connect(path)
+                    client.sendall(self.text)
+                    while data := client.recv(65536):
+                        replies.append(data)
+                return
+            except (FileNotFoundError, ConnectionRefusedError):
+                time.sleep(0.0005)
+            except OSError:
+                return
+            if self.over.is_set():
+                return
+
+    def served(self, library, refused):
+        path = os.path.join(self.folder, "socket")
+        replies, self.over = [], threading.Event()
+        client = threading.Thread(target=self.asked, args=(path, replies))
+        client.start()
+        pipe = subprocess.PIPE
+        run = self.start(library, refused, self.words + ["--socket", path],
+                         stdin=subprocess.DEVNULL, stdout=pipe, stderr=pipe)
+        printed, said = run.communicate(timeout=60)
+        self.over.set()
+        if not os.path.exists(path):
+            open(path, "w").close()  # a client who waits for the socket gives up
+        client.join()
+        os.unlink(path)
+        return run.returncode, said, printed, b"".join(replies)
+
+    def may_be(self, library, ended):
+        """Whether a refused run may end so."""
+        status, said, printed, replies = ended
+        if (status, said) in (NO_MEMORY, DEVICE_FAULT):
+            return printed == b"" and (replies in self.replies or b"NO 1\n" in replies)
+        is_whole = printed.endswith(b"\n") and printed.startswith(b"TABLE ")
+        is_cut = replies in self.replies or b"NO 1\n" in replies
+        return (status, said) == (0, b"") and is_whole and is_cut and ended != self.whole
+
+    def sweep(self, library):
+        self.whole = self.served(library, 0)
+        requests = self.requests()
+        self.replies = {b"".join(self.whole[3].splitlines(keepends=True)[:n]) for n in range(99)}
+        others, kinds = [], {}
+        for refused in range(1, requests + 1):
+            ended = self.served(library, refused)
+            kind = ended[1].decode().strip() or "well"
+            kinds[kind] = kinds.get(kind, 0) + 1
+            if not self.may_be(library, ended):
+                same = " (the ordinary answer)" if ended == self.whole else ""
+                others.append(f"request {refused}: {ended}{same}")
+        print("    " + ", ".join(f"{count} ended {kind!r}" for kind, count in kinds.items()))
+        return requests, others
+
+
+def runs(folder, program):
+    def run(name, words, text=b"", kind=Run, asks_again=False):
+        return kind(folder, program, name, words, text, asks_again)
+
+    boats = ["--entries", os.path.join(EXAMPLES, "boats.csv")]
+    journal = ["--journal", os.path.join(EXAMPLES, "weekend.journal")]
+    weekend = example("weekend.txt")
+    yield run("all commands", ["replay", "--exclude", "none"], COMMANDS)
+    yield run("the weekend", ["replay"] + boats, weekend)
+    yield run("the weekend as CSV", ["replay", "--print", "csv"] + boats, weekend)
+    yield run("the weekend's journal", ["replay", "--print", "journal"] + boats, weekend)
+    yield run("a start file", ["replay"] + journal, b"SHOW\nRANK GBR7\n")
+    yield run("an entry list", ["replay"] + boats)
+    yield run("nothing", ["replay"])
+    yield run("help", ["--help"])
+    yield run("help of replay", ["replay", "--help"])
+    yield run("an unknown word", ["replay", "--speed"], asks_again=True)
+    yield run("no word", [], asks_again=True)
+    yield run("an unknown rule", ["replay", "--scp", "0"])
+    yield run("a bad journal", ["replay", "--journal", os.path.join(EXAMPLES, "boats.csv")])
+    yield run("serving", ["serve", "--sessions", "1", "--clients", "2"] + boats,
+              b"FINISH 1 GBR7\nSCORE 1\nRANK GBR7\nSHOW\nQUIT\n", Serving)
+
+
+def main():
+    if len(sys.argv) != 2:
+        sys.exit(__doc__)
+    program = os.path.abspath(sys.argv[1])
+    total, wrong = 0, 0
+    with tempfile.TemporaryDirectory() as folder:
+        library = heap(folder)
+        for run in runs(folder, program):
+            requests, others = run.sweep(library)
+            total += requests
+            wrong += len(others)
+            again = f", {run.again} asked for again by clap" if run.again else ""
+            print(f"{run.name}: {requests} requests refused{again}, {len(others)} answered otherwise")
+            for other in others:
+                print(f"    {other}")
+    print(f"{total} requests refused in all, {wrong} answered otherwise")
+    return 1 if wrong else 0
+
+
+if __name__ == "__main__":
+    sys.exit(main())
