@@ -9,7 +9,8 @@ holds the program and the tools:
 - ```file NAME: the text of a file, which is made.
 - ```window NAME: what somebody types in a window, and what is printed there. Behind `$ ` stands a
   command, behind `> ` a line for the tool that runs in the window, and `^C` is Ctrl-C. All other
-  lines are printed. A window is a terminal, so the tools meet what they meet at a person's desk.
+  lines are printed; `...` at the top stands for whatever was printed since. A window is a terminal,
+  so the tools meet what they meet at a person's desk.
 - ```window NAME stays: the same, but what runs there is still running at the end of the block, and
   a later block of that window goes on with it.
 
@@ -105,10 +106,10 @@ class Window:
             self.text += data.decode("utf-8", "replace")
         asked = self.text.endswith("\n> ") or self.text == "> "
         text = self.text.removesuffix("> ") if asked else self.text
-        if self.prompt and text.startswith("\n"):
-            text = ">" + text
+        if self.prompt and text:
+            text = "> " + text
         self.text, self.prompt = "", asked or (self.prompt and not text)
-        return text
+        return re.sub("^> $", ">", text, flags=re.MULTILINE)
 
     def end(self):
         self.process.wait(PATIENCE)
@@ -145,6 +146,10 @@ def played(window, body, stays, fill):
         if line:
             window.type(line)
             text += line + "\n"
+        elif shown == ["..."]:
+            window.read(1 << 30, 0)
+            text += "...\n"
+            continue
         elif not shown and not fill:
             continue
         # What ends, or asks for a line, is read to that; of what goes on as much as is shown.
