@@ -4,6 +4,7 @@ The office is `regatta serve`, which answers lines at a socket. What can go wron
 is a Trouble, whose text says in words what happened; the tools show it, and none of them stops at
 one with a page of Python.
 """
+import collections
 import os
 import socket
 import time
@@ -46,10 +47,6 @@ class Trouble(Exception):
     """Why the office didn't answer, in words."""
 
 
-def gone(_cause=None):
-    return Trouble("the office has gone")
-
-
 def unreachable(path, cause):
     """Why nobody could be reached at the socket."""
     if isinstance(cause, FileNotFoundError):
@@ -65,8 +62,7 @@ class Link:
     """One client of the office: it asks one line at a time, and reads the whole answer."""
 
     def __init__(self, path):
-        self.rest = b""
-        self.end = False
+        self.lines, self.rest = collections.deque(), b""
         self.socket = socket.socket(socket.AF_UNIX, socket.SOCK_STREAM)
         self.socket.settimeout(PATIENCE)
         try:
@@ -83,20 +79,20 @@ class Link:
 
     def line(self):
         """The next line of an answer, without its end."""
-        while b"\n" not in self.rest:
+        while not self.lines:
             try:
                 data = self.socket.recv(65536)
             except TimeoutError:
                 raise Trouble(f"the office hasn't answered for {PATIENCE} seconds") from None
-            except OSError as cause:
-                raise gone(cause) from None
+            except OSError:
+                data = b""
             if not data:
-                raise gone()
-            self.rest += data
+                raise Trouble("the office has gone")
+            *lines, self.rest = (self.rest + data).split(b"\n")
+            self.lines.extend(lines)
             if len(self.rest) > LARGEST:
                 raise Trouble("what answers there is no office: its answer has no end")
-        line, self.rest = self.rest.split(b"\n", 1)
-        text = line.decode("ascii", "replace")
+        text = self.lines.popleft().decode("ascii", "replace")
         if text == "BUSY":
             raise Trouble("all seats of the office are taken (BUSY)")
         if text == "CLOSED":
@@ -116,7 +112,7 @@ class Link:
         size = 0
         while answer[0].startswith("JOURNAL ") and answer[-1] != "END":
             answer.append(self.line())
-            size += len(answer[-1])
+            size += len(answer[-1]) + 1
             if size > LARGEST:
                 raise Trouble("what answers there is no office: its sheet has no end")
         return answer
