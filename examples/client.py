@@ -116,6 +116,8 @@ class Typist:
             try:
                 line = self.next_line()
                 if line is None:
+                    if self.typed:
+                        say("")
                     break
                 if not self.typed:
                     say(f"> {line.decode('utf-8', 'replace')[:80]}")

@@ -22,6 +22,33 @@ import office
 HERE = os.path.dirname(os.path.abspath(__file__))
 SOCKET, PATIENCE = "race.sock", 20
 TIME = re.compile(r"^\d\d:\d\d:\d\d ", re.MULTILINE)
+# Lines of a client, and behind each that is refused its number.
+REFUSED = """\
+ENTER A
+ENTER A/6
+FINISH 1 B/7
+ENTER B
+TIE 1 A B/9
+SCORE 1/15
+UNSCORE 1/14
+CLEAR 1 A/12
+FINISH 1 A
+FINISH 1 A/8
+SCORE 1
+SCORE 1/13
+MARK 1 A DSQ/4
+PENALTY 1 A ZFP/11
+ROLE JURY
+MARK 1 A DSQ
+REDRESS 1 A ALL/10
+SHOOT/21
+SHOW ME/22
+ENTER A_B/23
+FINISH 41 A/24
+REDRESS 1 A 0.9/25
+MARK 1 A ZFP/26
+ROLE KING/27
+"""
 HELD = "".join(f"1 {at} SCORER ENTER {sail}\n" for at, sail in enumerate("AB", 1))
 
 
@@ -74,8 +101,8 @@ def served(program, *words):
 
 
 @contextlib.contextmanager
-def stood_in(answer):
-    """Somebody who answers whoever comes, at once, with these bytes, and with no end to them."""
+def stood_in(answer, lines=0):
+    """Somebody who sends these bytes to whoever comes, and leaves behind so many lines, if any."""
     if os.path.exists(SOCKET):
         os.remove(SOCKET)
     door = socket.socket(socket.AF_UNIX, socket.SOCK_STREAM)
@@ -92,6 +119,11 @@ def stood_in(answer):
     def send(guest):
         with contextlib.suppress(OSError):
             guest.sendall(answer)
+            heard = b""
+            while lines and heard.count(b"\n") < lines:
+                heard += guest.recv(65536)
+            if lines:
+                guest.close()
 
     threading.Thread(target=welcome, daemon=True).start()
     try:
@@ -159,6 +191,31 @@ def seats(program):
                "ROLE SCORER   (your lines are now those of the scorer)")
 
 
+def refusals(program):
+    """Each number but 1 is answered to a line that it fits, and shown with its words."""
+    with open("last", "w") as file:
+        file.write("1 4294967295 SCORER ENTER A\n")
+    with open("boats", "w") as file:
+        file.writelines(f"1 {at} SCORER ENTER B{at}\n" for at in range(1, 201))
+    with open("full", "w") as file:
+        file.write("1 1 SCORER ENTER A\n")
+        file.writelines(f"1 {at} FINISH {('FINISH', 'STRIKE')[at % 2]} 1 A\n"
+                        for at in range(2, 4097))
+    nine = REFUSED.replace("PENALTY 1 A ZFP", "PENALTY 1 A ZFP\n" * 9 + "PENALTY 1 A ZFP")
+    met = set()
+    for start, lines in [(None, nine), ("last", "ENTER B/3"), ("boats", "ENTER A/5"),
+                         ("full", "ENTER B/2"), ("full", "X" * 81 + "/20")]:
+        with served(program, *(["--journal", start] if start else [])):
+            asked = [line.partition("/") for line in lines.split("\n")]
+            printed, _ = ran("client.py", SOCKET, lines="\n".join(line for line, _, _ in asked))
+        said = re.findall(r"^> (.*)\n(?:NO (\d+)   \((.*)\)$)?", printed, re.MULTILINE)
+        expect("refusals", said, [
+            (line[:80], number, number and office.NUMBERS[int(number)])
+            for line, _, number in asked if line])
+        met.update(int(number) for _, _, number in asked if number)
+    expect("all numbers", sorted(met | {1}), sorted(office.NUMBERS))
+
+
 def savers(program):
     saver = ["saver.py", SOCKET, "held.txt"]
     with served(program):
@@ -207,7 +264,7 @@ def boards(program):
     expect("the end", ended(board)[1], 0)
 
 
-def strangers():
+def strangers(_program):
     """Answers that no office gives."""
     with stood_in(b"CLOSED\n"):
         closed = "the office lets nobody in any more (CLOSED)"
@@ -226,6 +283,12 @@ def strangers():
             expect("no sheet", ran("saver.py", SOCKET, "held", "--once"), (
                 "not saved: what answers there is no office: it said "
                 f"{sheet.decode().splitlines()[0]!r}\n", 1))
+    with stood_in(b"ROLE SCORER\n", lines=2):
+        printed, status = ran("client.py", SOCKET, lines="ENTER A\nENTER B\n")
+        expect("a line that is lost", (printed.splitlines()[1:], status), ([
+            "> ENTER A", "No answer came to: ENTER A",
+            "It may stand in the journal, or not: look before you send it again.",
+            "Stopped: the office has gone."], 1))
     office.PATIENCE = 0.1
     with stood_in(b"OK"):
         try:
@@ -239,11 +302,10 @@ def strangers():
 
 def main():
     program = os.path.realpath(sys.argv[1])
-    for trial in [lambda: clients(program), lambda: seats(program), lambda: savers(program),
-                  lambda: boards(program), strangers]:
+    for trial in [clients, seats, refusals, savers, boards, strangers]:
         with tempfile.TemporaryDirectory() as folder:
             os.chdir(folder)
-            trial()
+            trial(program)
             os.chdir(HERE)
 
 
