@@ -15,7 +15,7 @@ holds the program and the tools:
   a later block of that window goes on with it.
 
 Times of day are compared as times alone. The table of reply numbers has to say what client.py says.
-With --fill what was printed is written into the guide, in place of what it shows.
+With --fill what was printed is written into the guide, in place of what it shows, but for times.
 """
 import fcntl
 import os
@@ -181,7 +181,9 @@ def play(guide, folder, fill):
         except ValueError as cause:
             line = guide[:match.start()].count("\n") + 1
             sys.exit(f"docs/GUIDE.md, line {line}: {cause}")
-        if not fill and TIME.sub("", body) != TIME.sub("", match[2]):
+        if TIME.sub("", body) == TIME.sub("", match[2]):
+            return match[0]
+        if not fill:
             line = guide[:match.start()].count("\n") + 1
             sys.exit(f"docs/GUIDE.md, line {line}, shows\n{match[2]}but what came is\n{body}")
         return f"```{match[1]}\n{body}```"
