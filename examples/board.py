@@ -11,7 +11,7 @@ import argparse
 import html
 import sys
 
-from office import Trouble, clock, keep_asking, replace_whole
+from office import Trouble, clock, keep_asking, replace_whole, seconds
 
 PAGE = """<!DOCTYPE html>
 <html lang="en">
@@ -54,8 +54,8 @@ def standing_of(table):
 class Board:
     """The page, and what was said of it last."""
 
-    def __init__(self, path, title, seconds):
-        self.path, self.title, self.seconds = path, title, seconds
+    def __init__(self, path, title, pause):
+        self.path, self.title, self.pause = path, title, pause
         self.standing, self.time, self.said = "", None, None
 
     def tell(self, text):
@@ -66,7 +66,7 @@ class Board:
 
     def write(self, note):
         replace_whole(self.path, PAGE.format(
-            seconds=max(1, round(self.seconds)), title=html.escape(self.title), note=note,
+            seconds=max(1, round(self.pause)), title=html.escape(self.title), note=note,
             standing=self.standing).encode())
 
     def show(self, _journal, table):
@@ -87,13 +87,13 @@ def main():
     words = argparse.ArgumentParser(description="Writes the standing as a page for a browser.")
     words.add_argument("socket", help="the file of the socket, as race.sock")
     words.add_argument("page", help="the page, as board.html")
-    words.add_argument("--every", default=5, type=float, metavar="SECONDS",
+    words.add_argument("--every", default=5, type=seconds, metavar="SECONDS",
                        help="how often to ask (5)")
     words.add_argument("--title", default="Standing", help="what the page is headed with")
     words.add_argument("--once", action="store_true", help="ask once")
     asked = words.parse_args()
     board = Board(asked.page, asked.title, asked.every)
-    well = keep_asking(asked.socket, max(asked.every, 0.05), asked.once, board.show, board.excuse)
+    well = keep_asking(asked.socket, asked.every, asked.once, board.show, board.excuse)
     return 0 if well else 1
 
 

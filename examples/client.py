@@ -18,7 +18,7 @@ import sys
 import termios
 import time
 
-from office import Link, Trouble, meaning
+from office import Link, Trouble, meaning, seconds
 
 LONGEST = 1 << 20
 
@@ -138,7 +138,7 @@ def main():
     words.add_argument("socket", help="the file of the socket, as race.sock")
     words.add_argument("--role", default="SCORER", type=str.upper,
                        choices=["FINISH", "JURY", "SCORER"], help="whose lines these are")
-    words.add_argument("--wait", default=600, type=float, metavar="SECONDS",
+    words.add_argument("--wait", default=600, type=seconds, metavar="SECONDS",
                        help="how long to wait for an office that isn't there, or has no free seat")
     asked = words.parse_args()
     sys.stdout.reconfigure(errors="replace")

@@ -165,12 +165,23 @@ def meaning(line, reply):
             return "a reply that isn't known here; docs/FORMATS.md may know it"
 
 
+def seconds(text):
+    """A time that a tool is told to wait: at most a day."""
+    told = float(text)
+    if not 0 <= told <= 86400:
+        raise ValueError("that is no time to wait")
+    return told
+
+
 def clock():
     return time.strftime("%H:%M:%S")
 
 
 def replace_whole(path, data):
-    """Makes a file hold these bytes, so that whoever reads it finds the old ones or the new."""
+    """Makes a file hold these bytes, so that whoever reads it finds the old ones or the new.
+
+    They are on the disk when it is done, whatever happens to the computer afterwards.
+    """
     fresh = f"{path}.{os.getpid()}.new"
     try:
         with open(fresh, "wb") as file:
@@ -178,13 +189,16 @@ def replace_whole(path, data):
             file.flush()
             os.fsync(file.fileno())
         os.replace(fresh, path)
+        folder = os.open(os.path.dirname(path) or ".", os.O_RDONLY)
+        os.fsync(folder)
+        os.close(folder)
     except OSError as cause:
         if os.path.lexists(fresh):
             os.remove(fresh)
         raise Trouble(f"{path} can't be written: {cause.strerror}") from None
 
 
-def keep_asking(path, seconds, once, use, excuse):
+def keep_asking(path, pause, once, use, excuse):
     """Asks for the sheet each so many seconds, and over again where the office had gone.
 
     A sheet is handed to `use` as journal and table, and a Trouble, of the office or of `use`, to
@@ -209,7 +223,7 @@ def keep_asking(path, seconds, once, use, excuse):
                     excuse(trouble)
             if once:
                 return well
-            time.sleep(seconds)
+            time.sleep(max(pause, 0.05))
     except KeyboardInterrupt:
         print(f"{clock()} stopped", flush=True)
         return True

@@ -68,9 +68,10 @@ def until(what, holds):
 
 def started(*words):
     """A tool that runs, spoken to by pipes."""
-    return subprocess.Popen([sys.executable, f"{HERE}/{words[0]}", *words[1:]], text=True,
+    return subprocess.Popen([sys.executable, f"{HERE}/{words[0]}", *words[1:]], encoding="utf-8",
                             stdin=subprocess.PIPE, stdout=subprocess.PIPE,
-                            stderr=subprocess.STDOUT, errors="replace")
+                            stderr=subprocess.STDOUT,
+                            env={**os.environ, "PYTHONIOENCODING": "utf-8"})
 
 
 def ended(tool, lines=""):
