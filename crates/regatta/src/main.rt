@@ -4,6 +4,7 @@
 use regatta_office::{Foreign, Sink, program, write_all};
 use std::alloc::{AllocError, Global};
 use std::env;
+use std::env::Args;
 use std::io::ErrorKind;
 use std::process::ExitCode;
 
@@ -12,6 +13,16 @@ const BAD_WORDS: u8 = 2;
 
 /// The status where memory is wanting.
 const NO_MEMORY: u8 = 3;
+
+/// The program's words, behind its own name. Each growth is asked for once, so that one that is
+/// refused is answered.
+fn words_of(alloc: Global, args: Args<Global>) -> Result<Vec<String>, AllocError> {
+    let mut words = Vec::new(alloc);
+    for word in args.skip(1) {
+        words.push(word)?;
+    }
+    Ok(words)
+}
 
 /// The words as borrowed text.
 fn texts_of(alloc: Global, words: &[String]) -> Result<Vec<&str>, AllocError> {
@@ -41,8 +52,7 @@ fn main(rt: HostRuntime) -> ExitCode {
         Err(error) if error.kind() == ErrorKind::OutOfMemory => return no_memory(&mut errors),
         Err(_) => return bad_words(&mut errors),
     };
-    let collected: Result<Vec<String>, AllocError> = args.skip(1).collect(rt.alloc());
-    let Ok(words) = collected else {
+    let Ok(words) = words_of(rt.alloc(), args) else {
         return no_memory(&mut errors);
     };
     let Ok(texts) = texts_of(rt.alloc(), &words) else {

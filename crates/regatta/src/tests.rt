@@ -8,6 +8,7 @@ use std::test::Fail;
 mod boards;
 mod complaints;
 mod faults;
+mod memory;
 mod offices;
 mod programs;
 mod replays;
