@@ -9,6 +9,7 @@ use Rattle.regatta_scores.specs.Order.{is_empty, in_group, stands_in, with_last,
 use Rattle.regatta_scores.specs.Order.{without}
 use Rattle.regatta_scores.specs.CorrectedTimes.{is_lower, is_equal, is_later, group_time}
 use Rattle.regatta_scores.specs.CorrectedTimes.{lower_groups, equal_boats, later_groups, with_time}
+use Rattle.regatta_scores.proofs.Members.{or_left, or_right}
 use Rattle.regatta_board.proofs.Numbers.{index_in, numbers_tell, is_same}
 
 pub last_numbered : (boats : List Sail) (order : List (List Sail)) (sail : Sail)
@@ -123,17 +124,9 @@ module _ (boats : List Sail) (time : Sail → Option ℕ) (times : ℕ → Optio
   groups_timed p [] known = refl
   groups_timed p (g ∷ gs) known =
       by (p (group_time time g))
-      (ap p (group_timed g (λ x h. known x (first (in_group same_sail x g) _ h))))
-      (groups_timed p gs (λ x h. known x (second (in_group same_sail x g) _ h)))
+      (ap p (group_timed g (λ x h. known x (or_left (in_group same_sail x g) _ h))))
+      (groups_timed p gs (λ x h. known x (or_right (in_group same_sail x g) _ h)))
     where
-      first : (a b : Bool) → a ≡ true → (a || b) ≡ true
-      first true b k = refl
-      first false b k = absurd (cc)
-
-      second : (a b : Bool) → b ≡ true → (a || b) ≡ true
-      second true b k = refl
-      second false b k = k
-
       by : (t : Bool) → p (group_time times (map (index_in boats) g)) ≡ t
           → map (map (index_in boats)) (filter (λ h. p (group_time time h)) gs)
           ≡ filter (λ h. p (group_time times h)) (map (map (index_in boats)) gs)
@@ -186,24 +179,12 @@ group_stays : (boats : List Sail) (one : Sail) (g : List Sail)
 group_stays boats one [] known = refl
 group_stays boats one (x ∷ xs) known =
     λ i. index_stays boats one x (known x (rw (is_same x) refl)) i
-    ∷ group_stays boats one xs (λ y h. known y (either (same_sail x y) _ h)) i
-  where
-    either : (a b : Bool) → b ≡ true → (a || b) ≡ true
-    either true b k = refl
-    either false b k = k
+    ∷ group_stays boats one xs (λ y h. known y (or_right (same_sail x y) _ h)) i
 
 pub order_stays : (boats : List Sail) (one : Sail) (order : List (List Sail))
     → ((x : Sail) → stands_in same_sail x order ≡ true → list_any (same_sail x) boats ≡ true)
     → map (map (index_in (boats ++ one ∷ []))) order ≡ map (map (index_in boats)) order
 order_stays boats one [] known = refl
 order_stays boats one (g ∷ gs) known =
-    λ i. group_stays boats one g (λ x h. known x (first (in_group same_sail x g) _ h)) i
-    ∷ order_stays boats one gs (λ x h. known x (second (in_group same_sail x g) _ h)) i
-  where
-    first : (a b : Bool) → a ≡ true → (a || b) ≡ true
-    first true b k = refl
-    first false b k = absurd (cc)
-
-    second : (a b : Bool) → b ≡ true → (a || b) ≡ true
-    second true b k = refl
-    second false b k = k
+    λ i. group_stays boats one g (λ x h. known x (or_left (in_group same_sail x g) _ h)) i
+    ∷ order_stays boats one gs (λ x h. known x (or_right (in_group same_sail x g) _ h)) i

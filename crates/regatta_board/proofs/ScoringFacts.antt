@@ -9,6 +9,7 @@ use Rattle.regatta_terms.specs.Rules.{RulesParts}
 use Rattle.regatta_terms.specs.declared.limits.TheConstants.{MAX_RACES}
 use Rattle.regatta_scores.specs.Sheet.{Sheet}
 use Rattle.regatta_scores.specs.Ranking.{BoatScores, places}
+use Rattle.regatta_scores.proofs.Members.{all_passed}
 use Rattle.regatta_board.specs.declared.column.NewColumns.{NewColumns}
 use Rattle.regatta_board.specs.declared.column.NewColumns.TheVariants.{Same}
 use Rattle.regatta_board.specs.declared.kept.Revision.{Revision}
@@ -29,7 +30,7 @@ use Rattle.regatta_board.proofs.Columns.{column_long}
 use Rattle.regatta_board.proofs.Lengths.{long_points}
 use Rattle.regatta_board.proofs.LedgerLemmas.{sheet_long}
 use Rattle.regatta_board.proofs.Lines.{line_at, lines_long}
-use Rattle.regatta_board.proofs.Numbers.{all_passed, in_range}
+use Rattle.regatta_board.proofs.Numbers.{in_range}
 use Rattle.regatta_board.proofs.Scored.{columns_found, counted_at, line_stays, uncounted_sheet}
 use Rattle.regatta_board.proofs.Untouched.{untouched_columns}
 
