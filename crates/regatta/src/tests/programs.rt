@@ -194,8 +194,8 @@ fn help_names_the_options_of_serving(rt: HostRuntime) -> Result<(), Fail> {
     Ok(())
 }
 
-/// A run of `serve` at this socket, with this amount of a Scoring Penalty, and with the journal file
-/// and the entry list of this folder.
+/// A run of `serve` at this socket, with this amount of a Scoring Penalty, and with the journal
+/// file and the entry list of this folder.
 fn served<R>(rt: &R, folder: &str, socket: &str, scp: &str) -> Result<(u8, Tape, Tape), Fail>
 where
     R: Files + AllocGlobal + Threads + Wait + Net + Sync,
