@@ -50,6 +50,19 @@ SHOW
 ENTER D
 QUIT
 """
+TIMES = b"""ENTER A
+ENTER B
+TIME 1 A 3605
+TIME 1 B 3605
+SCORE 1
+STRIKE 1 A
+TIME 1 A 3599
+FINISH 1 B
+ENTER C
+RANK B
+SHOW
+QUIT
+"""
 
 
 def example(name):
@@ -195,6 +208,7 @@ def runs(folder, program):
     journal = ["--journal", os.path.join(EXAMPLES, "weekend.journal")]
     weekend = example("weekend.txt")
     yield run("all commands", ["replay", "--exclude", "none"], COMMANDS)
+    yield run("corrected times", ["replay", "--handicap"], TIMES)
     yield run("the weekend", ["replay"] + boats, weekend)
     yield run("the weekend as CSV", ["replay", "--print", "csv"] + boats, weekend)
     yield run("the weekend's journal", ["replay", "--print", "journal"] + boats, weekend)
