@@ -4,9 +4,10 @@
     bench/refuse.py PROGRAM
 
 The Nth request of a run is refused, for N = 1, 2, .. up to as many as the run makes: of replays of
-the weekend of `examples/` with and without start files, in each form, of help, of words that aren't
-the program's, and of serving one client. A heap that refuses one request (refuse.c, beside this
-file) is built with the machine's C compiler and preloaded.
+all commands, by finishes and by corrected times, and of the weekend of `examples/`, with and
+without start files, in each form, of help, of words that aren't the program's, and of serving one
+client. A heap that refuses one request (refuse.c, beside this file) is built with the machine's C
+compiler and preloaded.
 
 A refused run must answer `regatta: no memory` with status 3, and print nothing but whole replies to
 some first lines. Where `clap` refuses the words, it asks again for its own text, so that the
