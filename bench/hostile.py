@@ -14,9 +14,9 @@ import subprocess
 import sys
 import tempfile
 
-WORDS = ("ENTER FINISH TIE BEFORE STRIKE MARK PENALTY REDRESS CLEAR SCORE UNSCORE ROLE RANK SHOW "
-         "QUIT FINISH JURY SCORER ALL PRIOR DNF DSQ DNE ZFP SCP A B C 1 2 40 41 0 7.5 999.9 1000 "
-         "enter \xff GBR-123 GBRGBRGBRGBRG").split()
+WORDS = ("ENTER FINISH TIE BEFORE TIME STRIKE MARK PENALTY REDRESS CLEAR SCORE UNSCORE ROLE RANK "
+         "SHOW QUIT FINISH JURY SCORER ALL PRIOR DNF DSQ DNE ZFP SCP A B C 1 2 40 41 0 7.5 999.9 "
+         "1000 3600 3605 999999 1000000 enter \xff GBR-123 GBRGBRGBRGBRG").split()
 
 
 def lines_of_words(rng, count):
@@ -48,7 +48,8 @@ def main():
         for name, data in inputs(rng):
             with open(path, "wb") as f:
                 f.write(data)
-            for words in ([], ["--journal", path], ["--entries", path], ["--print", "csv"]):
+            for words in ([], ["--journal", path], ["--entries", path], ["--print", "csv"],
+                          ["--handicap"], ["--handicap", "--journal", path]):
                 stdin = b"ENTER Z\nSHOW\n" if path in words else data
                 run = subprocess.run([program, "replay"] + words, input=stdin, timeout=120,
                                      stdout=subprocess.DEVNULL, stderr=subprocess.PIPE)

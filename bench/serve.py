@@ -2,7 +2,7 @@
 """Times `regatta serve` over a real Unix socket, or soaks it.
 
     bench/serve.py [--clients N] [--watchers M] [--entries E] [--commands C] [--rounds R]
-                   [--beside WORDS] PROGRAM WORD..
+                   [--native] [--beside WORDS] PROGRAM WORD..
     bench/serve.py --soak [--lines L] [--seed S] [--replay PROGRAM] PROGRAM WORD..
 
 PROGRAM WORD.. is what serves, as `crates/regatta/out/regatta serve`; `--socket`, `--clients` and
@@ -12,8 +12,9 @@ The first form starts the program R times. N clients, each a process with a race
 commands in all (4,000), one line at a time, and all of them are accepted; M watchers ask for SHOW
 without a pause meanwhile. With E the journal has E entries before the clock starts. Accepted
 commands a second, how long a line waited for its reply, and the peak memory of the program are
-printed. With `--beside` the program of those words takes its turn in each round, and the two are
-compared.
+printed. With `--native` the clients and watchers are threads of a program in C (load.c beside this
+file), which is compiled first: a client in Python is slower than the program. With `--beside` the
+program of those words takes its turn in each round, and the two are compared.
 
 The second form is in soak.py, beside this file.
 """
@@ -168,12 +169,32 @@ def begin(server, entries):
     time.sleep(0.05)
 
 
-def run_once(words, asked):
-    """One round: the clock's time, what was accepted, the waits of both kinds, and the memory."""
-    clients, watchers, entries = asked.clients, asked.watchers, asked.entries
-    server = Server(words, clients + watchers, clients + watchers + 2)
-    begin(server, entries)
-    commands = min(asked.commands, JOURNAL - 2 - entries)
+def compiled(folder):
+    """The clients and watchers in C, as a program."""
+    path = os.path.join(folder, "load")
+    source = os.path.join(os.path.dirname(os.path.abspath(__file__)), "load.c")
+    for compiler in (os.environ.get("CC"), "cc", "gcc", "clang"):
+        words = [compiler, "-O2", "-pthread", "-o", path, source]
+        try:
+            if compiler and subprocess.run(words).returncode == 0:
+                return path
+        except FileNotFoundError:
+            pass
+    sys.exit("no C compiler is to be had")
+
+
+def told_by_threads(load, server, clients, watchers, commands):
+    """What each client and watcher of the program in C tells."""
+    words = [load, server.path, str(clients), str(watchers), str(commands)]
+    told = []
+    for line in subprocess.run(words, check=True, stdout=subprocess.PIPE).stdout.splitlines():
+        kind, began, ended, accepted, *waits = line.decode().split(" ")
+        told.append((kind, float(began), float(ended), int(accepted), [float(w) for w in waits]))
+    return told
+
+
+def told_by_processes(server, clients, watchers, commands):
+    """What each client and watcher of this program tells."""
     start = multiprocessing.Barrier(clients + watchers)
     done, results = multiprocessing.Event(), multiprocessing.Queue()
     shares = [commands // clients + (i < commands % clients) for i in range(clients)]
@@ -191,6 +212,19 @@ def run_once(words, asked):
         told.append(results.get(timeout=120))
     for process in processes:
         process.join()
+    return told
+
+
+def run_once(words, asked):
+    """One round: the clock's time, what was accepted, the waits of both kinds, and the memory."""
+    clients, watchers, entries = asked.clients, asked.watchers, asked.entries
+    server = Server(words, clients + watchers, clients + watchers + 2)
+    begin(server, entries)
+    commands = min(asked.commands, JOURNAL - 2 - entries)
+    if asked.native:
+        told = told_by_threads(asked.native, server, clients, watchers, commands)
+    else:
+        told = told_by_processes(server, clients, watchers, commands)
     memory = server.memory()
     last = Client(server.path)
     last.ask(b"QUIT")
@@ -259,6 +293,7 @@ def main():
     parser.add_argument("--entries", type=int, default=0)
     parser.add_argument("--commands", type=int, default=COMMANDS)
     parser.add_argument("--rounds", type=int, default=5)
+    parser.add_argument("--native", action="store_true")
     parser.add_argument("--beside")
     parser.add_argument("--soak", action="store_true")
     parser.add_argument("--lines", type=int, default=100_000)
@@ -273,7 +308,9 @@ def main():
         return soak(asked.words, asked.replay or asked.words[0], asked.lines, asked.seed)
     if asked.clients < 1 or asked.clients + asked.watchers > SEATS:
         parser.error("there are 16 seats")
-    return bench(asked)
+    with tempfile.TemporaryDirectory() as folder:
+        asked.native = compiled(folder) if asked.native else None
+        return bench(asked)
 
 
 if __name__ == "__main__":

@@ -24,8 +24,8 @@ from serve import JOURNAL, SEATS, Client, Server
 
 TALKERS = 11
 MEBIBYTE = 1 << 20
-WORDS = (b"ENTER FINISH TIE BEFORE STRIKE MARK PENALTY REDRESS CLEAR SCORE UNSCORE ROLE RANK SHOW "
-         b"QUIT").split()
+WORDS = (b"ENTER FINISH TIE BEFORE TIME STRIKE MARK PENALTY REDRESS CLEAR SCORE UNSCORE ROLE RANK "
+         b"SHOW QUIT").split()
 SESSIONS = 2500
 
 
@@ -127,6 +127,7 @@ class Talker(Caller):
             (b"RANK " + boat, known), (b"  rank  " + boat.lower() + b"\r", known),
             (b"NOPE", rb"NO 21"), (b"", rb"NO 21"), (b"X" * 81, rb"NO 20"), (b"ENTER A_B", rb"NO 23"),
             (b"FINISH 0 " + boat, rb"NO 24"), (b"FINISH 1", rb"NO 22"), (b"ROLE KING", rb"NO 27"),
+            (b"TIME 1 " + boat + b" 1000000", rb"NO 29"),
             (b"RANK \xff", rb"NO 23"), (b"SHOW\r\r", rb"NO 21")))
 
     def next_line(self):

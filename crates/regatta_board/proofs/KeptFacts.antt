@@ -9,7 +9,7 @@ use Rattle.regatta_terms.specs.declared.sail.Sail.{Sail}
 use Rattle.regatta_terms.specs.declared.command.Role.{Role}
 use Rattle.regatta_terms.specs.declared.command.Command.{Command}
 use Rattle.regatta_terms.specs.declared.command.Command.TheVariants.{Enter, Finish, Tie, Before}
-use Rattle.regatta_terms.specs.declared.command.Command.TheVariants.{Strike, Mark, Penalise}
+use Rattle.regatta_terms.specs.declared.command.Command.TheVariants.{Time, Strike, Mark, Penalise}
 use Rattle.regatta_terms.specs.declared.command.Command.TheVariants.{Redress, Clear, Score, Unscore}
 use Rattle.regatta_terms.specs.declared.limits.TheConstants.{MAX_RACES, MAX_PENALTIES}
 use Rattle.regatta_scores.specs.Order.{stands_in, is_empty}
@@ -24,7 +24,7 @@ use Rattle.regatta_board.specs.KeptJournal.{number, sheet_of, kept_of, IsOrderly
 use Rattle.regatta_board.specs.Step.{number_in, sheet_in, held_in, NamesRace, IsKnown, IsOn}
 use Rattle.regatta_board.specs.Step.{Fits}
 use Rattle.regatta_board.specs.Table.{Kept}
-use Rattle.regatta_board.proofs.Allowed.{place_below, number_below, placed_same, unplaced, placed}
+use Rattle.regatta_board.proofs.Allowed.{index_below, number_below, placed_same, unplaced, placed}
 use Rattle.regatta_board.proofs.Lawful.{no_test, is_so, both_so, has_room, may_step}
 use Rattle.regatta_board.proofs.Numbers.{found_under}
 
@@ -72,7 +72,7 @@ module _ (rules : RulesParts) (journal : Journal) (o : IsOrderly rules journal) 
     boats_are = ap (λ k. length k.sails) e
 
     pub known_is : (boat : Sail) → is_entered journal boat ≡ true → IsKnown kept boat
-    known_is boat h = subst (λ k. IsKnown k boat) (sym e) (place_below (entered journal) boat h)
+    known_is boat h = subst (λ k. IsKnown k boat) (sym e) (index_below (entered journal) boat h)
 
     pub placed_is : (race : ℕ) → IsRace race → (boat : Sail) → is_entered journal boat ≡ true
         → stands_in nat_eq (number_in kept boat) (sheet_in kept race).order
@@ -149,13 +149,15 @@ module _ (rules : RulesParts) (journal : Journal) (o : IsOrderly rules journal) 
     fits role (Enter s) r none =
         let room : length (entered journal) < limits.boats =
         has_room rules journal role (Enter s) none (λ h. cc) in
-        let new : is_entered journal s ≡ false = may_step rules journal role (Enter s) none in (
+        let new : is_entered journal s ≡ false =
+        may_step rules journal role (Enter s) refl none in (
           (let within : length kept.sails < limits.boats = omega (arith, boats_are) in within),
           entered_is s ∙ new,
         )
     fits role (Finish race s) r none = place_fits race r s none
     fits role (Tie race s other) r none = place_by_fits race r s other none
     fits role (Before race s other) r none = place_by_fits race r s other none
+    fits role (Time race s seconds) r none = place_fits race r s none
     fits role (Strike race s) r none =
         let first = no_test (not (is_entered journal s)) _ _ none in
         in_it race r s (is_so (is_entered journal s) first.0)

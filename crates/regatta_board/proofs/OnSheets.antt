@@ -1,6 +1,6 @@
 -- A finishing order by numbers, on a sheet on which nothing is held, stays one of a sheet.
 use Rattle.std.proofs.Common.{◌≡◌, ℕ, ◌<◌, true, false, List, [], ◌∷◌, ◌++◌, ap, ◌∙◌}
-use Rattle.std.proofs.Common.{refl, arith, length, map, nat_eq}
+use Rattle.std.proofs.Common.{refl, sym, arith, length, map, nat_eq, None}
 use Rattle.std.specs.List.{list_any}
 use Rattle.std.proofs.lemmas.List.{length-map, map-append}
 use borrow.Author.Tests.{eqb-true}
@@ -9,50 +9,62 @@ use Rattle.regatta_terms.specs.Rules.{RulesParts}
 use Rattle.regatta_terms.specs.declared.sail.Sail.{Sail}
 use Rattle.regatta_terms.specs.declared.command.Command.{Command}
 use Rattle.regatta_terms.specs.declared.command.Command.TheVariants.{Enter, Finish, Tie, Before}
-use Rattle.regatta_terms.specs.declared.command.Command.TheVariants.{Strike, Mark, Penalise}
+use Rattle.regatta_terms.specs.declared.command.Command.TheVariants.{Time, Strike, Mark, Penalise}
 use Rattle.regatta_terms.specs.declared.command.Command.TheVariants.{Redress, Clear, Score, Unscore}
 use Rattle.regatta_scores.specs.Order.{stands_in, with_last, joined, with_ahead, without}
-use Rattle.regatta_scores.specs.Sheet.{nothing_held}
+use Rattle.regatta_scores.specs.Sheet.{nothing_held, time_of}
 use Rattle.regatta_scores.specs.SheetFacts.{IsSheet}
 use Rattle.regatta_scores.specs.Journal.{Journal, same_sail, names_race, entered, order}
-use Rattle.regatta_scores.specs.Journal.{order_after}
+use Rattle.regatta_scores.specs.Journal.{time}
+use Rattle.regatta_scores.specs.CorrectedTimes.{with_time}
 use Rattle.regatta_scores.proofs.Sheets.{last_sheet, joined_sheet, ahead_sheet, without_sheet}
-use Rattle.regatta_scores.proofs.Sheets.{more_sheet, copied_sheet}
+use Rattle.regatta_scores.proofs.Sheets.{more_sheet, copied_sheet, timed_sheet}
+use Rattle.regatta_scores.proofs.StandingTimes.{order_with}
 use Rattle.regatta_board.specs.Refusals.{limits, is_entered, is_placed}
 use Rattle.regatta_board.specs.KeptJournal.{number, blank, IsOnSheet}
 use Rattle.regatta_board.specs.Step.{MayStep}
-use Rattle.regatta_board.proofs.Numbers.{place_in}
-use Rattle.regatta_board.proofs.Allowed.{placed_same, place_below}
+use Rattle.regatta_board.proofs.Numbers.{index_in, found_under}
+use Rattle.regatta_board.proofs.Allowed.{placed_same, index_below}
 use Rattle.regatta_board.proofs.Renumbered.{last_numbered, joined_numbered, ahead_numbered}
-use Rattle.regatta_board.proofs.Renumbered.{without_numbered, order_stays}
+use Rattle.regatta_board.proofs.Renumbered.{without_numbered, timed_numbered}
+use Rattle.regatta_board.proofs.Renumbered.{order_stays}
 
 -- the same order of the same boats
 pub on_same : (old new : List Sail) (o p : List (List Sail)) → new ≡ old → p ≡ o
     → IsOnSheet old o → IsOnSheet new p
 on_same old new o p boats orders is =
-    copied_sheet (map (map (place_in old)) o) (map (map (place_in new)) p) (blank old) (blank new)
-    (λ i. map (map (place_in (boats i))) (orders i)) (ap blank boats) is
+    copied_sheet (map (map (index_in old)) o) (map (map (index_in new)) p) (blank old) (blank new)
+    (λ i. map (map (index_in (boats i))) (orders i)) (ap blank boats) is
 
 -- one more boat entered
 pub on_more : (boats : List Sail) (s : Sail) (o : List (List Sail)) → IsOnSheet boats o
     → ((x : Sail) → stands_in same_sail x o ≡ true → list_any (same_sail x) boats ≡ true)
     → length boats < limits.boats → IsOnSheet (boats ++ s ∷ []) o
 on_more boats s o is known room =
-    copied_sheet (map (map (place_in boats)) o) (map (map (place_in (boats ++ s ∷ []))) o)
+    copied_sheet (map (map (index_in boats)) o) (map (map (index_in (boats ++ s ∷ []))) o)
     (blank boats ++ nothing_held ∷ []) (blank (boats ++ s ∷ [])) (order_stays boats s o known)
     (map-append (λ (b : Sail). nothing_held) boats (s ∷ []))
-    (more_sheet (map (map (place_in boats)) o) (blank boats) is
+    (more_sheet (map (map (index_in boats)) o) (blank boats) is
     (let within : length boats < MAX_BOATS = room in
     omega (arith, length-map boats (λ (b : Sail). nothing_held))))
 
 module _ (rules : RulesParts) (journal : Journal) (race : ℕ)
-    (is : IsOnSheet (entered journal) (order rules journal race)) where
+    (is : IsOnSheet (entered journal) (order rules journal race))
+    (all_entered : (x : Sail) → is_placed rules journal race x ≡ true
+    → is_entered journal x ≡ true) where
+  -- the time of a boat that is entered, under her number
+  pub time_there : (x : Sail) → is_entered journal x ≡ true
+      → time_of (map (time journal race) (entered journal)) (number journal x) ≡ time journal race x
+  time_there x known =
+      found_under (time journal race) None (entered journal) x
+      (λ out. (let no_way : true ≡ false = sym known ∙ out in cc))
+
   below : (s : Sail) → is_entered journal s ≡ true
       → number journal s < length (blank (entered journal))
   below s known =
       omega (
         arith,
-        place_below (entered journal) s known,
+        index_below (entered journal) s known,
         length-map (entered journal) (λ (b : Sail). nothing_held),
       )
 
@@ -72,7 +84,8 @@ module _ (rules : RulesParts) (journal : Journal) (race : ℕ)
 
   -- a command of the race that its refusals let through
   pub on_after : (c : Command) → names_race race c ≡ true → MayStep rules journal c
-      → IsOnSheet (entered journal) (order_after rules (order rules journal race) c)
+      → IsOnSheet (entered journal)
+      (order_with (time journal race) (order rules journal race) c)
   on_after (Enter s) named may = is
   on_after (Finish r s) named may =
       renumbered (with_last same_sail (order rules journal race) s)
@@ -95,6 +108,15 @@ module _ (rules : RulesParts) (journal : Journal) (race : ℕ)
       (ahead_numbered (entered journal) (order rules journal race) s other may.1)
       (ahead_sheet (map (map (number journal)) (order rules journal race)) (blank (entered journal))
       (number journal s) (number journal other) is (below s may.0) (out s r named may.0 may.2))
+  on_after (Time r s seconds) named may =
+      let numbers = map (map (number journal)) (order rules journal race) in
+      let times = time_of (map (time journal race) (entered journal)) in
+      renumbered (with_time (time journal race) (order rules journal race) s seconds)
+      (with_time times numbers (number journal s) seconds)
+      (timed_numbered (entered journal) (time journal race) times (order rules journal race) s
+      seconds (λ x h. time_there x (all_entered x h)))
+      (timed_sheet times seconds numbers (blank (entered journal)) (number journal s) is
+      (below s may.0) (out s r named may.0 may.1))
   on_after (Strike r s) named may =
       renumbered (without same_sail (order rules journal race) s)
       (without nat_eq (map (map (number journal)) (order rules journal race)) (number journal s))

@@ -7,7 +7,7 @@ use Rattle.regatta_terms.specs.Entries.{EntryParts, IsRace}
 use Rattle.regatta_terms.specs.Rules.{RulesParts}
 use Rattle.regatta_terms.specs.declared.command.Command.{Command}
 use Rattle.regatta_terms.specs.declared.command.Command.TheVariants.{Enter, Finish, Tie, Before}
-use Rattle.regatta_terms.specs.declared.command.Command.TheVariants.{Strike, Mark, Penalise}
+use Rattle.regatta_terms.specs.declared.command.Command.TheVariants.{Time, Strike, Mark, Penalise}
 use Rattle.regatta_terms.specs.declared.command.Command.TheVariants.{Redress, Clear, Score, Unscore}
 use Rattle.regatta_terms.specs.declared.command.PenaltyKind.TheVariants.{Zfp, Scp}
 use Rattle.regatta_terms.specs.declared.limits.TheConstants.{MAX_RACES}
@@ -54,6 +54,8 @@ module _ (rules : RulesParts) (journal : Journal) (orderly : IsOrderly rules jou
       ap (λ b. cond b 1 0) (count_next (Tie race sail other) is named may race named)
   named_few (Before race sail other) is named may =
       ap (λ b. cond b 1 0) (count_next (Before race sail other) is named may race named)
+  named_few (Time race sail seconds) is named may =
+      ap (λ b. cond b 1 0) (count_next (Time race sail seconds) is named may race named)
   named_few (Strike race sail) is named may =
       ap (λ b. cond b 1 0) (count_next (Strike race sail) is named may race named)
   named_few (Mark race sail code) is named may =

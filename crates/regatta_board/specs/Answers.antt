@@ -9,7 +9,7 @@ use Rattle.regatta_terms.specs.declared.reply.Answer.{Answer}
 use Rattle.regatta_terms.specs.declared.reply.Touched.{Touched}
 use Rattle.regatta_terms.specs.declared.command.Command.{Command}
 use Rattle.regatta_terms.specs.declared.command.Command.TheVariants.{Enter, Finish, Tie, Before}
-use Rattle.regatta_terms.specs.declared.command.Command.TheVariants.{Strike, Mark, Penalise}
+use Rattle.regatta_terms.specs.declared.command.Command.TheVariants.{Time, Strike, Mark, Penalise}
 use Rattle.regatta_terms.specs.declared.command.Command.TheVariants.{Redress, Clear, Score, Unscore}
 use Rattle.regatta_scores.specs.declared.table.Row.{Row}
 use Rattle.regatta_scores.specs.Journal.{Journal, same_sail, is_scored, scored}
@@ -21,6 +21,7 @@ boat_named (Enter sail) = Some sail
 boat_named (Finish race sail) = Some sail
 boat_named (Tie race sail other) = Some sail
 boat_named (Before race sail other) = Some sail
+boat_named (Time race sail seconds) = Some sail
 boat_named (Strike race sail) = Some sail
 boat_named (Mark race sail code) = Some sail
 boat_named (Penalise race sail kind) = Some sail
@@ -62,6 +63,7 @@ most_rescored journal (Enter sail) = length (scored journal)
 most_rescored journal (Finish race sail) = once_if_scored journal race
 most_rescored journal (Tie race sail other) = once_if_scored journal race
 most_rescored journal (Before race sail other) = once_if_scored journal race
+most_rescored journal (Time race sail seconds) = once_if_scored journal race
 most_rescored journal (Strike race sail) = once_if_scored journal race
 most_rescored journal (Mark race sail code) = once_if_scored journal race
 most_rescored journal (Penalise race sail kind) = once_if_scored journal race

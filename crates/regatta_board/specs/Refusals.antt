@@ -15,7 +15,7 @@ use Rattle.regatta_terms.specs.declared.command.Role.{Role}
 use Rattle.regatta_terms.specs.declared.command.Role.TheVariants as role
 use Rattle.regatta_terms.specs.declared.command.Command.{Command}
 use Rattle.regatta_terms.specs.declared.command.Command.TheVariants.{Enter, Finish, Tie, Before}
-use Rattle.regatta_terms.specs.declared.command.Command.TheVariants.{Strike, Mark, Penalise}
+use Rattle.regatta_terms.specs.declared.command.Command.TheVariants.{Time, Strike, Mark, Penalise}
 use Rattle.regatta_terms.specs.declared.command.Command.TheVariants.{Redress, Clear, Score, Unscore}
 use Rattle.regatta_terms.specs.declared.reply.Refusal.{Refusal}
 use Rattle.regatta_terms.specs.declared.reply.Refusal.TheVariants.{NoMemory, JournalFull, OldNumber}
@@ -25,9 +25,10 @@ use Rattle.regatta_terms.specs.declared.reply.Refusal.TheVariants.{AlreadyPlaced
 use Rattle.regatta_terms.specs.declared.reply.Refusal.TheVariants.{Decided, PenaltyLimit}
 use Rattle.regatta_terms.specs.declared.reply.Refusal.TheVariants.{NothingToClear, AlreadyScored}
 use Rattle.regatta_terms.specs.declared.reply.Refusal.TheVariants.{NotScored, NoFinisher}
+use Rattle.regatta_terms.specs.declared.reply.Refusal.TheVariants.{WrongSystem}
 use Rattle.regatta_scores.specs.declared.sheet.Held.{Held}
 use Rattle.regatta_scores.specs.Journal.{Journal, same_sail, entered, order, held, is_scored}
-use Rattle.regatta_scores.specs.Journal.{last_item}
+use Rattle.regatta_scores.specs.Journal.{last_item, is_of_other_system}
 use Rattle.regatta_scores.specs.Order.{stands_in, is_empty}
 
 -- how many boats may be entered, and how many entries a journal may hold
@@ -99,7 +100,7 @@ enter_refusal most journal boat =
     else if nat_le most.boats (length (entered journal)) then Some EntryFull
     else None
 
--- of Finish: a boat finishes once in a race (RRS A3)
+-- of Finish and Time: a boat is placed once in a race (RRS A3)
 abbrev pub place_refusal : RulesParts → Journal → ℕ → Sail → Option Refusal
 place_refusal rules journal race boat =
     if not (is_entered journal boat) then Some NotEntered
@@ -165,6 +166,8 @@ command_refusal most rules journal role (Tie race sail other) =
     place_by_refusal rules journal race sail other
 command_refusal most rules journal role (Before race sail other) =
     place_by_refusal rules journal race sail other
+command_refusal most rules journal role (Time race sail seconds) =
+    place_refusal rules journal race sail
 command_refusal most rules journal role (Strike race sail) = strike_refusal rules journal race sail
 command_refusal most rules journal role (Mark race sail code) = decision_refusal journal race sail
 command_refusal most rules journal role (Penalise race sail kind) =
@@ -182,6 +185,7 @@ refusal most rules journal entry =
     else if nat_le entry.nth (last_number journal entry.seat) then
     Some (OldNumber (last_number journal entry.seat))
     else if not (may_send entry.role entry.command) then Some NotYours
+    else if is_of_other_system rules entry.command then Some WrongSystem
     else command_refusal most rules journal entry.role entry.command
 
 -- what a call may answer: the refusal that is due, or want of memory where none is due

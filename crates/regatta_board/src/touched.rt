@@ -13,6 +13,7 @@ pub(crate) fn boat_named(command: Command) -> Option<Sail>
         | Command::Finish { sail, .. }
         | Command::Tie { sail, .. }
         | Command::Before { sail, .. }
+        | Command::Time { sail, .. }
         | Command::Strike { sail, .. }
         | Command::Mark { sail, .. }
         | Command::Penalise { sail, .. }

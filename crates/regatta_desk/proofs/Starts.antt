@@ -22,3 +22,22 @@ fault_up (Err y) e rules start free is one = subst (IsOpenFault rules start) (sy
     of fault.BadSeats h = tt
     of fault.NoReader h = free
     of fault.NoMemory h = tt
+
+-- a fault behind seats that are as they should be
+pub fault_of_good_seats : {T : Type 0} (r : Result T OpenFault) (e : OpenFault) (few many : Type 0)
+    → IsErrAnd r (λ y. y ≡ e) → (e ≡ fault.NoReader) ⊎ (e ≡ fault.NoMemory)
+    → (few → ⊥) → (many → ⊥)
+    → (r ≡ Err fault.BadSeats → few ⊎ many) × (few ⊎ many → r ≡ Err fault.BadSeats)
+fault_of_good_seats r e few many is one some most = (λ h. absurd (told r is h), λ h. absurd (bad h))
+  where
+    told : {T : Type 0} (r : Result T OpenFault) → IsErrAnd r (λ y. y ≡ e) → r ≡ Err fault.BadSeats → ⊥
+    told (Ok x) is h = absurd (cc h)
+    told (Err y) is h = other one
+      where
+        other : (e ≡ fault.NoReader) ⊎ (e ≡ fault.NoMemory) → ⊥
+        other (inl reader) = absurd (cc (h, is, reader))
+        other (inr memory) = absurd (cc (h, is, memory))
+
+    bad : few ⊎ many → ⊥
+    bad (inl h) = some h
+    bad (inr h) = most h

@@ -1,5 +1,6 @@
 -- What a run may be asked for, and a run that does it.
-use Rattle.std.specs.Prelude.{◌≡◌, ◌≤◌, ℕ, true, length, List, [], Option, Some, None, IfSome, Ok}
+use Rattle.std.specs.Prelude.{◌≡◌, ◌≤◌, ℕ, Bool, true, length, List, [], Option, Some, None}
+use Rattle.std.specs.Prelude.{IfSome, Ok}
 use Rattle.std.specs.Io.KnownBytes.{Appends}
 use Rattle.regatta_terms.specs.Rules.{RulesParts, rules_of_texts}
 use Rattle.regatta_scores.specs.Journal.{Journal}
@@ -12,11 +13,13 @@ use Rattle.regatta_office.specs.declared.form.Form.TheVariants.{Table}
 use Rattle.regatta_office.specs.Starts.{start_of}
 use Rattle.regatta_office.specs.Transcript.{final_text, run_text}
 
--- a series: the texts of its rules, and the paths of the files that it starts with
+-- a series: the texts of its rules, whether places follow corrected times (RRS A3), and the paths
+-- of the files that it starts with
 pub record Series : Type 0 where
   pub absent : List ℕ
   pub scp : Option (List ℕ)
   pub exclude : List ℕ
+  pub handicap : Bool
   pub journal : Option (List ℕ)
   pub entries : Option (List ℕ)
 
@@ -49,7 +52,7 @@ AreSailsAt (Some path) sails =
 -- what a series begins with: the rules that its texts say, and the entries of the journal file and
 -- then of the entry list, of which none is refused
 pub record Begins (series : Series) (rules : RulesParts) (start : Journal) : Type 0 where
-  pub read : rules_of_texts series.absent series.scp series.exclude ≡ Ok rules
+  pub read : rules_of_texts series.absent series.scp series.exclude series.handicap ≡ Ok rules
   pub journal : Journal
   pub from_journal : IsJournalAt series.journal journal
   pub sails : List (List ℕ)

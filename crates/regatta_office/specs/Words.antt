@@ -1,11 +1,12 @@
 -- What the words of the program ask for, as `clap` reads them.
-use Rattle.std.specs.Prelude.{◌≡◌, true, List, [], ◌∷◌, Option, Some, None, map, codes}
+use Rattle.std.specs.Prelude.{◌≡◌, Bool, true, false, List, [], ◌∷◌, Option, Some, None, map, codes}
 use Rattle.std.specs.Prelude.{ℕ, option_map, if◌then◌else◌}
 use Rattle.std.specs.Borrow.{Bor}
 use Rattle.std.specs.Str.{bytes_eq}
 use Rattle.std.specs.Str.Parse.{digits_value, without_leading_plus}
 use Rattle.clap.specs.Words.{App, IsAmong, Row, Rule, Text, fault_of, first_of, new_app, new_rule}
 use Rattle.clap.specs.Words.{subcommand_of, with_rule, with_subcommand}
+use Rattle.clap.specs.declared.builder.action.ArgAction.TheVariants.{SetTrue}
 use Rattle.clap.specs.declared.builder.value_parser.ValueParser.{ValueParser}
 use Rattle.clap.specs.declared.builder.value_parser.ValueParser.TheVariants.{Names, Unsigned}
 use Rattle.clap.specs.declared.error.kind.ErrorKind.TheVariants.{DisplayHelp}
@@ -18,6 +19,10 @@ use Rattle.regatta_office.specs.declared.form.Form.{Form}
 use Rattle.regatta_office.specs.declared.form.Form.TheVariants.{Table, Csv, Journal}
 
 -- ---- the words that the program knows
+
+-- an option without a value
+abbrev pub flag : Text → Rule
+flag name = record (new_rule name) { long = Some name; action = Some SetTrue }
 
 -- an option that takes one value
 abbrev pub option : Text → Rule
@@ -42,12 +47,12 @@ TakesForms forms = (names : Bor (List (Bor Text))) × (forms ≡ Names names)
     × (map (λ name. name.now) names.now
     ≡ codes "table" ∷ codes "csv" ∷ codes "journal" ∷ [])
 
--- the options of the series rules, with their defaults: A5.2, 20% for a Scoring Penalty, and one
--- score excluded from two races on
+-- the options of the series rules, with their defaults: A5.2, 20% for a Scoring Penalty, one score
+-- excluded from two races on, and places by the finishing order (RRS A3)
 abbrev pub with_rules : App → App
 with_rules app =
-    with_rule (with_rule (with_rule app (option_or (codes "absent") (codes "a52")))
-    (option (codes "scp"))) (option_or (codes "exclude") (codes "2"))
+    with_rule (with_rule (with_rule (with_rule app (option_or (codes "absent") (codes "a52")))
+    (option (codes "scp"))) (option_or (codes "exclude") (codes "2"))) (flag (codes "handicap"))
 
 -- the options of the start files
 abbrev pub with_start : App → App
@@ -80,24 +85,30 @@ regatta forms = with_subcommand (with_subcommand bare_program (replay forms).top
 
 -- ---- what words ask for
 
+-- whether a flag is given, by the text that `clap` has for it
+abbrev pub is_given : Option Text → Bool
+is_given (Some word) = bytes_eq word (codes "true")
+is_given None = false
+
 -- the series, by what the words or the defaults give
-abbrev pub series_by : Option Text → Option Text → Option Text → Option Text → Option Text
+abbrev pub series_by : Option Text → Option Text → Option Text → Bool → Option Text → Option Text
     → Option Series
-series_by (Some absent) scp (Some exclude) journal entries = Some (record {
+series_by (Some absent) scp (Some exclude) handicap journal entries = Some (record {
   absent = absent;
   scp = scp;
   exclude = exclude;
+  handicap = handicap;
   journal = journal;
   entries = entries;
 })
-series_by (Some absent) scp None journal entries = None
-series_by None scp exclude journal entries = None
+series_by (Some absent) scp None handicap journal entries = None
+series_by None scp exclude handicap journal entries = None
 
 -- the same, where this gives the value of each option by its name
 abbrev pub series_with : (Text → Option Text) → Option Series
 series_with value =
     series_by (value (codes "absent")) (value (codes "scp")) (value (codes "exclude"))
-    (value (codes "journal")) (value (codes "entries"))
+    (is_given (value (codes "handicap"))) (value (codes "journal")) (value (codes "entries"))
 
 -- the form of that word
 abbrev pub form_by : Option Text → Form

@@ -1,5 +1,5 @@
 -- Worked examples, by computation: the default rules, no start, and the table at the end.
-use Rattle.std.specs.Prelude.{◌≡◌, ℕ, List, [], ◌∷◌, ◌++◌, None, refl, codes}
+use Rattle.std.specs.Prelude.{◌≡◌, ℕ, List, [], ◌∷◌, ◌++◌, None, refl, codes, false, true}
 use Rattle.std.specs.Fmt.{digits}
 use Rattle.regatta_terms.specs.Lines.{line_of, line_of_words, command_of_words, command_after}
 use Rattle.regatta_terms.specs.Rules.{RulesParts}
@@ -11,11 +11,15 @@ use Rattle.regatta_office.specs.Transcript.{replies, talk_at_end, up_to_quit, ru
 
 -- A5.2, 20% for a Scoring Penalty, one score excluded from the second race on
 abbrev default_rules : RulesParts
-default_rules = record { absent = A52; scp = None; thresholds = 2 ∷ [] }
+default_rules = record { absent = A52; scp = None; thresholds = 2 ∷ []; handicap = false }
 
 -- the same with no score excluded
 abbrev no_exclusions : RulesParts
-no_exclusions = record { absent = A52; scp = None; thresholds = [] }
+no_exclusions = record { absent = A52; scp = None; thresholds = []; handicap = false }
+
+-- the default rules, with places by corrected times (A3)
+abbrev by_times : RulesParts
+by_times = record default_rules { handicap = true }
 
 -- what a run from no start writes, under the default rules
 abbrev run : List ℕ → List ℕ
@@ -63,6 +67,23 @@ pub redress : run_text no_exclusions [] Table
     ++ codes "TABLE 2 RACES 1 2\n1 A 2.0 1.0 1.0/RDG\n2 B 3.0 2.0 1.0\n"
 unfolding digits replies talk_at_end up_to_quit line_of line_of_words command_of_words command_after
 redress = refl
+
+-- equal seconds tie (A3, A7); a time is struck and handed in anew, and a finish is refused
+pub corrected_times : run_text by_times [] Table
+    (codes "ENTER A\nENTER B\nENTER C\nTIME 1 A 3605\nTIME 1 B 3600\nTIME 1 C 3605\nSCORE 1\n"
+    ++ codes "RANK C\nSTRIKE 1 A\nTIME 1 A 3599\nFINISH 1 B\nTIME 1 B 1\nTIME 1 X 1\n"
+    ++ codes "TIME 1 A 1000000\nTIME 1 A\nROLE JURY\nTIME 1 B 1\n")
+    ≡ codes "OK 1 1 0.0\nOK 2 1= 0.0\nOK 3 1= 0.0\nOK 4 1= 0.0\nOK 5 1= 0.0\nOK 6 1= 0.0\n"
+    ++ codes "OK 7\nRANK 2= 2.5\nOK 8 3 4.0\nOK 9 1 1.0\nNO 16\nNO 8\nNO 7\nNO 29\nNO 22\n"
+    ++ codes "ROLE JURY\nNO 4\nTABLE 3 RACES 1\n1 A 1.0 1.0\n2 B 2.0 2.0\n3 C 3.0 3.0\n"
+unfolding digits replies talk_at_end up_to_quit line_of line_of_words command_of_words command_after
+corrected_times = refl
+
+-- without corrected times a time is refused
+pub no_corrected_times : run (codes "ENTER A\nTIME 1 A 5\n")
+    ≡ codes "OK 1 1 0.0\nNO 16\nTABLE 1 RACES\n1 A 0.0\n"
+unfolding digits replies talk_at_end up_to_quit line_of line_of_words command_of_words command_after
+no_corrected_times = refl
 
 -- lines behind QUIT aren't answered, and the last line needs no LF
 pub the_end_of_a_talk : run_text default_rules [] Journal

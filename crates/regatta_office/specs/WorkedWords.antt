@@ -1,24 +1,25 @@
 -- Worked examples of the program's words, by computation.
-use Rattle.std.specs.Prelude.{◌≡◌, [], ◌∷◌, Some, None, refl, codes}
+use Rattle.std.specs.Prelude.{◌≡◌, [], ◌∷◌, Some, None, refl, codes, true, false}
 use Rattle.std.proofs.Common.{inl}
 use Rattle.clap.proofs.OnLiterals.{clap_on_literals}
 use Rattle.clap.specs.Words.{fault_of}
 use Rattle.clap.specs.declared.builder.value_parser.ValueParser.{ValueParser}
 use Rattle.clap.specs.declared.error.kind.ErrorKind.TheVariants.{MissingSubcommand, UnknownArgument}
-use Rattle.clap.specs.declared.error.kind.ErrorKind.TheVariants.{ArgumentConflict}
+use Rattle.clap.specs.declared.error.kind.ErrorKind.TheVariants.{ArgumentConflict, TooManyValues}
 use Rattle.clap.specs.declared.error.kind.ErrorKind.TheVariants.{MissingRequiredArgument}
 use Rattle.clap.specs.declared.error.kind.ErrorKind.TheVariants.{ValueValidation}
 use Rattle.regatta_office.specs.declared.form.Form.TheVariants.{Table, Csv}
 use Rattle.regatta_office.specs.Words.{AskHelp, asked_of, regatta}
 use Rattle.regatta_office.specs.declared.options.Asked.TheVariants.{Replay, Serve}
 
--- the defaults: A5.2, 20% for a Scoring Penalty, one score excluded from two races on, no start
--- file, and a table
+-- the defaults: A5.2, 20% for a Scoring Penalty, one score excluded from two races on, places by
+-- the finishing order, no start file, and a table
 pub defaults : (forms : ValueParser) → asked_of forms (codes "replay" ∷ []) ≡ Some (Replay (record {
   series = record {
     absent = codes "a52";
     scp = None;
     exclude = codes "2";
+    handicap = false;
     journal = None;
     entries = None;
   };
@@ -30,12 +31,14 @@ defaults forms = refl
 -- each option, in both ways that its value may be given
 pub each_option : (forms : ValueParser) → asked_of forms
     (codes "replay" ∷ codes "--print=csv" ∷ codes "--absent" ∷ codes "a53" ∷ codes "--scp=3"
-    ∷ codes "--exclude" ∷ codes "none" ∷ codes "--journal" ∷ codes "j" ∷ codes "--entries=e" ∷ [])
+    ∷ codes "--exclude" ∷ codes "none" ∷ codes "--handicap" ∷ codes "--journal" ∷ codes "j"
+    ∷ codes "--entries=e" ∷ [])
     ≡ Some (Replay (record {
       series = record {
         absent = codes "a53";
         scp = Some (codes "3");
         exclude = codes "none";
+        handicap = true;
         journal = Some (codes "j");
         entries = Some (codes "e");
       };
@@ -51,6 +54,7 @@ pub serving_defaults : (forms : ValueParser) → asked_of forms
         absent = codes "a52";
         scp = None;
         exclude = codes "2";
+        handicap = false;
         journal = None;
         entries = None;
       };
@@ -70,6 +74,7 @@ pub serving_options : (forms : ValueParser) → asked_of forms
         absent = codes "a52";
         scp = Some (codes "3");
         exclude = codes "2";
+        handicap = false;
         journal = None;
         entries = Some (codes "e");
       };
@@ -79,6 +84,24 @@ pub serving_options : (forms : ValueParser) → asked_of forms
     }))
 unfolding clap_on_literals
 serving_options forms = refl
+
+-- a serving under corrected times
+pub serving_times : (forms : ValueParser) → asked_of forms
+    (codes "serve" ∷ codes "--handicap" ∷ codes "--socket=s" ∷ []) ≡ Some (Serve (record {
+      series = record {
+        absent = codes "a52";
+        scp = None;
+        exclude = codes "2";
+        handicap = true;
+        journal = None;
+        entries = None;
+      };
+      socket = codes "s";
+      clients = 4;
+      sessions = 0;
+    }))
+unfolding clap_on_literals
+serving_times forms = refl
 
 -- help, and words that aren't enough
 pub help : (forms : ValueParser) → AskHelp forms (codes "--help" ∷ [])
@@ -104,6 +127,12 @@ pub option_twice : (forms : ValueParser) → fault_of (regatta forms)
     ≡ ArgumentConflict ∷ []
 unfolding clap_on_literals
 option_twice forms = refl
+
+-- a flag takes no value
+pub flag_with_a_value : (forms : ValueParser) → fault_of (regatta forms)
+    (codes "replay" ∷ codes "--handicap=yes" ∷ []) ≡ TooManyValues ∷ []
+unfolding clap_on_literals
+flag_with_a_value forms = refl
 
 -- so are a serving without a path, and seventeen seats
 pub no_socket : (forms : ValueParser)

@@ -118,10 +118,10 @@ where
 ///
 /// `replay` answers the lines that the input gives and prints the final table, CSV or journal;
 /// `serve` answers those of clients at a new Unix socket, side by side, and prints the final table
-/// once the door is closed. `--absent`, `--scp` and `--exclude` are the series rules (RRS A5.2 and
-/// A5.3, 44.3(c), A2.1), `--journal` and `--entries` name files to start from. `--print` is the
-/// form of a replay's final part; `--socket`, `--clients` and `--sessions` are the path of the
-/// socket, how many seats there are, and behind how many clients the door closes.
+/// once the door is closed. `--absent`, `--scp`, `--exclude` and `--handicap` are the series rules
+/// (RRS A5.2 and A5.3, 44.3(c), A2.1, A3), `--journal` and `--entries` name files to start from.
+/// `--print` is the form of a replay's final part; `--socket`, `--clients` and `--sessions` are the
+/// path of the socket, how many seats there are, and behind how many clients the door closes.
 ///
 /// The status is 0 once all is written, 1 where a file, the start or the input is at fault, 2
 /// where the words or the rules are, and 3 where a device fails or memory is wanting. All but 0 say

@@ -6,6 +6,7 @@ ghost use Rattle.clap.specs.Words.{subcommand_rows_of};
 ghost use Rattle.clap.specs.declared.builder.command.Command.TheViews.{out-Command};
 ghost use Rattle.clap.specs.declared.builder.value_parser.ValueParser.{ValueParser};
 ghost use Rattle.regatta_office.specs.Words.{AskHelp, AskRun, TakesForms, asked_by, number_by};
+ghost use Rattle.regatta_office.specs.Words.{flag as flag_of, is_given as is_given_by};
 ghost use Rattle.regatta_office.specs.Words.{form_by, form_option as form_option_of};
 ghost use Rattle.regatta_office.specs.Words.{number_option as number_option_of, replay_with};
 ghost use Rattle.regatta_office.specs.Words.{serve as serve_of, serving_with};
@@ -18,7 +19,7 @@ ghost use Rattle.regatta_office.specs.Words.{with_start as with_start_of};
 use crate::form::Form;
 use clap::builder::ValueParser;
 use clap::error::ErrorKind;
-use clap::{Arg, ArgMatches, Command, Error};
+use clap::{Arg, ArgAction, ArgMatches, Command, Error};
 use regatta_terms::MAX_SEATS;
 use std::alloc::{AllocError, Global};
 use std::marker::Model;
@@ -29,12 +30,14 @@ const MOST_SESSIONS: u64 = 1_000_000;
 /// What the run is to print at its end, by the option's word.
 static FORMS: [&str; 3] = ["table", "csv", "journal"];
 
-/// The series that the words ask for: texts of its rules, and paths of its start files.
+/// The series that the words ask for: texts of its rules, whether places follow corrected times,
+/// and paths of its start files.
 #[derive(Drop)]
 pub(crate) struct SeriesOptions<'a> {
     pub(crate) absent: &'a str,
     pub(crate) scp: Option<&'a str>,
     pub(crate) exclude: &'a str,
+    pub(crate) handicap: bool,
     pub(crate) journal: Option<&'a str>,
     pub(crate) entries: Option<&'a str>,
 }
@@ -49,6 +52,7 @@ impl<'a> Model for SeriesOptions<'a> {
       absent = series.absent.now;
       scp = option_copied series.scp;
       exclude = series.exclude.now;
+      handicap = series.handicap;
       journal = option_copied series.journal;
       entries = option_copied series.entries;
     } };
@@ -128,6 +132,11 @@ static EXCLUDE: &str = "From how many races on one more worst score is excluded 
     four rising numbers from 2 to 40, or none. Example: --exclude 5,9 excludes one score from 5 \
     races on and two from 9 on";
 
+static HANDICAP: &str =
+    "Places follow corrected times (RRS A3): each finisher has TIME race sail seconds, as \
+    TIME 1 GBR1 3605, in place of FINISH, TIE and BEFORE, and equal seconds tie. The seconds are \
+    corrected already: no rating is known here";
+
 static JOURNAL: &str =
     "A journal file to start from: what `regatta replay --print journal` ends with, \
     or the lines between JOURNAL and TABLE of a SHOW. Example: --journal saturday.txt";
@@ -150,6 +159,17 @@ static CLIENTS: &str =
 static SESSIONS: &str = "After how many clients serving ends and the table is printed, those \
     turned away counted, up to 1000000; with 0 it goes on until it is stopped, and prints none. \
     Example: --sessions 12";
+
+/// An option without a value.
+fn flag<'a>(alloc: Global, name: &'a str, help: &'a str) -> Arg<'a>
+    ensures rule { rule_of result ≡ flag_of name.now }
+    ensures local { result.global ≡ false }
+{
+    Arg::new(alloc, name)
+        .long(name)
+        .action(ArgAction::SetTrue)
+        .help(help)
+}
 
 /// An option that takes one value.
 fn option<'a>(alloc: Global, name: &'a str, value: &'a str, help: &'a str) -> Arg<'a>
@@ -210,7 +230,8 @@ fn with_rules<'a>(alloc: Global, command: Command<'a>) -> Result<Command<'a>, Al
     let absent = option_or(alloc, "absent", "RULE", "a52", ABSENT);
     let scp = option(alloc, "scp", "POINTS", SCP);
     let exclude = option_or(alloc, "exclude", "RACES", "2", EXCLUDE);
-    let command = command.arg(absent)?.arg(scp)?.arg(exclude)?;
+    let handicap = flag(alloc, "handicap", HANDICAP);
+    let command = command.arg(absent)?.arg(scp)?.arg(exclude)?.arg(handicap)?;
     Ok(command)
 }
 
@@ -295,6 +316,16 @@ fn form_of(word: Option<&str>) -> Form
     }
 }
 
+/// Whether a flag is given, by what `clap` says of it.
+fn is_given(flag: Option<&str>) -> bool
+    ensures { result ≡ is_given_by (option_copied flag.entry) }
+{
+    match flag {
+        Some(word) => word == "true",
+        None => false,
+    }
+}
+
 /// The series that the options of a subcommand ask for.
 fn series_of<'a>(options: &ArgMatches<'a>) -> Option<SeriesOptions<'a>>
     ensures { result ≡ series_with (first_value (found_of options.now)) }
@@ -305,6 +336,7 @@ fn series_of<'a>(options: &ArgMatches<'a>) -> Option<SeriesOptions<'a>>
         absent,
         scp: options.get_str("scp"),
         exclude,
+        handicap: is_given(options.get_str("handicap")),
         journal: options.get_str("journal"),
         entries: options.get_str("entries"),
     })

@@ -28,7 +28,7 @@ pub(crate) fn beginning_of<H: Files + AllocGlobal>(
 ) -> Result<Beginning, Complaint>
     ensures { IfOk result (λ begin. Begins series.now begin.rules begin.start) }
 {
-    let rules = Rules::read(series.absent, series.scp, series.exclude)?;
+    let rules = Rules::read(series.absent, series.scp, series.exclude, series.handicap)?;
     let journal = journal_at(rt, series.journal)?;
     let sails = sails_at(rt, series.entries)?;
     let start = start_of(rt.alloc(), journal.as_slice(), sails.as_slice())?;

@@ -1,23 +1,23 @@
 -- A command of one race changes no other race.
-use Rattle.std.proofs.Common.{◌≡◌, ◌≢◌, ℕ, Bool, true, false, cond, List, [], ◌∷◌, ◌++◌, refl, ap}
+use Rattle.std.proofs.Common.{◌≡◌, ◌≢◌, ℕ, Bool, true, false, cond, [], ◌∷◌, ◌++◌, refl, ap}
 use Rattle.std.proofs.Common.{◌∙◌, sym, filter, filter_map, nat_eq, None}
 use Rattle.std.specs.List.{cons_option, after_last}
 use Rattle.std.proofs.lemmas.List.{map-append, append-nil}
 use Rattle.std.proofs.lemmas.List.Elements.{filter-append, filter_map-append}
-use Rattle.std.proofs.lemmas.List.Sums.{fold_push}
 use borrow.Author.Tests.{eqb-true}
 use Rattle.regatta_terms.specs.Entries.{EntryParts}
 use Rattle.regatta_terms.specs.Rules.{RulesParts}
 use Rattle.regatta_terms.specs.declared.sail.Sail.{Sail}
 use Rattle.regatta_terms.specs.declared.command.Command.{Command}
 use Rattle.regatta_terms.specs.declared.command.Command.TheVariants.{Enter, Finish, Tie, Before}
-use Rattle.regatta_terms.specs.declared.command.Command.TheVariants.{Strike, Mark, Penalise}
+use Rattle.regatta_terms.specs.declared.command.Command.TheVariants.{Time, Strike, Mark, Penalise}
 use Rattle.regatta_terms.specs.declared.command.Command.TheVariants.{Redress, Clear, Score, Unscore}
 use Rattle.regatta_scores.specs.Journal.{Journal, same_sail, names_race, sail_entered, commands}
-use Rattle.regatta_scores.specs.Journal.{entered, race_commands, order_after, order_by, order}
+use Rattle.regatta_scores.specs.Journal.{entered, race_commands, order_by, order}
 use Rattle.regatta_scores.specs.Journal.{held_by, standing_decisions, decides, is_clear, held}
 use Rattle.regatta_scores.specs.RacePoints.{Race, journal_race, status, dnf, plain}
 use Rattle.regatta_scores.specs.RaceLaws.{SaysTheSame, RacesAreApart}
+use Rattle.regatta_scores.proofs.StandingTimes.{places, order_by_stays}
 
 no_other : (race other r : ℕ) (b : Bool) → nat_eq race r ≡ true → other ≢ race →
     nat_eq other r ≡ b → b ≡ false
@@ -31,6 +31,7 @@ not_named race other (Enter sail) h apart = cc
 not_named race other (Finish r sail) h apart = no_other race other r _ h apart refl
 not_named race other (Tie r sail by) h apart = no_other race other r _ h apart refl
 not_named race other (Before r sail by) h apart = no_other race other r _ h apart refl
+not_named race other (Time r sail seconds) h apart = no_other race other r _ h apart refl
 not_named race other (Strike r sail) h apart = no_other race other r _ h apart refl
 not_named race other (Mark r sail code) h apart = no_other race other r _ h apart refl
 not_named race other (Penalise r sail kind) h apart = no_other race other r _ h apart refl
@@ -45,6 +46,7 @@ enters_none race (Enter sail) h = cc
 enters_none race (Finish r sail) h = refl
 enters_none race (Tie r sail by) h = refl
 enters_none race (Before r sail by) h = refl
+enters_none race (Time r sail seconds) h = refl
 enters_none race (Strike r sail) h = refl
 enters_none race (Mark r sail code) h = refl
 enters_none race (Penalise r sail kind) h = refl
@@ -78,7 +80,7 @@ same_entered journal entry h = entered_more journal entry ∙ rw h (append-nil _
 
 -- an order that the command leaves as it is
 pub order_stays : (rules : RulesParts) (journal : Journal) (entry : EntryParts) →
-    ((o : List (List Sail)) → order_after rules o entry.command ≡ o) → (race : ℕ) →
+    places entry.command ≡ false → (race : ℕ) →
     order rules (journal ++ entry ∷ []) race ≡ order rules journal race
 order_stays rules journal entry same race =
     ap (order_by rules) (race_commands_more journal entry race)
@@ -86,9 +88,7 @@ order_stays rules journal entry same race =
   where
     by : (b : Bool) → order_by rules (race_commands journal race ++ cond b (entry.command ∷ []) [])
         ≡ order_by rules (race_commands journal race)
-    by true =
-        fold_push (order_after rules) [] (race_commands journal race) entry.command
-        ∙ same (order_by rules (race_commands journal race))
+    by true = order_by_stays rules (race_commands journal race) entry.command same
     by false = ap (order_by rules) (append-nil (race_commands journal race))
 
 -- what a boat holds whom the command is no decision about

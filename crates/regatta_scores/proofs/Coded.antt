@@ -18,12 +18,13 @@ use Rattle.regatta_terms.specs.declared.command.Command.TheVariants.{Mark}
 use Rattle.regatta_scores.specs.declared.sheet.Held.{Held}
 use Rattle.regatta_scores.specs.Order.{in_group, stands_in}
 use Rattle.regatta_scores.specs.Journal.{Journal, same_sail, race_commands, order}
-use Rattle.regatta_scores.specs.Journal.{order_after, held, decides, is_clear, code_marked}
+use Rattle.regatta_scores.specs.Journal.{held, decides, is_clear, code_marked}
 use Rattle.regatta_scores.specs.Journal.{last_item}
 use Rattle.regatta_scores.specs.RacePoints.{Finished, Coded, journal_race, status}
 use Rattle.regatta_scores.specs.RacePoints.{status_by, finishers, groups_ahead, her_group}
 use Rattle.regatta_scores.specs.RaceLaws.{CodedBoatsLeaveTheOrder}
 use Rattle.regatta_scores.proofs.Apart.{race_commands_more, order_stays, held_stays}
+use Rattle.regatta_scores.proofs.StandingTimes.{places}
 use Rattle.regatta_scores.proofs.Counts.{count_split, sum_split, count_one, sum_one, found_le}
 
 -- what stands after the last element that passes, where one more comes that doesn't
@@ -51,7 +52,7 @@ module _ (rules : RulesParts) (journal : Journal) (entry : EntryParts) (race : �
   commands_after = race_commands_more journal entry race ∙ rw is_mark (rw (eq-eqb race race refl))
 
   order_is : order rules (journal ++ entry ∷ []) race ≡ order rules journal race
-  order_is = order_stays rules journal entry (λ o. ap (order_after rules o) is_mark) race
+  order_is = order_stays rules journal entry (ap places is_mark) race
 
   decisions_by : (boat : Sail) (b : Bool) → same_sail boat coded ≡ b →
       filter (decides boat) (race_commands (journal ++ entry ∷ []) race)

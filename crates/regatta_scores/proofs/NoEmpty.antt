@@ -1,20 +1,25 @@
 -- No finishing order has an empty group.
 use Rattle.std.proofs.Common.{◌≡◌, ℕ, Bool, true, false, cond, not, List, [], ◌∷◌, ◌++◌, refl, ap}
-use Rattle.std.proofs.Common.{filter, map, fold, nat_eq}
+use Rattle.std.proofs.Common.{filter, map, fold, nat_eq, length, Option}
 use Rattle.std.specs.Prelude.{◌↔◌}
-use Rattle.std.specs.List.{AllByRecursion}
+use Rattle.std.specs.List.{AllByRecursion, range_with_len}
 use Rattle.std.proofs.lemmas.List.Elements.{All-from_recursion, recursion_from_All}
 use borrow.Author.Tests.{eq-eqb}
 use Rattle.regatta_terms.specs.Rules.{RulesParts}
 use Rattle.regatta_terms.specs.declared.sail.Sail.{Sail}
 use Rattle.regatta_terms.specs.declared.command.Command.{Command}
 use Rattle.regatta_terms.specs.declared.command.Command.TheVariants.{Enter, Finish, Tie, Before}
-use Rattle.regatta_terms.specs.declared.command.Command.TheVariants.{Strike, Mark, Penalise}
+use Rattle.regatta_terms.specs.declared.command.Command.TheVariants.{Time, Strike, Mark, Penalise}
 use Rattle.regatta_terms.specs.declared.command.Command.TheVariants.{Redress, Clear, Score, Unscore}
 use Rattle.regatta_scores.specs.Order.{is_empty, in_group, stands_in, with_last, joined, with_ahead}
 use Rattle.regatta_scores.specs.Order.{without, HasNoEmptyGroup}
-use Rattle.regatta_scores.specs.Journal.{same_sail, order_after, race_commands}
+use Rattle.regatta_scores.specs.CorrectedTimes.{CorrectedTime, times_behind, tied_times}
+use Rattle.regatta_scores.specs.CorrectedTimes.{order_of_times, is_lower, is_later, group_time}
+use Rattle.regatta_scores.specs.CorrectedTimes.{lower_groups, equal_boats, later_groups, with_time}
+use Rattle.regatta_scores.specs.Journal.{same_sail, order_after, order_by, race_commands}
+use Rattle.regatta_scores.specs.Journal.{standing_times}
 use Rattle.regatta_scores.specs.RaceLaws.{OrdersHaveNoEmptyGroup}
+use Rattle.regatta_scores.proofs.Members.{all_passed}
 
 abbrev HasBoats : {B : Type 0} → List B → Type 0
 HasBoats group = is_empty group ≡ false
@@ -85,35 +90,74 @@ module _ {B : Type 0} (same : B → B → Bool) where
       All-from_recursion HasBoats (without same order boat)
       (with_boats (map (λ group. filter (λ other. not (same other boat)) group) order))
 
+-- one more boat by her time
+module _ {B : Type 0} (time : B → Option ℕ) where
+  between : (groups : List (List B)) (group : List B) (rest : List (List B)) →
+      AllByRecursion HasBoats groups → HasBoats group → AllByRecursion HasBoats rest →
+      AllByRecursion HasBoats (groups ++ group ∷ rest)
+  between [] group rest each has more = (has, more)
+  between (first ∷ groups) group rest each has more =
+      (each.0, between groups group rest each.1 has more)
+
+  pub timed_has_none : (order : List (List B)) (boat : B) (seconds : ℕ) → HasNoEmptyGroup order →
+      HasNoEmptyGroup (with_time time order boat seconds)
+  timed_has_none order boat seconds each =
+      let full = recursion_from_All HasBoats order each in
+      All-from_recursion HasBoats (with_time time order boat seconds)
+      (between (lower_groups time order seconds) (equal_boats time order seconds ++ boat ∷ [])
+      (later_groups time order seconds)
+      (all_passed HasBoats (λ group. is_lower (group_time time group) seconds) order full)
+      (pushed (equal_boats time order seconds) boat)
+      (all_passed HasBoats (λ group. is_later (group_time time group) seconds) order full))
+
 -- ---- the orders of a journal
 
-after_has_none : (rules : RulesParts) (order : List (List Sail)) (command : Command) →
-    HasNoEmptyGroup order → HasNoEmptyGroup (order_after rules order command)
-after_has_none rules order (Enter sail) each = each
-after_has_none rules order (Finish race sail) each = last_has_none same_sail order sail each
-after_has_none rules order (Tie race sail other) each =
-    joined_has_none same_sail order sail other each
-after_has_none rules order (Before race sail other) each =
-    ahead_has_none same_sail order sail other each
-after_has_none rules order (Strike race sail) each = without_has_none same_sail order sail
-after_has_none rules order (Mark race sail code) each = each
-after_has_none rules order (Penalise race sail kind) each = each
-after_has_none rules order (Redress race sail redress) each = each
-after_has_none rules order (Clear race sail) each = each
-after_has_none rules order (Score race) each = each
-after_has_none rules order (Unscore race) each = each
+after_has_none : (order : List (List Sail)) (command : Command) → HasNoEmptyGroup order →
+    HasNoEmptyGroup (order_after order command)
+after_has_none order (Enter sail) each = each
+after_has_none order (Finish race sail) each = last_has_none same_sail order sail each
+after_has_none order (Tie race sail other) each = joined_has_none same_sail order sail other each
+after_has_none order (Before race sail other) each = ahead_has_none same_sail order sail other each
+after_has_none order (Time race sail seconds) each = each
+after_has_none order (Strike race sail) each = without_has_none same_sail order sail
+after_has_none order (Mark race sail code) each = each
+after_has_none order (Penalise race sail kind) each = each
+after_has_none order (Redress race sail redress) each = each
+after_has_none order (Clear race sail) each = each
+after_has_none order (Score race) each = each
+after_has_none order (Unscore race) each = each
 
-fold_has_none : (rules : RulesParts) (commands : List Command) (order : List (List Sail)) →
-    HasNoEmptyGroup order → HasNoEmptyGroup (fold (order_after rules) order commands)
-fold_has_none rules [] order each = each
-fold_has_none rules (command ∷ commands) order each =
-    fold_has_none rules commands (order_after rules order command)
-    (after_has_none rules order command each)
+fold_has_none : (commands : List Command) (order : List (List Sail)) →
+    HasNoEmptyGroup order → HasNoEmptyGroup (fold order_after order commands)
+fold_has_none [] order each = each
+fold_has_none (command ∷ commands) order each =
+    fold_has_none commands (order_after order command) (after_has_none order command each)
+
+named : {B C : Type 0} (name : B → C) (groups : List (List B)) → AllByRecursion HasBoats groups →
+    AllByRecursion HasBoats (map (map name) groups)
+named name [] each = tt
+named name ([] ∷ groups) each = let empty = each.0 in cc
+named name ((first ∷ group) ∷ groups) each = (refl, named name groups each.1)
+
+times_have_none : (times : List (CorrectedTime Sail)) → HasNoEmptyGroup (order_of_times times)
+times_have_none times =
+    All-from_recursion HasBoats (order_of_times times)
+    (named (λ (time : CorrectedTime Sail). time.boat) (tied_times times)
+    (with_boats {B = CorrectedTime Sail} (λ a b. true)
+    (map (times_behind times) (range_with_len 0 (length times)))))
+
+-- no order that commands of a race make has an empty group
+pub order_has_none : (rules : RulesParts) (commands : List Command) →
+    HasNoEmptyGroup (order_by rules commands)
+order_has_none rules commands = by rules.handicap
+  where
+    by : (b : Bool) → HasNoEmptyGroup
+        (cond b (order_of_times (standing_times commands)) (fold order_after [] commands))
+    by true = times_have_none (standing_times commands)
+    by false = fold_has_none commands [] (All-from_recursion HasBoats [] tt)
 
 pub orders_have_no_empty_group : OrdersHaveNoEmptyGroup
-orders_have_no_empty_group rules journal race =
-    fold_has_none rules (race_commands journal race) []
-    (All-from_recursion HasBoats [] tt)
+orders_have_no_empty_group rules journal race = order_has_none rules (race_commands journal race)
 
 -- ---- an order in which nobody stands
 

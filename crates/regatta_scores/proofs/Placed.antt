@@ -66,11 +66,12 @@ module _ (order : List (List ℕ)) (held : List Held) (placed : List (Option ℕ
       sym (ap is_some (is.by_number boat)
       ∙ is_some_by (stands_in nat_eq boat order) (place_points nat_eq (race_of order held) boat))
 
-  pub score_is : (rules : RulesParts) (boat : ℕ) →
-      race_score rules (record { order = order; held = held }) boat
+  pub score_is : (rules : RulesParts) (seconds : List (Option ℕ)) (boat : ℕ) →
+      race_score rules (record { order = order; held = held; seconds = seconds }) boat
       ≡ score_with rules (get_or held boat nothing_held) (get_or placed boat None) (length held)
       (dnf_by rules.absent (length held) (number_came_with held placed))
-  score_is rules boat i = record { plain = plain_is rules boat i; placed = stands_is boat i }
+  score_is rules seconds boat i =
+      record { plain = plain_is rules boat i; placed = stands_is boat i }
 
 -- the points of the scores are those of the race
 pub points_are : (rules : RulesParts) (sheet : Sheet) →

@@ -15,7 +15,7 @@ use Rattle.regatta_terms.specs.declared.command.Redress as redress_type
 use Rattle.regatta_terms.specs.declared.command.Command.{Command}
 use Rattle.regatta_terms.specs.declared.command.Command.TheVariants.{Redress}
 use Rattle.regatta_scores.specs.Journal.{Journal, same_sail, sail_entered, race_commands, entered}
-use Rattle.regatta_scores.specs.Journal.{order, order_after, held}
+use Rattle.regatta_scores.specs.Journal.{order, held}
 use Rattle.regatta_scores.specs.Journal.{standing_decisions, decides, is_clear, code_marked, is_zfp}
 use Rattle.regatta_scores.specs.Journal.{is_scp, counting, last_item, is_some_true, is_scored}
 use Rattle.regatta_scores.specs.Journal.{scored}
@@ -26,6 +26,7 @@ use Rattle.regatta_scores.specs.Standing.{row_items, points, excluded, is_dne}
 use Rattle.regatta_scores.specs.RedressLaws.{RedressLeavesOthers}
 use Rattle.regatta_scores.proofs.Apart.{race_commands_more, same_entered, order_stays}
 use Rattle.regatta_scores.proofs.Apart.{held_stays}
+use Rattle.regatta_scores.proofs.StandingTimes.{places}
 use Rattle.regatta_scores.proofs.Coded.{after_last_push}
 
 -- ---- a score before redress reads no redress
@@ -60,7 +61,7 @@ module _ (rules : RulesParts) (journal : Journal) (entry : EntryParts) (race : �
   entered_stays = same_entered journal entry (ap sail_entered is)
 
   order_is : (r : ℕ) → order rules (journal ++ entry ∷ []) r ≡ order rules journal r
-  order_is = order_stays rules journal entry (λ o. ap (order_after rules o) is)
+  order_is = order_stays rules journal entry (ap places is)
 
   scored_by_more : (cs : List Command) (b : Bool) →
       filter_map counting (cs ++ cond b (Redress race boat redress ∷ []) [])

@@ -1,5 +1,5 @@
 -- Worked examples of race points, by computation.
-use Rattle.std.specs.Prelude.{◌≡◌, refl, ℕ, [], ◌∷◌, Option, Some, None}
+use Rattle.std.specs.Prelude.{◌≡◌, refl, ℕ, false, [], ◌∷◌, Option, Some, None, replicate}
 use Rattle.regatta_terms.specs.Rules.{RulesParts}
 use Rattle.regatta_terms.specs.declared.rules.Absent.TheVariants.{A52, A53}
 use Rattle.regatta_terms.specs.declared.command.Code.{Code}
@@ -20,11 +20,11 @@ coded code = record { code = Some code; zfp = 0; scp = 0; redress = None }
 
 -- a score of N + 1 for every code (A5.2)
 abbrev pub by_entries : Option ℕ → RulesParts
-by_entries scp = record { absent = A52; scp = scp; thresholds = 2 ∷ [] }
+by_entries scp = record { absent = A52; scp = scp; thresholds = 2 ∷ []; handicap = false }
 
 -- a score by who came to the starting area (A5.3)
 abbrev pub by_who_came : RulesParts
-by_who_came = record { absent = A53; scp = None; thresholds = 2 ∷ [] }
+by_who_came = record { absent = A53; scp = None; thresholds = 2 ∷ []; handicap = false }
 
 -- ten boats in order; the first holds SCP, the second ZFP and SCP, the last three ZFP each
 abbrev pub ten_in_order : Sheet
@@ -33,6 +33,7 @@ ten_in_order = record {
       ∷ (5 ∷ []) ∷ (6 ∷ []) ∷ (7 ∷ []) ∷ (8 ∷ []) ∷ (9 ∷ []) ∷ [];
   held = penalties 0 1 ∷ penalties 1 1 ∷ nothing_held ∷ nothing_held ∷ nothing_held
       ∷ nothing_held ∷ nothing_held ∷ penalties 1 0 ∷ penalties 1 0 ∷ penalties 1 0 ∷ [];
+  seconds = replicate 10 None;
 }
 
 -- The DNF score is 11, so ZFP costs 2 points; SCP costs the stated 3. The last two are held at the
@@ -48,6 +49,7 @@ five_of_ten = record {
   order = (0 ∷ []) ∷ (1 ∷ []) ∷ (2 ∷ []) ∷ (3 ∷ []) ∷ (4 ∷ []) ∷ [];
   held = nothing_held ∷ nothing_held ∷ penalties 1 0 ∷ nothing_held ∷ penalties 3 0
       ∷ coded code.Dnf ∷ nothing_held ∷ nothing_held ∷ nothing_held ∷ penalties 1 0 ∷ [];
+  seconds = replicate 10 None;
 }
 
 -- Six came, so the DNF score is 7, ZFP costs 1 point and the fifth is held at 7; boats that did not

@@ -53,11 +53,11 @@ journal given = entries_from 1 given
 
 -- one score is excluded from two races on
 abbrev pub default_rules : RulesParts
-default_rules = record { absent = A52; scp = None; thresholds = 2 ∷ [] }
+default_rules = record { absent = A52; scp = None; thresholds = 2 ∷ []; handicap = false }
 
 -- no score is excluded
 abbrev pub no_exclusions : RulesParts
-no_exclusions = record { absent = A52; scp = None; thresholds = [] }
+no_exclusions = record { absent = A52; scp = None; thresholds = []; handicap = false }
 
 -- points in a cell without an abbreviation
 abbrev pub scored : ℕ → Cell

@@ -2,16 +2,17 @@
 ghost use Rattle.std.specs.Prelude.{◌≡◌, ◌<◌, ◌≤◌, ◌↔◌, ℕ, [], nat_eq, slice_get, Some, IsTrue};
 ghost use Rattle.std.specs.Prelude.{IfOk, false};
 ghost use Rattle.regatta_terms.specs.declared.limits.TheConstants.{MAX_BOATS, MAX_PENALTIES};
-ghost use Rattle.regatta_scores.specs.Sheet.{boats, empty_sheet};
+ghost use Rattle.regatta_scores.specs.Sheet.{boats, empty_sheet, time_of};
 ghost use Rattle.regatta_scores.specs.Order.{stands_in};
 ghost use Rattle.regatta_scores.specs.SheetFacts.{IsSheet, Allows};
 ghost use Rattle.regatta_scores.specs.Changes.{after};
 ghost use Rattle.regatta_scores.specs.declared.sheet.Change.TheVariants.{AddBoat, Last, Join};
-ghost use Rattle.regatta_scores.specs.declared.sheet.Change.TheVariants.{Ahead, Out, Hold as Holds};
+ghost use Rattle.regatta_scores.specs.declared.sheet.Change.TheVariants.{Ahead, Timed as Times};
+ghost use Rattle.regatta_scores.specs.declared.sheet.Change.TheVariants.{Out, Hold as Holds};
 
 use crate::groups::Groups;
-use crate::orders;
-use regatta_terms::{Code, Redress};
+use crate::{orders, timed};
+use regatta_terms::{Code, Redress, Seconds};
 use std::alloc::{AllocError, Global};
 use std::marker::Model;
 
@@ -38,13 +39,15 @@ pub const NOTHING_HELD: Held = Held {
     redress: None,
 };
 
-/// One race: the finishing order, in groups of tied boats (RRS A3, A7), and what each boat holds.
+/// One race: the finishing order, in groups of tied boats (RRS A3, A7), what each boat holds, and
+/// the corrected time of each boat that was placed by one.
 /// Boats are numbers from 0, in the order of the entry list, and at most
 /// [`MAX_BOATS`](regatta_terms::MAX_BOATS).
 #[derive(Drop)]
 pub struct RaceSheet {
     order: Groups,
     held: Vec<Held>,
+    seconds: Vec<Option<Seconds>>,
 }
 
 impl Model for RaceSheet {
@@ -52,11 +55,15 @@ impl Model for RaceSheet {
 
     ghost Value = { Sheet };
 
-    ghost view = { λ s. record { order = s.order; held = s.held.items } };
+    ghost view = { λ s. record {
+      order = s.order;
+      held = s.held.items;
+      seconds = s.seconds.items;
+    } };
 
-    ghost use Rattle.regatta_scores.specs.SheetFacts.{IsSheet};
+    ghost use Rattle.regatta_scores.specs.SheetFacts.{IsWhole};
 
-    ghost invariant = { λ s. IsSheet s.order s.held.items };
+    ghost invariant = { λ s. IsWhole s.order s.held.items s.seconds.items };
 }
 
 impl RaceSheet {
@@ -64,7 +71,7 @@ impl RaceSheet {
     /// and nothing is held.
     ///
     /// The one error is want of memory.
-    #[tactic(auto, using(crate::proofs::Fresh::fresh_sheet))]
+    #[tactic(auto, using(crate::proofs::Fresh::fresh_whole))]
     pub fn new(alloc: Global, boats: u16) -> Result<RaceSheet, AllocError>
         requires { boats ≤ MAX_BOATS }
         ensures { IfOk result (λ sheet. sheet ≡ empty_sheet boats) }
@@ -72,6 +79,7 @@ impl RaceSheet {
         Ok(RaceSheet {
             order: Groups::new(alloc),
             held: vec![in alloc; NOTHING_HELD; boats as usize]?,
+            seconds: vec![in alloc; None; boats as usize]?,
         })
     }
 
@@ -92,6 +100,14 @@ impl RaceSheet {
         self.held[boat as usize]
     }
 
+    /// The corrected time by which the boat, one of the sheet's, was placed, if she was.
+    pub fn seconds(&self, boat: u16) -> Option<Seconds>
+        requires { boat < boats self.now }
+        ensures { result ≡ time_of self.now.seconds boat }
+    {
+        self.seconds[boat as usize]
+    }
+
     /// Whether nobody stands in the finishing order.
     pub fn is_empty(&self) -> bool
         ensures order { IsTrue result ↔ (self.now.order ≡ []) }
@@ -104,9 +120,9 @@ impl RaceSheet {
     /// A copy of the sheet after a change that the sheet allows.
     ///
     /// A boat is added where there are fewer than [`MAX_BOATS`](regatta_terms::MAX_BOATS). Boats
-    /// that the change names are among the sheet's. Who is placed, last, tied or ahead, doesn't
-    /// stand in the order yet; the other boat that she joins or goes ahead of, and a boat that goes
-    /// out, stand in it. What a boat holds from now on has at most
+    /// that the change names are among the sheet's. Who is placed, last, tied, ahead or by her
+    /// time, doesn't stand in the order yet; the other boat that she joins or goes ahead of, and a
+    /// boat that goes out, stand in it. What a boat holds from now on has at most
     /// [`MAX_PENALTIES`](regatta_terms::MAX_PENALTIES) penalties of each kind. The one error is
     /// want of memory.
     pub fn after(&self, change: Change) -> Result<RaceSheet, AllocError>
@@ -118,13 +134,13 @@ impl RaceSheet {
             Change::Last { boat } => self.with_last(boat),
             Change::Join { boat, other } => self.joined(boat, other),
             Change::Ahead { boat, other } => self.with_ahead(boat, other),
+            Change::Timed { boat, seconds } => self.timed(boat, seconds),
             Change::Out { boat } => self.without(boat),
             Change::Hold { boat, held } => self.with_held(boat, held),
         }
     }
 
     /// The sheet with one more boat.
-    #[tactic(auto, using(crate::proofs::Sheets::more_sheet))]
     fn with_boat(&self) -> Result<RaceSheet, AllocError>
         requires { Allows self.now AddBoat }
         ensures { IfOk result (λ sheet. sheet ≡ after self.now AddBoat) }
@@ -133,11 +149,16 @@ impl RaceSheet {
         let order = self.order.copy(alloc)?;
         let mut held = Vec::from_slice(alloc, &self.held)?;
         held.push(NOTHING_HELD)?;
-        Ok(RaceSheet { order, held })
+        let mut seconds = Vec::from_slice(alloc, &self.seconds)?;
+        seconds.push(None)?;
+        Ok(RaceSheet {
+            order,
+            held,
+            seconds,
+        })
     }
 
     /// The sheet with the boat in a group of her own, last.
-    #[tactic(auto, using(crate::proofs::Sheets::last_sheet))]
     fn with_last(&self, boat: u16) -> Result<RaceSheet, AllocError>
         requires { Allows self.now (Last boat) }
         ensures { IfOk result (λ sheet. sheet ≡ after self.now (Last boat)) }
@@ -145,11 +166,15 @@ impl RaceSheet {
         let alloc = self.allocator();
         let order = orders::with_last(alloc, &self.order, boat)?;
         let held = Vec::from_slice(alloc, &self.held)?;
-        Ok(RaceSheet { order, held })
+        let seconds = Vec::from_slice(alloc, &self.seconds)?;
+        Ok(RaceSheet {
+            order,
+            held,
+            seconds,
+        })
     }
 
     /// The sheet with the boat in the group of the other.
-    #[tactic(auto, using(crate::proofs::Sheets::joined_sheet))]
     fn joined(&self, boat: u16, other: u16) -> Result<RaceSheet, AllocError>
         requires { Allows self.now (Join boat other) }
         ensures { IfOk result (λ sheet. sheet ≡ after self.now (Join boat other)) }
@@ -157,11 +182,15 @@ impl RaceSheet {
         let alloc = self.allocator();
         let order = orders::joined(alloc, &self.order, boat, other)?;
         let held = Vec::from_slice(alloc, &self.held)?;
-        Ok(RaceSheet { order, held })
+        let seconds = Vec::from_slice(alloc, &self.seconds)?;
+        Ok(RaceSheet {
+            order,
+            held,
+            seconds,
+        })
     }
 
     /// The sheet with the boat directly ahead of the other's group.
-    #[tactic(auto, using(crate::proofs::Sheets::ahead_sheet))]
     fn with_ahead(&self, boat: u16, other: u16) -> Result<RaceSheet, AllocError>
         requires { Allows self.now (Ahead boat other) }
         ensures { IfOk result (λ sheet. sheet ≡ after self.now (Ahead boat other)) }
@@ -169,11 +198,32 @@ impl RaceSheet {
         let alloc = self.allocator();
         let order = orders::with_ahead(alloc, &self.order, boat, other)?;
         let held = Vec::from_slice(alloc, &self.held)?;
-        Ok(RaceSheet { order, held })
+        let seconds = Vec::from_slice(alloc, &self.seconds)?;
+        Ok(RaceSheet {
+            order,
+            held,
+            seconds,
+        })
+    }
+
+    /// The sheet with the boat at the place of her corrected time.
+    fn timed(&self, boat: u16, time: Seconds) -> Result<RaceSheet, AllocError>
+        requires { Allows self.now (Times boat time) }
+        ensures { IfOk result (λ sheet. sheet ≡ after self.now (Times boat time)) }
+    {
+        let alloc = self.allocator();
+        let order = timed::with_time(alloc, &self.order, &self.seconds, boat, time)?;
+        let held = Vec::from_slice(alloc, &self.held)?;
+        let mut seconds = Vec::from_slice(alloc, &self.seconds)?;
+        seconds[boat as usize] = Some(time);
+        Ok(RaceSheet {
+            order,
+            held,
+            seconds,
+        })
     }
 
     /// The sheet without the boat in the order.
-    #[tactic(auto, using(crate::proofs::Sheets::without_sheet))]
     fn without(&self, boat: u16) -> Result<RaceSheet, AllocError>
         requires { Allows self.now (Out boat) }
         ensures { IfOk result (λ sheet. sheet ≡ after self.now (Out boat)) }
@@ -181,11 +231,16 @@ impl RaceSheet {
         let alloc = self.allocator();
         let order = orders::without(alloc, &self.order, boat)?;
         let held = Vec::from_slice(alloc, &self.held)?;
-        Ok(RaceSheet { order, held })
+        let mut seconds = Vec::from_slice(alloc, &self.seconds)?;
+        timed::take_away(&mut seconds, boat);
+        Ok(RaceSheet {
+            order,
+            held,
+            seconds,
+        })
     }
 
     /// The sheet on which the boat holds this.
-    #[tactic(auto, using(crate::proofs::Sheets::held_sheet))]
     fn with_held(&self, boat: u16, now: Held) -> Result<RaceSheet, AllocError>
         requires { Allows self.now (Holds boat now) }
         ensures { IfOk result (λ sheet. sheet ≡ after self.now (Holds boat now)) }
@@ -194,7 +249,12 @@ impl RaceSheet {
         let order = self.order.copy(alloc)?;
         let mut held = Vec::from_slice(alloc, &self.held)?;
         held[boat as usize] = now;
-        Ok(RaceSheet { order, held })
+        let seconds = Vec::from_slice(alloc, &self.seconds)?;
+        Ok(RaceSheet {
+            order,
+            held,
+            seconds,
+        })
     }
 
     /// The allocator of the sheet's lists, which takes the memory of changed copies.
@@ -229,6 +289,9 @@ pub enum Change {
     Join { boat: u16, other: u16 },
     /// The boat, unplaced so far, in a group of her own directly ahead of the other's group.
     Ahead { boat: u16, other: u16 },
+    /// The boat, unplaced so far, at the place of this corrected time (RRS A3), in one group with
+    /// those of the same time (RRS A7).
+    Timed { boat: u16, seconds: Seconds },
     /// The boat out of the order; a group that this leaves empty goes.
     Out { boat: u16 },
     /// What the boat holds from now on, in place of what she held.

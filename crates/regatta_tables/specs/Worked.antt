@@ -6,7 +6,8 @@ use Rattle.regatta_terms.specs.declared.reply.Reply.{Reply}
 use Rattle.regatta_terms.specs.declared.reply.Reply.TheVariants.{Done, Refused, Fault, RoleSet}
 use Rattle.regatta_terms.specs.declared.reply.Reply.TheVariants.{Ranked, Bye, Busy, Closed}
 use Rattle.regatta_terms.specs.declared.reply.Refusal.TheVariants.{OldNumber, NotEntered}
-use Rattle.regatta_terms.specs.declared.line.LineFault.TheVariants.{BadNumber}
+use Rattle.regatta_terms.specs.declared.reply.Refusal.TheVariants.{WrongSystem}
+use Rattle.regatta_terms.specs.declared.line.LineFault.TheVariants.{BadNumber, BadSeconds}
 use Rattle.regatta_terms.specs.declared.command.Role.TheVariants as role
 use Rattle.regatta_scores.specs.declared.table.Abbrev.{Abbrev}
 use Rattle.regatta_scores.specs.declared.table.Abbrev.TheVariants.{Dnc, Dsq, Rdg}
@@ -61,6 +62,14 @@ unknown_boat = refl
 pub bad_number : reply_text (Fault BadNumber) ≡ lines (codes "NO 28" ∷ [])
 unfolding digits
 bad_number = refl
+
+pub wrong_system : reply_text (Refused WrongSystem) ≡ lines (codes "NO 16" ∷ [])
+unfolding digits
+wrong_system = refl
+
+pub bad_seconds : reply_text (Fault BadSeconds) ≡ lines (codes "NO 29" ∷ [])
+unfolding digits
+bad_seconds = refl
 
 pub role_of_the_jury : reply_text (RoleSet role.Jury) ≡ lines (codes "ROLE JURY" ∷ [])
 role_of_the_jury = refl

@@ -11,7 +11,7 @@ use Rattle.regatta_terms.specs.declared.line.Line.TheVariants.{Do, SetRole, Rank
 use Rattle.regatta_terms.specs.declared.line.LineFault.{LineFault}
 use Rattle.regatta_terms.specs.declared.line.LineFault.TheVariants.{TooLong, NoSuchWord, WrongCount}
 use Rattle.regatta_terms.specs.declared.line.LineFault.TheVariants.{BadSail, BadRace, BadPoints}
-use Rattle.regatta_terms.specs.declared.line.LineFault.TheVariants.{BadCode, BadRole}
+use Rattle.regatta_terms.specs.declared.line.LineFault.TheVariants.{BadCode, BadRole, BadSeconds}
 use Rattle.regatta_terms.specs.Lines.{line_of, line_of_words, command_of_words, command_after}
 use Rattle.regatta_terms.specs.Replies.{number_of_fault}
 
@@ -194,6 +194,56 @@ pub another_word_for_points : redress_line (codes "FIRST") ≡ Err BadPoints
 unfolding line_of line_of_words command_of_words command_after
 another_word_for_points = refl
 
+-- ---- seconds of a corrected time
+
+-- what TIME 1 A and a last word ask for
+abbrev pub time_line : List ℕ → Result Line LineFault
+time_line seconds = line_of (codes "TIME 1 A " ++ seconds)
+
+-- what a line asks for that gives A this corrected time in race 1
+abbrev pub time : ℕ → Line
+time seconds = Do (command.Time 1 (codes "A") seconds)
+
+pub whole_seconds : time_line (codes "3605") ≡ Ok (time 3605)
+unfolding line_of line_of_words command_of_words command_after
+whole_seconds = refl
+
+pub no_seconds : time_line (codes "0") ≡ Ok (time 0)
+unfolding line_of line_of_words command_of_words command_after
+no_seconds = refl
+
+pub zeros_ahead_of_seconds : time_line (codes "000007") ≡ Ok (time 7)
+unfolding line_of line_of_words command_of_words command_after
+zeros_ahead_of_seconds = refl
+
+pub greatest_seconds : time_line (codes "999999") ≡ Ok (time 999999)
+unfolding line_of line_of_words command_of_words command_after
+greatest_seconds = refl
+
+pub seven_digits_of_seconds : time_line (codes "1000000") ≡ Err BadSeconds
+unfolding line_of line_of_words command_of_words command_after
+seven_digits_of_seconds = refl
+
+pub seven_digits_with_zeros : time_line (codes "0000007") ≡ Err BadSeconds
+unfolding line_of line_of_words command_of_words command_after
+seven_digits_with_zeros = refl
+
+pub part_of_a_second : time_line (codes "7.5") ≡ Err BadSeconds
+unfolding line_of line_of_words command_of_words command_after
+part_of_a_second = refl
+
+pub signed_seconds : time_line (codes "+7") ≡ Err BadSeconds
+unfolding line_of line_of_words command_of_words command_after
+signed_seconds = refl
+
+pub time_without_seconds : line_of (codes "TIME 1 A") ≡ Err WrongCount
+unfolding line_of line_of_words command_of_words command_after
+time_without_seconds = refl
+
+pub sail_ahead_of_seconds : line_of (codes "TIME 1 A_B X") ≡ Err BadSail
+unfolding line_of line_of_words command_of_words command_after
+sail_ahead_of_seconds = refl
+
 -- ---- the length of a line
 
 pub eighty_bytes : line_of (line_and (codes "ENTER A") 73 32) ≡ Ok (Do (command.Enter (codes "A")))
@@ -225,5 +275,8 @@ one_return_alone_is_dropped = refl
 pub first_fault_number : number_of_fault TooLong ≡ 20
 first_fault_number = refl
 
-pub last_fault_number_of_a_line : number_of_fault BadRole ≡ 27
-last_fault_number_of_a_line = refl
+pub fault_number_of_a_role : number_of_fault BadRole ≡ 27
+fault_number_of_a_role = refl
+
+pub last_fault_number : number_of_fault BadSeconds ≡ 29
+last_fault_number = refl

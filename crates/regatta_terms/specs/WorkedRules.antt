@@ -1,6 +1,6 @@
 -- Worked examples of the rules of a series and their texts, by computation.
 use Rattle.std.specs.Prelude.{◌≡◌, refl, List, ℕ, Option, Some, None, Result, Ok, Err, ◌∷◌, []}
-use Rattle.std.specs.Prelude.{codes}
+use Rattle.std.specs.Prelude.{codes, true, false}
 use Rattle.regatta_terms.specs.declared.rules.Absent.{Absent}
 use Rattle.regatta_terms.specs.declared.rules.Absent.TheVariants.{A52, A53}
 use Rattle.regatta_terms.specs.declared.rules.RulesFault.{RulesFault}
@@ -9,24 +9,33 @@ use Rattle.regatta_terms.specs.declared.rules.RulesFault.TheVariants.{NotRising,
 use Rattle.regatta_terms.specs.declared.rules.RulesFault.TheVariants.{AboveForty, BadText}
 use Rattle.regatta_terms.specs.Rules.{RulesParts, rules_of, rules_of_texts, exclusions_of}
 
--- rules, by their parts
+-- rules of a series without corrected times, by their other parts
 abbrev pub rules : Absent → Option ℕ → List ℕ → Result RulesParts RulesFault
-rules absent scp thresholds = Ok (record { absent = absent; scp = scp; thresholds = thresholds })
+rules absent scp thresholds = Ok (record {
+  absent = absent;
+  scp = scp;
+  thresholds = thresholds;
+  handicap = false;
+})
 
 -- what the texts a52 and 2 read as with this amount
 abbrev pub with_amount : List ℕ → Result RulesParts RulesFault
-with_amount scp = rules_of_texts (codes "a52") (Some scp) (codes "2")
+with_amount scp = rules_of_texts (codes "a52") (Some scp) (codes "2") false
 
 -- what the text a52 reads as with these thresholds
 abbrev pub with_thresholds : List ℕ → Result RulesParts RulesFault
-with_thresholds exclude = rules_of_texts (codes "a52") None exclude
+with_thresholds exclude = rules_of_texts (codes "a52") None exclude false
 
 pub default_texts : with_thresholds (codes "2") ≡ rules A52 None (2 ∷ [])
 default_texts = refl
 
-pub other_texts : rules_of_texts (codes "A53") (Some (codes "99")) (codes "none")
+pub other_texts : rules_of_texts (codes "A53") (Some (codes "99")) (codes "none") false
     ≡ rules A53 (Some 99) []
 other_texts = refl
+
+pub corrected_times : rules_of_texts (codes "a52") None (codes "2") true
+    ≡ Ok (record { absent = A52; scp = None; thresholds = 2 ∷ []; handicap = true })
+corrected_times = refl
 
 pub four_thresholds : with_thresholds (codes "2,5,09,40") ≡ rules A52 None (2 ∷ 5 ∷ 9 ∷ 40 ∷ [])
 four_thresholds = refl
@@ -77,10 +86,10 @@ pub four_digits_of_an_amount : with_amount (codes "0001") ≡ Err BadText
 four_digits_of_an_amount = refl
 
 pub text_ahead_of_amount :
-    rules_of_texts (codes "a52") (Some (codes "0")) (codes "2,") ≡ Err BadText
+    rules_of_texts (codes "a52") (Some (codes "0")) (codes "2,") false ≡ Err BadText
 text_ahead_of_amount = refl
 
-pub amount_ahead_of_thresholds : rules_of A52 (Some 100) (3 ∷ 3 ∷ []) ≡ Err ScpOutOfRange
+pub amount_ahead_of_thresholds : rules_of A52 (Some 100) (3 ∷ 3 ∷ []) false ≡ Err ScpOutOfRange
 amount_ahead_of_thresholds = refl
 
 -- ---- how many scores are excluded, by the thresholds 2 and 5

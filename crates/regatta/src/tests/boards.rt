@@ -1,3 +1,4 @@
+use super::handicap::handicap_rules;
 use super::*;
 use regatta_board::{Board, ReplayFault, next_entry, standing_of};
 use regatta_tables::write_table;
@@ -64,6 +65,23 @@ static DECIDED: [&str; 6] = [
     "1 6 JURY REDRESS 1 A 2.5",
 ];
 
+/// Three boats by corrected times, two of them equal, in a race that counts: A is struck, timed as
+/// before, struck and timed anew, and then disqualified (RRS A3, A6.1, A7).
+static TIMED: [&str; 12] = [
+    "1 1 SCORER ENTER A",
+    "1 2 SCORER ENTER B",
+    "1 3 SCORER ENTER C",
+    "1 4 FINISH TIME 1 A 3605",
+    "1 5 FINISH TIME 1 B 3600",
+    "1 6 FINISH TIME 1 C 3605",
+    "1 7 SCORER SCORE 1",
+    "1 8 SCORER STRIKE 1 A",
+    "1 9 SCORER TIME 1 A 3605",
+    "1 10 SCORER STRIKE 1 A",
+    "1 11 SCORER TIME 1 A 3599",
+    "1 12 JURY MARK 1 A DSQ",
+];
+
 /// The entries that these lines write.
 fn entries_of(alloc: Global, lines: &[&str]) -> Result<Vec<Entry>, Fail> {
     let mut entries = Vec::new(alloc);
@@ -90,7 +108,7 @@ fn sail(text: &str) -> Result<Sail, Fail> {
 
 /// The rules that exclude no score.
 fn no_exclusions() -> Rules {
-    Rules::new(Absent::A52, None, &[]).unwrap()
+    Rules::new(Absent::A52, None, &[], false).unwrap()
 }
 
 /// The table of the board's standing.
@@ -150,6 +168,14 @@ fn averages_are_those_of_the_entries(rt: HostRuntime) -> Result<(), Fail> {
     assert!(rt; taken_last(alloc, no_exclusions(), &AVERAGE)? <= 1);
     assert!(rt; taken_last(alloc, no_exclusions(), &LATE_AND_AVERAGE[..8])? <= 1);
     assert!(rt; taken_last(alloc, no_exclusions(), &LATE_AND_AVERAGE)? <= 2);
+    Ok(())
+}
+
+#[test]
+fn times_are_those_of_the_entries(rt: HostRuntime) -> Result<(), Fail> {
+    let (alloc, rules) = (rt.alloc(), handicap_rules());
+    assert!(rt; taken_last(alloc, rules, &TIMED[..9])? <= 1);
+    assert!(rt; taken_last(alloc, rules, &TIMED)? <= 1);
     Ok(())
 }
 

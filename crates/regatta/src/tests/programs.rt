@@ -1,3 +1,4 @@
+use super::handicap::{REPLIES, TABLE, TIMES};
 use super::*;
 use regatta_office::program;
 use std::fs::Files;
@@ -77,6 +78,16 @@ fn options_are_the_rules_and_the_form(rt: HostRuntime) -> Result<(), Fail> {
 }
 
 #[test]
+fn places_follow_corrected_times_where_asked_for(rt: HostRuntime) -> Result<(), Fail> {
+    let (status, output, errors) = run(&rt, &["replay", "--handicap"], TIMES)?;
+    assert_eq!(rt; errors.written(), b"".as_slice());
+    assert!(rt; output.written().starts_with(REPLIES.as_bytes()));
+    assert_eq!(rt; &output.written()[REPLIES.len()..], TABLE.as_bytes());
+    assert_eq!(rt; status, 0);
+    Ok(())
+}
+
+#[test]
 fn rules_are_refused_by_number(rt: HostRuntime) -> Result<(), Fail> {
     let cases: [(&[&str], &str); 9] = [
         (&["replay", "--scp", "0"], "regatta: rules fault 1\n"),
@@ -144,6 +155,9 @@ fn help_names_the_options_and_their_rules(rt: HostRuntime) -> Result<(), Fail> {
         "44.3(c)",
         "--exclude",
         "A2.1",
+        "--handicap",
+        "A3",
+        "TIME 1 GBR1 3605",
         "--journal",
         "--entries",
         "--print",
@@ -173,14 +187,15 @@ fn help_names_the_options_of_serving(rt: HostRuntime) -> Result<(), Fail> {
         "BUSY",
         "--sessions",
         "--entries",
+        "--handicap",
     ] {
         assert!(rt; help.contains(word), "at {word}");
     }
     Ok(())
 }
 
-/// A run of `serve` at this socket, with this amount of a Scoring Penalty, and with the journal file
-/// and the entry list of this folder.
+/// A run of `serve` at this socket, with this amount of a Scoring Penalty, and with the journal
+/// file and the entry list of this folder.
 fn served<R>(rt: &R, folder: &str, socket: &str, scp: &str) -> Result<(u8, Tape, Tape), Fail>
 where
     R: Files + AllocGlobal + Threads + Wait + Net + Sync,
@@ -269,9 +284,43 @@ fn serving_wants_its_journal_file(rt: HostRuntime) -> Result<(), Fail> {
     Ok(())
 }
 
+/// Whether a run of these words says this, and ends with status 1.
+fn refuses<R>(rt: &R, words: &[&str], said: &str) -> Result<bool, Fail>
+where
+    R: Files + AllocGlobal + Threads + Wait + Net + Sync,
+{
+    let (status, output, errors) = run(rt, words, "ENTER A\n")?;
+    Ok(status == 1 && output.written().is_empty() && errors.written() == said.as_bytes())
+}
+
+/// A journal of finishes is no start of corrected times, and the other way round.
+#[test]
+fn starts_of_the_other_system_are_refused(rt: HostRuntime) -> Result<(), Fail> {
+    let folder = new_folder(&rt)?;
+    let path = format!(in rt.alloc(); "{folder}/journal.txt")?;
+    let journal = path.as_str();
+    let said = "regatta: start refused 16 at 2\n";
+    fs::write(&rt, journal, "1 1 SCORER ENTER A\n1 2 SCORER FINISH 1 A\n")?;
+    let words = ["replay", "--handicap", "--journal", journal];
+    assert!(rt; refuses(&rt, &words, said)?);
+    let words = [
+        "serve",
+        "--handicap",
+        "--socket",
+        "/no/such/folder/s",
+        "--journal",
+        journal,
+    ];
+    assert!(rt; refuses(&rt, &words, said)?);
+    fs::write(&rt, journal, "1 1 SCORER ENTER A\n1 2 SCORER TIME 1 A 7\n")?;
+    assert!(rt; refuses(&rt, &["replay", "--journal", journal], said)?);
+    fs::remove_dir_all(&rt, folder.as_str())?;
+    Ok(())
+}
+
 #[test]
 fn devices_fail(rt: HostRuntime) -> Result<(), Fail> {
-    let mut broken = Tape::new(rt.alloc(), b"ENTER A\n", 4, 8, 0)?;
+    let mut broken = failing(rt.alloc(), b"ENTER A\n", 4, 8, 0)?;
     let mut output = taking(rt.alloc(), 100)?;
     let mut errors = taking(rt.alloc(), 100)?;
     let status = program(&rt, &["replay"], &mut broken, &mut output, &mut errors);

@@ -94,7 +94,7 @@ static REDRESS: &str = "ENTER A\nENTER B\nFINISH 1 A\nFINISH 1 B\nFINISH 2 B\nSC
 
 #[test]
 fn the_series_rules_are_those_handed_in(rt: HostRuntime) -> Result<(), Fail> {
-    let none = Rules::new(Absent::A52, None, &[]).unwrap();
+    let none = Rules::new(Absent::A52, None, &[], false).unwrap();
     let (output, ended) = replayed(rt.alloc(), REDRESS.as_bytes(), &none, &[], Form::Table)?;
     let written = "OK 1 1 0.0\nOK 2 1= 0.0\nOK 3 1= 0.0\nOK 4 1= 0.0\nOK 5 1= 0.0\nOK 6\nOK 7\n\
         ROLE JURY\nOK 8 1 2.0\nROLE SCORER\nOK 9 2 6.0\nOK 10 1 2.0\n\

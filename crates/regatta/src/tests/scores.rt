@@ -3,9 +3,10 @@
 
 use super::*;
 use regatta_scores::{
-    BoatLine, Place, RaceSheet, RowItem, Scored, Work, averages, excluded, race_points, ranks,
+    BoatLine, Change, Place, RaceSheet, RowItem, Scored, Work, averages, excluded, race_points,
+    ranks,
 };
-use regatta_terms::Tenths;
+use regatta_terms::{Seconds, Tenths};
 
 fn tenths(points: u32) -> Result<Tenths, &'static str> {
     Tenths::new(points).ok_or("points")
@@ -31,6 +32,17 @@ fn a_race_that_nobody_sailed_is_scored(rt: HostRuntime) -> Result<(), Fail> {
     let points = race_points(rt.alloc(), &sheet, &default_rules(), &mut work)?;
     let absent = Tenths::new(30).ok_or("points")?;
     assert_eq!(rt; points.as_slice(), [absent, absent].as_slice());
+    Ok(())
+}
+
+#[test]
+fn a_sheet_tells_a_time(rt: HostRuntime) -> Result<(), Fail> {
+    let sheet = RaceSheet::new(rt.alloc(), 2)?;
+    let seconds = Seconds::new(3600).ok_or("seconds")?;
+    let timed = sheet.after(Change::Timed { boat: 1, seconds })?;
+    assert_eq!(rt; (timed.seconds(0), timed.seconds(1)), (None, Some(seconds)));
+    let out = timed.after(Change::Out { boat: 1 })?;
+    assert_eq!(rt; out.seconds(1), None);
     Ok(())
 }
 

@@ -91,7 +91,7 @@ fn sail_all(board: &mut Board) -> Result<(), Fail> {
 
 #[test]
 fn a_full_season_runs(rt: HostRuntime) -> Result<(), Fail> {
-    let rules = Rules::new(Absent::A52, None, &[4, 8, 16, 30]).map_err(|_| "rules")?;
+    let rules = Rules::new(Absent::A52, None, &[4, 8, 16, 30], false).map_err(|_| "rules")?;
     let mut board = Board::open(rt.alloc(), rules)?;
     enter_all(&mut board)?;
     sail_all(&mut board)?;

@@ -23,6 +23,7 @@ fn prints_each_refusal_with_its_number(rt: HostRuntime) -> Result<(), Fail> {
         Refusal::AlreadyScored,
         Refusal::NotScored,
         Refusal::NoFinisher,
+        Refusal::WrongSystem,
     ];
     for refusal in refusals {
         let text = format!(in rt.alloc(); "{refusal}")?;
@@ -46,6 +47,7 @@ fn prints_each_fault_of_a_line_with_its_number(rt: HostRuntime) -> Result<(), Fa
         LineFault::BadCode,
         LineFault::BadRole,
         LineFault::BadNumber,
+        LineFault::BadSeconds,
     ];
     for fault in faults {
         let text = format!(in rt.alloc(); "{fault}")?;

@@ -1,6 +1,6 @@
 //! Which command is refused, and why.
 ghost use Rattle.std.specs.Prelude.{◌≡◌, length, nat_le, true};
-ghost use Rattle.regatta_scores.specs.Journal.{entered, order};
+ghost use Rattle.regatta_scores.specs.Journal.{entered, order, is_of_other_system};
 ghost use Rattle.regatta_scores.specs.Journal.{is_scored as is_scored_in, held as held_in};
 ghost use Rattle.regatta_scores.specs.Order.{is_empty};
 ghost use Rattle.regatta_board.specs.Refusals as refusals;
@@ -95,7 +95,7 @@ impl Ledger {
         }
     }
 
-    /// Of Finish.
+    /// Of Finish and Time.
     fn place_refusal(&self, race: RaceNo, boat: Sail) -> Option<Refusal>
         ensures { result ≡ refusals.place_refusal self.now.rules self.now.entries race boat }
     {
@@ -218,6 +218,7 @@ impl Ledger {
             Command::Finish { race, sail } => self.place_refusal(race, sail),
             Command::Tie { race, sail, other } => self.place_by_refusal(race, sail, other),
             Command::Before { race, sail, other } => self.place_by_refusal(race, sail, other),
+            Command::Time { race, sail, .. } => self.place_refusal(race, sail),
             Command::Strike { race, sail } => self.strike_refusal(race, sail),
             Command::Mark { race, sail, .. } => self.decision_refusal(race, sail),
             Command::Redress { race, sail, .. } => self.decision_refusal(race, sail),
@@ -225,6 +226,26 @@ impl Ledger {
             Command::Clear { race, sail } => self.clear_refusal(role, race, sail),
             Command::Score { race } => self.score_refusal(race),
             Command::Unscore { race } => self.unscore_refusal(race),
+        }
+    }
+
+    /// Whether the command belongs to the system that the rules of the series don't use.
+    fn is_of_other_system(&self, command: Command) -> bool
+        ensures { result ≡ is_of_other_system self.now.rules command }
+    {
+        match command {
+            Command::Finish { .. } | Command::Tie { .. } | Command::Before { .. } => {
+                self.rules.handicap()
+            }
+            Command::Time { .. } => !self.rules.handicap(),
+            Command::Enter { .. }
+            | Command::Strike { .. }
+            | Command::Mark { .. }
+            | Command::Penalise { .. }
+            | Command::Redress { .. }
+            | Command::Clear { .. }
+            | Command::Score { .. }
+            | Command::Unscore { .. } => false,
         }
     }
 
@@ -241,6 +262,9 @@ impl Ledger {
         }
         if !may(entry.role(), &entry.command()) {
             return Some(Refusal::NotYours);
+        }
+        if self.is_of_other_system(entry.command()) {
+            return Some(Refusal::WrongSystem);
         }
         self.command_refusal(entry.role(), entry.command())
     }

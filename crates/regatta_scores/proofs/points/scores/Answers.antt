@@ -29,7 +29,11 @@ loop-boat-preserved c =
     let scored : c.race_score.result ≡ race_score rules c.args.sheet.now boat =
     c.race_score.ensures
     ∙ (λ i. score_with rules (held_is i) (placed_is i) (length held) (dnf_is i))
-    ∙ sym (score_is order held placed is rules boat)
-    ∙ (λ i. race_score rules (record { order = order; held = c.all_held-held.ensures i }) boat) in
+    ∙ sym (score_is order held placed is rules c.args.sheet.now.seconds boat)
+    ∙ (λ i. race_score rules (record {
+      order = order;
+      held = c.all_held-held.ensures i;
+      seconds = c.args.sheet.now.seconds;
+    }) boat) in
     c.in_ok-push.ensures.items ∙ (λ i. c.loop-boat.invariant i ++ scored i ∷ [])
     ∙ sym (map_range_more (race_score rules c.args.sheet.now) boat)

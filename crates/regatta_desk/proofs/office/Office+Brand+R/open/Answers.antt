@@ -1,6 +1,15 @@
-use Rattle.std.proofs.Common.{◌≡◌, ◌∙◌, refl, ap, sym, arith, None}
-use Rattle.regatta_desk.proofs.Starts.{fault_up}
+use Rattle.std.proofs.Common.{◌≡◌, ◌∙◌, ◌<◌, refl, ap, sym, arith, None}
+use Rattle.regatta_terms.specs.declared.limits.TheConstants.{MAX_SEATS}
+use Rattle.regatta_desk.proofs.Starts.{fault_up, fault_of_good_seats}
 use Rattle.regatta_desk.proofs.office.Office+Brand+R.open.Goals as goal
+
+pub returns-in_err-watchers-clause-bad_seats : goal.returns-in_err-watchers-clause-bad_seats
+returns-in_err-watchers-clause-bad_seats g c =
+    fault_of_good_seats c.from_residual-in_err-watchers.result c.in_err-watchers.field-0.0
+    (c.args.seats ≡ 0) (MAX_SEATS < c.args.seats)
+    c.from_residual-in_err-watchers.ensures.1 c.in_err-watchers.ensures.fault
+    (λ h. omega (arith, h, c.if-seats-eq0.false))
+    (λ h. omega (arith, h, c.if-seats-gt-MAX_SEATS.false))
 
 pub returns-in_err-watchers-clause-refused : goal.returns-in_err-watchers-clause-refused
 returns-in_err-watchers-clause-refused g c =
