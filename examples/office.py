@@ -236,7 +236,7 @@ def replace_whole(path, data):
 
 
 def keep_asking(path, pause, once, use, excuse):
-    """Asks for the sheet each so many seconds, and over again where the office had gone.
+    """Asks for the sheet each so many seconds, and each second while nobody answers.
 
     A sheet is handed to `use` as journal and table, and a Trouble, of the office or of `use`, to
     `excuse`. With `once` it asks once, and answers whether all went well. Ctrl-C ends it.
@@ -260,7 +260,7 @@ def keep_asking(path, pause, once, use, excuse):
                     excuse(trouble)
             if once:
                 return well
-            time.sleep(max(pause, 0.05))
+            time.sleep(max(0.05, pause if link else min(pause, 1)))
     except KeyboardInterrupt:
         print(f"{clock()} stopped", flush=True)
         return True
