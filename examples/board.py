@@ -10,6 +10,7 @@ standing and says of when it is, so that nobody takes an old one for the newest.
 import argparse
 import html
 import sys
+import time
 
 from office import Trouble, clock, keep_asking, replace_whole, seconds
 
@@ -70,7 +71,7 @@ class Board:
             standing=self.standing).encode())
 
     def show(self, _journal, table):
-        self.standing, self.time = standing_of(table), clock()
+        self.standing, self.time = standing_of(table), time.strftime("%d %B %Y, %H:%M:%S")
         self.write(f"<p>Standing of {self.time}. Scores in brackets are excluded.</p>")
         self.tell(f"{self.path} shows the standing")
 

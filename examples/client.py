@@ -7,7 +7,8 @@ Lines are typed, or come from a file: `python3 client.py race.sock < lines.txt`.
 first, and again whenever the office had gone and is back. QUIT, or the end of the lines, ends it.
 
 A line that had no answer is never sent again by itself, since the office may have taken it. Who
-types is told so, and waits here for the office to come back. Lines of a file are only sent as far
+types is told so, and waits here for the office to come back; lines that are typed meanwhile are
+shown, and not sent. Lines of a file are only sent as far
 as they are answered: behind a line that was lost the next might come to stand in a wrong place.
 The status is 0 where every line was answered, and none of a file was refused; else 1.
 """
@@ -55,13 +56,23 @@ class Typist:
                 time.sleep(0.5)
 
     def connect_again(self, trouble):
-        """A new link for who types, without what was typed meanwhile and nobody has read."""
+        """A new link for who types, which sends nothing of what was typed meanwhile."""
         self.drop()
         say(f"Beware: {trouble}. Waiting for the office.")
         self.connect(told=True)
-        self.rest = b""
-        termios.tcflush(0, termios.TCIFLUSH)
+        for line in self.forgotten():
+            say(f"Not sent: {line[:80]}")
         say("The office is there again. Ask for SHOW: your last lines may be missing.")
+
+    def forgotten(self):
+        """The lines that were typed and not sent; from here on they, and one begun, are no more."""
+        while self.more and select.select([0], [], [], 0)[0]:
+            data = os.read(0, 65536)
+            self.rest, self.more = self.rest + data, bool(data)
+        termios.tcflush(0, termios.TCIFLUSH)
+        *lines, _ = self.rest.decode("utf-8", "replace").split("\n")
+        self.rest = b""
+        return [line for line in lines if line.strip()]
 
     def drop(self):
         if self.link:
@@ -121,6 +132,10 @@ class Typist:
                     break
                 if not self.typed:
                     say(f"> {line.decode('utf-8', 'replace')[:80]}")
+                elif any(sign < 32 or sign == 127 for sign in line):
+                    say("Not sent: an arrow key or the like has left signs in this line. "
+                        "Type it again; Backspace alone corrects.")
+                    continue
                 self.sent += 1
                 if self.answer(line):
                     break

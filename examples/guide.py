@@ -94,8 +94,8 @@ class Window:
         while self.process and self.text.count("\n") < lines:
             if self.text.endswith("\n> ") or self.text == "> ":
                 break
-            left = until - time.monotonic()
-            if left <= 0 or not select.select([self.master], [], [], left)[0]:
+            left = max(0, until - time.monotonic())
+            if not select.select([self.master], [], [], left)[0]:
                 break
             try:
                 data = os.read(self.master, 65536)
@@ -153,8 +153,9 @@ def played(window, body, stays, fill):
         elif not shown and not fill:
             continue
         # What ends, or asks for a line, is read to that; of what goes on as much as is shown.
-        enough = len(shown) if stays and last and not fill else 1 << 30
-        text += window.read(enough, QUIET if fill else PATIENCE)
+        open_end = fill and (line or not shown)
+        enough = len(shown) if stays and last and not open_end else 1 << 30
+        text += window.read(enough, QUIET if open_end else PATIENCE)
         if line.startswith("$ ") and stays and last:
             listens(window.folder, line)
     if (window.process is not None) != stays:

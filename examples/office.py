@@ -1,12 +1,21 @@
 """What client.py, saver.py and board.py share: a link to the office, and its replies in words.
 
+    python3 office.py SOCKET
+
+makes way for an office: the file that one left at this path is taken away. Where one is still open
+there, or the file is another, it stays, and the status is 1. Two offices at one path would keep two
+journals, and nobody who types would notice.
+
 The office is `regatta serve`, which answers lines at a socket. What can go wrong on the way to it
 is a Trouble, whose text says in words what happened; the tools show it, and none of them stops at
 one with a page of Python.
 """
+import argparse
 import collections
 import os
 import socket
+import stat
+import sys
 import time
 
 # How long an answer may take, in seconds, and how many bytes of one are read at most. A sheet of
@@ -125,6 +134,32 @@ class Link:
         return Trouble(f"the office said {text!r}, which nobody had asked for")
 
 
+def make_way(path):
+    """Takes away the file that an office left at this path; a Trouble where it may not go."""
+    try:
+        kind = os.lstat(path).st_mode
+    except FileNotFoundError:
+        return
+    except OSError as cause:
+        raise unreachable(path, cause) from None
+    if not stat.S_ISSOCK(kind):
+        raise Trouble(f"{path} is no file that an office leaves. It stays as it is")
+    with socket.socket(socket.AF_UNIX, socket.SOCK_STREAM) as caller:
+        caller.settimeout(PATIENCE)
+        try:
+            caller.connect(path)
+        except ConnectionRefusedError:
+            pass
+        except OSError as cause:
+            raise unreachable(path, cause) from None
+        else:
+            raise Trouble(f"an office is open at {path}. Find its window and press Ctrl-C there")
+    try:
+        os.remove(path)
+    except OSError as cause:
+        raise Trouble(f"{path} can't be removed: {cause.strerror}") from None
+
+
 def sheet(link):
     """The journal's lines and the table's, as SHOW gives them."""
     answer = link.ask(b"SHOW")
@@ -201,7 +236,7 @@ def replace_whole(path, data):
 
 
 def keep_asking(path, pause, once, use, excuse):
-    """Asks for the sheet each so many seconds, and over again where the office had gone.
+    """Asks for the sheet each so many seconds, and each second while nobody answers.
 
     A sheet is handed to `use` as journal and table, and a Trouble, of the office or of `use`, to
     `excuse`. With `once` it asks once, and answers whether all went well. Ctrl-C ends it.
@@ -225,7 +260,24 @@ def keep_asking(path, pause, once, use, excuse):
                     excuse(trouble)
             if once:
                 return well
-            time.sleep(max(pause, 0.05))
+            time.sleep(max(0.05, pause if link else min(pause, 1)))
     except KeyboardInterrupt:
         print(f"{clock()} stopped", flush=True)
         return True
+
+
+def main():
+    words = argparse.ArgumentParser(description="Makes way for an office at a socket.")
+    words.add_argument("socket", help="the file of the socket, as race.sock")
+    asked = words.parse_args()
+    try:
+        make_way(asked.socket)
+    except Trouble as trouble:
+        print(f"Stopped: {trouble}.")
+        return 1
+    print(f"{asked.socket} is free: no office is open there")
+    return 0
+
+
+if __name__ == "__main__":
+    sys.exit(main())

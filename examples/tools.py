@@ -1,5 +1,5 @@
 #!/usr/bin/env python3
-"""Tries client.py, saver.py and board.py where things go wrong, against `regatta serve`.
+"""Tries client.py, saver.py, board.py and office.py where things go wrong, against `regatta serve`.
 
     examples/tools.py PROGRAM
 
@@ -9,11 +9,13 @@ go on a good day is in docs/GUIDE.md, which guide.py plays.
 """
 import contextlib
 import os
+import pty
 import re
 import socket
 import subprocess
 import sys
 import tempfile
+import termios
 import threading
 import time
 
@@ -194,6 +196,61 @@ def seats(program):
                "ROLE SCORER   (your lines are now those of the scorer)")
 
 
+def typists(program):
+    """Somebody at a terminal: an arrow key, and lines that are typed while the office is away."""
+    desk, terminal = pty.openpty()
+    modes = termios.tcgetattr(terminal)
+    modes[3] &= ~termios.ECHO
+    termios.tcsetattr(terminal, termios.TCSANOW, modes)
+    with served(program):
+        client = subprocess.Popen([sys.executable, f"{HERE}/client.py", SOCKET], encoding="utf-8",
+                                  stdin=terminal, stdout=subprocess.PIPE)
+        heard = [client.stdout.readline()]
+        os.write(desk, b"ENTER B\x1b[DA\nENTER A\n")
+        heard += [client.stdout.readline() for _ in range(2)]
+    until("the loss", lambda: "Waiting for the office" in client.stdout.readline())
+    os.write(desk, b"FINISH 1 A\n\nSCORE 1\nSCO")
+    with served(program):
+        heard += [client.stdout.readline() for _ in range(4)]
+        os.write(desk, b"ENTER C\nQUIT\n")
+        printed, status = client.stdout.read(), client.wait(PATIENCE)
+    for end in [desk, terminal]:
+        os.close(end)
+    expect("somebody who types", ("".join(heard) + printed, status), ("""\
+ROLE SCORER   (your lines are now those of the scorer)
+> Not sent: an arrow key or the like has left signs in this line. Type it again; Backspace alone \
+corrects.
+> OK 1 1 0.0   (entry 1; A stands 1st with 0.0 points)
+ROLE SCORER   (your lines are now those of the scorer)
+Not sent: FINISH 1 A
+Not sent: SCORE 1
+The office is there again. Ask for SHOW: your last lines may be missing.
+> OK 1 1 0.0   (entry 1; C stands 1st with 0.0 points)
+> BYE   (you have left the office)
+""", 0))
+
+
+def ways(program):
+    """The file of a socket goes where nobody serves, and where somebody does it stays."""
+    free = (f"{SOCKET} is free: no office is open there\n", 0)
+    expect("nothing there", ran("office.py", SOCKET), free)
+    with served(program, "--clients", "1"):
+        is_open = (f"Stopped: an office is open at {SOCKET}. "
+                   "Find its window and press Ctrl-C there.\n")
+        expect("an open office", ran("office.py", SOCKET), (is_open, 1))
+        client = started("client.py", SOCKET)
+        client.stdout.readline()
+        expect("a full office", ran("office.py", SOCKET), (is_open, 1))
+        expect("its last line", ended(client, "QUIT\n")[1], 0)
+    expect("a file that was left", ran("office.py", SOCKET), free)
+    expect("what is left in the folder", os.listdir(), [])
+    with open("saturday.txt", "w") as file:
+        file.write(HELD)
+    expect("another file", ran("office.py", "saturday.txt"),
+           ("Stopped: saturday.txt is no file that an office leaves. It stays as it is.\n", 1))
+    expect("its text", os.path.getsize("saturday.txt"), len(HELD))
+
+
 def refusals(program):
     """Each number but 1 is answered to a line that it fits, and shown with its words."""
     with open("last", "w") as file:
@@ -305,7 +362,7 @@ def strangers(_program):
 
 def main():
     program = os.path.realpath(sys.argv[1])
-    for trial in [clients, seats, refusals, savers, boards, strangers]:
+    for trial in [clients, seats, typists, ways, refusals, savers, boards, strangers]:
         with tempfile.TemporaryDirectory() as folder:
             os.chdir(folder)
             trial(program)
