@@ -29,7 +29,7 @@ import sys
 import tempfile
 import time
 
-SEATS, COMMANDS, RACES, JOURNAL = 16, 4000, 40, 4096
+SEATS, COMMANDS, RACES, JOURNAL = 16, 4000, 40, 8192
 
 
 class Client:
