@@ -1,6 +1,6 @@
 use super::*;
 use regatta_office::start_of;
-use regatta_tables::{Journal, Sails, read_entries, read_journal};
+use regatta_tables::{EntriesFault, Journal, Sails, read_entries, read_journal};
 use regatta_terms::{Refusal, Sail};
 
 /// A run without a start: its text, and what it writes.
@@ -174,6 +174,27 @@ fn an_entry_list_is_entered_by_the_scorer(rt: HostRuntime) -> Result<(), Fail> {
     let start = start_of(rt.alloc(), &[], sails.as_slice())?;
     let journal = b"REGATTA 2\n1 1 SCORER ENTER GBR12\n1 2 SCORER ENTER NED7\n";
     assert!(rt; writes(rt.alloc(), b"", start.as_slice(), Form::Journal, journal)?);
+    Ok(())
+}
+
+/// An entry list of so many boats.
+fn list_of(alloc: Global, boats: u32) -> Result<Vec<u8>, Fail> {
+    let mut text = Vec::new(alloc);
+    text.extend_from_slice(b"Sail\n")?;
+    for boat in 1..=boats {
+        let line = format!(in alloc; "{boat}\n")?;
+        text.extend_from_slice(line.as_bytes())?;
+    }
+    Ok(text)
+}
+
+#[test]
+fn an_entry_list_has_a_boat_too_many(rt: HostRuntime) -> Result<(), Fail> {
+    let text = list_of(rt.alloc(), 501)?;
+    let fault = read_entries(rt.alloc(), &text).err();
+    assert_eq!(rt; fault, Some(EntriesFault::TooMany { row: 502 }));
+    let text = list_of(rt.alloc(), 500)?;
+    assert_eq!(rt; sails_of(rt.alloc(), &text)?.as_slice().len(), 500);
     Ok(())
 }
 
