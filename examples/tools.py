@@ -197,11 +197,11 @@ def refusals(program):
     with open("last", "w") as file:
         file.write("1 4294967295 SCORER ENTER A\n")
     with open("boats", "w") as file:
-        file.writelines(f"1 {at} SCORER ENTER B{at}\n" for at in range(1, 201))
+        file.writelines(f"1 {at} SCORER ENTER B{at}\n" for at in range(1, 501))
     with open("full", "w") as file:
         file.write("1 1 SCORER ENTER A\n")
         file.writelines(f"1 {at} FINISH {('FINISH', 'STRIKE')[at % 2]} 1 A\n"
-                        for at in range(2, 4097))
+                        for at in range(2, 8193))
     nine = REFUSED.replace("PENALTY 1 A ZFP", "PENALTY 1 A ZFP\n" * 9 + "PENALTY 1 A ZFP")
     met = set()
     for start, lines in [(None, nine), ("last", "ENTER B/3"), ("boats", "ENTER A/5"),
