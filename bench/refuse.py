@@ -4,9 +4,10 @@
     bench/refuse.py PROGRAM
 
 The Nth request of a run is refused, for N = 1, 2, .. up to as many as the run makes: of replays of
-the weekend of `examples/` with and without start files, in each form, of help, of words that aren't
-the program's, and of serving one client. A heap that refuses one request (refuse.c, beside this
-file) is built with the machine's C compiler and preloaded.
+all commands, by finishes and by corrected times, and of the weekend of `examples/`, with and
+without start files, in each form, of help, of words that aren't the program's, and of serving one
+client. A heap that refuses one request (refuse.c, beside this file) is built with the machine's C
+compiler and preloaded.
 
 A refused run must answer `regatta: no memory` with status 3, and print nothing but whole replies to
 some first lines. Where `clap` refuses the words, it asks again for its own text, so that the
@@ -48,6 +49,19 @@ NOPE
 RANK A
 SHOW
 ENTER D
+QUIT
+"""
+TIMES = b"""ENTER A
+ENTER B
+TIME 1 A 3605
+TIME 1 B 3605
+SCORE 1
+STRIKE 1 A
+TIME 1 A 3599
+FINISH 1 B
+ENTER C
+RANK B
+SHOW
 QUIT
 """
 
@@ -195,6 +209,7 @@ def runs(folder, program):
     journal = ["--journal", os.path.join(EXAMPLES, "weekend.journal")]
     weekend = example("weekend.txt")
     yield run("all commands", ["replay", "--exclude", "none"], COMMANDS)
+    yield run("corrected times", ["replay", "--handicap"], TIMES)
     yield run("the weekend", ["replay"] + boats, weekend)
     yield run("the weekend as CSV", ["replay", "--print", "csv"] + boats, weekend)
     yield run("the weekend's journal", ["replay", "--print", "journal"] + boats, weekend)

@@ -31,6 +31,7 @@ NUMBERS = {
     13: "this race counts already",
     14: "this race doesn't count",
     15: "nobody stands in the finishing order of this race",
+    16: "a series by corrected time takes TIME, and any other FINISH, TIE and BEFORE",
     20: "the line is longer than 80 letters",
     21: "the line is empty, or its first word isn't known",
     22: "the line has too few words, or too many",
@@ -39,6 +40,7 @@ NUMBERS = {
     25: "this is no redress: ALL, PRIOR, or points from 1.0 to 999.9",
     26: "this is no code, or no kind of penalty",
     27: "this is no role: FINISH, JURY or SCORER",
+    29: "these are no seconds: a whole number from 0 to 999,999",
 }
 ROLES = {"FINISH": "the finish", "JURY": "the jury", "SCORER": "the scorer"}
 

@@ -12,7 +12,7 @@ use Rattle.regatta_scores.specs.SheetFacts.{IsPlaced, IsUnplaced}
 use Rattle.regatta_scores.specs.Journal.{Journal, same_sail, entered, order, held}
 use Rattle.regatta_board.specs.Refusals.{is_entered, is_placed}
 use Rattle.regatta_board.specs.KeptJournal.{number, sheet_of}
-use Rattle.regatta_board.proofs.Numbers.{place_in}
+use Rattle.regatta_board.proofs.Numbers.{index_in}
 use Rattle.regatta_board.proofs.Renumbered.{group_numbered}
 
 -- on the sheet as in the journal
@@ -28,16 +28,16 @@ placed_same rules journal race boat known = by (order rules journal race)
     by [] = refl
     by (g ∷ gs) = λ i. group_numbered (entered journal) boat known g i || by gs i
 
-pub place_below : (xs : List Sail) (x : Sail) → list_any (same_sail x) xs ≡ true
-    → place_in xs x < length xs
-place_below [] x h = cc
-place_below (z ∷ zs) x h = by (same_sail x z) refl (place_below zs x)
+pub index_below : (xs : List Sail) (x : Sail) → list_any (same_sail x) xs ≡ true
+    → index_in xs x < length xs
+index_below [] x h = cc
+index_below (z ∷ zs) x h = by (same_sail x z) refl (index_below zs x)
   where
     by : (b : Bool) → same_sail x z ≡ b
-        → (list_any (same_sail x) zs ≡ true → place_in zs x < length zs)
-        → cond (not (same_sail x z)) (1 + place_in zs x) 0 < length (z ∷ zs)
+        → (list_any (same_sail x) zs ≡ true → index_in zs x < length zs)
+        → cond (not (same_sail x z)) (1 + index_in zs x) 0 < length (z ∷ zs)
     by true e rest = rw e (omega arith)
-    by false e rest = let below : place_in zs x < length zs = rest (rw e at h) in rw e (omega arith)
+    by false e rest = let below : index_in zs x < length zs = rest (rw e at h) in rw e (omega arith)
 
 pub number_below : (rules : RulesParts) (journal : Journal) (race : ℕ) (boat : Sail)
     → is_entered journal boat ≡ true
@@ -45,7 +45,7 @@ pub number_below : (rules : RulesParts) (journal : Journal) (race : ℕ) (boat :
 number_below rules journal race boat known =
     omega (
       arith,
-      place_below (entered journal) boat known,
+      index_below (entered journal) boat known,
       length-map (entered journal) (held journal race),
     )
 

@@ -34,7 +34,7 @@ pub board_rank : (rules : RulesParts) (journal : Journal) → is_lawful limits r
 board_rank rules journal lawful scoring is boat =
     let orderly = lawful_orderly rules journal lawful in
     rank_found rules journal boat orderly.apart scoring
-    (is.lines ∙ lines_kept rules journal orderly) is.places
+    (is.lines ∙ lines_kept rules journal orderly) is.ranks
 
 -- a position is within the list
 pub position_within : {X : Type 0} (p : X → Bool) (xs : List X) (at : ℕ)
@@ -52,16 +52,16 @@ position_within p xs at e = by (nat_lt (position_or_len p xs) (length xs)) refl 
         rw (← same) (grind (arith, nat_tests))
     by false f h = absurd (cc)
 
--- a boat that is entered has a line and a place
+-- a boat that is entered has a line and a rank
 pub line_within : (rules : RulesParts) (journal : Journal) (scoring : Scoring)
     → IsScoring rules (kept_of rules journal) scoring → (boat : Sail) (at : ℕ)
     → position (same_sail boat) (entered journal) ≡ Some at
-    → (at < length scoring.lines) × (at < length scoring.places)
+    → (at < length scoring.lines) × (at < length scoring.ranks)
 line_within rules journal scoring is boat at e =
     let lines = ap length is.lines ∙ lines_by_long rules (kept_of rules journal) in
-    let places = ap length is.places ∙ length-map scoring.lines (place scoring.lines) in
+    let ranks = ap length is.ranks ∙ length-map scoring.lines (place scoring.lines) in
     let within = position_within (same_sail boat) (entered journal) at e in
-    (omega (arith, lines, within), omega (arith, lines, places, within))
+    (omega (arith, lines, within), omega (arith, lines, ranks, within))
 
 -- a command that may be committed was prepared on what the board holds
 pub basis_is : {staged value : StagedValue} {held board : BoardValue} → staged ≡ value

@@ -18,7 +18,7 @@ use Rattle.regatta_scores.specs.Journal.{same_sail, held_by, standing_decisions,
 use Rattle.regatta_scores.specs.Journal.{is_zfp, is_scp, code_marked, redress_given, last_item}
 use Rattle.regatta_scores.proofs.Coded.{after_last_push, last_push}
 use Rattle.regatta_board.proofs.Lines.{drop_past}
-use Rattle.regatta_board.proofs.Numbers.{place_in, same_is, is_same}
+use Rattle.regatta_board.proofs.Numbers.{index_in, same_is, is_same}
 use Rattle.regatta_board.specs.Step.{one_more}
 
 abbrev pub held_from : List Command → Sail → Held
@@ -143,7 +143,7 @@ pub held_replaced : {V : Type 0} (f g : Sail → V) (s : Sail) (xs : List Sail)
     → ((x : Sail) → same_sail x s ≡ false → g x ≡ f x)
     → ((i j : ℕ) (d : Sail) → i < j → j < length xs
     → same_sail (get_or xs j d) (get_or xs i d) ≡ false)
-    → map g xs ≡ slice_set (map f xs) (place_in xs s) (g s)
+    → map g xs ≡ slice_set (map f xs) (index_in xs s) (g s)
 held_replaced f g s [] same apart = refl
 held_replaced f g s (z ∷ zs) same apart =
     by (same_sail s z) refl
@@ -159,9 +159,9 @@ held_replaced f g s (z ∷ zs) same apart =
         sym (is_same x) ∙ ap (same_sail x) one ∙ h in absurd (cc)
     other x y h false e = refl
 
-    by : (b : Bool) → same_sail s z ≡ b → map g zs ≡ slice_set (map f zs) (place_in zs s) (g s)
+    by : (b : Bool) → same_sail s z ≡ b → map g zs ≡ slice_set (map f zs) (index_in zs s) (g s)
         → map g (z ∷ zs)
-        ≡ slice_set (map f (z ∷ zs)) (cond (not (same_sail s z)) (1 + place_in zs s) 0) (g s)
+        ≡ slice_set (map f (z ∷ zs)) (cond (not (same_sail s z)) (1 + index_in zs s) 0) (g s)
     by true e rest =
         let one : s ≡ z = same_is s z e in
         let apart_from : AllByRecursion (λ x. same_sail x s ≡ false) zs =
@@ -170,6 +170,6 @@ held_replaced f g s (z ∷ zs) same apart =
         ∙ apart 0 (suc k) d (omega arith) (omega arith)) in
         rw e (λ i. g (sym one i) ∷ rest_same zs apart_from i)
     by false e rest =
-        let step : ◌≡◌ {A = ℕ} (1 + place_in zs s) (suc (place_in zs s)) = omega arith in
+        let step : ◌≡◌ {A = ℕ} (1 + index_in zs s) (suc (index_in zs s)) = omega arith in
         let head : g z ≡ f z = same z (other s z e (same_sail z s) refl) in
         rw (e, step) (λ i. head i ∷ rest i)

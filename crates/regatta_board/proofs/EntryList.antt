@@ -18,23 +18,23 @@ number_in None = 0
 
 -- one more boat takes the next number
 more_from : (es : List (Sail × ℕ)) (a n : ℕ) (last : Sail) → n ≡ a + length es
-    → ((place : ℕ) (boat : Sail) (k : ℕ) → slice_get es place ≡ Some (boat, k) → k ≡ a + place)
-    → (place : ℕ) (boat : Sail) (k : ℕ) → slice_get (es ++ (last, n) ∷ []) place ≡ Some (boat, k)
-    → k ≡ a + place
+    → ((index : ℕ) (boat : Sail) (k : ℕ) → slice_get es index ≡ Some (boat, k) → k ≡ a + index)
+    → (index : ℕ) (boat : Sail) (k : ℕ) → slice_get (es ++ (last, n) ∷ []) index ≡ Some (boat, k)
+    → k ≡ a + index
 more_from [] a n last e is zero boat k at =
     (let same : n ≡ k = ap (λ (o : Option (Sail × ℕ)). number_in o) at in omega (arith, e, same))
-more_from [] a n last e is (suc place) boat k at = absurd (cc)
+more_from [] a n last e is (suc index) boat k at = absurd (cc)
 more_from (x ∷ es) a n last e is zero boat k at = is zero boat k at
-more_from (x ∷ es) a n last e is (suc place) boat k at =
+more_from (x ∷ es) a n last e is (suc index) boat k at =
     let rest = more_from es (a + 1) n last (omega (arith, e))
-    (λ p b m h. (let here = is (suc p) b m h in omega (arith, here))) place boat k at in
+    (λ p b m h. (let here = is (suc p) b m h in omega (arith, here))) index boat k at in
     omega (arith, rest)
 
 pub numbered_more : (es : List (Sail × ℕ)) (last : Sail) (n : ℕ) → n ≡ length es → IsNumbered es
     → IsNumbered (es ++ (last, n) ∷ [])
-numbered_more es last n e is place boat k at =
+numbered_more es last n e is index boat k at =
     let rest = more_from es 0 n last (omega (arith, e))
-    (λ p b m h. (let here = is p b m h in omega (arith, here))) place boat k at in
+    (λ p b m h. (let here = is p b m h in omega (arith, here))) index boat k at in
     omega (arith, rest)
 
 -- a clone of the entries is the entries, where clones of keys and values are themselves
@@ -60,10 +60,10 @@ pub listed : (es new : List (Sail × ℕ)) (boat : Sail) (n : ℕ) → new ≡ e
     → keys_of new ≡ keys_of es ++ boat ∷ []
 listed es new boat n e = ap keys_of e ∙ map-append (λ (x : Sail × ℕ). x.0) es ((boat, n) ∷ [])
 
--- where none passes, the place of the first is past the end
-pub place_past : {X : Type 0} (p : X → Bool) (xs : List X) → position p xs ≡ None
+-- where none passes, the index of the first is past the end
+pub index_past : {X : Type 0} (p : X → Bool) (xs : List X) → position p xs ≡ None
     → length xs ≡ position_or_len p xs
-place_past p xs e = by (nat_lt (position_or_len p xs) (length xs)) refl e
+index_past p xs e = by (nat_lt (position_or_len p xs) (length xs)) refl e
   where
     by : (b : Bool) → nat_lt (position_or_len p xs) (length xs) ≡ b
         → cond b (Some (position_or_len p xs)) None ≡ None → length xs ≡ position_or_len p xs

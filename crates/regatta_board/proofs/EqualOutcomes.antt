@@ -8,6 +8,8 @@ use Rattle.regatta_terms.specs.contracts.command.Code as code
 use Rattle.regatta_terms.proofs.EqualFacts.{redress_one}
 use Rattle.regatta_board.specs.declared.outcomes.Outcome.{Outcome}
 use Rattle.regatta_board.specs.contracts.outcomes.OutcomePartialEq.TheImpl as outcomes
+use Rattle.regatta_board.specs.contracts.outcomes.OutcomeEq.TheImpl.Laws.{laws-law}
+use Rattle.std.proofs.Math.Path.{subst}
 use denote.Enum.Bare.{same_true}
 
 both : (a b : Bool) → (a && b) ≡ true → (a ≡ true) × (b ≡ true)
@@ -56,3 +58,10 @@ outcomes_one (x ∷ xs) [] h = absurd (cc)
 outcomes_one (x ∷ xs) (y ∷ ys) h =
     let p = both _ _ h in
     λ i. outcome_one x y p.0 i ∷ outcomes_one xs ys p.1 i
+
+pub outcomes_same : (xs ys : List Outcome) → xs ≡ ys → pointwise outcomes.ghosts.eq xs ys ≡ true
+outcomes_same xs ys e = subst (λ zs. pointwise outcomes.ghosts.eq xs zs ≡ true) e (itself xs)
+  where
+    itself : (xs : List Outcome) → pointwise outcomes.ghosts.eq xs xs ≡ true
+    itself [] = refl
+    itself (x ∷ xs) = rw (laws-law.refl x, itself xs) refl

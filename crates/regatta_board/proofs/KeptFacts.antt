@@ -24,7 +24,7 @@ use Rattle.regatta_board.specs.KeptJournal.{number, sheet_of, kept_of, IsOrderly
 use Rattle.regatta_board.specs.Step.{number_in, sheet_in, held_in, NamesRace, IsKnown, IsOn}
 use Rattle.regatta_board.specs.Step.{Fits}
 use Rattle.regatta_board.specs.Table.{Kept}
-use Rattle.regatta_board.proofs.Allowed.{place_below, number_below, placed_same, unplaced, placed}
+use Rattle.regatta_board.proofs.Allowed.{index_below, number_below, placed_same, unplaced, placed}
 use Rattle.regatta_board.proofs.Lawful.{no_test, is_so, both_so, has_room, may_step}
 use Rattle.regatta_board.proofs.Numbers.{found_under}
 
@@ -72,7 +72,7 @@ module _ (rules : RulesParts) (journal : Journal) (o : IsOrderly rules journal) 
     boats_are = ap (λ k. length k.sails) e
 
     pub known_is : (boat : Sail) → is_entered journal boat ≡ true → IsKnown kept boat
-    known_is boat h = subst (λ k. IsKnown k boat) (sym e) (place_below (entered journal) boat h)
+    known_is boat h = subst (λ k. IsKnown k boat) (sym e) (index_below (entered journal) boat h)
 
     pub placed_is : (race : ℕ) → IsRace race → (boat : Sail) → is_entered journal boat ≡ true
         → stands_in nat_eq (number_in kept boat) (sheet_in kept race).order

@@ -14,7 +14,7 @@ use Rattle.regatta_scores.specs.Ranking.{BoatScores, place, places}
 use Rattle.regatta_scores.specs.Standing.{with_row, sorted_rows}
 use Rattle.regatta_board.specs.declared.outcomes.Outcome.{Outcome}
 use Rattle.regatta_board.specs.Outcomes as boat
-use Rattle.regatta_board.specs.Table.{outcomes, lines, no_line, no_place, row_of, row_at, rows}
+use Rattle.regatta_board.specs.Table.{outcomes, lines, no_line, no_rank, row_of, row_at, rows}
 use Rattle.regatta_board.specs.Table.{rows_by}
 use Rattle.regatta_board.proofs.Numbers.{map_known, in_range}
 
@@ -31,10 +31,10 @@ lines_long rules columns n =
 
 pub ruleset line_facts = (lines_more, lines_long)
 
-pub place_at : (rules : RulesParts) (columns : List (List Outcome)) (n b : ℕ) (d : Place) → b < n
+pub rank_at : (rules : RulesParts) (columns : List (List Outcome)) (n b : ℕ) (d : Place) → b < n
     → get_or (places (lines rules columns n)) b d
     ≡ place (lines rules columns n) (boat.line rules (outcomes columns b))
-place_at rules columns n b d h =
+rank_at rules columns n b d h =
     let all = lines rules columns n in
     let hers = boat.line rules (outcomes columns b) in
     get_or-map (place all) all b hers d
@@ -83,7 +83,7 @@ pub line_at : (rules : RulesParts) (columns : List (List Outcome)) (n b : ℕ) (
 line_at rules columns n b d h =
     get_or-map-range_with_len (λ b. boat.line rules (outcomes columns b)) 0 n b b d h (omega arith)
 
--- the rows made from the lines of the boats and their places are those of the table
+-- the rows made from the lines of the boats and their ranks are those of the table
 pub rows_are : (rules : RulesParts) (sails : List Sail) (columns : List (List Outcome))
     (ls : List BoatScores) (ps : List Place) → ls ≡ lines rules columns (length sails)
     → ps ≡ places ls → rows_by sails columns ls ps ≡ rows rules sails columns
@@ -95,6 +95,6 @@ rows_are rules sails columns ls ps e f =
     ∙ map_known (λ b. (0 ≤ b) × (b < 0 + n)) (row_at sails columns all (places all))
     (row_of rules sails columns) (λ b h.
     (let within : b < n = (let below : b < 0 + n = h.1 in omega arith) in
-    λ i. boat.row_by (get_or sails b []) (place_at rules columns n b no_place within i)
+    λ i. boat.row_by (get_or sails b []) (rank_at rules columns n b no_rank within i)
     (line_at rules columns n b no_line within i) (outcomes columns b))) (range_with_len 0 n)
     (in_range 0 n))

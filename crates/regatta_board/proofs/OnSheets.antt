@@ -23,8 +23,8 @@ use Rattle.regatta_scores.proofs.StandingTimes.{order_with}
 use Rattle.regatta_board.specs.Refusals.{limits, is_entered, is_placed}
 use Rattle.regatta_board.specs.KeptJournal.{number, blank, IsOnSheet}
 use Rattle.regatta_board.specs.Step.{MayStep}
-use Rattle.regatta_board.proofs.Numbers.{place_in, found_under}
-use Rattle.regatta_board.proofs.Allowed.{placed_same, place_below}
+use Rattle.regatta_board.proofs.Numbers.{index_in, found_under}
+use Rattle.regatta_board.proofs.Allowed.{placed_same, index_below}
 use Rattle.regatta_board.proofs.Renumbered.{last_numbered, joined_numbered, ahead_numbered}
 use Rattle.regatta_board.proofs.Renumbered.{without_numbered, timed_numbered}
 use Rattle.regatta_board.proofs.Renumbered.{order_stays}
@@ -33,18 +33,18 @@ use Rattle.regatta_board.proofs.Renumbered.{order_stays}
 pub on_same : (old new : List Sail) (o p : List (List Sail)) → new ≡ old → p ≡ o
     → IsOnSheet old o → IsOnSheet new p
 on_same old new o p boats orders is =
-    copied_sheet (map (map (place_in old)) o) (map (map (place_in new)) p) (blank old) (blank new)
-    (λ i. map (map (place_in (boats i))) (orders i)) (ap blank boats) is
+    copied_sheet (map (map (index_in old)) o) (map (map (index_in new)) p) (blank old) (blank new)
+    (λ i. map (map (index_in (boats i))) (orders i)) (ap blank boats) is
 
 -- one more boat entered
 pub on_more : (boats : List Sail) (s : Sail) (o : List (List Sail)) → IsOnSheet boats o
     → ((x : Sail) → stands_in same_sail x o ≡ true → list_any (same_sail x) boats ≡ true)
     → length boats < limits.boats → IsOnSheet (boats ++ s ∷ []) o
 on_more boats s o is known room =
-    copied_sheet (map (map (place_in boats)) o) (map (map (place_in (boats ++ s ∷ []))) o)
+    copied_sheet (map (map (index_in boats)) o) (map (map (index_in (boats ++ s ∷ []))) o)
     (blank boats ++ nothing_held ∷ []) (blank (boats ++ s ∷ [])) (order_stays boats s o known)
     (map-append (λ (b : Sail). nothing_held) boats (s ∷ []))
-    (more_sheet (map (map (place_in boats)) o) (blank boats) is
+    (more_sheet (map (map (index_in boats)) o) (blank boats) is
     (let within : length boats < MAX_BOATS = room in
     omega (arith, length-map boats (λ (b : Sail). nothing_held))))
 
@@ -64,7 +64,7 @@ module _ (rules : RulesParts) (journal : Journal) (race : ℕ)
   below s known =
       omega (
         arith,
-        place_below (entered journal) s known,
+        index_below (entered journal) s known,
         length-map (entered journal) (λ (b : Sail). nothing_held),
       )
 

@@ -21,6 +21,7 @@ use Rattle.regatta_scores.specs.Journal.{ends_time}
 use Rattle.regatta_scores.specs.CorrectedTimes.{is_lower, is_equal, is_later, group_time}
 use Rattle.regatta_scores.specs.CorrectedTimes.{lower_groups, equal_boats, later_groups, with_time}
 use Rattle.regatta_scores.proofs.Apart.{race_commands_more, entered_more}
+use Rattle.regatta_scores.proofs.Members.{or_left, or_right}
 use Rattle.regatta_scores.proofs.NoEmpty.{order_has_none}
 use Rattle.regatta_scores.proofs.StandingTimes.{time_by, time_of_others, order_with, Suits}
 use Rattle.regatta_scores.proofs.StandingTimes.{order_by_more}
@@ -35,14 +36,6 @@ use Rattle.regatta_board.proofs.Decisions.{held_from, others_hold}
 or_elim : (a b : Bool) (Q : Type 0) → (a ≡ true → Q) → (b ≡ true → Q) → (a || b) ≡ true → Q
 or_elim true b Q f g h = f refl
 or_elim false b Q f g h = g h
-
-or_left : (a b : Bool) → a ≡ true → (a || b) ≡ true
-or_left true b h = refl
-or_left false b h = absurd (cc)
-
-or_right : (a b : Bool) → b ≡ true → (a || b) ≡ true
-or_right true b h = refl
-or_right false b h = h
 
 -- ---- who stands in an order after one more change: those before, and the boat of the command
 
@@ -269,31 +262,34 @@ unended rules journal (Clear r s) may b out = refl
 unended rules journal (Score r) may b out = refl
 unended rules journal (Unscore r) may b out = refl
 
+-- what is told of a race stays where its commands, with one more, tell it as before
+told_more : {X : Type 0} (told : List Command → X) (journal : Journal) (entry : EntryParts)
+    (c : Command) (race : ℕ) → entry.command ≡ c
+    → told (race_commands journal race ++ c ∷ []) ≡ told (race_commands journal race)
+    → told (race_commands (journal ++ entry ∷ []) race) ≡ told (race_commands journal race)
+told_more told journal entry c race is same =
+    ap told (race_commands_more journal entry race)
+    ∙ ap (λ d. told (race_commands journal race ++ cond (names_race race d) (d ∷ []) [])) is
+    ∙ by (names_race race c)
+  where
+    by : (t : Bool) → told (race_commands journal race ++ cond t (c ∷ []) [])
+        ≡ told (race_commands journal race)
+    by true = same
+    by false = ap told (append-nil (race_commands journal race))
+
 time_more : (journal : Journal) (entry : EntryParts) (c : Command) (race : ℕ) (b : Sail)
     → entry.command ≡ c → ends_time b c ≡ false
     → time (journal ++ entry ∷ []) race b ≡ time journal race b
 time_more journal entry c race b is none =
-    ap (λ cs. time_by cs b) (race_commands_more journal entry race)
-    ∙ ap (λ d. time_by (race_commands journal race ++ cond (names_race race d) (d ∷ []) []) b) is
-    ∙ by (names_race race c)
-  where
-    by : (t : Bool) → time_by (race_commands journal race ++ cond t (c ∷ []) []) b
-        ≡ time journal race b
-    by true = time_of_others (race_commands journal race) c b none
-    by false = ap (λ cs. time_by cs b) (append-nil (race_commands journal race))
+    told_more (λ cs. time_by cs b) journal entry c race is
+    (time_of_others (race_commands journal race) c b none)
 
 held_more : (journal : Journal) (entry : EntryParts) (c : Command) (race : ℕ) (b : Sail)
     → entry.command ≡ c → decides b c ≡ false
     → held (journal ++ entry ∷ []) race b ≡ held journal race b
 held_more journal entry c race b is none =
-    ap (λ cs. held_from cs b) (race_commands_more journal entry race)
-    ∙ ap (λ d. held_from (race_commands journal race ++ cond (names_race race d) (d ∷ []) []) b) is
-    ∙ by (names_race race c)
-  where
-    by : (t : Bool) → held_from (race_commands journal race ++ cond t (c ∷ []) []) b
-        ≡ held journal race b
-    by true = others_hold (race_commands journal race) c b none
-    by false = ap (λ cs. held_from cs b) (append-nil (race_commands journal race))
+    told_more (λ cs. held_from cs b) journal entry c race is
+    (others_hold (race_commands journal race) c b none)
 
 module _ (rules : RulesParts) (journal : Journal) (o : IsOrderly rules journal)
     (entry : EntryParts) (c : Command)

@@ -9,6 +9,7 @@ use Rattle.regatta_terms.specs.Rules.{RulesParts}
 use Rattle.regatta_terms.specs.declared.limits.TheConstants.{MAX_RACES}
 use Rattle.regatta_scores.specs.Sheet.{Sheet}
 use Rattle.regatta_scores.specs.Ranking.{BoatScores, places}
+use Rattle.regatta_scores.proofs.Members.{all_passed}
 use Rattle.regatta_board.specs.declared.column.NewColumns.{NewColumns}
 use Rattle.regatta_board.specs.declared.column.NewColumns.TheVariants.{Same}
 use Rattle.regatta_board.specs.declared.kept.Revision.{Revision}
@@ -19,7 +20,7 @@ use Rattle.regatta_board.specs.Revisions.{revised, touches}
 use Rattle.regatta_board.specs.Scoring.{Scoring, IsScoring, AreColumns, AreNewColumns}
 use Rattle.regatta_board.specs.Scoring.{TurnsOneColumn, TurnsOnly, with_columns, lines_by}
 use Rattle.regatta_board.specs.Scoring.{AreNewScores, SaysTheSame}
-use Rattle.regatta_board.specs.Scoring.{AreRanked, lines_after, places_after, with_scores}
+use Rattle.regatta_board.specs.Scoring.{AreRanked, lines_after, ranks_after, with_scores}
 use Rattle.regatta_board.specs.declared.scoring.NewScores.{NewScores}
 use Rattle.regatta_board.specs.declared.scoring.Ranked.{Ranked}
 use Rattle.regatta_board.specs.Step.{sheet_in}
@@ -29,7 +30,7 @@ use Rattle.regatta_board.proofs.Columns.{column_long}
 use Rattle.regatta_board.proofs.Lengths.{long_points}
 use Rattle.regatta_board.proofs.LedgerLemmas.{sheet_long}
 use Rattle.regatta_board.proofs.Lines.{line_at, lines_long}
-use Rattle.regatta_board.proofs.Numbers.{all_passed, in_range}
+use Rattle.regatta_board.proofs.Numbers.{in_range}
 use Rattle.regatta_board.proofs.Scored.{columns_found, counted_at, line_stays, uncounted_sheet}
 use Rattle.regatta_board.proofs.Untouched.{untouched_columns}
 
@@ -197,7 +198,7 @@ scored_after rules before after old is new are = record {
   long = (are.columns old.columns is.long is.columns).0;
   columns = (are.columns old.columns is.long is.columns).1;
   lines = lines_are new.ranked are.ranked;
-  places = places_are new.ranked are.ranked;
+  ranks = ranks_are new.ranked are.ranked;
 }
   where
     lines_are : (ranked : Option Ranked) → AreRanked rules before after ranked
@@ -205,10 +206,10 @@ scored_after rules before after old is new are = record {
     lines_are None e = is.lines ∙ e
     lines_are (Some ranked) e = e.0
 
-    places_are : (ranked : Option Ranked) → AreRanked rules before after ranked
-        → places_after old.places ranked ≡ places (lines_after old.lines ranked)
-    places_are None e = is.places
-    places_are (Some ranked) e = e.1
+    ranks_are : (ranked : Option Ranked) → AreRanked rules before after ranked
+        → ranks_after old.ranks ranked ≡ places (lines_after old.lines ranked)
+    ranks_are None e = is.ranks
+    ranks_are (Some ranked) e = e.1
 
 -- a revision that touches no race that counts changes no score
 pub untouched_scores : (rules : RulesParts) (kept : Kept) (change : Revision)

@@ -18,6 +18,7 @@ use Rattle.regatta_scores.specs.Exclusions as exclusion
 use Rattle.regatta_scores.specs.Ranking.{BoatScores, net, place}
 use Rattle.regatta_scores.specs.Standing as by_journal
 use Rattle.regatta_scores.proofs.Renamed.{plain_same, order_same}
+use Rattle.regatta_scores.proofs.Members.{all_passed}
 use Rattle.regatta_board.specs.declared.outcomes.Outcome.{Outcome}
 use Rattle.regatta_board.specs.Outcomes as one
 use Rattle.regatta_board.specs.Table as all
@@ -27,7 +28,7 @@ use Rattle.regatta_board.specs.Scoring.{lines_by}
 use Rattle.regatta_board.proofs.Lengths.{long_points}
 use Rattle.regatta_board.proofs.Maps.{map_map, map_same}
 use Rattle.regatta_board.proofs.Numbers.{numbers_tell, numbers_are, found_under, all_in, map_known}
-use Rattle.regatta_board.proofs.Numbers.{filter_known, all_passed, in_range, map_over}
+use Rattle.regatta_board.proofs.Numbers.{filter_known, in_range, map_over}
 
 zip_map : {X Y Z : Type 0} (f : X → Y) (xs : List X) (zs : List Z)
     → zip (map f xs) zs ≡ map (λ p. (f p.0, p.1)) (zip xs zs)

@@ -55,17 +55,17 @@ cells_by outcomes points flags = map (λ o. cell o.0 o.1.0 o.1.1) (zip outcomes 
 
 -- a boat's row of the table from her line and her rank (RRS A8)
 abbrev pub row_by : Sail → Place → BoatScores → List Outcome → Row
-row_by boat place line outcomes = record {
+row_by boat found line outcomes = record {
   sail = boat;
-  rank = place.rank;
-  tied = place.tied;
+  rank = found.rank;
+  tied = found.tied;
   net = net line;
   cells = cells_by outcomes line.points line.excluded;
 }
 
 -- the same where the line is made from what came of her
 abbrev pub row : RulesParts → Sail → Place → List Outcome → Row
-row rules boat place outcomes = row_by boat place (line rules outcomes) outcomes
+row rules boat found outcomes = row_by boat found (line rules outcomes) outcomes
 
 -- what the journal says of a boat in one race: her plain points (RRS A6.1, A7), what she holds, and
 -- whether she is placed

@@ -1,4 +1,4 @@
--- What the board keeps of the scores: a column for each race, a line and a place for each boat.
+-- What the board keeps of the scores: a column for each race, a line and a rank for each boat.
 use Rattle.std.specs.Prelude.{◌≡◌, ℕ, ◌-◌, false, List, [], length, slice_index_or, slice_set}
 use Rattle.std.specs.Prelude.{Option, Some, None, if◌then◌else◌}
 use Rattle.regatta_terms.specs.Rules.{RulesParts}
@@ -20,14 +20,14 @@ use Rattle.regatta_board.specs.declared.kept.Revision.TheVariants as revision
 use Rattle.regatta_board.specs.declared.outcomes.Outcome.{Outcome}
 use Rattle.regatta_board.specs.Revisions.{revised}
 use Rattle.regatta_board.specs.Table.{Kept, column, columns, races, lines as lines_of}
-use Rattle.regatta_board.specs.Table.{no_line, no_place}
+use Rattle.regatta_board.specs.Table.{no_line, no_rank}
 
 -- for each race of a series a column, which says nothing where the race doesn't count; for each
--- boat her line (RRS A2.1) and her place (RRS A8)
+-- boat her line (RRS A2.1) and her rank (RRS A8)
 pub record Scoring : Type 0 where
   pub columns : List (List Outcome)
   pub lines : List BoatScores
-  pub places : List Place
+  pub ranks : List Place
 
 -- what the column at an index says: what the race's sheet makes of each boat where the race counts,
 -- and nothing where it doesn't
@@ -82,13 +82,13 @@ pub record IsScoring (rules : RulesParts) (kept : Kept) (scoring : Scoring) : Ty
   pub long : length scoring.columns ≡ MAX_RACES
   pub columns : AreColumns rules kept scoring.columns
   pub lines : scoring.lines ≡ lines_by rules kept
-  pub places : scoring.places ≡ places_of scoring.lines
+  pub ranks : scoring.ranks ≡ places_of scoring.lines
 
--- lines and places made anew are those of what is kept afterwards; where none are, the lines stay
+-- lines and ranks made anew are those of what is kept afterwards; where none are, the lines stay
 abbrev pub AreRanked : RulesParts → Kept → Kept → Option Ranked → Type 0
 AreRanked rules before after None = lines_by rules before ≡ lines_by rules after
 AreRanked rules before after (Some ranked) =
-    (ranked.lines.items ≡ lines_by rules after) × (ranked.places ≡ places_of ranked.lines.items)
+    (ranked.lines.items ≡ lines_by rules after) × (ranked.ranks ≡ places_of ranked.lines.items)
 
 -- new columns make those of what is kept before into those of what is kept after
 abbrev pub AreNewColumns : RulesParts → Kept → Kept → NewColumns → Type 0
@@ -126,28 +126,28 @@ pub record AreNewScores (rules : RulesParts) (before after : Kept) (new : NewSco
   pub columns : AreNewColumns rules before after new.columns
   pub ranked : AreRanked rules before after new.ranked
 
--- lines and places once new ones, if there are any, have replaced them
+-- lines and ranks once new ones, if there are any, have replaced them
 abbrev pub lines_after : List BoatScores → Option Ranked → List BoatScores
 lines_after old None = old
 lines_after old (Some ranked) = ranked.lines.items
 
-abbrev pub places_after : List Place → Option Ranked → List Place
-places_after old None = old
-places_after old (Some ranked) = ranked.places
+abbrev pub ranks_after : List Place → Option Ranked → List Place
+ranks_after old None = old
+ranks_after old (Some ranked) = ranked.ranks
 
 -- the scores once the new ones are moved in
 abbrev pub with_scores : Scoring → NewScores → Scoring
 with_scores old new = record {
   columns = with_columns old.columns new.columns;
   lines = lines_after old.lines new.ranked;
-  places = places_after old.places new.ranked;
+  ranks = ranks_after old.ranks new.ranked;
 }
 
 -- what an answer tells of the boat of this number: rank (RRS A8), whether it is shared, and net
 -- points
 abbrev pub touched_at : Scoring → ℕ → Touched
 touched_at scoring n = record {
-  rank = (slice_index_or scoring.places n no_place).rank;
-  tied = (slice_index_or scoring.places n no_place).tied;
+  rank = (slice_index_or scoring.ranks n no_rank).rank;
+  tied = (slice_index_or scoring.ranks n no_rank).tied;
   net = net (slice_index_or scoring.lines n no_line);
 }

@@ -77,20 +77,20 @@ abbrev pub rows : RulesParts → List Sail → List (List Outcome) → List Row
 rows rules sails columns =
     scores.sorted_rows (map (row_of rules sails columns) (range_with_len 0 (length sails)))
 
--- what stands where no boat has this number, in the list of places
-abbrev pub no_place : Place
-no_place = record { rank = 0; tied = false }
+-- what stands where no boat has this number, in the list of ranks
+abbrev pub no_rank : Place
+no_rank = record { rank = 0; tied = false }
 
--- a boat's row from the lines and places of the boats, each made once (RRS A8)
+-- a boat's row from the lines and ranks of the boats, each made once (RRS A8)
 abbrev pub row_at : List Sail → List (List Outcome) → List BoatScores → List Place → ℕ → Row
-row_at sails columns lines places boat =
-    row_by (slice_index_or sails boat []) (slice_index_or places boat no_place)
+row_at sails columns lines ranks boat =
+    row_by (slice_index_or sails boat []) (slice_index_or ranks boat no_rank)
     (slice_index_or lines boat no_line) (outcomes columns boat)
 
--- the rows of all boats from their lines and places, in the table's order (RRS A8)
+-- the rows of all boats from their lines and ranks, in the table's order (RRS A8)
 abbrev pub rows_by : List Sail → List (List Outcome) → List BoatScores → List Place → List Row
-rows_by sails columns lines places =
-    scores.sorted_rows (map (row_at sails columns lines places) (range_with_len 0 (length sails)))
+rows_by sails columns lines ranks =
+    scores.sorted_rows (map (row_at sails columns lines ranks) (range_with_len 0 (length sails)))
 
 -- the standing that what is kept makes: the races that count, and a row for each boat (RRS A2.2)
 abbrev pub table : RulesParts → Kept → Standing

@@ -1,6 +1,6 @@
 //! Columns: what came of each boat in a race that counts.
 ghost use Rattle.std.specs.Prelude.{◌≡◌, ◌+◌, ◌-◌, ◌<◌, ◌≤◌, ◌^◌, [], true, false, length, List};
-ghost use Rattle.std.specs.Prelude.{map, slice_index_or, slice_set, IfOk, OnOk, if◌then◌else◌};
+ghost use Rattle.std.specs.Prelude.{map, slice_index_or, slice_set, IfOk, OnOk, if◌then◌else◌, ◌↔◌};
 ghost use Rattle.regatta_terms.specs.Entries.{IsRace};
 ghost use Rattle.regatta_scores.specs.Sheet.{boats as boats_of, empty_sheet, nothing_held};
 ghost use Rattle.regatta_board.specs.declared.outcomes.Outcome.{Outcome};
@@ -53,7 +53,7 @@ impl Column {
 
     /// Whether it says of each boat what the other says.
     pub(crate) fn is_same(&self, other: &Column) -> bool
-        ensures { result ≡ true → self.now ≡ other.now }
+        ensures { (result ≡ true) ↔ (self.now ≡ other.now) }
     {
         self.outcomes.as_slice() == other.outcomes.as_slice()
     }

@@ -120,18 +120,18 @@ fn cells(
 pub(crate) fn row(
     alloc: Global,
     boat: Sail,
-    place: Place,
+    rank: Place,
     line: &BoatLine,
     outcomes: &[Outcome],
 ) -> Result<Row, AllocError>
     requires { length line.now.points ≡ length outcomes.now }
-    ensures { IfOk result (λ found. found ≡ row_by boat place line.now outcomes.now) }
+    ensures { IfOk result (λ found. found ≡ row_by boat rank line.now outcomes.now) }
 {
     let cells = cells(alloc, outcomes, line.points(), line.excluded())?;
     Ok(Row {
         sail: boat,
-        rank: place.rank,
-        tied: place.tied,
+        rank: rank.rank,
+        tied: rank.tied,
         net: line.net(),
         cells: Items::new(cells),
     })

@@ -1,4 +1,4 @@
-//! What is kept of the scores: a column for each race, a line and a place for each boat.
+//! What is kept of the scores: a column for each race, a line and a rank for each boat.
 ghost use Rattle.std.specs.Prelude.{◌≡◌, ◌+◌, ◌-◌, ◌<◌, ◌≤◌, ◌^◌, ℕ, true, false, length};
 ghost use Rattle.std.specs.Prelude.{slice_index_or, All, IfOk, OnOk};
 ghost use Rattle.regatta_terms.specs.Rules.{RulesParts};
@@ -26,12 +26,12 @@ use std::alloc::{AllocError, Global};
 use std::marker::Model;
 
 /// A column for each race, which says something only where the race counts, and a line and a
-/// place for each boat.
+/// rank for each boat.
 #[derive(Drop)]
 pub(crate) struct Scoring {
     columns: Vec<Column>,
     lines: Vec<BoatLine>,
-    places: Places,
+    ranks: Places,
 }
 
 impl Model for Scoring {
@@ -42,15 +42,15 @@ impl Model for Scoring {
     ghost view = { λ s. record {
       columns = s.columns.items;
       lines = s.lines.items;
-      places = s.places;
+      ranks = s.ranks;
     } };
 }
 
-/// The line and the place of each boat, made anew.
+/// The line and the rank of each boat, made anew.
 #[derive(Drop)]
 pub struct Ranked {
     lines: Vec<BoatLine>,
-    places: Places,
+    ranks: Places,
 }
 
 /// What a command changes of the scores.
@@ -61,14 +61,14 @@ pub struct NewScores {
     ranked: Option<Ranked>,
 }
 
-/// The lines with their places.
-fn with_places(alloc: Global, lines: Vec<BoatLine>) -> Result<Ranked, AllocError>
+/// The lines with their ranks.
+fn with_ranks(alloc: Global, lines: Vec<BoatLine>) -> Result<Ranked, AllocError>
     requires { length lines.items ≤ limits.boats }
     ensures { IfOk result (λ made. (made.lines.items ≡ lines.items)
-        × (made.places ≡ places_of lines.items)) }
+        × (made.ranks ≡ places_of lines.items)) }
 {
-    let places = ranks(alloc, &lines)?;
-    Ok(Ranked { lines, places })
+    let ranks = ranks(alloc, &lines)?;
+    Ok(Ranked { lines, ranks })
 }
 
 /// A boat's line, where one column is made anew: it stays where that says of her what the old one
@@ -247,7 +247,7 @@ pub(crate) fn new_scores(
         });
     }
     let lines = new_lines(alloc, scoring, kept, revision, &columns, rules)?;
-    let ranked = with_places(alloc, lines)?;
+    let ranked = with_ranks(alloc, lines)?;
     Ok(NewScores {
         columns,
         ranked: Some(ranked),
@@ -275,11 +275,11 @@ impl Scoring {
         let draft = Draft::of(kept);
         let columns = all_columns(alloc, &draft, rules, &mut Work::new())?;
         let lines = drafted_lines(alloc, &draft, &columns, &NewColumns::Same, rules)?;
-        let Ranked { lines, places } = with_places(alloc, lines)?;
+        let Ranked { lines, ranks } = with_ranks(alloc, lines)?;
         Ok(Scoring {
             columns,
             lines,
-            places,
+            ranks,
         })
     }
 
@@ -289,22 +289,22 @@ impl Scoring {
         ensures { self.new ≡ with_scores self.old new }
     {
         put_columns(&mut self.columns, new.columns);
-        if let Some(Ranked { lines, places }) = new.ranked {
+        if let Some(Ranked { lines, ranks }) = new.ranked {
             self.lines = lines;
-            self.places = places;
+            self.ranks = ranks;
         }
     }
 
     /// What an answer tells of the boat of this number.
     pub(crate) fn touched(&self, boat: usize) -> Touched
         requires lines { boat < length self.now.lines }
-        requires places { boat < length self.now.places }
+        requires ranks { boat < length self.now.ranks }
         ensures { result ≡ touched_at self.now boat }
     {
-        let place = self.places.as_slice()[boat];
+        let rank = self.ranks.as_slice()[boat];
         Touched {
-            rank: place.rank,
-            tied: place.tied,
+            rank: rank.rank,
+            tied: rank.tied,
             net: self.lines[boat].net(),
         }
     }
@@ -324,7 +324,7 @@ impl Scoring {
             &found,
             draft.boats(),
             &self.lines,
-            self.places.as_slice(),
+            self.ranks.as_slice(),
         )?;
         Ok(Standing {
             races: Items::new(races),

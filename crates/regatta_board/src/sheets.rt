@@ -106,7 +106,7 @@ impl Sheets {
         Ok(Sheets { blank, changed })
     }
 
-    /// Puts a sheet in the place of a race's own.
+    /// Replaces the sheet of a race.
     pub(crate) fn put(&mut self, at: usize, sheet: RaceSheet)
         requires within { at < length self.old }
         requires alike { boats sheet ≡ boats (slice_index_or self.old at (empty_sheet 0)) }

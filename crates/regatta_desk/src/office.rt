@@ -69,8 +69,9 @@ impl<R: Wait + Drop> Office<Brand, R> {
     ///
     /// # Errors
     ///
-    /// `BadSeats` exactly where the seats aren't 1 to 16, else `Refused` with the first entry that
-    /// those before it refuse, or `NoReader` or `NoMemory` where those are wanting.
+    /// `BadSeats` exactly where the seats aren't 1 to [`MAX_SEATS`](regatta_terms::MAX_SEATS), else
+    /// `Refused` with the first entry that those before it refuse, or `NoReader` or `NoMemory` where
+    /// those are wanting.
     pub fn open(
         rt: R,
         alloc: Global,

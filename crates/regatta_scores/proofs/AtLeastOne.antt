@@ -8,7 +8,6 @@ use Rattle.std.proofs.Math.Path.{subst}
 use Rattle.std.proofs.Math.Nat.{le-max_left}
 use Rattle.std.proofs.lemmas.List.Elements.{All-map, All-filter, All-take, All-drop, All-append}
 use Rattle.std.proofs.lemmas.List.Elements.{All-from_recursion, recursion_from_All}
-use Rattle.std.proofs.lemmas.List.Elements.{All-more}
 use Rattle.regatta_terms.specs.Entries.{EntryParts, IsCommand, IsEntry, IsRedress}
 use Rattle.regatta_terms.specs.Rules.{RulesParts}
 use Rattle.regatta_terms.specs.declared.rules.Absent.{Absent}
@@ -18,9 +17,7 @@ use Rattle.regatta_terms.specs.declared.command.Code.TheVariants as code
 use Rattle.regatta_terms.specs.declared.command.Redress as redress_type
 use Rattle.regatta_terms.specs.declared.command.Redress.TheVariants.{Points, AllRaces, RacesBefore}
 use Rattle.regatta_terms.specs.declared.command.Command.{Command}
-use Rattle.regatta_terms.specs.declared.command.Command.TheVariants.{Enter, Finish, Tie, Before}
-use Rattle.regatta_terms.specs.declared.command.Command.TheVariants.{Time, Strike, Mark, Penalise}
-use Rattle.regatta_terms.specs.declared.command.Command.TheVariants.{Redress, Clear, Score, Unscore}
+use Rattle.regatta_terms.specs.declared.command.Command.TheVariants.{Redress}
 use Rattle.regatta_scores.specs.declared.boats.RowItem.{RowItem}
 use Rattle.regatta_scores.specs.declared.table.Cell.{Cell}
 use Rattle.regatta_scores.specs.declared.table.Row.{Row}
@@ -36,9 +33,8 @@ use Rattle.regatta_scores.specs.Averages.{has_average, own_points, average, aver
 use Rattle.regatta_scores.specs.Averages.{award_or, total, redressed, redressed_by}
 use Rattle.regatta_scores.specs.RankLaws.{cell_points}
 use Rattle.regatta_scores.specs.Standing.{row_items, points, line, cells, standing}
-use Rattle.regatta_scores.specs.ScoreLaws.{HasAwardInRange, AwardsAreInRange, HasNoScoreBelowOne}
-use Rattle.regatta_scores.specs.ScoreLaws.{NoScoreIsBelowOne, BoatsBeatInThreeCases}
-use Rattle.regatta_scores.specs.ScoreLaws.{EntriesBeatInThreeCases}
+use Rattle.regatta_scores.specs.ScoreLaws.{HasNoScoreBelowOne, NoScoreIsBelowOne}
+use Rattle.regatta_scores.specs.ScoreLaws.{BoatsBeatInThreeCases, EntriesBeatInThreeCases}
 use Rattle.regatta_scores.proofs.A8Cases.{boats_are_beaten_in_three_cases}
 use Rattle.regatta_scores.proofs.AverageBounds.{total_least, average_least}
 use Rattle.regatta_scores.proofs.StandingRows.{points_long, her_cells, standing_has_the_entered}
@@ -139,10 +135,10 @@ points_are_high items each =
 
 -- ---- the redress that a boat has by the journal
 
-given_in_range : (cs : List Command) → AllByRecursion HasAwardInRange cs →
+given_in_range : (cs : List Command) → AllByRecursion IsCommand cs →
     AllByRecursion IsRedress (filter_map redress_given cs)
 given_in_range [] each = tt
-given_in_range (Redress race sail redress ∷ cs) each = (each.0, given_in_range cs each.1)
+given_in_range (Redress race sail redress ∷ cs) each = (each.0.2, given_in_range cs each.1)
 given_in_range (other ∷ cs) each = given_in_range cs each.1
 
 last_in_range : (o : Option redress_type.Redress) (given : List redress_type.Redress) →
@@ -150,25 +146,26 @@ last_in_range : (o : Option redress_type.Redress) (given : List redress_type.Red
 last_in_range o [] here each = here
 last_in_range o (redress ∷ given) here each = last_in_range (Some redress) given each.0 each.1
 
-redress_in_range : (journal : Journal) (race : ℕ) (boat : Sail) → AwardsAreInRange journal →
+redress_in_range : (journal : Journal) (race : ℕ) (boat : Sail) → All IsEntry journal →
     RedressIsInRange (held journal race boat).redress
 redress_in_range journal race boat each =
-    let all : All HasAwardInRange (commands journal) =
-    All-map HasAwardInRange (λ (entry : EntryParts). entry.command) journal each in
-    let of_race : All HasAwardInRange (race_commands journal race) =
-    All-filter (names_race race) HasAwardInRange (commands journal) all in
+    let all : All IsCommand (commands journal) =
+    All-map IsCommand (λ (entry : EntryParts). entry.command) journal
+    (λ k d h. (each k d h).command) in
+    let of_race : All IsCommand (race_commands journal race) =
+    All-filter (names_race race) IsCommand (commands journal) all in
     let hers = filter (decides boat) (race_commands journal race) in
-    let of_boat : All HasAwardInRange (filter (decides boat) (race_commands journal race)) =
-    All-filter (decides boat) HasAwardInRange (race_commands journal race) of_race in
-    let stand : All HasAwardInRange (standing_decisions (race_commands journal race) boat) =
-    All-drop HasAwardInRange (length hers - suffix_len (λ c. not (is_clear c)) hers) hers of_boat in
+    let of_boat : All IsCommand (filter (decides boat) (race_commands journal race)) =
+    All-filter (decides boat) IsCommand (race_commands journal race) of_race in
+    let stand : All IsCommand (standing_decisions (race_commands journal race) boat) =
+    All-drop IsCommand (length hers - suffix_len (λ c. not (is_clear c)) hers) hers of_boat in
     let decisions = standing_decisions (race_commands journal race) boat in
     last_in_range None (filter_map redress_given decisions) tt
-    (given_in_range decisions (recursion_from_All HasAwardInRange decisions stand))
+    (given_in_range decisions (recursion_from_All IsCommand decisions stand))
 
 -- ---- all scores by the journal
 
-module _ (rules : RulesParts) (journal : Journal) (each : AwardsAreInRange journal) where
+module _ (rules : RulesParts) (journal : Journal) (each : All IsEntry journal) where
   items_are_high : (boat : Sail) → All IsHigh (row_items rules journal boat)
   items_are_high boat =
       All-map IsHigh (λ (race : ℕ). record {
@@ -221,38 +218,12 @@ module _ (rules : RulesParts) (journal : Journal) (each : AwardsAreInRange journ
       (scores_are_high a) (scores_are_high b)
       (points_long rules journal a ∙ sym (points_long rules journal b))
 
--- ---- entries
-
-entry_award : (c : Command) → IsCommand c → HasAwardInRange c
-entry_award (Redress race sail redress) is = is.2
-entry_award (Enter sail) is = tt
-entry_award (Finish race sail) is = tt
-entry_award (Tie race sail other) is = tt
-entry_award (Before race sail other) is = tt
-entry_award (Time race sail seconds) is = tt
-entry_award (Strike race sail) is = tt
-entry_award (Mark race sail code) is = tt
-entry_award (Penalise race sail kind) is = tt
-entry_award (Clear race sail) is = tt
-entry_award (Score race) is = tt
-entry_award (Unscore race) is = tt
-
-entry_awards : (journal : Journal) → All IsEntry journal → AwardsAreInRange journal
-entry_awards journal each k d h =
-    entry_award (get_or journal k d).command (each k d h).command
+-- ---- journals of entries
 
 pub no_score_is_below_one : NoScoreIsBelowOne
 no_score_is_below_one rules journal each =
-    no_score_below_one rules journal (entry_awards journal each)
+    no_score_below_one rules journal each
 
 pub entries_beat_in_three_cases : EntriesBeatInThreeCases
 entries_beat_in_three_cases rules journal each =
-    boats_beat_in_three_cases rules journal (entry_awards journal each)
-
--- one more entry of a journal
-pub awards_more : (journal : Journal) (i : ℕ) (entry : EntryParts) → i < length journal →
-    entry ≡ get_or journal i entry → AwardsAreInRange (take i journal) →
-    HasAwardInRange entry.command → AwardsAreInRange (take (i + 1) journal)
-awards_more journal i entry within is before here =
-    All-more (λ (e : EntryParts). HasAwardInRange e.command) journal i entry within before
-    (subst (λ (e : EntryParts). HasAwardInRange e.command) is here)
+    boats_beat_in_three_cases rules journal each

@@ -1,13 +1,24 @@
 -- Counts and searches over the members of a list.
 use Rattle.std.proofs.Common.{◌≡◌, ℕ, zero, suc, ◌<◌, ◌≤◌, Bool, true, false, cond, ◌&&◌, ◌⊎◌, List}
 use Rattle.std.proofs.Common.{[], ◌∷◌, refl, ap, ◌∙◌, sym, arith, length, get_or, map, count_by}
-use Rattle.std.proofs.Common.{nat_lt, All, Contains}
+use Rattle.std.proofs.Common.{nat_lt, All, Contains, ◌||◌, filter}
+use Rattle.std.specs.List.{AllByRecursion}
 use mathlib.Core.Logic.{inl, inr}
 use Rattle.std.specs.Cmp.{both_ways}
 use Rattle.std.proofs.Math.Path.{subst}
 use Rattle.std.proofs.lemmas.List.{get_or-map, length-map}
 use borrow.Author.Tests.{ltb-true, lt-ltb}
 use Rattle.regatta_scores.proofs.Counts.{count_cons}
+
+-- ---- tests
+
+pub or_left : (a b : Bool) → a ≡ true → (a || b) ≡ true
+or_left true b h = refl
+or_left false b h = absurd (cc)
+
+pub or_right : (a b : Bool) → b ≡ true → (a || b) ≡ true
+or_right true b h = refl
+or_right false b h = h
 
 -- ---- tests of numbers
 
@@ -99,3 +110,27 @@ some_or_none {X} p (x ∷ xs) = by (p x) refl (some_or_none p xs)
     by true e rest = inl (x, (zero, omega arith, refl), e)
     by false e (inl found) = inl (found.0, member_cons x xs found.0 found.1, found.2)
     by false e (inr none) = inr (λ y has. not_at p x xs e none y has.0 has.1 has.2)
+
+-- ---- what a test lets through
+
+-- it has what each element has
+pub all_passed : {X : Type 0} (P : X → Type 0) (p : X → Bool) (xs : List X) →
+    AllByRecursion P xs → AllByRecursion P (filter p xs)
+all_passed P p [] all = tt
+all_passed P p (x ∷ xs) all = by (p x) (all_passed P p xs all.1)
+  where
+    by : (t : Bool) → AllByRecursion P (filter p xs) →
+        AllByRecursion P (cond t (x ∷ filter p xs) (filter p xs))
+    by true rest = (all.0, rest)
+    by false rest = rest
+
+-- and what follows from the test
+pub those_passed : {X : Type 0} (P : X → Type 0) (p : X → Bool) → ((x : X) → p x ≡ true → P x) →
+    (xs : List X) → AllByRecursion P (filter p xs)
+those_passed P p holds [] = tt
+those_passed P p holds (x ∷ xs) = by (p x) refl (those_passed P p holds xs)
+  where
+    by : (t : Bool) → p x ≡ t → AllByRecursion P (filter p xs) →
+        AllByRecursion P (cond t (x ∷ filter p xs) (filter p xs))
+    by true e rest = (holds x e, rest)
+    by false e rest = rest

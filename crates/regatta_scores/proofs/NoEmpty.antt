@@ -19,6 +19,7 @@ use Rattle.regatta_scores.specs.CorrectedTimes.{lower_groups, equal_boats, later
 use Rattle.regatta_scores.specs.Journal.{same_sail, order_after, order_by, race_commands}
 use Rattle.regatta_scores.specs.Journal.{standing_times}
 use Rattle.regatta_scores.specs.RaceLaws.{OrdersHaveNoEmptyGroup}
+use Rattle.regatta_scores.proofs.Members.{all_passed}
 
 abbrev HasBoats : {B : Type 0} → List B → Type 0
 HasBoats group = is_empty group ≡ false
@@ -91,16 +92,6 @@ module _ {B : Type 0} (same : B → B → Bool) where
 
 -- one more boat by her time
 module _ {B : Type 0} (time : B → Option ℕ) where
-  some_have : (p : List B → Bool) (groups : List (List B)) → AllByRecursion HasBoats groups →
-      AllByRecursion HasBoats (filter p groups)
-  some_have p [] each = tt
-  some_have p (group ∷ groups) each = by (p group) (some_have p groups each.1)
-    where
-      by : (t : Bool) → AllByRecursion HasBoats (filter p groups) →
-          AllByRecursion HasBoats (cond t (group ∷ filter p groups) (filter p groups))
-      by true rest = (each.0, rest)
-      by false rest = rest
-
   between : (groups : List (List B)) (group : List B) (rest : List (List B)) →
       AllByRecursion HasBoats groups → HasBoats group → AllByRecursion HasBoats rest →
       AllByRecursion HasBoats (groups ++ group ∷ rest)
@@ -115,9 +106,9 @@ module _ {B : Type 0} (time : B → Option ℕ) where
       All-from_recursion HasBoats (with_time time order boat seconds)
       (between (lower_groups time order seconds) (equal_boats time order seconds ++ boat ∷ [])
       (later_groups time order seconds)
-      (some_have (λ group. is_lower (group_time time group) seconds) order full)
+      (all_passed HasBoats (λ group. is_lower (group_time time group) seconds) order full)
       (pushed (equal_boats time order seconds) boat)
-      (some_have (λ group. is_later (group_time time group) seconds) order full))
+      (all_passed HasBoats (λ group. is_later (group_time time group) seconds) order full))
 
 -- ---- the orders of a journal
 

@@ -5,12 +5,9 @@ use Rattle.std.proofs.Common.{nat_eq, nat_lt}
 use Rattle.std.specs.List.{list_any, range_with_len, AllByRecursion}
 use Rattle.std.proofs.lemmas.List.Folds.{list_any-append}
 use borrow.Author.Tests.{eqb-true, eq-eqb, eqb-false, ltb-true, ltb-false, lt-ltb}
+use Rattle.regatta_scores.proofs.Members.{or_right, lt_false, all_passed, those_passed}
 
 -- ---- tests
-
-pub or_right : (a b : Bool) → b ≡ true → (a || b) ≡ true
-or_right true b h = refl
-or_right false b h = h
 
 pub or_true : (b : Bool) → (b || true) ≡ true
 or_true true = refl
@@ -26,13 +23,6 @@ or_false false b h = (refl, h)
 
 pub is_itself : (x : ℕ) → nat_eq x x ≡ true
 is_itself x = eq-eqb x x refl
-
-pub not_lower : (x y : ℕ) → y ≤ x → nat_lt x y ≡ false
-not_lower x y h = by (nat_lt x y) refl
-  where
-    by : (t : Bool) → nat_lt x y ≡ t → t ≡ false
-    by true e = let below = ltb-true x y e in absurd (omega (arith, below))
-    by false e = refl
 
 -- ---- rising numbers
 
@@ -102,22 +92,12 @@ told_by_members (x ∷ xs) (y ∷ ys) a b same =
 
 -- ---- some of them
 
-passed : (P : ℕ → Type 0) (p : ℕ → Bool) (xs : List ℕ) → AllByRecursion P xs →
-    AllByRecursion P (filter p xs)
-passed P p [] all = tt
-passed P p (x ∷ xs) all = by (p x) (passed P p xs all.1)
-  where
-    by : (t : Bool) → AllByRecursion P (filter p xs) →
-        AllByRecursion P (cond t (x ∷ filter p xs) (filter p xs))
-    by true rest = (all.0, rest)
-    by false rest = rest
-
 pub some_rise : (p : ℕ → Bool) (xs : List ℕ) → Rises xs → Rises (filter p xs)
 some_rise p [] rises = tt
 some_rise p (x ∷ xs) rises = by (p x) (some_rise p xs rises.1)
   where
     by : (t : Bool) → Rises (filter p xs) → Rises (cond t (x ∷ filter p xs) (filter p xs))
-    by true rest = (passed (λ y. x < y) p xs rises.0, rest)
+    by true rest = (all_passed (λ y. x < y) p xs rises.0, rest)
     by false rest = rest
 
 pub among_some : (p : ℕ → Bool) (r : ℕ) (xs : List ℕ) →
@@ -148,7 +128,7 @@ range_rises a zero = tt
 range_rises a (suc n) = (range_above a (a + 1) n (omega arith), range_rises (a + 1) n)
 
 pub among_range : (r a n : ℕ) → a ≤ r → among r (range_with_len a n) ≡ nat_lt r (a + n)
-among_range r a zero h = sym (not_lower r (a + zero) (omega arith))
+among_range r a zero h = sym (lt_false r (a + zero) (omega arith))
 among_range r a (suc n) h = by (nat_eq a r) refl (among_range r (a + 1) n)
   where
     by : (t : Bool) → nat_eq a r ≡ t →
@@ -178,27 +158,11 @@ put s xs =
 
 lower_passed : (s : ℕ) (xs : List ℕ) →
     AllByRecursion (λ x. x < s) (filter (λ x. nat_lt x s) xs)
-lower_passed s [] = tt
-lower_passed s (x ∷ xs) = by (nat_lt x s) refl (lower_passed s xs)
-  where
-    by : (t : Bool) → nat_lt x s ≡ t →
-        AllByRecursion (λ y. y < s) (filter (λ y. nat_lt y s) xs) →
-        AllByRecursion (λ y. y < s)
-        (cond t (x ∷ filter (λ y. nat_lt y s) xs) (filter (λ y. nat_lt y s) xs))
-    by true e rest = (ltb-true x s e, rest)
-    by false e rest = rest
+lower_passed s = those_passed (λ x. x < s) (λ x. nat_lt x s) (λ x e. ltb-true x s e)
 
 later_passed : (s : ℕ) (xs : List ℕ) →
     AllByRecursion (λ x. s < x) (filter (λ x. nat_lt s x) xs)
-later_passed s [] = tt
-later_passed s (x ∷ xs) = by (nat_lt s x) refl (later_passed s xs)
-  where
-    by : (t : Bool) → nat_lt s x ≡ t →
-        AllByRecursion (λ y. s < y) (filter (λ y. nat_lt s y) xs) →
-        AllByRecursion (λ y. s < y)
-        (cond t (x ∷ filter (λ y. nat_lt s y) xs) (filter (λ y. nat_lt s y) xs))
-    by true e rest = (ltb-true s x e, rest)
-    by false e rest = rest
+later_passed s = those_passed (λ x. s < x) (λ x. nat_lt s x) (λ x e. ltb-true s x e)
 
 above_more : (x s : ℕ) (ys : List ℕ) → x < s → AllByRecursion (λ y. s < y) ys →
     AllByRecursion (λ y. x < y) ys

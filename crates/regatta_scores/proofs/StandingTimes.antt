@@ -17,6 +17,7 @@ use Rattle.regatta_scores.specs.Order.{is_empty, stands_in, HasNoEmptyGroup, wit
 use Rattle.regatta_scores.specs.CorrectedTimes.{CorrectedTime, order_of_times, time_in, with_time}
 use Rattle.regatta_scores.specs.Journal.{same_sail, order_after, order_by, time_given, ends_time}
 use Rattle.regatta_scores.specs.Journal.{lasting, standing_times}
+use Rattle.regatta_scores.proofs.Members.{all_passed}
 use Rattle.regatta_scores.proofs.RisingNumbers.{or_false}
 use Rattle.regatta_scores.proofs.TimedOrders.{order_with_time, order_without, stays_by}
 
@@ -315,16 +316,6 @@ finished_by : (rules : RulesParts) (cs : List Command) (c : Command) → rules.h
     order_by rules (cs ++ c ∷ []) ≡ order_after (order_by rules cs) c
 finished_by rules cs c h = rw h (fold_push order_after [] cs c)
 
-passed : (P : CorrectedTime Sail → Type 0) (p : CorrectedTime Sail → Bool)
-    (ts : List (CorrectedTime Sail)) → AllByRecursion P ts → AllByRecursion P (filter p ts)
-passed P p [] all = tt
-passed P p (t ∷ ts) all = by (p t) (passed P p ts all.1)
-  where
-    by : (b : Bool) → AllByRecursion P (filter p ts) →
-        AllByRecursion P (cond b (t ∷ filter p ts) (filter p ts))
-    by true rest = (all.0, rest)
-    by false rest = rest
-
 -- the order is made by times where none of its groups is empty
 timed_by : (rules : RulesParts) (cs : List Command) (race : ℕ) (sail : Sail) (seconds : ℕ) →
     rules.handicap ≡ true → HasNoEmptyGroup (order_by rules cs) →
@@ -340,7 +331,7 @@ timed_by rules cs race sail seconds h full out =
     ≡ order_of_times (standing_times (cs ++ Time race sail seconds ∷ [])) = rw h refl in
     later ∙ ap order_of_times (times_more cs (Time race sail seconds))
     ∙ order_with_time (time_by cs) left
-    (passed (λ t. time_by cs t.boat ≡ Some t.seconds) (λ t. not (same_sail t.boat sail))
+    (all_passed (λ t. time_by cs t.boat ≡ Some t.seconds) (λ t. not (same_sail t.boat sail))
     (standing_times cs) (own_time (standing_times cs) (distinct cs))) new
     ∙ ap (λ order. with_time (time_by cs) order sail seconds)
     (order_without same_sail (standing_times cs) sail

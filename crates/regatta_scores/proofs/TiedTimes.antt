@@ -11,8 +11,8 @@ use Rattle.std.proofs.lemmas.List.Sums.{count_by-le-length}
 use borrow.Author.Tests.{eqb-true, eq-eqb, ltb-true, ltb-false, lt-ltb}
 use Rattle.regatta_scores.specs.Order.{is_empty}
 use Rattle.regatta_scores.proofs.Counts.{count_cons}
-use Rattle.regatta_scores.proofs.Members.{le_by, count_le}
-use Rattle.regatta_scores.proofs.RisingNumbers.{or_right, is_itself, not_lower, among, Rises}
+use Rattle.regatta_scores.proofs.Members.{or_right, lt_false, le_by, count_le}
+use Rattle.regatta_scores.proofs.RisingNumbers.{is_itself, among, Rises}
 use Rattle.regatta_scores.proofs.RisingNumbers.{told_by_members, some_rise, among_some}
 use Rattle.regatta_scores.proofs.RisingNumbers.{range_rises, among_range, all_among, put, put_rises}
 use Rattle.regatta_scores.proofs.RisingNumbers.{among_put, risen}
@@ -188,7 +188,7 @@ module _ {X : Type 0} (key : X → ℕ) where
       by true e rest k =
           let same = eqb-true (key x) r e in
           let none : ◌≡◌ {A = ℕ} (cond (nat_lt (key x) r) 1 0) 0 =
-          rw (not_lower (key x) r (omega (arith, same))) refl in
+          rw (lt_false (key x) r (omega (arith, same))) refl in
           let one : ◌≡◌ {A = ℕ} (cond (nat_lt (key x) s) 1 0) 1 =
           rw (lt-ltb (key x) s (omega (arith, same, h))) refl in
           omega (arith, first, second, none, one, lower_le xs r s (omega (arith, h)))
@@ -381,7 +381,7 @@ module _ {X : Type 0} (key : X → ℕ) where
   groups_of_more xs x rs rises are =
       let s = key x in
       let all = xs ++ x ∷ [] in
-      let itself : nat_lt s s ≡ false = not_lower s s (omega arith) in
+      let itself : nat_lt s s ≡ false = lt_false s s (omega arith) in
       let hers : those all s ≡ those xs s ++ x ∷ [] =
       filter-append (has s) xs (x ∷ []) ∙ rw (is_itself s) refl in
       groups_are all (put s rs) (put_rises s rs rises) (more_keys xs x rs are)

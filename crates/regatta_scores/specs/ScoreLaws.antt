@@ -1,37 +1,14 @@
 -- Laws of all scores of a series: none is below 1.0, so boats beat each other in three cases alone.
 use Rattle.std.specs.Prelude.{◌≡◌, ◌↔◌, ◌≤◌, true, All}
-use Rattle.regatta_terms.specs.Entries.{EntryParts, IsEntry, IsRedress}
+use Rattle.regatta_terms.specs.Entries.{IsEntry}
 use Rattle.regatta_terms.specs.Rules.{RulesParts}
 use Rattle.regatta_terms.specs.declared.sail.Sail.{Sail}
-use Rattle.regatta_terms.specs.declared.command.Command.{Command}
-use Rattle.regatta_terms.specs.declared.command.Command.TheVariants.{Enter, Finish, Tie, Before}
-use Rattle.regatta_terms.specs.declared.command.Command.TheVariants.{Time, Strike, Mark, Penalise}
-use Rattle.regatta_terms.specs.declared.command.Command.TheVariants.{Redress, Clear, Score, Unscore}
 use Rattle.regatta_scores.specs.declared.table.Cell.{Cell}
 use Rattle.regatta_scores.specs.declared.table.Row.{Row}
 use Rattle.regatta_scores.specs.Journal.{Journal}
 use Rattle.regatta_scores.specs.Ranking.{beats}
 use Rattle.regatta_scores.specs.RankLaws.{IsBetter}
 use Rattle.regatta_scores.specs.Standing.{points, line, standing}
-
--- redress that a command gives as points is 1.0 to 999.9 (A9 (c))
-abbrev pub HasAwardInRange : Command → Type 0
-HasAwardInRange (Enter sail) = Unit {0}
-HasAwardInRange (Finish race sail) = Unit {0}
-HasAwardInRange (Tie race sail other) = Unit {0}
-HasAwardInRange (Before race sail other) = Unit {0}
-HasAwardInRange (Time race sail seconds) = Unit {0}
-HasAwardInRange (Strike race sail) = Unit {0}
-HasAwardInRange (Mark race sail code) = Unit {0}
-HasAwardInRange (Penalise race sail kind) = Unit {0}
-HasAwardInRange (Redress race sail redress) = IsRedress redress
-HasAwardInRange (Clear race sail) = Unit {0}
-HasAwardInRange (Score race) = Unit {0}
-HasAwardInRange (Unscore race) = Unit {0}
-
--- so it is in each entry of the journal
-abbrev pub AwardsAreInRange : Journal → Type 0
-AwardsAreInRange journal = All (λ (entry : EntryParts). HasAwardInRange entry.command) journal
 
 -- under these rules no boat has a score below 1.0 by the journal, and no cell of its standing has
 pub record HasNoScoreBelowOne (rules : RulesParts) (journal : Journal) : Type 0 where

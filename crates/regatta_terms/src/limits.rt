@@ -12,6 +12,9 @@ pub const MAX_ENTRIES: usize = 8192;
 /// How many penalties of one kind a boat may have in one race (RRS 30.2, 44.3(c)).
 pub const MAX_PENALTIES: u8 = 9;
 
+/// How many whole points the stated amount of a Scoring Penalty may have (RRS 44.3(c)).
+pub const MAX_SCP_POINTS: u8 = 99;
+
 /// How many bytes a line may have, without its end.
 pub const MAX_LINE: usize = 80;
 

@@ -194,8 +194,8 @@ fn help_names_the_options_of_serving(rt: HostRuntime) -> Result<(), Fail> {
     Ok(())
 }
 
-/// A run of `serve` at this socket, with this amount of a Scoring Penalty, and with the journal file
-/// and the entry list of this folder.
+/// A run of `serve` at this socket, with this amount of a Scoring Penalty, and with the journal
+/// file and the entry list of this folder.
 fn served<R>(rt: &R, folder: &str, socket: &str, scp: &str) -> Result<(u8, Tape, Tape), Fail>
 where
     R: Files + AllocGlobal + Threads + Wait + Net + Sync,
@@ -320,7 +320,7 @@ fn starts_of_the_other_system_are_refused(rt: HostRuntime) -> Result<(), Fail> {
 
 #[test]
 fn devices_fail(rt: HostRuntime) -> Result<(), Fail> {
-    let mut broken = Tape::new(rt.alloc(), b"ENTER A\n", 4, 8, 0)?;
+    let mut broken = failing(rt.alloc(), b"ENTER A\n", 4, 8, 0)?;
     let mut output = taking(rt.alloc(), 100)?;
     let mut errors = taking(rt.alloc(), 100)?;
     let status = program(&rt, &["replay"], &mut broken, &mut output, &mut errors);

@@ -8,8 +8,8 @@ returns-then-not-touched_by-clause-value c =
     untouched_scores c.args.rules.now c.args.kept.now c.args.revision.now
     (sym c.touched_by.ensures ∙ c.if-not-touched_by.true)
 
-pub with_places-requires : goal.with_places-requires
-with_places-requires c =
+pub with_ranks-requires : goal.with_ranks-requires
+with_ranks-requires c =
     omega (
       arith,
       ap length c.in_ok-lines.ensures,

@@ -1,11 +1,12 @@
 use Rattle.std.proofs.Common.{◌≡◌, ◌≤◌, ◌+◌, ◌-◌, length}
 use Rattle.std.specs.Io.KnownBytes.{Consumes}
+use Rattle.regatta_streams.specs.declared.whole.TheConstants.{PIECE}
 use Rattle.regatta_streams.proofs.whole.read_text.Given as goal
 
 -- what is read so far is the text at hand, and no call failed
 abbrev pub invariant-loop-buffer : goal.invariant-loop-buffer
 invariant-loop-buffer g l = record {
-  buffer : length l.buffer ≡ 4096;
+  buffer : length l.buffer ≡ PIECE;
   limit : l.most ≡ l.fn.limit;
   few : length l.text.items ≤ l.most + 1;
   took : Consumes (g.R.Source.remaining l.fn.input) (g.R.Source.remaining l.input) l.text.items;

@@ -5,8 +5,8 @@ use Rattle.regatta_board.specs.Table.{Kept}
 use Rattle.regatta_board.proofs.ScoringFacts.{lines_by_long}
 use Rattle.regatta_board.proofs.scoring.Scoring.of.Goals as goal
 
-pub with_places-requires : goal.with_places-requires
-with_places-requires c =
+pub with_ranks-requires : goal.with_ranks-requires
+with_ranks-requires c =
     omega (
       arith,
       ap length c.in_ok-lines.ensures,
@@ -22,5 +22,5 @@ returns c = record {
       c.of-draft.ensures c.in_ok-columns.ensures.value;
   lines = c.in_ok-lines-2.ensures.0 ∙ c.in_ok-lines.ensures
       ∙ ap (lines_by c.args.rules.now) c.of-draft.ensures;
-  places = c.in_ok-lines-2.ensures.1 ∙ ap places (sym c.in_ok-lines-2.ensures.0);
+  ranks = c.in_ok-lines-2.ensures.1 ∙ ap places (sym c.in_ok-lines-2.ensures.0);
 }

@@ -78,8 +78,8 @@ sorted_rows-requires-clause-long c =
     (all_long rules (columns rules c.args.kept.now.sheets (races c.args.kept.now.counts))
     (length c.args.kept.now.sails)))
 
-pub sorted_rows-requires-clause-places : goal.sorted_rows-requires-clause-places
-sorted_rows-requires-clause-places c =
+pub sorted_rows-requires-clause-ranks : goal.sorted_rows-requires-clause-ranks
+sorted_rows-requires-clause-ranks c =
     let rules = c.requires.scoring.0 in
     let is = c.requires.scoring.1 in
     let cols : c.deref.result.now ≡ c.args.self.now.columns =
@@ -97,8 +97,8 @@ sorted_rows-requires-clause-places c =
     ∙ (λ i. map (λ race. get_or (cols i) (race - 1) []) c.deref-2.result.now) in
     let found = found_columns rules c.args.kept.now c.requires.kept c.args.self.now.columns
     is.columns c.deref-2.result.now rs c.deref-3.result.now each in
-    let ps = c.as_slice.ensures ∙ ap (λ (s : Scoring). s.places) c.self.view_is in
-    ap length ps ∙ ap length is.places
+    let ps = c.as_slice.ensures ∙ ap (λ (s : Scoring). s.ranks) c.self.view_is in
+    ap length ps ∙ ap length is.ranks
     ∙ length-map c.args.self.now.lines (place c.args.self.now.lines) ∙ ap length is.lines
     ∙ lines_by_long rules c.args.kept.now ∙ ap length (sym boats)
 
@@ -108,7 +108,7 @@ returns c rules is =
     c.deref.ensures.value ∙ ap (λ (s : Scoring). s.columns) c.self.view_is in
     let ls : c.deref-4.result.now ≡ c.args.self.now.lines =
     c.deref-4.ensures.value ∙ ap (λ (s : Scoring). s.lines) c.self.view_is in
-    let ps = c.as_slice.ensures ∙ ap (λ (s : Scoring). s.places) c.self.view_is in
+    let ps = c.as_slice.ensures ∙ ap (λ (s : Scoring). s.ranks) c.self.view_is in
     let boats : c.boats.result.now ≡ c.args.kept.now.sails =
     c.boats.ensures ∙ ap (λ (k : Kept). k.sails) c.of-draft.ensures in
     let counted = ap (λ (k : Kept). races k.counts) c.of-draft.ensures in
@@ -124,6 +124,6 @@ returns c rules is =
     let races_are = c.new.ensures ∙ c.in_ok-races.ensures.value ∙ counted in
     let rows_made = c.new-2.ensures ∙ c.in_ok-rows.ensures
     ∙ (λ i. rows_by (boats i) (found i) (ls i) (ps i))
-    ∙ rows_are rules c.args.kept.now.sails all c.args.self.now.lines c.args.self.now.places
-    is.lines is.places in
+    ∙ rows_are rules c.args.kept.now.sails all c.args.self.now.lines c.args.self.now.ranks
+    is.lines is.ranks in
     λ i. record { races = races_are i; rows = rows_made i }
