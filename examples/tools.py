@@ -246,6 +246,18 @@ def savers(program):
     staying.send_signal(2)
     printed, status = ended(staying)
     expect("the end", (printed.splitlines()[-1], status), ("stopped", 0))
+    with_version = "REGATTA 2\n" + HELD
+    with open("held.txt", "w") as file:
+        file.write(with_version)
+    with served(program, "--journal", "held.txt"):
+        expect("a file of --print journal", ran(*saver, "--once"),
+               ("held.txt holds 2 entries\n", 0))
+        with open("held.txt") as file:
+            expect("the file with its version", file.read(), with_version)
+        ran("client.py", SOCKET, lines="ENTER C\n")
+        expect("it goes on", ran(*saver, "--once"), ("held.txt holds 3 entries\n", 0))
+    with open("held.txt") as file:
+        expect("the file that went on", file.read().startswith(HELD), True)
     expect("what is left in the folder", sorted(os.listdir()), ["held.txt", SOCKET])
 
 
