@@ -45,7 +45,7 @@ fn options_are_the_rules_and_the_form(rt: HostRuntime) -> Result<(), Fail> {
         ),
         (
             &["replay", "--print=journal"],
-            "1 1 SCORER ENTER A\n1 2 SCORER ENTER B\n1 3 SCORER ENTER C\n\
+            "REGATTA 2\n1 1 SCORER ENTER A\n1 2 SCORER ENTER B\n1 3 SCORER ENTER C\n\
                 1 4 SCORER FINISH 1 A\n1 5 SCORER MARK 1 B DNF\n1 6 SCORER PENALTY 1 A SCP\n\
                 1 7 SCORER SCORE 1\n",
         ),
@@ -380,7 +380,7 @@ fn start_files_are_read(rt: HostRuntime) -> Result<(), Fail> {
         "--entries",
         boats.as_str(),
     ];
-    let cases: [(&str, &str, &str, &str, u8); 10] = [
+    let cases: [(&str, &str, &str, &str, u8); 12] = [
         (
             "1 1 SCORER ENTER A\n2 1 JURY REDRESS 1 A 7.5\n",
             "Sail\nb\n",
@@ -392,6 +392,20 @@ fn start_files_are_read(rt: HostRuntime) -> Result<(), Fail> {
             "1 1 SCORER ENTER A\nX\n",
             "Sail\n",
             "regatta: journal fault 1 line 2\n",
+            "",
+            1,
+        ),
+        (
+            "REGATTA 2\n1 1 SCORER ENTER A\n",
+            "Sail\nb\n",
+            "",
+            "OK 3 1= 0.0\nTABLE 3 RACES\n1= A 0.0\n1= B 0.0\n1= C 0.0\n",
+            0,
+        ),
+        (
+            "REGATTA 3\nX\n",
+            "Boat\nX\n",
+            "regatta: journal fault 4 line 1\n",
             "",
             1,
         ),
@@ -443,14 +457,15 @@ fn start_files_are_read(rt: HostRuntime) -> Result<(), Fail> {
         assert_eq!(rt; status, wanted);
     }
     let mut full = Vec::new(rt.alloc());
-    for _ in 0..4097 {
+    full.extend_from_slice(b"REGATTA 2\n")?;
+    for _ in 0..8193 {
         full.extend_from_slice(b"1 1 SCORER ENTER A\n")?;
     }
     fs::write(&rt, journal.as_str(), &full)?;
     let (status, _, errors) = run(&rt, &words, "ENTER C\n")?;
     assert_eq!(rt;
         errors.written(),
-        b"regatta: journal fault 2 line 4097\n".as_slice()
+        b"regatta: journal fault 2 line 8194\n".as_slice()
     );
     assert_eq!(rt; status, 1);
     let long = vec![in rt.alloc(); b'\n'; 1_048_577]?;

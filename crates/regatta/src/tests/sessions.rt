@@ -7,7 +7,7 @@ use super::*;
 use regatta_office::{
     End, Gate, Office, OfficeName, OpenGate, Opened, Pass, Sink, Source, session,
 };
-use regatta_tables::write_journal;
+use regatta_tables::write_entries;
 use regatta_terms::{Command, Refusal, Role, Sail};
 use std::marker::Brand;
 use std::process::Abort;
@@ -17,7 +17,7 @@ use std::sync::atomic::{AtomicU64, Ordering};
 /// More bytes than any session here gives or takes.
 const PLENTY: usize = 100_000;
 
-/// The text of the office's journal.
+/// The text of the entries of the office's journal.
 pub(crate) fn journal_text<N: OfficeName, H: Wait + Drop, R: Wait>(
     rt: &R,
     alloc: Global,
@@ -25,7 +25,7 @@ pub(crate) fn journal_text<N: OfficeName, H: Wait + Drop, R: Wait>(
 ) -> Result<Vec<u8>, Fail> {
     let desk = office.desk(rt);
     let mut text = Vec::new(alloc);
-    write_journal(desk.board().entries(), &mut text)?;
+    write_entries(desk.board().entries(), &mut text)?;
     Ok(text)
 }
 

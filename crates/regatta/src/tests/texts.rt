@@ -97,19 +97,28 @@ fn prints_each_fault_of_a_file_with_its_number(rt: HostRuntime) -> Result<(), Fa
     let fault = format!(in rt.alloc(); "{}", EntriesFault::TooMany { row: 3 })?;
     assert_eq!(rt;
         fault.as_str(),
-        "entries fault 5: more than 200 sails, from row 3"
+        "entries fault 5: more than 500 sails, from row 3"
     );
     let bad_line = JournalFault::BadLine {
         line: 2,
         fault: LineFault::WrongCount,
     };
-    for fault in [bad_line, JournalFault::TooMany, JournalFault::NoMemory] {
+    let faults = [
+        bad_line,
+        JournalFault::TooMany { line: 8194 },
+        JournalFault::NoMemory,
+        JournalFault::BadVersion,
+    ];
+    for fault in faults {
         let text = format!(in rt.alloc(); "{fault}")?;
         let begins = format!(in rt.alloc(); "journal fault {}: ", fault.number())?;
         assert!(rt; text.as_str().starts_with(begins.as_str()));
     }
-    let fault = format!(in rt.alloc(); "{}", JournalFault::TooMany)?;
-    assert_eq!(rt; fault.as_str(), "journal fault 2: more than 4096 lines");
+    let fault = format!(in rt.alloc(); "{}", JournalFault::TooMany { line: 8194 })?;
+    assert_eq!(rt;
+        fault.as_str(),
+        "journal fault 2: more than 8192 entries, from line 8194"
+    );
     Ok(())
 }
 
@@ -119,7 +128,7 @@ fn nobody_has_results_and_a_journal(rt: HostRuntime) -> Result<(), Fail> {
     let (output, _) = replayed(rt.alloc(), b"", &rules, &[], Form::Csv)?;
     assert_eq!(rt; output.written(), b"rank,sail,net\n".as_slice());
     let (output, ended) = replayed(rt.alloc(), b"", &rules, &[], Form::Journal)?;
-    assert_eq!(rt; output.written(), b"".as_slice());
+    assert_eq!(rt; output.written(), b"REGATTA 2\n".as_slice());
     assert_eq!(rt; ended, Ok(()));
     Ok(())
 }
