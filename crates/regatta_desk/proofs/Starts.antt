@@ -37,6 +37,7 @@ fault_of_good_seats r e few many is one some most = (λ h. absurd (told r is h),
         other : (e ≡ fault.NoReader) ⊎ (e ≡ fault.NoMemory) → ⊥
         other (inl reader) = absurd (cc (h, is, reader))
         other (inr memory) = absurd (cc (h, is, memory))
+
     bad : few ⊎ many → ⊥
     bad (inl h) = some h
     bad (inr h) = most h

@@ -56,7 +56,7 @@ impl<N: OfficeName, R: Wait + Drop> Desk<N, R> {
     /// # Errors
     ///
     /// Where memory is wanting for the reply, never where there is room for one. Nothing has
-    /// changed then.
+    /// changed then, nor has the room.
     pub fn answer<W: Wait>(
         &mut self,
         rt: &W,
@@ -71,7 +71,8 @@ impl<N: OfficeName, R: Wait + Drop> Desk<N, R> {
             × (out.new.items ≡ out.old.items ++ reply_text reply)) }
         ensures fits { vec_len out.old + REPLY_ROOM ≤ vec_capacity out.old → IsOk result }
         ensures err { OnErr result ((self.new ≡ self.old) × (pass.new ≡ pass.old)
-            × (out.new.items ≡ out.old.items)) }
+            × (out.new.items ≡ out.old.items)
+            × (vec_capacity out.new ≡ vec_capacity out.old)) }
     {
         make_room(out)?;
         let reply = self.reply(rt, pass, role, line);
@@ -107,7 +108,7 @@ fn show<N: OfficeName>(pass: &mut Pass<N>, out: &mut Vec<u8>)
 /// # Errors
 ///
 /// Where memory is wanting for a reply, never where there is room for one. Nothing has changed
-/// then.
+/// then, nor has the room.
 pub fn answer_alone<N: OfficeName>(
     pass: &mut Pass<N>,
     role: &mut Role,
@@ -121,7 +122,8 @@ pub fn answer_alone<N: OfficeName>(
     ensures next { IfOk result (λ next. next ≡ next_after asked) }
     ensures fits { vec_len out.old + REPLY_ROOM ≤ vec_capacity out.old → IsOk result }
     ensures err { OnErr result ((role.new ≡ role.old) × (pass.new ≡ pass.old)
-        × (out.new.items ≡ out.old.items)) }
+        × (out.new.items ≡ out.old.items)
+        × (vec_capacity out.new ≡ vec_capacity out.old)) }
 {
     match asked {
         Ok(Line::Show) => {

@@ -35,8 +35,8 @@ pub fn ranked(row: Option<Touched>) -> Reply
 ///
 /// # Errors
 ///
-/// Where memory is wanting for the reply, never where there is room for one. The role and what is
-/// written are then as they were.
+/// Where memory is wanting for the reply, never where there is room for one. The role, what is
+/// written and the room are then as they were.
 pub fn answer_apart(
     role: &mut Role,
     asked: Result<Line, LineFault>,
@@ -46,7 +46,8 @@ pub fn answer_apart(
     ensures text { OnOk result (out.new.items ≡ out.old.items ++ reply_text (reply_apart asked)) }
     ensures role { OnOk result (role.new ≡ role_after asked role.old) }
     ensures fits { vec_len out.old + REPLY_ROOM ≤ vec_capacity out.old → IsOk result }
-    ensures err { OnErr result ((role.new ≡ role.old) × (out.new.items ≡ out.old.items)) }
+    ensures err { OnErr result ((role.new ≡ role.old) × (out.new.items ≡ out.old.items)
+        × (vec_capacity out.new ≡ vec_capacity out.old)) }
 {
     make_room(out)?;
     let reply = match asked {
