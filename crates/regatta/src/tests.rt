@@ -9,6 +9,7 @@ mod boards;
 mod complaints;
 mod faults;
 mod handicap;
+mod memory;
 mod offices;
 mod programs;
 mod replays;
