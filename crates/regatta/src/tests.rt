@@ -26,11 +26,38 @@ fn default_rules() -> Rules {
     Rules::new(Absent::A52, None, &[2], false).unwrap()
 }
 
+/// The same byte so many times.
+fn repeated(alloc: Global, byte: u8, count: usize) -> Result<Vec<u8>, Fail> {
+    Ok(vec![in alloc; byte; count]?)
+}
+
+/// These parts, one behind the other.
+fn joined(alloc: Global, parts: &[&[u8]]) -> Result<Vec<u8>, Fail> {
+    let mut text = Vec::new(alloc);
+    for part in parts {
+        text.extend_from_slice(part)?;
+    }
+    Ok(text)
+}
+
 /// A tape that gives this text in pieces of so many bytes.
 fn giving(alloc: Global, text: &[u8], piece: usize) -> Result<Tape, Fail>
     requires { 0 < piece }
 {
     Ok(Tape::new(alloc, text, piece, 4_000_000, 0)?)
+}
+
+/// A tape that gives this text in pieces of so many bytes, and fails once it gave and took so many.
+fn failing(
+    alloc: Global,
+    text: &[u8],
+    piece: usize,
+    gives: usize,
+    takes: usize,
+) -> Result<Tape, Fail>
+    requires { 0 < piece }
+{
+    Ok(Tape::new(alloc, text, piece, gives, takes)?)
 }
 
 /// A tape that takes so many bytes.

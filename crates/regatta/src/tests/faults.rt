@@ -27,7 +27,7 @@ fn says(
 #[test]
 fn a_reader_breaks_off(rt: HostRuntime) -> Result<(), Fail> {
     let text = b"ENTER A\nENTER B";
-    let broken = Tape::new(rt.alloc(), text, 4, text.len(), 0)?;
+    let broken = failing(rt.alloc(), text, 4, text.len(), 0)?;
     let (output, result) = ended(rt.alloc(), broken, taking(rt.alloc(), 100)?);
     assert_eq!(rt; result, Err(RunFault::Read));
     assert_eq!(rt; output.written(), b"OK 1 1 0.0\n".as_slice());
@@ -48,10 +48,8 @@ fn a_writer_is_full(rt: HostRuntime) -> Result<(), Fail> {
 
 /// A line, and then so many bytes `X`.
 fn long_text(alloc: Global, line: &[u8], count: usize) -> Result<Vec<u8>, Fail> {
-    let mut text = Vec::from_slice(alloc, line)?;
-    let rest = vec![in alloc; b'X'; count]?;
-    text.extend_from_slice(&rest)?;
-    Ok(text)
+    let rest = repeated(alloc, b'X', count)?;
+    joined(alloc, &[line, rest.as_slice()])
 }
 
 #[test]
@@ -74,9 +72,8 @@ fn what_follows_quit_is_never_too_long(rt: HostRuntime) -> Result<(), Fail> {
 
 /// So many bytes `X`, and then these lines.
 fn long_first_line(alloc: Global, count: usize, lines: &[u8]) -> Result<Vec<u8>, Fail> {
-    let mut text = long_text(alloc, b"", count)?;
-    text.extend_from_slice(lines)?;
-    Ok(text)
+    let first = repeated(alloc, b'X', count)?;
+    joined(alloc, &[first.as_slice(), lines])
 }
 
 #[test]
@@ -105,15 +102,19 @@ fn quit_ends_within_the_limit(rt: HostRuntime) -> Result<(), Fail> {
 }
 
 /// Two lines that are too long, lines of bytes that are no words, and a line of 80 bytes and a CR.
-fn odd_lines(alloc: Global) -> Result<Vec<u8>, Fail> {
-    let mut text = long_first_line(alloc, 81, b"\n")?;
-    text.extend_from_slice(&long_text(alloc, b"", 5000)?)?;
-    text.extend_from_slice(b"\n\xff\0\n\r\nENTER\tA\nSHOW\r\r\nENTER \xc3\xa9\nENTER A")?;
-    for _ in 0..73 {
-        text.push(b' ')?;
-    }
-    text.extend_from_slice(b"\r\n")?;
-    Ok(text)
+pub(crate) fn odd_lines(alloc: Global) -> Result<Vec<u8>, Fail> {
+    let first = repeated(alloc, b'X', 81)?;
+    let second = repeated(alloc, b'X', 5000)?;
+    let spaces = repeated(alloc, b' ', 73)?;
+    let parts: [&[u8]; 6] = [
+        first.as_slice(),
+        b"\n",
+        second.as_slice(),
+        b"\n\xff\0\n\r\nENTER\tA\nSHOW\r\r\nENTER \xc3\xa9\nENTER A",
+        spaces.as_slice(),
+        b"\r\n",
+    ];
+    joined(alloc, &parts)
 }
 
 #[test]
@@ -125,11 +126,6 @@ fn lines_are_cut_at_their_ends(rt: HostRuntime) -> Result<(), Fail> {
         assert!(rt; says(rt.alloc(), &text, piece, Ok(()), written)?);
     }
     Ok(())
-}
-
-/// So many empty lines.
-fn empty_lines(alloc: Global, count: usize) -> Result<Vec<u8>, Fail> {
-    Ok(vec![in alloc; b'\n'; count]?)
 }
 
 /// So many replies to empty lines, and then the table of nobody.
@@ -145,7 +141,7 @@ fn replies_to_empty_lines(alloc: Global, count: usize) -> Result<Vec<u8>, Fail> 
 /// More replies to the lines of one piece than are gathered before they are written.
 #[test]
 fn replies_of_a_piece_are_written_in_order(rt: HostRuntime) -> Result<(), Fail> {
-    let text = empty_lines(rt.alloc(), 2000)?;
+    let text = repeated(rt.alloc(), b'\n', 2000)?;
     let replies = replies_to_empty_lines(rt.alloc(), 2000)?;
     let (output, result) = ended(
         rt.alloc(),

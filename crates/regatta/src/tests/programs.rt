@@ -320,7 +320,7 @@ fn starts_of_the_other_system_are_refused(rt: HostRuntime) -> Result<(), Fail> {
 
 #[test]
 fn devices_fail(rt: HostRuntime) -> Result<(), Fail> {
-    let mut broken = Tape::new(rt.alloc(), b"ENTER A\n", 4, 8, 0)?;
+    let mut broken = failing(rt.alloc(), b"ENTER A\n", 4, 8, 0)?;
     let mut output = taking(rt.alloc(), 100)?;
     let mut errors = taking(rt.alloc(), 100)?;
     let status = program(&rt, &["replay"], &mut broken, &mut output, &mut errors);

@@ -172,6 +172,12 @@ fn asked<R: Net>(rt: &R, alloc: Global, text: &[u8]) -> Option<Vec<u8>> {
     Some(replies)
 }
 
+/// A client's lines up to QUIT, and much that nobody reads.
+fn with_unread(alloc: Global) -> Result<Vec<u8>, Fail> {
+    let unread = repeated(alloc, b'X', 2000)?;
+    joined(alloc, &[b"ENTER A\nQUIT\nENTER B\n", unread.as_slice()])
+}
+
 /// The client finds her replies and the end of the stream, whatever she sent behind QUIT. When she
 /// comes again, she is given the lowest seat once more. The door was bound for these two streams
 /// alone, so who comes then is let in no more.
@@ -179,9 +185,7 @@ fn asked<R: Net>(rt: &R, alloc: Global, text: &[u8]) -> Option<Vec<u8>> {
 fn a_client_at_a_socket(rt: HostRuntime) -> Result<(), Fail> {
     let alloc = rt.alloc();
     let _ = fs::remove_file(&rt, SOCKET);
-    let mut text = Vec::from_slice(alloc, b"ENTER A\nQUIT\nENTER B\n")?;
-    let unread = vec![in alloc; b'X'; 2000]?;
-    text.extend_from_slice(&unread)?;
+    let text = with_unread(alloc)?;
     let mut doors = [SocketDoor::bind(&rt, SOCKET, 2)?];
     let opened = Office::open(&rt, alloc, &default_rules(), 2, &[])?;
     let client = thread::spawn(&rt, move || {

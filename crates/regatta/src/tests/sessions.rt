@@ -1,5 +1,6 @@
 ghost use Rattle.std.specs.Prelude.{◌≡◌};
 
+use super::faults::odd_lines;
 use super::handicap::{REPLIES, TIMES, handicap_rules};
 use super::wires::{Count, count, wire_of};
 use super::*;
@@ -30,7 +31,7 @@ pub(crate) fn journal_text<N: OfficeName, H: Wait + Drop, R: Wait>(
 
 /// A tape that gives all of this text, in small pieces, and takes whatever comes.
 fn client(alloc: Global, text: &[u8]) -> Result<Tape, Fail> {
-    Ok(Tape::new(alloc, text, 7, PLENTY, PLENTY)?)
+    failing(alloc, text, 7, PLENTY, PLENTY)
 }
 
 /// What sessions on one pass left: how each ended, the pass's last number, and the journal.
@@ -39,6 +40,18 @@ struct Talked {
     ends: Vec<End>,
     last: u32,
     journal: Vec<u8>,
+}
+
+/// How a session on this pass ends. It has no contract, so that its callers are proved quickly.
+fn end_of<N: OfficeName, H: Wait + Drop, R: Wait, S: Source + Sink, G: Gate>(
+    rt: &R,
+    alloc: Global,
+    stream: &mut S,
+    office: &Office<N, H>,
+    pass: &mut Pass<N>,
+    gate: &G,
+) -> End {
+    session(rt, alloc, stream, office, pass, gate)
 }
 
 /// One session after another on this pass.
@@ -52,7 +65,7 @@ fn talk<N: OfficeName, H: Wait + Drop, R: Wait, S: Source + Sink, G: Gate>(
 ) -> Result<Vec<End>, Fail> {
     let mut ends = Vec::new(alloc);
     for stream in streams {
-        ends.push(session(rt, alloc, stream, office, pass, gate))?;
+        ends.push(end_of(rt, alloc, stream, office, pass, gate))?;
     }
     Ok(ends)
 }
@@ -141,7 +154,7 @@ fn look_first<N: OfficeName, H: Wait + Drop, R: Wait + Abort>(
     pass: &mut Pass<N>,
 ) -> Result<(), Fail> {
     let mut tape = client(alloc, LOOKS_FIRST)?;
-    let end = session(rt, alloc, &mut tape, office, pass, &OpenGate);
+    let end = end_of(rt, alloc, &mut tape, office, pass, &OpenGate);
     assert_eq!(rt; tape.written(), FIRST_REPLIES);
     assert_eq!(rt; end, End::Closed);
     assert_eq!(rt; pass.last(), 1);
@@ -156,7 +169,7 @@ fn enter_next<N: OfficeName, H: Wait + Drop, R: Wait + Abort>(
     pass: &mut Pass<N>,
 ) -> Result<(), Fail> {
     let mut tape = client(alloc, b"ENTER B\nQUIT\n")?;
-    let end = session(rt, alloc, &mut tape, office, pass, &OpenGate);
+    let end = end_of(rt, alloc, &mut tape, office, pass, &OpenGate);
     assert_eq!(rt; tape.written(), b"OK 2 1= 0.0\nBYE\n".as_slice());
     assert_eq!(rt; end, End::Quit);
     let journal = journal_text(rt, alloc, office)?;
@@ -196,23 +209,10 @@ fn run_by_guard<N: OfficeName, H: Wait + Drop, R: Wait + Abort>(
     Ok(())
 }
 
-/// Lines that are too long, bytes that are no text, and at last a line that is just short enough.
-fn foreign_bytes(alloc: Global) -> Result<Vec<u8>, Fail> {
-    let mut text = vec![in alloc; b'X'; 81]?;
-    text.push(b'\n')?;
-    let long = vec![in alloc; b'X'; 5000]?;
-    text.extend_from_slice(&long)?;
-    text.extend_from_slice(b"\n\xff\x00\n\r\nENTER\tA\nSHOW\r\r\nENTER \xc3\xa9\nENTER A")?;
-    let spaces = vec![in alloc; b' '; 73]?;
-    text.extend_from_slice(&spaces)?;
-    text.extend_from_slice(b"\r\n")?;
-    Ok(text)
-}
-
 #[test]
 fn lines_that_cannot_be_read(rt: HostRuntime) -> Result<(), Fail> {
     let opened = Office::open(&rt, rt.alloc(), &default_rules(), 1, &[])?;
-    let mut tapes = [client(rt.alloc(), &foreign_bytes(rt.alloc())?)?];
+    let mut tapes = [client(rt.alloc(), &odd_lines(rt.alloc())?)?];
     let talked = talk_at::<Brand, _, _, _, _>(&rt, rt.alloc(), opened, &mut tapes, &OpenGate)?;
     let written = "NO 20\nNO 20\nNO 21\nNO 21\nNO 21\nNO 21\nNO 23\nOK 1 1 0.0\n";
     assert_eq!(rt; tapes[0].written(), written.as_bytes());
@@ -246,7 +246,7 @@ fn corrected_times_in_a_session(rt: HostRuntime) -> Result<(), Fail> {
 fn a_write_that_fails(rt: HostRuntime) -> Result<(), Fail> {
     let opened = Office::open(&rt, rt.alloc(), &default_rules(), 1, &[])?;
     let mut tapes = [
-        Tape::new(rt.alloc(), b"ENTER A\nENTER B\nENTER C\n", 7, PLENTY, 16)?,
+        failing(rt.alloc(), b"ENTER A\nENTER B\nENTER C\n", 7, PLENTY, 16)?,
         client(rt.alloc(), b"ENTER C\n")?,
     ];
     let talked = talk_at::<Brand, _, _, _, _>(&rt, rt.alloc(), opened, &mut tapes, &OpenGate)?;
@@ -265,7 +265,7 @@ fn a_write_that_fails(rt: HostRuntime) -> Result<(), Fail> {
 #[test]
 fn a_read_that_fails(rt: HostRuntime) -> Result<(), Fail> {
     let opened = Office::open(&rt, rt.alloc(), &default_rules(), 1, &[])?;
-    let mut tapes = [Tape::new(rt.alloc(), b"ENTER A\nENT", 7, 11, PLENTY)?];
+    let mut tapes = [failing(rt.alloc(), b"ENTER A\nENT", 7, 11, PLENTY)?];
     let talked = talk_at::<Brand, _, _, _, _>(&rt, rt.alloc(), opened, &mut tapes, &OpenGate)?;
     assert_eq!(rt; tapes[0].written(), b"OK 1 1 0.0\n".as_slice());
     assert_eq!(rt; talked.ends.as_slice(), [End::ReadFault].as_slice());
@@ -291,11 +291,13 @@ impl Gate for NoFourth {
 
 /// An unknown word, a line that is too long, and two commands.
 fn four_lines(alloc: Global) -> Result<Vec<u8>, Fail> {
-    let mut text = Vec::from_slice(alloc, b"NOPE\n")?;
-    let long = vec![in alloc; b'X'; 81]?;
-    text.extend_from_slice(&long)?;
-    text.extend_from_slice(b"\nENTER A\nENTER B\nENTER C\n")?;
-    Ok(text)
+    let long = repeated(alloc, b'X', 81)?;
+    let parts: [&[u8]; 3] = [
+        b"NOPE\n",
+        long.as_slice(),
+        b"\nENTER A\nENTER B\nENTER C\n",
+    ];
+    joined(alloc, &parts)
 }
 
 /// Lines that can't be read count, too, and the line that isn't let through changes nothing.
