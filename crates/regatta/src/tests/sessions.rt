@@ -292,11 +292,7 @@ impl Gate for NoFourth {
 /// An unknown word, a line that is too long, and two commands.
 fn four_lines(alloc: Global) -> Result<Vec<u8>, Fail> {
     let long = repeated(alloc, b'X', 81)?;
-    let parts: [&[u8]; 3] = [
-        b"NOPE\n",
-        long.as_slice(),
-        b"\nENTER A\nENTER B\nENTER C\n",
-    ];
+    let parts: [&[u8]; 3] = [b"NOPE\n", long.as_slice(), b"\nENTER A\nENTER B\nENTER C\n"];
     joined(alloc, &parts)
 }
 
