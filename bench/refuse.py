@@ -24,7 +24,8 @@ import tempfile
 import threading
 import time
 
-HERE = os.path.dirname(os.path.abspath(__file__))
+from compiled import HERE, compiled
+
 EXAMPLES = os.path.join(os.path.dirname(HERE), "examples")
 NO_MEMORY = (3, b"regatta: no memory\n")
 DEVICE_FAULT = (3, b"regatta: device fault\n")
@@ -69,20 +70,6 @@ QUIT
 def example(name):
     with open(os.path.join(EXAMPLES, name), "rb") as file:
         return file.read()
-
-
-def heap(folder):
-    """The heap that refuses a request, as a library to preload."""
-    path = os.path.join(folder, "refuse.so")
-    source = os.path.join(HERE, "refuse.c")
-    for compiler in (os.environ.get("CC"), "cc", "gcc", "clang"):
-        words = [compiler, "-O2", "-shared", "-fPIC", "-o", path, source]
-        try:
-            if compiler and subprocess.run(words).returncode == 0:
-                return path
-        except FileNotFoundError:
-            pass
-    sys.exit("no C compiler is to be had")
 
 
 class Run:
@@ -232,7 +219,7 @@ def main():
     program = os.path.abspath(sys.argv[1])
     total, wrong = 0, 0
     with tempfile.TemporaryDirectory() as folder:
-        library = heap(folder)
+        library = compiled(folder, "refuse.c", "-shared", "-fPIC")
         for run in runs(folder, program):
             requests, others = run.sweep(library)
             total += requests

@@ -29,6 +29,8 @@ import sys
 import tempfile
 import time
 
+from compiled import compiled
+
 SEATS, COMMANDS, RACES, JOURNAL = 16, 4000, 40, 8192
 
 
@@ -169,20 +171,6 @@ def begin(server, entries):
     time.sleep(0.05)
 
 
-def compiled(folder):
-    """The clients and watchers in C, as a program."""
-    path = os.path.join(folder, "load")
-    source = os.path.join(os.path.dirname(os.path.abspath(__file__)), "load.c")
-    for compiler in (os.environ.get("CC"), "cc", "gcc", "clang"):
-        words = [compiler, "-O2", "-pthread", "-o", path, source]
-        try:
-            if compiler and subprocess.run(words).returncode == 0:
-                return path
-        except FileNotFoundError:
-            pass
-    sys.exit("no C compiler is to be had")
-
-
 def told_by_threads(load, server, clients, watchers, commands):
     """What each client and watcher of the program in C tells."""
     words = [load, server.path, str(clients), str(watchers), str(commands)]
@@ -309,7 +297,7 @@ def main():
     if asked.clients < 1 or asked.clients + asked.watchers > SEATS:
         parser.error("there are 16 seats")
     with tempfile.TemporaryDirectory() as folder:
-        asked.native = compiled(folder) if asked.native else None
+        asked.native = compiled(folder, "load.c", "-pthread") if asked.native else None
         return bench(asked)
 
 
