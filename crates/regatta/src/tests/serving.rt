@@ -68,6 +68,37 @@ where
     Ok(Served { back, journal })
 }
 
+/// Serves these doors at an office of so many seats in which nothing was entered. It has no
+/// contract, so that its callers are proved quickly.
+fn serve_seats<R, D, G>(
+    rt: &R,
+    alloc: Global,
+    seats: u8,
+    doors: &mut [D],
+    gate: &G,
+) -> Result<Served, Fail>
+where
+    R: Threads + Wait + Sync,
+    D: Door,
+    G: Gate + Sync,
+{
+    let opened = Office::open(rt, alloc, &default_rules(), seats, &[])?;
+    serve_at::<Brand, _, _, _, _>(rt, alloc, opened, doors, gate)
+}
+
+impl Served {
+    /// Was this given back, and is the journal this text?
+    fn left(&self, back: Result<usize, ServeFault>, journal: &[u8]) -> bool {
+        self.back == back && self.journal.as_slice() == journal
+    }
+}
+
+/// Was a client sent this text?
+fn was_sent(alloc: Global, theirs: UnixStream, text: &[u8]) -> Result<bool, Fail> {
+    let replies = sent(alloc, theirs)?;
+    Ok(replies.as_slice() == text)
+}
+
 /// The first client's line is held back until the second's was answered.
 #[test]
 fn two_clients_side_by_side(rt: HostRuntime) -> Result<(), Fail> {
@@ -77,19 +108,11 @@ fn two_clients_side_by_side(rt: HostRuntime) -> Result<(), Fail> {
     let (two, second_end) = wire_of(&rt, b"ENTER B\n", false, &writes)?;
     let mut doors = [Wires::new(vec![in alloc; two, one]?, false)];
     let gate = Hold::new(Some(Arc::try_clone(&second)?), second);
-    let opened = Office::open(&rt, alloc, &default_rules(), 2, &[])?;
-    let served = serve_at::<Brand, _, _, _, _>(&rt, alloc, opened, &mut doors, &gate)?;
-    assert_eq!(rt;
-        sent(alloc, first_end)?.as_slice(),
-        b"OK 2 1= 0.0\n".as_slice()
-    );
-    assert_eq!(rt;
-        sent(alloc, second_end)?.as_slice(),
-        b"OK 1 1 0.0\n".as_slice()
-    );
-    assert_eq!(rt; (gate.ends(), served.back), (22, Ok(2)));
-    let journal = b"2 1 SCORER ENTER B\n1 1 SCORER ENTER A\n";
-    assert_eq!(rt; served.journal.as_slice(), journal.as_slice());
+    let served = serve_seats(&rt, alloc, 2, &mut doors, &gate)?;
+    assert!(rt; was_sent(alloc, first_end, b"OK 2 1= 0.0\n")?);
+    assert!(rt; was_sent(alloc, second_end, b"OK 1 1 0.0\n")?);
+    assert_eq!(rt; gate.ends(), 22);
+    assert!(rt; served.left(Ok(2), b"2 1 SCORER ENTER B\n1 1 SCORER ENTER A\n"));
     Ok(())
 }
 
@@ -102,14 +125,11 @@ fn a_client_finds_no_seat(rt: HostRuntime) -> Result<(), Fail> {
     let (two, second_end) = wire_of(&rt, b"", false, &second_writes)?;
     let mut doors = [Wires::new(vec![in alloc; two, one]?, false)];
     let gate = Hold::new(Some(second_writes), first_writes);
-    let opened = Office::open(&rt, alloc, &default_rules(), 1, &[])?;
-    let served = serve_at::<Brand, _, _, _, _>(&rt, alloc, opened, &mut doors, &gate)?;
-    assert_eq!(rt; sent(alloc, second_end)?.as_slice(), b"BUSY\n".as_slice());
-    assert_eq!(rt;
-        sent(alloc, first_end)?.as_slice(),
-        b"OK 1 1 0.0\n".as_slice()
-    );
-    assert_eq!(rt; (gate.ends(), served.back), (2, Ok(1)));
+    let served = serve_seats(&rt, alloc, 1, &mut doors, &gate)?;
+    assert!(rt; was_sent(alloc, second_end, b"BUSY\n")?);
+    assert!(rt; was_sent(alloc, first_end, b"OK 1 1 0.0\n")?);
+    assert_eq!(rt; gate.ends(), 2);
+    assert!(rt; served.left(Ok(1), b"1 1 SCORER ENTER A\n"));
     Ok(())
 }
 
@@ -124,19 +144,12 @@ fn a_pass_serves_again(rt: HostRuntime) -> Result<(), Fail> {
     let second = Wires::new(vec![in alloc; two]?, false);
     let mut doors = [first, second];
     let gate = Hold::new(None, writes);
-    let opened = Office::open(&rt, alloc, &default_rules(), 1, &[])?;
-    let served = serve_at::<Brand, _, _, _, _>(&rt, alloc, opened, &mut doors, &gate)?;
-    assert_eq!(rt;
-        sent(alloc, first_end)?.as_slice(),
-        b"OK 1 1 0.0\n".as_slice()
-    );
-    assert_eq!(rt;
-        sent(alloc, second_end)?.as_slice(),
-        b"OK 2 1= 0.0\n".as_slice()
-    );
+    let served = serve_seats(&rt, alloc, 1, &mut doors, &gate)?;
+    assert!(rt; was_sent(alloc, first_end, b"OK 1 1 0.0\n")?);
+    assert!(rt; was_sent(alloc, second_end, b"OK 2 1= 0.0\n")?);
     assert_eq!(rt; gate.ends(), 5, "a read fault, and then a close");
     let journal = b"1 1 SCORER ENTER A\n1 2 SCORER ENTER B\n";
-    assert_eq!(rt; served.journal.as_slice(), journal.as_slice());
+    assert!(rt; served.left(Ok(1), journal));
     Ok(())
 }
 
@@ -146,17 +159,9 @@ fn a_door_fails(rt: HostRuntime) -> Result<(), Fail> {
     let alloc = rt.alloc();
     let (one, first_end) = wire_of(&rt, b"ENTER A\n", false, &count(alloc)?)?;
     let mut doors = [Wires::new(vec![in alloc; one]?, true)];
-    let opened = Office::open(&rt, alloc, &default_rules(), 1, &[])?;
-    let served = serve_at::<Brand, _, _, _, _>(&rt, alloc, opened, &mut doors, &OpenGate)?;
-    assert_eq!(rt; served.back, Err(ServeFault::Door));
-    assert_eq!(rt;
-        sent(alloc, first_end)?.as_slice(),
-        b"OK 1 1 0.0\n".as_slice()
-    );
-    assert_eq!(rt;
-        served.journal.as_slice(),
-        b"1 1 SCORER ENTER A\n".as_slice()
-    );
+    let served = serve_seats(&rt, alloc, 1, &mut doors, &OpenGate)?;
+    assert!(rt; was_sent(alloc, first_end, b"OK 1 1 0.0\n")?);
+    assert!(rt; served.left(Err(ServeFault::Door), b"1 1 SCORER ENTER A\n"));
     Ok(())
 }
 
@@ -187,17 +192,15 @@ fn a_client_at_a_socket(rt: HostRuntime) -> Result<(), Fail> {
     let _ = fs::remove_file(&rt, SOCKET);
     let text = with_unread(alloc)?;
     let mut doors = [SocketDoor::bind(&rt, SOCKET, 2)?];
-    let opened = Office::open(&rt, alloc, &default_rules(), 2, &[])?;
     let client = thread::spawn(&rt, move || {
         asked(&rt, alloc, &text).zip(asked(&rt, alloc, b"ENTER B\nQUIT\n"))
     })?;
-    let served = serve_at::<Brand, _, _, _, _>(&rt, alloc, opened, &mut doors, &OpenGate)?;
+    let served = serve_seats(&rt, alloc, 2, &mut doors, &OpenGate)?;
     let (replies, again) = client.join(&rt).ok_or("replies")?;
     assert_eq!(rt; replies.as_slice(), b"OK 1 1 0.0\nBYE\n".as_slice());
     assert_eq!(rt; again.as_slice(), b"OK 2 1= 0.0\nBYE\n".as_slice());
-    assert_eq!(rt; served.back, Ok(2));
     let journal = b"1 1 SCORER ENTER A\n1 2 SCORER ENTER B\n";
-    assert_eq!(rt; served.journal.as_slice(), journal.as_slice());
+    assert!(rt; served.left(Ok(2), journal));
     let late = UnixStream::connect(&rt, SOCKET);
     let _ = fs::remove_file(&rt, SOCKET);
     assert!(rt; late.is_err());
