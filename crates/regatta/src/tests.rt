@@ -41,6 +41,16 @@ fn joined(alloc: Global, parts: &[&[u8]]) -> Result<Vec<u8>, Fail> {
     Ok(text)
 }
 
+/// A text, and behind it the same line so many times.
+fn with_lines(alloc: Global, first: &[u8], line: &[u8], count: u32) -> Result<Vec<u8>, Fail> {
+    let mut text = Vec::new(alloc);
+    text.extend_from_slice(first)?;
+    for _ in 0..count {
+        text.extend_from_slice(line)?;
+    }
+    Ok(text)
+}
+
 /// A tape that gives this text in pieces of so many bytes.
 fn giving(alloc: Global, text: &[u8], piece: usize) -> Result<Tape, Fail>
     requires { 0 < piece }

@@ -134,26 +134,17 @@ fn a_run_prints_the_version_of_its_journal(rt: HostRuntime) -> Result<(), Fail> 
     Ok(())
 }
 
-/// So many entries behind a first line, or none.
-fn many_entries(alloc: Global, first: &[u8], count: u32) -> Result<Vec<u8>, Fail> {
-    let mut text = Vec::new(alloc);
-    text.extend_from_slice(first)?;
-    for _ in 0..count {
-        text.extend_from_slice(b"1 1 SCORER ENTER A\n")?;
-    }
-    Ok(text)
-}
-
 #[test]
 fn the_line_of_an_entry_too_many_is_told(rt: HostRuntime) -> Result<(), Fail> {
     let alloc = rt.alloc();
-    let old = many_entries(alloc, b"", 8193)?;
+    let line = OLD.as_bytes();
+    let old = with_lines(alloc, b"", line, 8193)?;
     let fault = Some(JournalFault::TooMany { line: 8193 });
     assert_eq!(rt; fault_of(alloc, &old), fault);
-    let second = many_entries(alloc, b"REGATTA 2\n", 8193)?;
+    let second = with_lines(alloc, b"REGATTA 2\n", line, 8193)?;
     let fault = Some(JournalFault::TooMany { line: 8194 });
     assert_eq!(rt; fault_of(alloc, &second), fault);
-    let full = many_entries(alloc, b"REGATTA 2\n", 8192)?;
+    let full = with_lines(alloc, b"REGATTA 2\n", line, 8192)?;
     assert_eq!(rt; fault_of(alloc, &full), None);
     Ok(())
 }

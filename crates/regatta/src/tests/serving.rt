@@ -1,11 +1,13 @@
 ghost use Rattle.std.specs.Prelude.{◌≡◌};
 
+use super::programs::{has_written, status_of};
 use super::sessions::journal_text;
 use super::wires::{Hold, Wires, count, sent, wire_of};
 use super::*;
 use regatta_office::{
-    Door, Gate, Office, OfficeName, OpenGate, Opened, Pass, ServeFault, SocketDoor, program, serve,
+    Door, Gate, Office, OfficeName, OpenGate, Opened, Pass, ServeFault, SocketDoor, serve,
 };
+use std::fs::Files;
 use std::io::{Read, Write};
 use std::marker::Brand;
 use std::net::Net;
@@ -231,33 +233,50 @@ const ONE_CLIENT: [&str; 7] = [
     "1",
 ];
 
-/// One client is served, and the table is printed; where it can't be, that is a device fault, and
-/// so is a path that is there already.
+/// A run of the program that serves one client, whose output takes so many bytes: its status, and
+/// what it wrote and said.
+fn run_alone<R>(rt: &R, alloc: Global, room: usize) -> Result<(u8, Tape, Tape), Fail>
+where
+    R: Files + AllocGlobal + Threads + Wait + Net + Sync,
+{
+    let mut input = giving(alloc, b"ENTER B\n", 7)?;
+    let (mut output, mut errors) = (taking(alloc, room)?, taking(alloc, 100)?);
+    let status = status_of(rt, &ONE_CLIENT, &mut input, &mut output, &mut errors);
+    Ok((status, output, errors))
+}
+
+/// One client is served, and the table is printed.
 #[test]
 fn the_program_serves_a_client(rt: HostRuntime) -> Result<(), Fail> {
     let alloc = rt.alloc();
-    let cases: [(usize, &str, &str, u8); 2] = [
-        (100, "TABLE 1 RACES\n1 A 0.0\n", "", 0),
-        (10, "TABLE 1 RA", "regatta: device fault\n", 3),
-    ];
-    for (room, written, said, wanted) in cases {
-        let _ = fs::remove_file(&rt, SOCKET);
-        let client = thread::spawn(&rt, move || asked_at_last(&rt, alloc, b"ENTER A\nQUIT\n"))?;
-        let (mut input, mut output) = (giving(alloc, b"ENTER B\n", 7)?, taking(alloc, room)?);
-        let mut errors = taking(alloc, 100)?;
-        let status = program(&rt, &ONE_CLIENT, &mut input, &mut output, &mut errors);
-        let replies = client.join(&rt).ok_or("replies")?;
-        assert_eq!(rt; replies.as_slice(), b"OK 1 1 0.0\nBYE\n".as_slice());
-        assert_eq!(rt; status, wanted);
-        assert_eq!(rt; errors.written(), said.as_bytes());
-        assert_eq!(rt; output.written(), written.as_bytes());
-    }
-    let (mut input, mut output) = (giving(alloc, b"", 7)?, taking(alloc, 100)?);
-    let mut errors = taking(alloc, 100)?;
-    let status = program(&rt, &ONE_CLIENT, &mut input, &mut output, &mut errors);
-    assert_eq!(rt; errors.written(), b"regatta: device fault\n".as_slice());
-    assert_eq!(rt; status, 3);
     let _ = fs::remove_file(&rt, SOCKET);
+    let client = thread::spawn(&rt, move || asked_at_last(&rt, alloc, b"ENTER A\nQUIT\n"))?;
+    let (status, output, errors) = run_alone(&rt, alloc, 100)?;
+    let replies = client.join(&rt).ok_or("replies")?;
+    let _ = fs::remove_file(&rt, SOCKET);
+    assert_eq!(rt; replies.as_slice(), b"OK 1 1 0.0\nBYE\n".as_slice());
+    assert!(rt; has_written(&errors, ""));
+    assert!(rt; has_written(&output, "TABLE 1 RACES\n1 A 0.0\n"));
+    assert_eq!(rt; status, 0);
+    Ok(())
+}
+
+/// Where the table can't be printed, that is a device fault, and so is a path that is there
+/// already.
+#[test]
+fn serving_has_device_faults(rt: HostRuntime) -> Result<(), Fail> {
+    let alloc = rt.alloc();
+    let _ = fs::remove_file(&rt, SOCKET);
+    let client = thread::spawn(&rt, move || asked_at_last(&rt, alloc, b"ENTER A\nQUIT\n"))?;
+    let (status, output, errors) = run_alone(&rt, alloc, 10)?;
+    let replies = client.join(&rt).ok_or("replies")?;
+    let (again, _, said) = run_alone(&rt, alloc, 100)?;
+    let _ = fs::remove_file(&rt, SOCKET);
+    assert_eq!(rt; replies.as_slice(), b"OK 1 1 0.0\nBYE\n".as_slice());
+    assert!(rt; has_written(&output, "TABLE 1 RA"));
+    assert!(rt; has_written(&errors, "regatta: device fault\n"));
+    assert!(rt; has_written(&said, "regatta: device fault\n"));
+    assert_eq!(rt; (status, again), (3, 3));
     Ok(())
 }
 
@@ -314,7 +333,7 @@ fn the_program_serves_three_at_one_seat(rt: HostRuntime) -> Result<(), Fail> {
     let clients = thread::spawn(&rt, move || three_in_turn(&rt, alloc))?;
     let (mut input, mut output) = (giving(alloc, b"", 7)?, taking(alloc, 100)?);
     let mut errors = taking(alloc, 100)?;
-    let status = program(&rt, &ONE_SEAT, &mut input, &mut output, &mut errors);
+    let status = status_of(&rt, &ONE_SEAT, &mut input, &mut output, &mut errors);
     let (replies, _still_open) = clients.join(&rt).ok_or("replies")?;
     let wanted = "OK 2 1= 0.0\nBUSY\nBYE\nOK 3 1= 0.0\nBYE\n";
     assert_eq!(rt; replies.as_slice(), wanted.as_bytes());

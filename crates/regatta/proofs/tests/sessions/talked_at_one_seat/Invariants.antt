@@ -1,4 +1,4 @@
-use Rattle.regatta.proofs.tests.sessions.two_sessions_on_one_pass.Given as goal
+use Rattle.regatta.proofs.tests.sessions.talked_at_one_seat.Given as goal
 
 -- the office that was just opened
 abbrev pub ghosts-talk_at : goal.ghosts-talk_at

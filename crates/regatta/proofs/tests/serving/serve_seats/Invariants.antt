@@ -1,4 +1,4 @@
-use Rattle.regatta.proofs.tests.serving.two_clients_side_by_side.Given as goal
+use Rattle.regatta.proofs.tests.serving.serve_seats.Given as goal
 
 -- the office that was just opened
 abbrev pub ghosts-serve_at : goal.ghosts-serve_at
