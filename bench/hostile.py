@@ -36,6 +36,11 @@ def inputs(rng):
     yield "long lines", b"\n".join(b"ENTER " + b"A" * n for n in range(0, 300))
     yield "SHOW without end", b"ENTER A\n" + b"SHOW\n" * 20_000
     yield "carriage returns", b"\r\n".join([b"ENTER A\r", b"SHOW", b"QUIT\r\r"])
+    yield "a version line", b"REGATTA 2\r\n" + lines_of_words(rng, 100).encode("latin-1")
+    yield "another version", b"REGATTA 3\n1 1 SCORER ENTER A\n"
+    for count in (8192, 8193):
+        entries = "".join(f"1 {n + 1} SCORER ENTER S{n}\n" for n in range(count))
+        yield f"{count} entries", b"REGATTA 2\n" + entries.encode()
 
 
 def main():

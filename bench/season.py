@@ -1,18 +1,20 @@
 #!/usr/bin/env python3
 """Makes full seasons and times `regatta replay` on them.
 
-    bench/season.py [--rounds R] [--beside WORDS] PROGRAM [WORD..]
-    bench/season.py --write FILE
+    bench/season.py [--boats B] [--races N] [--entries E] [--rounds R] [--beside WORDS]
+                    PROGRAM [WORD..]
+    bench/season.py [--boats B] [--races N] [--entries E] --write FILE
 
-A season has 200 boats, 40 races and 4,096 commands, all of them accepted: the boats enter; of each
-race every command is a finish, a tie, a code, a penalty or redress, and one of the last scores it.
-PROGRAM (the built `regatta`) is run R times (9) as `PROGRAM replay WORD..` on each of:
+A season has B boats, N races and at most E commands, all of them accepted (500, 40 and 8,192, which
+is as large as a series may grow): the boats enter; of each race every command is a finish, a tie, a
+code, a penalty or redress, and one of the last scores it. PROGRAM (the built `regatta`) is run R
+times (9) as `PROGRAM replay WORD..` on each of:
 
 - the season;
 - the season with a SHOW after each sixteenth command;
 - the journal of the season as a start, with no line, which makes the standing once;
-- seasons of 25, 50, 100 and 200 boats;
-- 40 late entries, and 40 times UNSCORE and SCORE, where 40 races count: the time of one of them.
+- seasons of an eighth, a quarter, a half and all of the boats;
+- 40 late entries, and 40 times UNSCORE and SCORE, where all races count: the time of one of them.
 
 With --handicap among the WORDs each finish and each tie is a corrected time, in no order.
 
@@ -21,6 +23,7 @@ words takes its turn in each round, and the two are compared. With --write the s
 written to FILE.
 """
 import argparse
+import math
 import os
 import re
 import shlex
@@ -29,33 +32,36 @@ import sys
 import tempfile
 import zlib
 
-BOATS, RACES, COMMANDS, SHOW_EVERY, LATE = 200, 40, 4096, 16, 40
+BOATS, RACES, ENTRIES, SHOW_EVERY, LATE = 500, 40, 8192, 16, 40
 
 
 def race_lines(race, boats, count):
     """So many commands of a race, or one for each boat where those are fewer, and its SCORE last."""
-    order = [(race * 37 + i * 7) % boats for i in range(boats)]
-    lines = []
+    step = next(step for step in (7, 11, 13, 1) if math.gcd(step, boats) == 1)
+    order = [(race * 37 + i * step) % boats for i in range(boats)]
+    lines, placed = [], None
     for i, boat in enumerate(order[:count - 1]):
         sail = f"GBR{boat + 1}"
-        if i % 23 == 11:
-            lines.append(f"TIE {race} {sail} GBR{order[i - 1] + 1}")
+        if i % 23 == 11 and placed:
+            lines.append(f"TIE {race} {sail} {placed}")
+            placed = sail
         elif i % 17 == 13:
             lines.append(f"MARK {race} {sail} {('DNF', 'RET', 'OCS', 'DNS')[i % 4]}")
         elif i % 19 == 7:
             lines.append(f"PENALTY {race} {sail} {('ZFP', 'SCP')[i % 2]}")
         else:
             lines.append(f"FINISH {race} {sail}")
+            placed = sail
     lines.append(f"SCORE {race}")
     return lines
 
 
-def season(boats=BOATS, commands=COMMANDS):
-    """The lines of a season of so many boats and at most so many commands."""
+def season(boats, races, entries):
+    """The lines of a season of so many boats and races, and at most so many commands."""
     lines = [f"ENTER GBR{boat + 1}" for boat in range(boats)]
-    left = commands - boats - RACES
-    for race in range(1, RACES + 1):
-        lines += race_lines(race, boats, left // RACES + (1 if race <= left % RACES else 0))
+    left = entries - boats - races
+    for race in range(1, races + 1):
+        lines += race_lines(race, boats, left // races + (1 if race <= left % races else 0))
         if race % 4 == 0:
             lines += ["ROLE JURY", f"REDRESS {race} GBR{(race - 1) % boats + 1} ALL", "ROLE SCORER"]
         else:
@@ -75,7 +81,8 @@ def with_shows(lines):
 
 
 def journal(lines):
-    """The journal text of the lines, which are all accepted."""
+    """The journal text of the lines, which are all accepted. It has no version line: a program of
+    before there was one reads it, too."""
     role, entries = "SCORER", []
     for line in lines:
         if line.startswith("ROLE "):
@@ -156,38 +163,46 @@ class Bench:
         self.show(name, found)
 
 
-def measure(bench):
-    full = season()
+def measure(bench, boats, races, entries):
+    full = season(boats, races, entries)
     found = bench.least(full)
     print(f"{found[0][2]} commands accepted and {found[0][3]} refused")
     bench.show("a season", found)
     bench.show("a season with SHOWs", bench.least(with_shows(full)))
     bench.show("the standing of its journal", bench.least([], journal(full)))
-    growth = {boats: bench.least(season(boats)) for boats in (25, 50, 100, 200)}
-    for boats, found in growth.items():
-        bench.show(f"{boats} boats, {found[0][2]} commands", found)
-    print(f"{growth[200][0][0] / growth[25][0][0]:.1f} times as long for 200 boats as for 25")
-    base = season(BOATS - LATE, COMMANDS - 4 * LATE)
+    sizes = [boats // part for part in (8, 4, 2, 1)]
+    growth = [bench.least(season(size, races, entries)) for size in sizes]
+    for size, found in zip(sizes, growth):
+        bench.show(f"{size} boats, {found[0][2]} commands", found)
+    times = growth[-1][0][0] / growth[0][0][0]
+    print(f"{times:.1f} times as long for {sizes[-1]} boats as for {sizes[0]}")
+    base = season(boats - LATE, races, entries - 4 * LATE)
     late = [f"ENTER NED{boat + 1}" for boat in range(LATE)]
-    bench.each("one late entry, 40 races counting", base, late, LATE)
-    again = ["UNSCORE 40", "SCORE 40"] * LATE
+    bench.each(f"one late entry, {races} races counting", base, late, LATE)
+    again = [f"UNSCORE {races}", f"SCORE {races}"] * LATE
     bench.each("one Unscore and Score, the same", base, again, LATE)
 
 
 def main():
     words = argparse.ArgumentParser(description=__doc__.split("\n")[0])
+    words.add_argument("--boats", type=int, default=BOATS)
+    words.add_argument("--races", type=int, default=RACES)
+    words.add_argument("--entries", type=int, default=ENTRIES)
     words.add_argument("--rounds", type=int, default=9)
     words.add_argument("--beside", type=shlex.split)
     words.add_argument("--write")
     words.add_argument("program", nargs="?")
     words.add_argument("words", nargs=argparse.REMAINDER)
     given = words.parse_args()
+    size = given.boats, given.races, given.entries
+    if given.boats <= LATE or not 1 <= given.races <= RACES or given.entries < sum(size[:2]) * 3:
+        words.error(f"more than {LATE} boats, 1 to {RACES} races, and entries for them")
     if given.write:
         with open(given.write, "wb") as file:
-            file.write(text(season()))
+            file.write(text(season(*size)))
     if given.program:
         programs = [[given.program]] + ([given.beside] if given.beside else [])
-        measure(Bench(programs, given.words, given.rounds))
+        measure(Bench(programs, given.words, given.rounds), *size)
     return 0
 
 

@@ -31,7 +31,7 @@ import time
 
 from compiled import compiled
 
-SEATS, COMMANDS, RACES, JOURNAL = 16, 4000, 40, 4096
+SEATS, COMMANDS, RACES, JOURNAL = 16, 4000, 40, 8192
 
 
 class Client:
@@ -284,7 +284,7 @@ def main():
     parser.add_argument("--native", action="store_true")
     parser.add_argument("--beside")
     parser.add_argument("--soak", action="store_true")
-    parser.add_argument("--lines", type=int, default=100_000)
+    parser.add_argument("--lines", type=int, default=200_000)
     parser.add_argument("--seed", type=int, default=1)
     parser.add_argument("--replay")
     parser.add_argument("words", nargs=argparse.REMAINDER)

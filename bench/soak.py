@@ -371,7 +371,7 @@ def judge(program, journal, accepted, table, printed, wrong):
     if any(b"UNSENT" in entry for entry in journal):
         wrong.append("the journal has a command that nobody ended")
     with tempfile.NamedTemporaryFile() as file:
-        file.write(b"".join(entry + b"\n" for entry in journal))
+        file.write(b"".join(line + b"\n" for line in [b"REGATTA 2"] + journal))
         file.flush()
         by_file = replayed(program, ["--journal", file.name], b"")
     if not by_file == table == printed:

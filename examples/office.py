@@ -19,17 +19,17 @@ import sys
 import time
 
 # How long an answer may take, in seconds, and how many bytes of one are read at most. A sheet of
-# 200 boats, 40 races and 4,096 entries has less than a quarter of that.
+# 500 boats, 40 races and 8,192 entries has less than a quarter of that.
 PATIENCE = 10
 LARGEST = 4 << 20
 
 # What each number of a reply says, in the words of docs/GUIDE.md.
 NUMBERS = {
     1: "the computer has no memory left for this line",
-    2: "the journal is full: it holds 4,096 entries",
+    2: "the journal is full: it holds 8,192 entries",
     3: "this seat has used up its numbers",
     4: "your role doesn't send this line",
-    5: "200 boats are entered, and no more fit",
+    5: "500 boats are entered, and no more fit",
     6: "she is entered already",
     7: "a boat that is named isn't entered",
     8: "she stands in the finishing order of this race already",

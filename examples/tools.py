@@ -256,11 +256,11 @@ def refusals(program):
     with open("last", "w") as file:
         file.write("1 4294967295 SCORER ENTER A\n")
     with open("boats", "w") as file:
-        file.writelines(f"1 {at} SCORER ENTER B{at}\n" for at in range(1, 201))
+        file.writelines(f"1 {at} SCORER ENTER B{at}\n" for at in range(1, 501))
     with open("full", "w") as file:
         file.write("1 1 SCORER ENTER A\n")
         file.writelines(f"1 {at} FINISH {('FINISH', 'STRIKE')[at % 2]} 1 A\n"
-                        for at in range(2, 4097))
+                        for at in range(2, 8193))
     nine = REFUSED.replace("PENALTY 1 A ZFP", "PENALTY 1 A ZFP\n" * 9 + "PENALTY 1 A ZFP")
     met = set()
     for start, lines in [(None, nine), ("last", "ENTER B/3"), ("boats", "ENTER A/5"),
@@ -303,6 +303,18 @@ def savers(program):
     staying.send_signal(2)
     printed, status = ended(staying)
     expect("the end", (printed.splitlines()[-1], status), ("stopped", 0))
+    with_version = "REGATTA 2\n" + HELD
+    with open("held.txt", "w") as file:
+        file.write(with_version)
+    with served(program, "--journal", "held.txt"):
+        expect("a file of --print journal", ran(*saver, "--once"),
+               ("held.txt holds 2 entries\n", 0))
+        with open("held.txt") as file:
+            expect("the file with its version", file.read(), with_version)
+        ran("client.py", SOCKET, lines="ENTER C\n")
+        expect("it goes on", ran(*saver, "--once"), ("held.txt holds 3 entries\n", 0))
+    with open("held.txt") as file:
+        expect("the file that went on", file.read().startswith(HELD), True)
     expect("what is left in the folder", sorted(os.listdir()), ["held.txt", SOCKET])
 
 

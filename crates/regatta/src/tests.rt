@@ -9,6 +9,7 @@ mod boards;
 mod complaints;
 mod faults;
 mod handicap;
+mod journals;
 mod offices;
 mod programs;
 mod replays;
@@ -36,6 +37,16 @@ fn joined(alloc: Global, parts: &[&[u8]]) -> Result<Vec<u8>, Fail> {
     let mut text = Vec::new(alloc);
     for part in parts {
         text.extend_from_slice(part)?;
+    }
+    Ok(text)
+}
+
+/// A text, and behind it the same line so many times.
+fn with_lines(alloc: Global, first: &[u8], line: &[u8], count: u32) -> Result<Vec<u8>, Fail> {
+    let mut text = Vec::new(alloc);
+    text.extend_from_slice(first)?;
+    for _ in 0..count {
+        text.extend_from_slice(line)?;
     }
     Ok(text)
 }

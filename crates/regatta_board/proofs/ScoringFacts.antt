@@ -19,7 +19,7 @@ use Rattle.regatta_board.specs.Outcomes.{line}
 use Rattle.regatta_board.specs.Revisions.{revised, touches}
 use Rattle.regatta_board.specs.Scoring.{Scoring, IsScoring, AreColumns, AreNewColumns}
 use Rattle.regatta_board.specs.Scoring.{TurnsOneColumn, TurnsOnly, with_columns, lines_by}
-use Rattle.regatta_board.specs.Scoring.{AreNewScores, SaysTheSame}
+use Rattle.regatta_board.specs.Scoring.{AreNewScores, SaysTheSame, FitLines, IsOfEach, with_lines}
 use Rattle.regatta_board.specs.Scoring.{AreRanked, lines_after, ranks_after, with_scores}
 use Rattle.regatta_board.specs.declared.scoring.NewScores.{NewScores}
 use Rattle.regatta_board.specs.declared.scoring.Ranked.{Ranked}
@@ -204,12 +204,35 @@ scored_after rules before after old is new are = record {
     lines_are : (ranked : Option Ranked) → AreRanked rules before after ranked
         → lines_after old.lines ranked ≡ lines_by rules after
     lines_are None e = is.lines ∙ e
-    lines_are (Some ranked) e = e.0
+    lines_are (Some ranked) e = ap (λ ls. with_lines ls ranked.lines) is.lines ∙ e.1
 
     ranks_are : (ranked : Option Ranked) → AreRanked rules before after ranked
         → ranks_after old.ranks ranked ≡ places (lines_after old.lines ranked)
     ranks_are None e = is.ranks
-    ranks_are (Some ranked) e = e.1
+    ranks_are (Some ranked) e = e.2 ∙ ap places (sym (lines_are (Some ranked) e))
+
+-- new lines, if there are any, are said to be of each boat
+pub new_lines_fit : (rules : RulesParts) (before after : Kept) (old : Scoring)
+    → IsScoring rules before old → (new : NewScores) → AreNewScores rules before after new
+    → FitLines old.lines new.ranked
+new_lines_fit rules before after old is new are = by new.ranked are.ranked
+  where
+    by : (ranked : Option Ranked) → AreRanked rules before after ranked
+        → FitLines old.lines ranked
+    by None e = tt
+    by (Some ranked) e = subst (λ ls. IsOfEach ls ranked.lines) (sym is.lines) e.0
+
+-- new lines and ranks, made from the lines that are kept, are those of what is kept afterwards
+pub are_ranked : (rules : RulesParts) (before after : Kept) (old : Scoring)
+    → IsScoring rules before old → (ranked : Ranked) → IsOfEach old.lines ranked.lines
+    → with_lines old.lines ranked.lines ≡ lines_by rules after
+    → ranked.ranks ≡ places (with_lines old.lines ranked.lines)
+    → AreRanked rules before after (Some ranked)
+are_ranked rules before after old is ranked each made ranks = (
+  subst (λ ls. IsOfEach ls ranked.lines) is.lines each,
+  ap (λ ls. with_lines ls ranked.lines) (sym is.lines) ∙ made,
+  ranks ∙ ap places made,
+)
 
 -- a revision that touches no race that counts changes no score
 pub untouched_scores : (rules : RulesParts) (kept : Kept) (change : Revision)

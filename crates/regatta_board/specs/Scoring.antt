@@ -1,6 +1,7 @@
 -- What the board keeps of the scores: a column for each race, a line and a rank for each boat.
 use Rattle.std.specs.Prelude.{◌≡◌, ℕ, ◌-◌, false, List, [], length, slice_index_or, slice_set}
-use Rattle.std.specs.Prelude.{Option, Some, None, if◌then◌else◌}
+use Rattle.std.specs.Prelude.{Option, Some, None, ◌∷◌, if◌then◌else◌}
+use Rattle.std.specs.Option.{unwrap_or}
 use Rattle.regatta_terms.specs.Rules.{RulesParts}
 use Rattle.regatta_terms.specs.declared.limits.TheConstants.{MAX_RACES}
 use Rattle.regatta_terms.specs.declared.reply.Touched.{Touched}
@@ -13,6 +14,8 @@ use Rattle.regatta_scores.specs.Sheet.{Sheet, empty_sheet}
 use Rattle.regatta_scores.specs.Ranking.{BoatScores, net, places as places_of}
 use Rattle.regatta_board.specs.declared.column.NewColumns.{NewColumns}
 use Rattle.regatta_board.specs.declared.column.NewColumns.TheVariants.{Same, One, All}
+use Rattle.regatta_board.specs.declared.scoring.NewLines.{NewLines}
+use Rattle.regatta_board.specs.declared.scoring.NewLines.TheVariants as lines
 use Rattle.regatta_board.specs.declared.scoring.Ranked.{Ranked}
 use Rattle.regatta_board.specs.declared.scoring.NewScores.{NewScores}
 use Rattle.regatta_board.specs.declared.kept.Revision.{Revision}
@@ -84,11 +87,30 @@ pub record IsScoring (rules : RulesParts) (kept : Kept) (scoring : Scoring) : Ty
   pub lines : scoring.lines ≡ lines_by rules kept
   pub ranks : scoring.ranks ≡ places_of scoring.lines
 
--- lines and ranks made anew are those of what is kept afterwards; where none are, the lines stay
+-- the lines once the new ones have replaced the old ones: of each boat the new one where there is
+-- one, else the old one
+abbrev pub with_changed : List BoatScores → List (Option BoatScores) → List BoatScores
+with_changed [] new = []
+with_changed (old ∷ olds) [] = old ∷ olds
+with_changed (old ∷ olds) (new ∷ news) = unwrap_or new old ∷ with_changed olds news
+
+abbrev pub with_lines : List BoatScores → NewLines → List BoatScores
+with_lines old (lines.Changed new) = with_changed old new.items
+with_lines old (lines.All new) = new.items
+
+-- where some lines are new, it is said of each boat whether hers is
+abbrev pub IsOfEach : List BoatScores → NewLines → Type 0
+IsOfEach old (lines.Changed new) = length new.items ≡ length old
+IsOfEach old (lines.All new) = Unit {0}
+
+-- new lines make those of what is kept before into those of what is kept after, and the ranks are
+-- theirs; where there are none, the lines stay
 abbrev pub AreRanked : RulesParts → Kept → Kept → Option Ranked → Type 0
 AreRanked rules before after None = lines_by rules before ≡ lines_by rules after
 AreRanked rules before after (Some ranked) =
-    (ranked.lines.items ≡ lines_by rules after) × (ranked.ranks ≡ places_of ranked.lines.items)
+    IsOfEach (lines_by rules before) ranked.lines
+    × (with_lines (lines_by rules before) ranked.lines ≡ lines_by rules after)
+    × (ranked.ranks ≡ places_of (lines_by rules after))
 
 -- new columns make those of what is kept before into those of what is kept after
 abbrev pub AreNewColumns : RulesParts → Kept → Kept → NewColumns → Type 0
@@ -126,10 +148,15 @@ pub record AreNewScores (rules : RulesParts) (before after : Kept) (new : NewSco
   pub columns : AreNewColumns rules before after new.columns
   pub ranked : AreRanked rules before after new.ranked
 
+-- new lines, if there are any, are said to be of each boat
+abbrev pub FitLines : List BoatScores → Option Ranked → Type 0
+FitLines old None = Unit {0}
+FitLines old (Some ranked) = IsOfEach old ranked.lines
+
 -- lines and ranks once new ones, if there are any, have replaced them
 abbrev pub lines_after : List BoatScores → Option Ranked → List BoatScores
 lines_after old None = old
-lines_after old (Some ranked) = ranked.lines.items
+lines_after old (Some ranked) = with_lines old ranked.lines
 
 abbrev pub ranks_after : List Place → Option Ranked → List Place
 ranks_after old None = old

@@ -22,7 +22,7 @@ use Rattle.regatta_board.specs.Runs.{replies, journal_after}
 use Rattle.regatta_board.specs.Worked.{ok, ok_alone}
 
 -- how large a series may grow
-pub limits_are : (limits.boats ≡ 200) × (limits.entries ≡ 4096)
+pub limits_are : (limits.boats ≡ 500) × (limits.entries ≡ 8192)
 limits_are = (refl, refl)
 
 -- each refusal that one boat and one race can meet

@@ -1,14 +1,18 @@
 //! What is kept of the scores: a column for each race, a line and a rank for each boat.
 ghost use Rattle.std.specs.Prelude.{◌≡◌, ◌+◌, ◌-◌, ◌<◌, ◌≤◌, ◌^◌, ℕ, true, false, length};
-ghost use Rattle.std.specs.Prelude.{slice_index_or, All, IfOk, OnOk};
+ghost use Rattle.std.specs.Prelude.{slice_index_or, All, IfOk, IfSome, OnOk, None, ◌↔◌};
+ghost use Rattle.std.specs.Option.{unwrap_or};
 ghost use Rattle.regatta_terms.specs.Rules.{RulesParts};
+ghost use Rattle.regatta_scores.specs.Entrants.{lines_behind};
 ghost use Rattle.regatta_scores.specs.Ranking.{places as places_of};
 ghost use Rattle.regatta_board.specs.Outcomes.{line as line_of};
 ghost use Rattle.regatta_board.specs.Refusals.{limits};
 ghost use Rattle.regatta_board.specs.Revisions.{revised, touches};
 ghost use Rattle.regatta_board.specs.Scoring.{IsScoring, AreNewScores, AreNewColumns};
 ghost use Rattle.regatta_board.specs.Scoring.{AreColumns, TurnsOneColumn, TurnsOnly, SaysTheSame};
+ghost use Rattle.regatta_board.specs.Scoring.{FitLines, IsOfEach};
 ghost use Rattle.regatta_board.specs.Scoring.{lines_by, most_remade, with_columns, with_scores};
+ghost use Rattle.regatta_board.specs.Scoring.{with_changed, with_lines};
 ghost use Rattle.regatta_board.specs.Scoring.{touched_at};
 ghost use Rattle.regatta_board.specs.Table.{no_line, no_outcome, IsKept};
 ghost use Rattle.regatta_board.specs.Table.{outcomes as outcomes_of, lines as lines_of};
@@ -20,10 +24,11 @@ use crate::column::{
 use crate::kept::{Draft, Kept, Revision};
 use crate::outcomes::Outcome;
 use crate::table::{all_lines, boat_line, races, sorted_rows};
-use regatta_scores::{BoatLine, Items, Places, Standing, Work, ranks};
+use regatta_scores::{BoatLine, Items, Places, Standing, Work, ranks, ranks_of};
 use regatta_terms::{MAX_RACES, RaceNo, Rules, Touched};
 use std::alloc::{AllocError, Global};
 use std::marker::Model;
+use std::mem::swap;
 
 /// A column for each race, which says something only where the race counts, and a line and a
 /// rank for each boat.
@@ -46,10 +51,20 @@ impl Model for Scoring {
     } };
 }
 
-/// The line and the rank of each boat, made anew.
+/// The lines that a command makes anew.
+#[derive(Drop)]
+pub enum NewLines {
+    /// Those of the boats of whom a race's new sheet says something else, and None for each other
+    /// boat, whose line stays.
+    Changed { lines: Vec<Option<BoatLine>> },
+    /// Those of all boats.
+    All { lines: Vec<BoatLine> },
+}
+
+/// New lines, and the ranks of all boats with them.
 #[derive(Drop)]
 pub struct Ranked {
-    lines: Vec<BoatLine>,
+    lines: NewLines,
     ranks: Places,
 }
 
@@ -61,47 +76,77 @@ pub struct NewScores {
     ranked: Option<Ranked>,
 }
 
-/// The lines with their ranks.
-fn with_ranks(alloc: Global, lines: Vec<BoatLine>) -> Result<Ranked, AllocError>
-    requires { length lines.items ≤ limits.boats }
-    ensures { IfOk result (λ made. (made.lines.items ≡ lines.items)
-        × (made.ranks ≡ places_of lines.items)) }
+/// A boat's line once new ones have replaced the old ones.
+fn current_line<'a>(old: &'a BoatLine, new: &'a Option<BoatLine>) -> &'a BoatLine
+    ensures { result.now ≡ unwrap_or new.now old.now }
 {
-    let ranks = ranks(alloc, &lines)?;
-    Ok(Ranked { lines, ranks })
+    match new {
+        Some(line) => line,
+        None => old,
+    }
 }
 
-/// A boat's line, where one column is made anew: it stays where that says of her what the old one
+/// The lines of all boats once new ones have replaced the old ones, where they stand.
+fn current_lines<'a>(
+    alloc: Global,
+    old: &'a [BoatLine],
+    new: &'a [Option<BoatLine>],
+) -> Result<Vec<&'a BoatLine>, AllocError>
+    requires { length new.now ≡ length old.now }
+    ensures { IfOk result (λ each. lines_behind each.items ≡ with_changed old.now new.now) }
+{
+    let mut each = Vec::with_capacity(alloc, old.len())?;
+    for boat in 0..old.len() {
+        each.push(current_line(&old[boat], &new[boat]))?;
+    }
+    Ok(each)
+}
+
+/// The ranks of all boats once new lines have replaced the old ones.
+fn new_ranks(alloc: Global, old: &[BoatLine], new: &NewLines) -> Result<Places, AllocError>
+    requires each { IsOfEach old.now new.now }
+    requires few { length (with_lines old.now new.now) ≤ limits.boats }
+    ensures { IfOk result (λ made. made ≡ places_of (with_lines old.now new.now)) }
+{
+    match new {
+        NewLines::Changed { lines } => {
+            let each = current_lines(alloc, old, lines)?;
+            ranks_of(alloc, &each)
+        }
+        NewLines::All { lines } => ranks(alloc, lines),
+    }
+}
+
+/// A boat's new line, where one column is made anew: None where that says of her what the old one
 /// said.
 fn line_after(
-    line: &BoatLine,
     old: Outcome,
     new: Outcome,
     columns: &[Counted<'_>],
     boat: usize,
     rules: &Rules,
-) -> BoatLine
+) -> Option<BoatLine>
     requires within { All (λ column. boat < length column) columns.now }
     requires few { length columns.now ≤ MAX_RACES }
-    requires stays { new ≡ old → line.now ≡ line_of rules.now (outcomes_of columns.now boat) }
-    ensures value { result ≡ line_of rules.now (outcomes_of columns.now boat) }
+    ensures stays { (result ≡ None) ↔ (new ≡ old) }
+    ensures value { IfSome result (λ line.
+        line ≡ line_of rules.now (outcomes_of columns.now boat)) }
 {
     if new == old {
-        return line.copy();
+        return None;
     }
-    boat_line(columns, boat, rules)
+    Some(boat_line(columns, boat, rules))
 }
 
-/// The lines, where one column is made anew.
-#[tactic(auto, using(crate::proofs::Lines::line_facts))]
-fn lines_with(
+/// The lines that change, where one column is made anew.
+fn changed_lines(
     alloc: Global,
     lines: &[BoatLine],
     old: &Column,
     new: &Counted<'_>,
     columns: &[Counted<'_>],
     rules: &Rules,
-) -> Result<Vec<BoatLine>, AllocError>
+) -> Result<Vec<Option<BoatLine>>, AllocError>
     requires even { All (λ column. length column ≡ length lines.now) columns.now }
     requires few { length columns.now ≤ MAX_RACES }
     requires old { length old.now ≡ length lines.now }
@@ -110,19 +155,13 @@ fn lines_with(
         → slice_index_or new.now boat no_outcome ≡ slice_index_or old.now boat no_outcome
         → slice_index_or lines.now boat no_line
         ≡ line_of rules.now (outcomes_of columns.now boat) }
-    ensures { IfOk result (λ made.
-        made.items ≡ lines_of rules.now columns.now (length lines.now)) }
+    ensures each { IfOk result (λ made. length made.items ≡ length lines.now) }
+    ensures value { IfOk result (λ made. with_changed lines.now made.items
+        ≡ lines_of rules.now columns.now (length lines.now)) }
 {
     let mut made = Vec::with_capacity(alloc, lines.len())?;
     for boat in 0..lines.len() {
-        let line = line_after(
-            &lines[boat],
-            old.at(boat),
-            new.at(boat),
-            columns,
-            boat,
-            rules,
-        );
+        let line = line_after(old.at(boat), new.at(boat), columns, boat, rules);
         made.push(line)?;
     }
     Ok(made)
@@ -148,7 +187,7 @@ fn drafted_lines(
     Ok(lines)
 }
 
-/// The lines of all boats, where the sheet of one race that counts is made anew.
+/// The lines that change, where the sheet of one race that counts is made anew.
 fn turned_lines(
     alloc: Global,
     scoring: &Scoring,
@@ -157,25 +196,26 @@ fn turned_lines(
     race: RaceNo,
     columns: &NewColumns,
     rules: &Rules,
-) -> Result<Vec<BoatLine>, AllocError>
+) -> Result<NewLines, AllocError>
     requires kept { IsKept kept.now }
     requires next { IsKept (revised kept.now revision.now) }
     requires scoring { IsScoring rules.now kept.now scoring.now }
     requires counts { slice_index_or kept.now.counts (race - 1) false ≡ true }
     requires turned { TurnsOnly rules.now kept.now revision.now race scoring.now columns.now }
     requires new { AreNewColumns rules.now kept.now (revised kept.now revision.now) columns.now }
-    ensures { IfOk result (λ lines.
-        lines.items ≡ lines_by rules.now (revised kept.now revision.now)) }
+    ensures each { IfOk result (IsOfEach scoring.now.lines) }
+    ensures value { IfOk result (λ new.
+        with_lines scoring.now.lines new ≡ lines_by rules.now (revised kept.now revision.now)) }
 {
     let races = races(alloc, &Draft::new(kept, revision))?;
     let found = counted_columns(alloc, &scoring.columns, columns, &races)?;
     let old = &scoring.columns[race.get() as usize - 1];
     let new = current(&scoring.columns, columns, race);
-    let lines = lines_with(alloc, &scoring.lines, old, &new, &found, rules)?;
-    Ok(lines)
+    let lines = changed_lines(alloc, &scoring.lines, old, &new, &found, rules)?;
+    Ok(NewLines::Changed { lines })
 }
 
-/// The lines once a revision and the columns that it makes anew are moved in.
+/// The lines that a revision and the columns that it makes anew make anew.
 fn new_lines(
     alloc: Global,
     scoring: &Scoring,
@@ -183,15 +223,16 @@ fn new_lines(
     revision: &Revision,
     columns: &NewColumns,
     rules: &Rules,
-) -> Result<Vec<BoatLine>, AllocError>
+) -> Result<NewLines, AllocError>
     requires kept { IsKept kept.now }
     requires next { IsKept (revised kept.now revision.now) }
     requires scoring { IsScoring rules.now kept.now scoring.now }
     requires touched { touches kept.now revision.now ≡ true }
     requires new { AreNewColumns rules.now kept.now (revised kept.now revision.now) columns.now }
     requires one { TurnsOneColumn rules.now revision.now columns.now }
-    ensures { IfOk result (λ lines.
-        lines.items ≡ lines_by rules.now (revised kept.now revision.now)) }
+    ensures each { IfOk result (IsOfEach scoring.now.lines) }
+    ensures value { IfOk result (λ new.
+        with_lines scoring.now.lines new ≡ lines_by rules.now (revised kept.now revision.now)) }
 {
     if let Revision::Sheet { race, .. } = revision {
         let lines = turned_lines(alloc, scoring, kept, revision, *race, columns, rules)?;
@@ -199,7 +240,7 @@ fn new_lines(
     }
     let draft = Draft::new(kept, revision);
     let lines = drafted_lines(alloc, &draft, &scoring.columns, columns, rules)?;
-    Ok(lines)
+    Ok(NewLines::All { lines })
 }
 
 /// Whether a new sheet says of each boat what the old one said, so that no line changes.
@@ -247,10 +288,10 @@ pub(crate) fn new_scores(
         });
     }
     let lines = new_lines(alloc, scoring, kept, revision, &columns, rules)?;
-    let ranked = with_ranks(alloc, lines)?;
+    let ranks = new_ranks(alloc, &scoring.lines, &lines)?;
     Ok(NewScores {
         columns,
-        ranked: Some(ranked),
+        ranked: Some(Ranked { lines, ranks }),
     })
 }
 
@@ -266,6 +307,37 @@ fn put_columns(columns: &mut Vec<Column>, new: NewColumns)
     }
 }
 
+/// Moves a boat's new line in, if there is one.
+fn put_line(line: &mut BoatLine, new: &mut Option<BoatLine>)
+    ensures { line.new ≡ unwrap_or new.old line.old }
+{
+    if let Some(new) = new {
+        swap(line, new);
+    }
+}
+
+/// Moves the lines that changed in.
+fn put_changed(lines: &mut [BoatLine], new: Vec<Option<BoatLine>>)
+    requires { length new.items ≡ length lines.old }
+    ensures { lines.new ≡ with_changed lines.old new.items }
+{
+    let mut changed = new;
+    for boat in 0..lines.len() {
+        put_line(&mut lines[boat], &mut changed[boat]);
+    }
+}
+
+/// Moves new lines in.
+fn put_lines(lines: &mut Vec<BoatLine>, new: NewLines)
+    requires { IsOfEach lines.old.items new }
+    ensures { lines.new.items ≡ with_lines lines.old.items new }
+{
+    match new {
+        NewLines::Changed { lines: changed } => put_changed(lines, changed),
+        NewLines::All { lines: all } => *lines = all,
+    }
+}
+
 impl Scoring {
     /// The scores of what is kept, all made anew.
     pub(crate) fn of(alloc: Global, kept: &Kept, rules: &Rules) -> Result<Scoring, AllocError>
@@ -275,7 +347,7 @@ impl Scoring {
         let draft = Draft::of(kept);
         let columns = all_columns(alloc, &draft, rules, &mut Work::new())?;
         let lines = drafted_lines(alloc, &draft, &columns, &NewColumns::Same, rules)?;
-        let Ranked { lines, ranks } = with_ranks(alloc, lines)?;
+        let ranks = ranks(alloc, &lines)?;
         Ok(Scoring {
             columns,
             lines,
@@ -285,12 +357,13 @@ impl Scoring {
 
     /// Moves new scores in.
     pub(crate) fn revise(&mut self, new: NewScores)
-        requires { length self.old.columns ≡ MAX_RACES }
+        requires long { length self.old.columns ≡ MAX_RACES }
+        requires each { FitLines self.old.lines new.ranked }
         ensures { self.new ≡ with_scores self.old new }
     {
         put_columns(&mut self.columns, new.columns);
         if let Some(Ranked { lines, ranks }) = new.ranked {
-            self.lines = lines;
+            put_lines(&mut self.lines, lines);
             self.ranks = ranks;
         }
     }

@@ -88,7 +88,7 @@ no_corrected_times = refl
 -- lines behind QUIT aren't answered, and the last line needs no LF
 pub the_end_of_a_talk : run_text default_rules [] Journal
     (codes "ENTER A\nRANK A\nRANK B\nQUIT\nENTER C\n")
-    ≡ codes "OK 1 1 0.0\nRANK 1 0.0\nNO 7\nBYE\n1 1 SCORER ENTER A\n"
+    ≡ codes "OK 1 1 0.0\nRANK 1 0.0\nNO 7\nBYE\nREGATTA 2\n1 1 SCORER ENTER A\n"
 unfolding digits replies talk_at_end up_to_quit line_of line_of_words command_of_words command_after
 the_end_of_a_talk = refl
 

@@ -47,7 +47,7 @@ pub no_boat_named : reply_text (Done (record { place = 7; touched = None }))
 unfolding digits
 no_boat_named = refl
 
-pub last_entry : reply_text (done 4096 1 false 0) ≡ lines (codes "OK 4096 1 0.0" ∷ [])
+pub last_entry : reply_text (done 8192 1 false 0) ≡ lines (codes "OK 8192 1 0.0" ∷ [])
 unfolding digits
 last_entry = refl
 

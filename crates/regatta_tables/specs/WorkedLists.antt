@@ -90,6 +90,6 @@ any_bytes = refl
 abbrev pub numbered : ℕ → List ℕ
 numbered n = codes "Sail" ++ flat_map (λ k. 10 ∷ decimal k) (range_with_len 1 n)
 
-pub one_boat_too_many : entries_of_text (numbered 201) ≡ Err (TooMany 202)
+pub one_boat_too_many : entries_of_text (numbered 501) ≡ Err (TooMany 502)
 unfolding next_record records_from strip_bom digits
 one_boat_too_many = refl

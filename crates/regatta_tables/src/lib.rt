@@ -11,7 +11,7 @@ mod sheets;
 mod tables;
 
 pub use entries::{EntriesFault, Sails, read_entries};
-pub use journals::{Journal, JournalFault, read_journal, write_journal};
+pub use journals::{Journal, JournalFault, read_journal, write_entries, write_journal};
 pub use replies::{REPLY_ROOM, write_reply};
 pub use results::write_csv;
 pub use sheets::{write_sheet, write_sheet_of};

@@ -4,13 +4,13 @@ use Rattle.regatta_terms.specs.declared.limits.TheConstants.{MAX_BOATS, MAX_RACE
 use Rattle.regatta_terms.specs.declared.limits.TheConstants.{MAX_PENALTIES, MAX_SCP_POINTS}
 use Rattle.regatta_terms.specs.declared.limits.TheConstants.{MAX_LINE, MAX_SEATS}
 
-pub boats_at_most : MAX_BOATS ≡ 200
+pub boats_at_most : MAX_BOATS ≡ 500
 boats_at_most = refl
 
 pub races_at_most : MAX_RACES ≡ 40
 races_at_most = refl
 
-pub entries_at_most : MAX_ENTRIES ≡ 4096
+pub entries_at_most : MAX_ENTRIES ≡ 8192
 entries_at_most = refl
 
 pub penalties_at_most : MAX_PENALTIES ≡ 9

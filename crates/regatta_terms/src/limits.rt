@@ -1,13 +1,13 @@
 //! How large a series may grow, and how long a line may be: each limit once, for all crates.
 
 /// How many boats may be entered in a series.
-pub const MAX_BOATS: usize = 200;
+pub const MAX_BOATS: usize = 500;
 
 /// How many races a series may have. They are numbered from 1.
 pub const MAX_RACES: u8 = 40;
 
 /// How many entries a journal may hold.
-pub const MAX_ENTRIES: usize = 4096;
+pub const MAX_ENTRIES: usize = 8192;
 
 /// How many penalties of one kind a boat may have in one race (RRS 30.2, 44.3(c)).
 pub const MAX_PENALTIES: u8 = 9;

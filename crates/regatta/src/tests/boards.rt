@@ -82,11 +82,16 @@ static TIMED: [&str; 12] = [
     "1 12 JURY MARK 1 A DSQ",
 ];
 
+/// The entry that this line writes. It has no contract, so that its callers are proved quickly.
+fn entry_of(line: &str) -> Result<Entry, Fail> {
+    Ok(read_entry(line.as_bytes())?)
+}
+
 /// The entries that these lines write.
 fn entries_of(alloc: Global, lines: &[&str]) -> Result<Vec<Entry>, Fail> {
     let mut entries = Vec::new(alloc);
     for &line in lines {
-        entries.push(read_entry(line.as_bytes())?)?;
+        entries.push(entry_of(line)?)?;
     }
     Ok(entries)
 }
@@ -132,7 +137,7 @@ fn table_anew(alloc: Global, board: &Board) -> Result<Vec<u8>, Fail> {
 /// standing must then be that of its entries taken anew.
 fn taken(alloc: Global, board: &mut Board, line: &str) -> Result<u32, Fail> {
     let staged = board
-        .prepare(read_entry(line.as_bytes())?)
+        .prepare(entry_of(line)?)
         .map_err(|_| "an accepted entry")?;
     let rescored = staged.rescored();
     board.commit(staged);
@@ -183,7 +188,7 @@ fn times_are_those_of_the_entries(rt: HostRuntime) -> Result<(), Fail> {
 fn an_old_number_is_refused_and_the_entries_stay(rt: HostRuntime) -> Result<(), Fail> {
     let entries = entries_of(rt.alloc(), &DISQUALIFIED)?;
     let mut board = board_of(rt.alloc(), &entries)?;
-    let old = read_entry(b"1 8 SCORER ENTER D")?;
+    let old = entry_of("1 8 SCORER ENTER D")?;
     assert_eq!(rt; board.apply(old), Err(Refusal::OldNumber { last: 8 }));
     assert_eq!(rt; board.entries(), entries.as_slice());
     Ok(())

@@ -13,17 +13,17 @@ fn complaints_have_their_texts_and_statuses(rt: HostRuntime) -> Result<(), Fail>
         (
             Complaint::Entries {
                 number: 5,
-                row: 202,
+                row: 502,
             },
-            "regatta: entries fault 5 row 202",
+            "regatta: entries fault 5 row 502",
             1,
         ),
         (
             Complaint::Journal {
                 number: 2,
-                line: 4097,
+                line: 8194,
             },
-            "regatta: journal fault 2 line 4097",
+            "regatta: journal fault 2 line 8194",
             1,
         ),
         (
@@ -65,15 +65,23 @@ fn faults_have_their_complaints(rt: HostRuntime) -> Result<(), Fail> {
     );
     let full = Complaint::Entries {
         number: 5,
-        row: 202,
+        row: 502,
     };
-    assert_eq!(rt; Complaint::from(EntriesFault::TooMany { row: 202 }), full);
+    assert_eq!(rt; Complaint::from(EntriesFault::TooMany { row: 502 }), full);
     let bad = JournalFault::BadLine {
         line: 7,
         fault: LineFault::NoSuchWord,
     };
     let named = Complaint::Journal { number: 1, line: 7 };
     assert_eq!(rt; Complaint::from(bad), named);
+    let full = JournalFault::TooMany { line: 8194 };
+    let named = Complaint::Journal {
+        number: 2,
+        line: 8194,
+    };
+    assert_eq!(rt; Complaint::from(full), named);
+    let named = Complaint::Journal { number: 4, line: 1 };
+    assert_eq!(rt; Complaint::from(JournalFault::BadVersion), named);
     assert_eq!(rt;
         Complaint::from(EntriesFault::NoMemory),
         Complaint::NoMemory

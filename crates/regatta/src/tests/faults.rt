@@ -10,7 +10,7 @@ fn ended(alloc: Global, mut input: Tape, mut output: Tape) -> (Tape, Result<(), 
 }
 
 /// Whether a run over this text, in pieces of so many bytes, ends so and writes this.
-fn says(
+pub(crate) fn says(
     alloc: Global,
     text: &[u8],
     piece: usize,
@@ -20,7 +20,7 @@ fn says(
     requires { 0 < piece }
 {
     let input = giving(alloc, text, piece)?;
-    let (output, found) = ended(alloc, input, taking(alloc, 200)?);
+    let (output, found) = ended(alloc, input, taking(alloc, 1000)?);
     Ok(found == how && output.written() == written)
 }
 
@@ -129,13 +129,9 @@ fn lines_are_cut_at_their_ends(rt: HostRuntime) -> Result<(), Fail> {
 }
 
 /// So many replies to empty lines, and then the table of nobody.
-fn replies_to_empty_lines(alloc: Global, count: usize) -> Result<Vec<u8>, Fail> {
-    let mut replies = Vec::new(alloc);
-    for _ in 0..count {
-        replies.extend_from_slice(b"NO 21\n")?;
-    }
-    replies.extend_from_slice(b"TABLE 0 RACES\n")?;
-    Ok(replies)
+fn replies_to_empty_lines(alloc: Global, count: u32) -> Result<Vec<u8>, Fail> {
+    let replies = with_lines(alloc, b"", b"NO 21\n", count)?;
+    joined(alloc, &[replies.as_slice(), b"TABLE 0 RACES\n"])
 }
 
 /// More replies to the lines of one piece than are gathered before they are written.

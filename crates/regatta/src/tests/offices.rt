@@ -6,7 +6,7 @@ use regatta_office::{
     Next, Office, OfficeName, OpenFault, Opened, Pass, Receipt, Sheet, ShowFault, answer_alone,
 };
 use regatta_scores::Standing;
-use regatta_tables::{read_journal, write_journal, write_table};
+use regatta_tables::{read_journal, write_entries, write_table};
 use regatta_terms::{Command, Line, LineFault, MAX_ENTRIES, RaceNo, Refusal, Role, Sail};
 use std::marker::Brand;
 use std::process::Abort;
@@ -53,10 +53,10 @@ fn two_seats<N: OfficeName, H: Wait + Drop>(
     Some((office, first, second))
 }
 
-/// The journal of a sheet, as text.
+/// The entries of a sheet, as text.
 fn journal_of(alloc: Global, sheet: &Sheet) -> Option<Vec<u8>> {
     let mut text = Vec::new(alloc);
-    write_journal(sheet.journal.as_slice(), &mut text).ok()?;
+    write_entries(sheet.journal.as_slice(), &mut text).ok()?;
     Some(text)
 }
 

@@ -1,6 +1,7 @@
+use super::faults::says;
 use super::*;
 use regatta_office::start_of;
-use regatta_tables::{Journal, Sails, read_entries, read_journal};
+use regatta_tables::{EntriesFault, Journal, Sails, read_entries, read_journal};
 use regatta_terms::{Refusal, Sail};
 
 /// A run without a start: its text, and what it writes.
@@ -71,19 +72,12 @@ static TALKS: [Talk; 9] = [
 fn lines_are_answered_and_the_table_is_printed(rt: HostRuntime) -> Result<(), Fail> {
     for talk in &TALKS {
         for piece in [1, 7, 5000] {
-            let mut input = giving(rt.alloc(), talk.text.as_bytes(), piece)?;
-            let mut output = taking(rt.alloc(), 1000)?;
-            let rules = default_rules();
-            let ended = replay(
-                rt.alloc(),
-                &mut input,
-                &mut output,
-                &rules,
-                &[],
-                Form::Table,
+            let (text, written) = (talk.text.as_bytes(), talk.written.as_bytes());
+            assert!(rt;
+                says(rt.alloc(), text, piece, Ok(()), written)?,
+                "at {}",
+                talk.text
             );
-            assert_eq!(rt; output.written(), talk.written.as_bytes());
-            assert_eq!(rt; ended, Ok(()));
         }
     }
     Ok(())
@@ -172,8 +166,29 @@ fn an_entry_list_is_entered_by_the_scorer(rt: HostRuntime) -> Result<(), Fail> {
     let list = b"Boat,Sail,Club\nWind,gbr 12,X\n\"A, B\",NED7\n";
     let sails = sails_of(rt.alloc(), list)?;
     let start = start_of(rt.alloc(), &[], sails.as_slice())?;
-    let journal = b"1 1 SCORER ENTER GBR12\n1 2 SCORER ENTER NED7\n";
+    let journal = b"REGATTA 2\n1 1 SCORER ENTER GBR12\n1 2 SCORER ENTER NED7\n";
     assert!(rt; writes(rt.alloc(), b"", start.as_slice(), Form::Journal, journal)?);
+    Ok(())
+}
+
+/// An entry list of so many boats.
+fn list_of(alloc: Global, boats: u32) -> Result<Vec<u8>, Fail> {
+    let mut text = Vec::new(alloc);
+    text.extend_from_slice(b"Sail\n")?;
+    for boat in 1..=boats {
+        let line = format!(in alloc; "{boat}\n")?;
+        text.extend_from_slice(line.as_bytes())?;
+    }
+    Ok(text)
+}
+
+#[test]
+fn an_entry_list_has_a_boat_too_many(rt: HostRuntime) -> Result<(), Fail> {
+    let text = list_of(rt.alloc(), 501)?;
+    let fault = read_entries(rt.alloc(), &text).err();
+    assert_eq!(rt; fault, Some(EntriesFault::TooMany { row: 502 }));
+    let text = list_of(rt.alloc(), 500)?;
+    assert_eq!(rt; sails_of(rt.alloc(), &text)?.as_slice().len(), 500);
     Ok(())
 }
 
@@ -185,52 +200,49 @@ fn an_entry_list_is_entered_behind_a_journal(rt: HostRuntime) -> Result<(), Fail
     )?;
     let more: [Sail; 1] = [Sail::read(b"fra9").ok_or("a sail")?];
     let start = start_of(rt.alloc(), start.as_slice(), &more)?;
-    let journal = b"1 1 SCORER ENTER GBR12\n1 2 SCORER ENTER NED7\n1 3 SCORER ENTER FRA9\n";
+    let journal = b"REGATTA 2\n1 1 SCORER ENTER GBR12\n1 2 SCORER ENTER NED7\n\
+        1 3 SCORER ENTER FRA9\n";
     assert!(rt; writes(rt.alloc(), b"", start.as_slice(), Form::Journal, journal)?);
     Ok(())
 }
 
-#[test]
-fn entries_and_penalties_have_their_limits(rt: HostRuntime) -> Result<(), Fail> {
-    let rules = default_rules();
-    let mut text = Vec::new(rt.alloc());
+/// A and 500 boats more enter, A once more, and then she has so many penalties for one start.
+fn a_boat_and_a_penalty_too_many(alloc: Global) -> Result<Vec<u8>, Fail> {
+    let mut text = Vec::new(alloc);
     text.extend_from_slice(b"ENTER A\n")?;
-    for boat in 1..=200u32 {
-        let line = format!(in rt.alloc(); "ENTER B{boat}\n")?;
+    for boat in 1..=500u32 {
+        let line = format!(in alloc; "ENTER B{boat}\n")?;
         text.extend_from_slice(line.as_bytes())?;
     }
-    text.extend_from_slice(b"ENTER A\n")?;
-    for _ in 0..10 {
-        text.extend_from_slice(b"PENALTY 2 A ZFP\n")?;
-    }
-    text.extend_from_slice(b"PENALTY 2 A SCP\n")?;
-    let (output, ended) = replayed(rt.alloc(), &text, &rules, &[], Form::Journal)?;
-    let replies = "OK 200 1= 0.0\nNO 5\nNO 6\nOK 201 1= 0.0\n";
-    assert!(rt;
-        std::str::from_utf8(output.written())
-            .unwrap_or("")
-            .contains(replies)
-    );
-    let replies = "OK 209 1= 0.0\nNO 11\nOK 210 1= 0.0\n1 1 SCORER ENTER A\n";
-    assert!(rt;
-        std::str::from_utf8(output.written())
-            .unwrap_or("")
-            .contains(replies)
-    );
-    assert_eq!(rt; ended, Ok(()));
+    let again = with_lines(alloc, b"ENTER A\n", b"PENALTY 2 A ZFP\n", 10)?;
+    joined(
+        alloc,
+        &[text.as_slice(), again.as_slice(), b"PENALTY 2 A SCP\n"],
+    )
+}
+
+/// Whether a run of this text, which prints its journal, prints these words somewhere.
+fn prints(alloc: Global, text: &[u8], words: &str) -> Result<bool, Fail> {
+    let (output, ended) = replayed(alloc, text, &default_rules(), &[], Form::Journal)?;
+    let printed = std::str::from_utf8(output.written()).unwrap_or("");
+    Ok(ended == Ok(()) && printed.contains(words))
+}
+
+#[test]
+fn entries_and_penalties_have_their_limits(rt: HostRuntime) -> Result<(), Fail> {
+    let text = a_boat_and_a_penalty_too_many(rt.alloc())?;
+    let replies = "OK 500 1= 0.0\nNO 5\nNO 6\nOK 501 1= 0.0\n";
+    assert!(rt; prints(rt.alloc(), &text, replies)?);
+    let replies = "OK 509 1= 0.0\nNO 11\nOK 510 1= 0.0\nREGATTA 2\n1 1 SCORER ENTER A\n";
+    assert!(rt; prints(rt.alloc(), &text, replies)?);
     Ok(())
 }
 
 #[test]
 fn a_journal_is_full_at_last(rt: HostRuntime) -> Result<(), Fail> {
-    let rules = default_rules();
-    let mut text = Vec::new(rt.alloc());
-    text.extend_from_slice(b"ENTER A\n")?;
-    for _ in 0..2048 {
-        text.extend_from_slice(b"FINISH 1 A\nSTRIKE 1 A\n")?;
-    }
-    let (output, ended) = replayed(rt.alloc(), &text, &rules, &[], Form::Table)?;
-    let last = "OK 4095 1 0.0\nOK 4096 1 0.0\nNO 2\nTABLE 1 RACES\n1 A 0.0\n";
+    let text = with_lines(rt.alloc(), b"ENTER A\n", b"FINISH 1 A\nSTRIKE 1 A\n", 4096)?;
+    let last = "OK 8191 1 0.0\nOK 8192 1 0.0\nNO 2\nTABLE 1 RACES\n1 A 0.0\n";
+    let (output, ended) = replayed(rt.alloc(), &text, &default_rules(), &[], Form::Table)?;
     assert!(rt; output.written().ends_with(last.as_bytes()));
     assert_eq!(rt; ended, Ok(()));
     Ok(())

@@ -1,4 +1,4 @@
-//! A full season: 200 boats, 40 races, 4,096 entries, each applied to the board. It shows that a
+//! A full season: 500 boats, 40 races, 8,192 entries, each applied to the board. It shows that a
 //! season runs whole, and in a time that a test has.
 ghost use Rattle.std.specs.Prelude.{◌≤◌};
 
@@ -7,16 +7,16 @@ use regatta_board::{Board, next_entry};
 use regatta_terms::{Code, Command, PenaltyKind, RaceNo, Redress, Refusal, Role, Sail};
 
 /// How many boats finish in each race.
-const FINISHERS: u8 = 94;
+const FINISHERS: u8 = 189;
+
+/// The last digit of a number.
+fn digit(number: u16) -> u8 {
+    b'0' + (number % 10) as u8
+}
 
 /// The sail of a boat, by her number.
-fn sail(boat: u8) -> Result<Sail, Fail> {
-    let text = [
-        b'S',
-        b'0' + boat / 100,
-        b'0' + boat / 10 % 10,
-        b'0' + boat % 10,
-    ];
+fn sail(boat: u16) -> Result<Sail, Fail> {
+    let text = [b'S', digit(boat / 100), digit(boat / 10), digit(boat)];
     let sail = Sail::read(&text).ok_or("a sail")?;
     Ok(sail)
 }
@@ -32,7 +32,7 @@ fn apply(board: &mut Board, seat: u8, role: Role, command: Command) -> Result<()
 
 /// Enters all boats.
 fn enter_all(board: &mut Board) -> Result<(), Fail> {
-    for boat in 0..200u8 {
+    for boat in 0..500u16 {
         let sail = sail(boat)?;
         apply(board, 1, Role::Scorer, Command::Enter { sail })?;
     }
@@ -42,8 +42,8 @@ fn enter_all(board: &mut Board) -> Result<(), Fail> {
 /// Some boats finish, others in each race, the fleet turned by ten each time.
 fn finish(board: &mut Board, race: RaceNo) -> Result<(), Fail> {
     for place in 0..FINISHERS {
-        let boat = (u32::from(race.get()) * 10 + u32::from(place)) % 200;
-        let sail = sail(boat as u8)?;
+        let boat = (u32::from(race.get()) * 10 + u32::from(place)) % 500;
+        let sail = sail(boat as u16)?;
         apply(board, 2, Role::Finish, Command::Finish { race, sail })?;
     }
     Ok(())
@@ -54,7 +54,8 @@ fn run(board: &mut Board, race: RaceNo) -> Result<(), Fail> {
     finish(board, race)?;
     let kind = PenaltyKind::Zfp;
     let redress = Redress::AllRaces;
-    let (first, second) = (sail(race.get())?, sail(race.get() + 100)?);
+    let number = u16::from(race.get());
+    let (first, second) = (sail(number)?, sail(number + 100)?);
     let penalise = Command::Penalise {
         race,
         sail: first,
@@ -72,7 +73,7 @@ fn run(board: &mut Board, race: RaceNo) -> Result<(), Fail> {
 
 /// The protest committee disqualifies some boats in the first race.
 fn disqualify(board: &mut Board, race: RaceNo) -> Result<(), Fail> {
-    for boat in 180..196u8 {
+    for boat in 480..492u16 {
         let (sail, code) = (sail(boat)?, Code::Dsq);
         apply(board, 3, Role::Jury, Command::Mark { race, sail, code })?;
     }
@@ -95,10 +96,10 @@ fn a_full_season_runs(rt: HostRuntime) -> Result<(), Fail> {
     let mut board = Board::open(rt.alloc(), rules)?;
     enter_all(&mut board)?;
     sail_all(&mut board)?;
-    assert_eq!(rt; board.len(), 4096);
+    assert_eq!(rt; board.len(), 8192);
     let standing = board.standing()?;
     assert_eq!(rt; standing.races.as_slice().len(), 40);
-    assert_eq!(rt; standing.rows.as_slice().len(), 200);
+    assert_eq!(rt; standing.rows.as_slice().len(), 500);
     let race = RaceNo::new(1).ok_or("the first race")?;
     let entry = next_entry(1, board.last_of(1), Role::Scorer, Command::Unscore { race });
     let full = matches!(board.apply(entry), Err(Refusal::JournalFull));

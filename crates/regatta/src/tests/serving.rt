@@ -1,11 +1,13 @@
 ghost use Rattle.std.specs.Prelude.{◌≡◌};
 
+use super::programs::{has_written, status_of};
 use super::sessions::journal_text;
 use super::wires::{Hold, Wires, count, sent, wire_of};
 use super::*;
 use regatta_office::{
-    Door, Gate, Office, OfficeName, OpenGate, Opened, Pass, ServeFault, SocketDoor, program, serve,
+    Door, Gate, Office, OfficeName, OpenGate, Opened, Pass, ServeFault, SocketDoor, serve,
 };
+use std::fs::Files;
 use std::io::{Read, Write};
 use std::marker::Brand;
 use std::net::Net;
@@ -68,6 +70,37 @@ where
     Ok(Served { back, journal })
 }
 
+/// Serves these doors at an office of so many seats in which nothing was entered. It has no
+/// contract, so that its callers are proved quickly.
+fn serve_seats<R, D, G>(
+    rt: &R,
+    alloc: Global,
+    seats: u8,
+    doors: &mut [D],
+    gate: &G,
+) -> Result<Served, Fail>
+where
+    R: Threads + Wait + Sync,
+    D: Door,
+    G: Gate + Sync,
+{
+    let opened = Office::open(rt, alloc, &default_rules(), seats, &[])?;
+    serve_at::<Brand, _, _, _, _>(rt, alloc, opened, doors, gate)
+}
+
+impl Served {
+    /// Was this given back, and is the journal this text?
+    fn left(&self, back: Result<usize, ServeFault>, journal: &[u8]) -> bool {
+        self.back == back && self.journal.as_slice() == journal
+    }
+}
+
+/// Was a client sent this text?
+fn was_sent(alloc: Global, theirs: UnixStream, text: &[u8]) -> Result<bool, Fail> {
+    let replies = sent(alloc, theirs)?;
+    Ok(replies.as_slice() == text)
+}
+
 /// The first client's line is held back until the second's was answered.
 #[test]
 fn two_clients_side_by_side(rt: HostRuntime) -> Result<(), Fail> {
@@ -77,19 +110,11 @@ fn two_clients_side_by_side(rt: HostRuntime) -> Result<(), Fail> {
     let (two, second_end) = wire_of(&rt, b"ENTER B\n", false, &writes)?;
     let mut doors = [Wires::new(vec![in alloc; two, one]?, false)];
     let gate = Hold::new(Some(Arc::try_clone(&second)?), second);
-    let opened = Office::open(&rt, alloc, &default_rules(), 2, &[])?;
-    let served = serve_at::<Brand, _, _, _, _>(&rt, alloc, opened, &mut doors, &gate)?;
-    assert_eq!(rt;
-        sent(alloc, first_end)?.as_slice(),
-        b"OK 2 1= 0.0\n".as_slice()
-    );
-    assert_eq!(rt;
-        sent(alloc, second_end)?.as_slice(),
-        b"OK 1 1 0.0\n".as_slice()
-    );
-    assert_eq!(rt; (gate.ends(), served.back), (22, Ok(2)));
-    let journal = b"2 1 SCORER ENTER B\n1 1 SCORER ENTER A\n";
-    assert_eq!(rt; served.journal.as_slice(), journal.as_slice());
+    let served = serve_seats(&rt, alloc, 2, &mut doors, &gate)?;
+    assert!(rt; was_sent(alloc, first_end, b"OK 2 1= 0.0\n")?);
+    assert!(rt; was_sent(alloc, second_end, b"OK 1 1 0.0\n")?);
+    assert_eq!(rt; gate.ends(), 22);
+    assert!(rt; served.left(Ok(2), b"2 1 SCORER ENTER B\n1 1 SCORER ENTER A\n"));
     Ok(())
 }
 
@@ -102,14 +127,11 @@ fn a_client_finds_no_seat(rt: HostRuntime) -> Result<(), Fail> {
     let (two, second_end) = wire_of(&rt, b"", false, &second_writes)?;
     let mut doors = [Wires::new(vec![in alloc; two, one]?, false)];
     let gate = Hold::new(Some(second_writes), first_writes);
-    let opened = Office::open(&rt, alloc, &default_rules(), 1, &[])?;
-    let served = serve_at::<Brand, _, _, _, _>(&rt, alloc, opened, &mut doors, &gate)?;
-    assert_eq!(rt; sent(alloc, second_end)?.as_slice(), b"BUSY\n".as_slice());
-    assert_eq!(rt;
-        sent(alloc, first_end)?.as_slice(),
-        b"OK 1 1 0.0\n".as_slice()
-    );
-    assert_eq!(rt; (gate.ends(), served.back), (2, Ok(1)));
+    let served = serve_seats(&rt, alloc, 1, &mut doors, &gate)?;
+    assert!(rt; was_sent(alloc, second_end, b"BUSY\n")?);
+    assert!(rt; was_sent(alloc, first_end, b"OK 1 1 0.0\n")?);
+    assert_eq!(rt; gate.ends(), 2);
+    assert!(rt; served.left(Ok(1), b"1 1 SCORER ENTER A\n"));
     Ok(())
 }
 
@@ -124,19 +146,12 @@ fn a_pass_serves_again(rt: HostRuntime) -> Result<(), Fail> {
     let second = Wires::new(vec![in alloc; two]?, false);
     let mut doors = [first, second];
     let gate = Hold::new(None, writes);
-    let opened = Office::open(&rt, alloc, &default_rules(), 1, &[])?;
-    let served = serve_at::<Brand, _, _, _, _>(&rt, alloc, opened, &mut doors, &gate)?;
-    assert_eq!(rt;
-        sent(alloc, first_end)?.as_slice(),
-        b"OK 1 1 0.0\n".as_slice()
-    );
-    assert_eq!(rt;
-        sent(alloc, second_end)?.as_slice(),
-        b"OK 2 1= 0.0\n".as_slice()
-    );
+    let served = serve_seats(&rt, alloc, 1, &mut doors, &gate)?;
+    assert!(rt; was_sent(alloc, first_end, b"OK 1 1 0.0\n")?);
+    assert!(rt; was_sent(alloc, second_end, b"OK 2 1= 0.0\n")?);
     assert_eq!(rt; gate.ends(), 5, "a read fault, and then a close");
     let journal = b"1 1 SCORER ENTER A\n1 2 SCORER ENTER B\n";
-    assert_eq!(rt; served.journal.as_slice(), journal.as_slice());
+    assert!(rt; served.left(Ok(1), journal));
     Ok(())
 }
 
@@ -146,17 +161,9 @@ fn a_door_fails(rt: HostRuntime) -> Result<(), Fail> {
     let alloc = rt.alloc();
     let (one, first_end) = wire_of(&rt, b"ENTER A\n", false, &count(alloc)?)?;
     let mut doors = [Wires::new(vec![in alloc; one]?, true)];
-    let opened = Office::open(&rt, alloc, &default_rules(), 1, &[])?;
-    let served = serve_at::<Brand, _, _, _, _>(&rt, alloc, opened, &mut doors, &OpenGate)?;
-    assert_eq!(rt; served.back, Err(ServeFault::Door));
-    assert_eq!(rt;
-        sent(alloc, first_end)?.as_slice(),
-        b"OK 1 1 0.0\n".as_slice()
-    );
-    assert_eq!(rt;
-        served.journal.as_slice(),
-        b"1 1 SCORER ENTER A\n".as_slice()
-    );
+    let served = serve_seats(&rt, alloc, 1, &mut doors, &OpenGate)?;
+    assert!(rt; was_sent(alloc, first_end, b"OK 1 1 0.0\n")?);
+    assert!(rt; served.left(Err(ServeFault::Door), b"1 1 SCORER ENTER A\n"));
     Ok(())
 }
 
@@ -187,17 +194,15 @@ fn a_client_at_a_socket(rt: HostRuntime) -> Result<(), Fail> {
     let _ = fs::remove_file(&rt, SOCKET);
     let text = with_unread(alloc)?;
     let mut doors = [SocketDoor::bind(&rt, SOCKET, 2)?];
-    let opened = Office::open(&rt, alloc, &default_rules(), 2, &[])?;
     let client = thread::spawn(&rt, move || {
         asked(&rt, alloc, &text).zip(asked(&rt, alloc, b"ENTER B\nQUIT\n"))
     })?;
-    let served = serve_at::<Brand, _, _, _, _>(&rt, alloc, opened, &mut doors, &OpenGate)?;
+    let served = serve_seats(&rt, alloc, 2, &mut doors, &OpenGate)?;
     let (replies, again) = client.join(&rt).ok_or("replies")?;
     assert_eq!(rt; replies.as_slice(), b"OK 1 1 0.0\nBYE\n".as_slice());
     assert_eq!(rt; again.as_slice(), b"OK 2 1= 0.0\nBYE\n".as_slice());
-    assert_eq!(rt; served.back, Ok(2));
     let journal = b"1 1 SCORER ENTER A\n1 2 SCORER ENTER B\n";
-    assert_eq!(rt; served.journal.as_slice(), journal.as_slice());
+    assert!(rt; served.left(Ok(2), journal));
     let late = UnixStream::connect(&rt, SOCKET);
     let _ = fs::remove_file(&rt, SOCKET);
     assert!(rt; late.is_err());
@@ -228,33 +233,50 @@ const ONE_CLIENT: [&str; 7] = [
     "1",
 ];
 
-/// One client is served, and the table is printed; where it can't be, that is a device fault, and
-/// so is a path that is there already.
+/// A run of the program that serves one client, whose output takes so many bytes: its status, and
+/// what it wrote and said.
+fn run_alone<R>(rt: &R, alloc: Global, room: usize) -> Result<(u8, Tape, Tape), Fail>
+where
+    R: Files + AllocGlobal + Threads + Wait + Net + Sync,
+{
+    let mut input = giving(alloc, b"ENTER B\n", 7)?;
+    let (mut output, mut errors) = (taking(alloc, room)?, taking(alloc, 100)?);
+    let status = status_of(rt, &ONE_CLIENT, &mut input, &mut output, &mut errors);
+    Ok((status, output, errors))
+}
+
+/// One client is served, and the table is printed.
 #[test]
 fn the_program_serves_a_client(rt: HostRuntime) -> Result<(), Fail> {
     let alloc = rt.alloc();
-    let cases: [(usize, &str, &str, u8); 2] = [
-        (100, "TABLE 1 RACES\n1 A 0.0\n", "", 0),
-        (10, "TABLE 1 RA", "regatta: device fault\n", 3),
-    ];
-    for (room, written, said, wanted) in cases {
-        let _ = fs::remove_file(&rt, SOCKET);
-        let client = thread::spawn(&rt, move || asked_at_last(&rt, alloc, b"ENTER A\nQUIT\n"))?;
-        let (mut input, mut output) = (giving(alloc, b"ENTER B\n", 7)?, taking(alloc, room)?);
-        let mut errors = taking(alloc, 100)?;
-        let status = program(&rt, &ONE_CLIENT, &mut input, &mut output, &mut errors);
-        let replies = client.join(&rt).ok_or("replies")?;
-        assert_eq!(rt; replies.as_slice(), b"OK 1 1 0.0\nBYE\n".as_slice());
-        assert_eq!(rt; status, wanted);
-        assert_eq!(rt; errors.written(), said.as_bytes());
-        assert_eq!(rt; output.written(), written.as_bytes());
-    }
-    let (mut input, mut output) = (giving(alloc, b"", 7)?, taking(alloc, 100)?);
-    let mut errors = taking(alloc, 100)?;
-    let status = program(&rt, &ONE_CLIENT, &mut input, &mut output, &mut errors);
-    assert_eq!(rt; errors.written(), b"regatta: device fault\n".as_slice());
-    assert_eq!(rt; status, 3);
     let _ = fs::remove_file(&rt, SOCKET);
+    let client = thread::spawn(&rt, move || asked_at_last(&rt, alloc, b"ENTER A\nQUIT\n"))?;
+    let (status, output, errors) = run_alone(&rt, alloc, 100)?;
+    let replies = client.join(&rt).ok_or("replies")?;
+    let _ = fs::remove_file(&rt, SOCKET);
+    assert_eq!(rt; replies.as_slice(), b"OK 1 1 0.0\nBYE\n".as_slice());
+    assert!(rt; has_written(&errors, ""));
+    assert!(rt; has_written(&output, "TABLE 1 RACES\n1 A 0.0\n"));
+    assert_eq!(rt; status, 0);
+    Ok(())
+}
+
+/// Where the table can't be printed, that is a device fault, and so is a path that is there
+/// already.
+#[test]
+fn serving_has_device_faults(rt: HostRuntime) -> Result<(), Fail> {
+    let alloc = rt.alloc();
+    let _ = fs::remove_file(&rt, SOCKET);
+    let client = thread::spawn(&rt, move || asked_at_last(&rt, alloc, b"ENTER A\nQUIT\n"))?;
+    let (status, output, errors) = run_alone(&rt, alloc, 10)?;
+    let replies = client.join(&rt).ok_or("replies")?;
+    let (again, _, said) = run_alone(&rt, alloc, 100)?;
+    let _ = fs::remove_file(&rt, SOCKET);
+    assert_eq!(rt; replies.as_slice(), b"OK 1 1 0.0\nBYE\n".as_slice());
+    assert!(rt; has_written(&output, "TABLE 1 RA"));
+    assert!(rt; has_written(&errors, "regatta: device fault\n"));
+    assert!(rt; has_written(&said, "regatta: device fault\n"));
+    assert_eq!(rt; (status, again), (3, 3));
     Ok(())
 }
 
@@ -311,7 +333,7 @@ fn the_program_serves_three_at_one_seat(rt: HostRuntime) -> Result<(), Fail> {
     let clients = thread::spawn(&rt, move || three_in_turn(&rt, alloc))?;
     let (mut input, mut output) = (giving(alloc, b"", 7)?, taking(alloc, 100)?);
     let mut errors = taking(alloc, 100)?;
-    let status = program(&rt, &ONE_SEAT, &mut input, &mut output, &mut errors);
+    let status = status_of(&rt, &ONE_SEAT, &mut input, &mut output, &mut errors);
     let (replies, _still_open) = clients.join(&rt).ok_or("replies")?;
     let wanted = "OK 2 1= 0.0\nBUSY\nBYE\nOK 3 1= 0.0\nBYE\n";
     assert_eq!(rt; replies.as_slice(), wanted.as_bytes());

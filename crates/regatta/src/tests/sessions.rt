@@ -7,7 +7,7 @@ use super::*;
 use regatta_office::{
     End, Gate, Office, OfficeName, OpenGate, Opened, Pass, Sink, Source, session,
 };
-use regatta_tables::write_journal;
+use regatta_tables::write_entries;
 use regatta_terms::{Command, Refusal, Role, Sail};
 use std::marker::Brand;
 use std::process::Abort;
@@ -17,7 +17,7 @@ use std::sync::atomic::{AtomicU64, Ordering};
 /// More bytes than any session here gives or takes.
 const PLENTY: usize = 100_000;
 
-/// The text of the office's journal.
+/// The text of the entries of the office's journal.
 pub(crate) fn journal_text<N: OfficeName, H: Wait + Drop, R: Wait>(
     rt: &R,
     alloc: Global,
@@ -25,7 +25,7 @@ pub(crate) fn journal_text<N: OfficeName, H: Wait + Drop, R: Wait>(
 ) -> Result<Vec<u8>, Fail> {
     let desk = office.desk(rt);
     let mut text = Vec::new(alloc);
-    write_journal(desk.board().entries(), &mut text)?;
+    write_entries(desk.board().entries(), &mut text)?;
     Ok(text)
 }
 
@@ -40,6 +40,18 @@ struct Talked {
     ends: Vec<End>,
     last: u32,
     journal: Vec<u8>,
+}
+
+impl Talked {
+    /// Did the sessions end so?
+    fn ended(&self, ends: &[End]) -> bool {
+        self.ends.as_slice() == ends
+    }
+
+    /// Is the pass's last number this, and the journal this text?
+    fn left(&self, last: u32, journal: &[u8]) -> bool {
+        self.last == last && self.journal.as_slice() == journal
+    }
 }
 
 /// How a session on this pass ends. It has no contract, so that its callers are proved quickly.
@@ -91,6 +103,18 @@ fn talk_at<N: OfficeName, H: Wait + Drop, R: Wait, S: Source + Sink, G: Gate>(
     })
 }
 
+/// What sessions left, one after another, at the one seat of an office in which nothing was
+/// entered. It has no contract, so that its callers are proved quickly.
+fn talked_at_one_seat<R: AllocGlobal + Wait, S: Source + Sink, G: Gate>(
+    rt: &R,
+    rules: &Rules,
+    streams: &mut [S],
+    gate: &G,
+) -> Result<Talked, Fail> {
+    let opened = Office::open(rt, rt.alloc(), rules, 1, &[])?;
+    talk_at::<Brand, _, _, _, _>(rt, rt.alloc(), opened, streams, gate)
+}
+
 /// What a jury sends: its role holds from `ROLE` on, and may enter no boat.
 const JURY_LINES: &[u8] = b"SHOW\r\nENTER A\nRANK A\nROLE JURY\nENTER B\nMARK 1 A DSQ\nNOPE\nENT";
 
@@ -101,18 +125,16 @@ const JURY_REPLIES: &[u8] = b"JOURNAL 0\nTABLE 0 RACES\nEND\nOK 1 1 0.0\nRANK 1 
 /// The second session begins as the scorer, whatever the first ended as.
 #[test]
 fn two_sessions_on_one_pass(rt: HostRuntime) -> Result<(), Fail> {
-    let opened = Office::open(&rt, rt.alloc(), &default_rules(), 1, &[])?;
     let mut tapes = [
         client(rt.alloc(), JURY_LINES)?,
         client(rt.alloc(), b"ENTER B\nQUIT\nENTER C\n")?,
     ];
-    let talked = talk_at::<Brand, _, _, _, _>(&rt, rt.alloc(), opened, &mut tapes, &OpenGate)?;
+    let talked = talked_at_one_seat(&rt, &default_rules(), &mut tapes, &OpenGate)?;
     assert_eq!(rt; tapes[0].written(), JURY_REPLIES);
     assert_eq!(rt; tapes[1].written(), b"OK 3 1= 0.0\nBYE\n".as_slice());
-    assert_eq!(rt; talked.ends.as_slice(), [End::Closed, End::Quit].as_slice());
-    assert_eq!(rt; talked.last, 3);
+    assert!(rt; talked.ended(&[End::Closed, End::Quit]));
     let journal = b"1 1 SCORER ENTER A\n1 2 JURY MARK 1 A DSQ\n1 3 SCORER ENTER B\n";
-    assert_eq!(rt; talked.journal.as_slice(), journal.as_slice());
+    assert!(rt; talked.left(3, journal));
     Ok(())
 }
 
@@ -211,19 +233,17 @@ fn run_by_guard<N: OfficeName, H: Wait + Drop, R: Wait + Abort>(
 
 #[test]
 fn lines_that_cannot_be_read(rt: HostRuntime) -> Result<(), Fail> {
-    let opened = Office::open(&rt, rt.alloc(), &default_rules(), 1, &[])?;
     let mut tapes = [client(rt.alloc(), &odd_lines(rt.alloc())?)?];
-    let talked = talk_at::<Brand, _, _, _, _>(&rt, rt.alloc(), opened, &mut tapes, &OpenGate)?;
+    let talked = talked_at_one_seat(&rt, &default_rules(), &mut tapes, &OpenGate)?;
     let written = "NO 20\nNO 20\nNO 21\nNO 21\nNO 21\nNO 21\nNO 23\nOK 1 1 0.0\n";
     assert_eq!(rt; tapes[0].written(), written.as_bytes());
-    assert_eq!(rt; talked.ends.as_slice(), [End::Closed].as_slice());
+    assert!(rt; talked.ended(&[End::Closed]));
     Ok(())
 }
 
 /// Under corrected times a session answers as a replay does.
 #[test]
 fn corrected_times_in_a_session(rt: HostRuntime) -> Result<(), Fail> {
-    let opened = Office::open(&rt, rt.alloc(), &handicap_rules(), 1, &[])?;
     let mut tapes = [
         client(rt.alloc(), TIMES.as_bytes())?,
         client(
@@ -231,7 +251,7 @@ fn corrected_times_in_a_session(rt: HostRuntime) -> Result<(), Fail> {
             b"STRIKE 1 A\nTIME 1 A 0003599\nTIME 1 A 03599\nFINISH 1 B\n",
         )?,
     ];
-    let talked = talk_at::<Brand, _, _, _, _>(&rt, rt.alloc(), opened, &mut tapes, &OpenGate)?;
+    let talked = talked_at_one_seat(&rt, &handicap_rules(), &mut tapes, &OpenGate)?;
     assert_eq!(rt; tapes[0].written(), REPLIES.as_bytes());
     let replies = b"OK 8 3 4.0\nNO 29\nOK 9 1 1.0\nNO 16\n";
     assert_eq!(rt; tapes[1].written(), replies.as_slice());
@@ -244,35 +264,27 @@ fn corrected_times_in_a_session(rt: HostRuntime) -> Result<(), Fail> {
 /// goes on from there.
 #[test]
 fn a_write_that_fails(rt: HostRuntime) -> Result<(), Fail> {
-    let opened = Office::open(&rt, rt.alloc(), &default_rules(), 1, &[])?;
     let mut tapes = [
         failing(rt.alloc(), b"ENTER A\nENTER B\nENTER C\n", 7, PLENTY, 16)?,
         client(rt.alloc(), b"ENTER C\n")?,
     ];
-    let talked = talk_at::<Brand, _, _, _, _>(&rt, rt.alloc(), opened, &mut tapes, &OpenGate)?;
+    let talked = talked_at_one_seat(&rt, &default_rules(), &mut tapes, &OpenGate)?;
     assert_eq!(rt; tapes[0].written(), b"OK 1 1 0.0\nOK 2 ".as_slice());
     assert_eq!(rt; tapes[1].written(), b"OK 3 1= 0.0\n".as_slice());
-    assert_eq!(rt;
-        talked.ends.as_slice(),
-        [End::WriteFault, End::Closed].as_slice()
-    );
+    assert!(rt; talked.ended(&[End::WriteFault, End::Closed]));
     let journal = b"1 1 SCORER ENTER A\n1 2 SCORER ENTER B\n1 3 SCORER ENTER C\n";
-    assert_eq!(rt; talked.journal.as_slice(), journal.as_slice());
+    assert!(rt; talked.left(3, journal));
     Ok(())
 }
 
 /// A read fails in mid-line.
 #[test]
 fn a_read_that_fails(rt: HostRuntime) -> Result<(), Fail> {
-    let opened = Office::open(&rt, rt.alloc(), &default_rules(), 1, &[])?;
     let mut tapes = [failing(rt.alloc(), b"ENTER A\nENT", 7, 11, PLENTY)?];
-    let talked = talk_at::<Brand, _, _, _, _>(&rt, rt.alloc(), opened, &mut tapes, &OpenGate)?;
+    let talked = talked_at_one_seat(&rt, &default_rules(), &mut tapes, &OpenGate)?;
     assert_eq!(rt; tapes[0].written(), b"OK 1 1 0.0\n".as_slice());
-    assert_eq!(rt; talked.ends.as_slice(), [End::ReadFault].as_slice());
-    assert_eq!(rt;
-        talked.journal.as_slice(),
-        b"1 1 SCORER ENTER A\n".as_slice()
-    );
+    assert!(rt; talked.ended(&[End::ReadFault]));
+    assert!(rt; talked.left(1, b"1 1 SCORER ENTER A\n"));
     Ok(())
 }
 
@@ -299,18 +311,14 @@ fn four_lines(alloc: Global) -> Result<Vec<u8>, Fail> {
 /// Lines that can't be read count, too, and the line that isn't let through changes nothing.
 #[test]
 fn a_gate_stops_a_session(rt: HostRuntime) -> Result<(), Fail> {
-    let opened = Office::open(&rt, rt.alloc(), &default_rules(), 1, &[])?;
     let mut tapes = [client(rt.alloc(), &four_lines(rt.alloc())?)?];
-    let talked = talk_at::<Brand, _, _, _, _>(&rt, rt.alloc(), opened, &mut tapes, &NoFourth)?;
+    let talked = talked_at_one_seat(&rt, &default_rules(), &mut tapes, &NoFourth)?;
     assert_eq!(rt;
         tapes[0].written(),
         b"NO 21\nNO 20\nOK 1 1 0.0\n".as_slice()
     );
-    assert_eq!(rt; talked.ends.as_slice(), [End::Stopped].as_slice());
-    assert_eq!(rt;
-        (talked.last, talked.journal.as_slice()),
-        (1, b"1 1 SCORER ENTER A\n".as_slice())
-    );
+    assert!(rt; talked.ended(&[End::Stopped]));
+    assert!(rt; talked.left(1, b"1 1 SCORER ENTER A\n"));
     Ok(())
 }
 
@@ -350,11 +358,9 @@ fn a_gate_is_told_of_replies(rt: HostRuntime) -> Result<(), Fail> {
         writes,
         told: AtomicU64::new(0),
     };
-    let opened = Office::open(&rt, rt.alloc(), &default_rules(), 1, &[])?;
     let mut wires = [one, two];
-    let talked = talk_at::<Brand, _, _, _, _>(&rt, rt.alloc(), opened, &mut wires, &gate)?;
+    let talked = talked_at_one_seat(&rt, &default_rules(), &mut wires, &gate)?;
     assert_eq!(rt; gate.told.load(Ordering::SeqCst), 1122);
-    let ends = [End::Closed, End::WriteFault];
-    assert_eq!(rt; talked.ends.as_slice(), ends.as_slice());
+    assert!(rt; talked.ended(&[End::Closed, End::WriteFault]));
     Ok(())
 }

@@ -4,6 +4,14 @@
 use super::*;
 use regatta_tables::{EntriesFault, JournalFault};
 use regatta_terms::{LineFault, Refusal, RulesFault};
+use std::fmt::Display;
+
+/// Does this print as one of its kind, with this number ahead of the words?
+fn is_numbered<T: Display>(alloc: Global, fault: &T, kind: &str, number: u8) -> Result<bool, Fail> {
+    let text = format!(in alloc; "{fault}")?;
+    let start = format!(in alloc; "{kind} {number}: ")?;
+    Ok(text.as_str().starts_with(start.as_str()))
+}
 
 #[test]
 fn prints_each_refusal_with_its_number(rt: HostRuntime) -> Result<(), Fail> {
@@ -26,9 +34,7 @@ fn prints_each_refusal_with_its_number(rt: HostRuntime) -> Result<(), Fail> {
         Refusal::WrongSystem,
     ];
     for refusal in refusals {
-        let text = format!(in rt.alloc(); "{refusal}")?;
-        let begins = format!(in rt.alloc(); "refused {}: ", refusal.number())?;
-        assert!(rt; text.as_str().starts_with(begins.as_str()));
+        assert!(rt; is_numbered(rt.alloc(), &refusal, "refused", refusal.number())?);
     }
     let refusal = format!(in rt.alloc(); "{}", Refusal::OldNumber { last: 8 })?;
     assert_eq!(rt; refusal.as_str(), "refused 3: the number isn't above 8");
@@ -50,9 +56,7 @@ fn prints_each_fault_of_a_line_with_its_number(rt: HostRuntime) -> Result<(), Fa
         LineFault::BadSeconds,
     ];
     for fault in faults {
-        let text = format!(in rt.alloc(); "{fault}")?;
-        let begins = format!(in rt.alloc(); "fault {}: ", fault.number())?;
-        assert!(rt; text.as_str().starts_with(begins.as_str()));
+        assert!(rt; is_numbered(rt.alloc(), &fault, "fault", fault.number())?);
     }
     let fault = format!(in rt.alloc(); "{}", LineFault::TooLong)?;
     assert_eq!(rt; fault.as_str(), "fault 20: more than 80 bytes");
@@ -70,9 +74,7 @@ fn prints_each_fault_of_rules_with_its_number(rt: HostRuntime) -> Result<(), Fai
         RulesFault::BadText,
     ];
     for fault in faults {
-        let text = format!(in rt.alloc(); "{fault}")?;
-        let begins = format!(in rt.alloc(); "rules fault {}: ", fault.number())?;
-        assert!(rt; text.as_str().starts_with(begins.as_str()));
+        assert!(rt; is_numbered(rt.alloc(), &fault, "rules fault", fault.number())?);
     }
     let fault = format!(in rt.alloc(); "{}", RulesFault::AboveForty)?;
     assert_eq!(rt; fault.as_str(), "rules fault 5: a threshold is above 40");
@@ -80,7 +82,7 @@ fn prints_each_fault_of_rules_with_its_number(rt: HostRuntime) -> Result<(), Fai
 }
 
 #[test]
-fn prints_each_fault_of_a_file_with_its_number(rt: HostRuntime) -> Result<(), Fail> {
+fn prints_each_fault_of_an_entry_list_with_its_number(rt: HostRuntime) -> Result<(), Fail> {
     let faults = [
         EntriesFault::NoColumn,
         EntriesFault::BadRow { row: 3 },
@@ -90,26 +92,36 @@ fn prints_each_fault_of_a_file_with_its_number(rt: HostRuntime) -> Result<(), Fa
         EntriesFault::NoMemory,
     ];
     for fault in faults {
-        let text = format!(in rt.alloc(); "{fault}")?;
-        let begins = format!(in rt.alloc(); "entries fault {}: ", fault.number())?;
-        assert!(rt; text.as_str().starts_with(begins.as_str()));
+        assert!(rt; is_numbered(rt.alloc(), &fault, "entries fault", fault.number())?);
     }
     let fault = format!(in rt.alloc(); "{}", EntriesFault::TooMany { row: 3 })?;
     assert_eq!(rt;
         fault.as_str(),
-        "entries fault 5: more than 200 sails, from row 3"
+        "entries fault 5: more than 500 sails, from row 3"
     );
+    Ok(())
+}
+
+#[test]
+fn prints_each_fault_of_a_journal_with_its_number(rt: HostRuntime) -> Result<(), Fail> {
     let bad_line = JournalFault::BadLine {
         line: 2,
         fault: LineFault::WrongCount,
     };
-    for fault in [bad_line, JournalFault::TooMany, JournalFault::NoMemory] {
-        let text = format!(in rt.alloc(); "{fault}")?;
-        let begins = format!(in rt.alloc(); "journal fault {}: ", fault.number())?;
-        assert!(rt; text.as_str().starts_with(begins.as_str()));
+    let faults = [
+        bad_line,
+        JournalFault::TooMany { line: 8194 },
+        JournalFault::NoMemory,
+        JournalFault::BadVersion,
+    ];
+    for fault in faults {
+        assert!(rt; is_numbered(rt.alloc(), &fault, "journal fault", fault.number())?);
     }
-    let fault = format!(in rt.alloc(); "{}", JournalFault::TooMany)?;
-    assert_eq!(rt; fault.as_str(), "journal fault 2: more than 4096 lines");
+    let fault = format!(in rt.alloc(); "{}", JournalFault::TooMany { line: 8194 })?;
+    assert_eq!(rt;
+        fault.as_str(),
+        "journal fault 2: more than 8192 entries, from line 8194"
+    );
     Ok(())
 }
 
@@ -119,7 +131,7 @@ fn nobody_has_results_and_a_journal(rt: HostRuntime) -> Result<(), Fail> {
     let (output, _) = replayed(rt.alloc(), b"", &rules, &[], Form::Csv)?;
     assert_eq!(rt; output.written(), b"rank,sail,net\n".as_slice());
     let (output, ended) = replayed(rt.alloc(), b"", &rules, &[], Form::Journal)?;
-    assert_eq!(rt; output.written(), b"".as_slice());
+    assert_eq!(rt; output.written(), b"REGATTA 2\n".as_slice());
     assert_eq!(rt; ended, Ok(()));
     Ok(())
 }

@@ -1,6 +1,9 @@
-use Rattle.std.proofs.Common.{◌∙◌, ap, sym, arith, length}
+use Rattle.std.proofs.Common.{◌≡◌, ◌∙◌, ap, sym, subst, arith, length}
+use Rattle.regatta_scores.specs.Ranking.{places}
 use Rattle.regatta_board.specs.Revisions.{revised}
+use Rattle.regatta_board.specs.Scoring.{Scoring, IsOfEach, with_lines}
 use Rattle.regatta_board.proofs.ScoringFacts.{untouched_scores, unchanged_lines, lines_by_long}
+use Rattle.regatta_board.proofs.ScoringFacts.{are_ranked}
 use Rattle.regatta_board.proofs.scoring.new_scores.Goals as goal
 
 pub returns-then-not-touched_by-clause-value : goal.returns-then-not-touched_by-clause-value
@@ -8,11 +11,19 @@ returns-then-not-touched_by-clause-value c =
     untouched_scores c.args.rules.now c.args.kept.now c.args.revision.now
     (sym c.touched_by.ensures ∙ c.if-not-touched_by.true)
 
-pub with_ranks-requires : goal.with_ranks-requires
-with_ranks-requires c =
+pub new_ranks-requires-clause-each : goal.new_ranks-requires-clause-each
+new_ranks-requires-clause-each c =
+    let ls : c.deref.result.now ≡ c.args.scoring.now.lines =
+    c.deref.ensures.value ∙ ap (λ (s : Scoring). s.lines) c.scoring.view_is in
+    subst (λ xs. IsOfEach xs c.in_ok-lines.lines) (sym ls) c.in_ok-lines.ensures.each
+
+pub new_ranks-requires-clause-few : goal.new_ranks-requires-clause-few
+new_ranks-requires-clause-few c =
+    let ls : c.deref.result.now ≡ c.args.scoring.now.lines =
+    c.deref.ensures.value ∙ ap (λ (s : Scoring). s.lines) c.scoring.view_is in
     omega (
       arith,
-      ap length c.in_ok-lines.ensures,
+      ap length (ap (λ xs. with_lines xs c.in_ok-lines.lines) ls ∙ c.in_ok-lines.ensures.value),
       lines_by_long c.args.rules.now (revised c.args.kept.now c.args.revision.now),
       c.requires.next.few,
     )
@@ -25,3 +36,17 @@ returns-then-says_the_same-clause-value c = record {
       c.args.revision.now c.in_ok-columns.columns c.in_ok-columns.ensures.value
       (c.says_the_same.ensures c.if-says_the_same.true);
 }
+
+pub returns-clause-value : goal.returns-clause-value
+returns-clause-value c =
+    let ls : c.deref.result.now ≡ c.args.scoring.now.lines =
+    c.deref.ensures.value ∙ ap (λ (s : Scoring). s.lines) c.scoring.view_is in
+    record {
+      columns = c.in_ok-columns.ensures.value;
+      ranked =
+          are_ranked c.args.rules.now c.args.kept.now
+          (revised c.args.kept.now c.args.revision.now) c.args.scoring.now c.requires.scoring
+          (record { lines = c.in_ok-lines.lines; ranks = c.in_ok-ranks.ranks })
+          c.in_ok-lines.ensures.each c.in_ok-lines.ensures.value
+          (c.in_ok-ranks.ensures ∙ ap (λ xs. places (with_lines xs c.in_ok-lines.lines)) ls);
+    }

@@ -1,14 +1,14 @@
-use Rattle.std.proofs.Common.{◌≡◌, ◌-◌, ◌∙◌, [], ap, arith, map, get_or}
+use Rattle.std.proofs.Common.{◌≡◌, ◌-◌, ◌∙◌, [], ap, arith, sym, map, length, get_or}
 use Rattle.std.proofs.lemmas.Grind.{common_steps}
 use Rattle.regatta_board.specs.Revisions.{revised}
-use Rattle.regatta_board.specs.Scoring.{Scoring, with_columns}
+use Rattle.regatta_board.specs.Scoring.{Scoring, with_changed, with_columns}
 use Rattle.regatta_board.specs.Table.{Kept, races}
 use Rattle.regatta_board.proofs.ScoringFacts.{old_long, new_long, turned_even, turned_stays}
 use Rattle.regatta_board.proofs.ScoringFacts.{turned_all}
 use Rattle.regatta_board.proofs.scoring.turned_lines.Goals as goal
 
-pub lines_with-requires-clause-even : goal.lines_with-requires-clause-even
-lines_with-requires-clause-even c =
+pub changed_lines-requires-clause-even : goal.changed_lines-requires-clause-even
+changed_lines-requires-clause-even c =
     let a = c.args in
     let cols : c.deref.result.now ≡ a.scoring.now.columns =
     c.deref.ensures.value ∙ ap (λ (s : Scoring). s.columns) c.scoring.view_is in
@@ -27,8 +27,8 @@ lines_with-requires-clause-even c =
     c.requires.counts c.requires.turned c.deref-4.result.now ls
     c.deref-2.result.now rs c.deref-5.result.now found
 
-pub lines_with-requires-clause-old : goal.lines_with-requires-clause-old
-lines_with-requires-clause-old c =
+pub changed_lines-requires-clause-old : goal.changed_lines-requires-clause-old
+changed_lines-requires-clause-old c =
     let a = c.args in
     let cols : c.deref.result.now ≡ a.scoring.now.columns =
     c.deref.ensures.value ∙ ap (λ (s : Scoring). s.columns) c.scoring.view_is in
@@ -40,8 +40,8 @@ lines_with-requires-clause-old c =
     a.scoring.now c.requires.scoring a.columns.now c.requires.new a.race c.get.ensures.range
     c.requires.counts c.requires.turned c.deref-4.result.now ls c.index-old.result.now was
 
-pub lines_with-requires-clause-new : goal.lines_with-requires-clause-new
-lines_with-requires-clause-new c =
+pub changed_lines-requires-clause-new : goal.changed_lines-requires-clause-new
+changed_lines-requires-clause-new c =
     let a = c.args in
     let cols : c.deref.result.now ≡ a.scoring.now.columns =
     c.deref.ensures.value ∙ ap (λ (s : Scoring). s.columns) c.scoring.view_is in
@@ -57,8 +57,8 @@ lines_with-requires-clause-new c =
     a.scoring.now c.requires.scoring a.columns.now c.requires.new a.race c.get.ensures.range
     c.requires.counts c.requires.turned c.deref-4.result.now ls c.current-new.result hers
 
-pub lines_with-requires-clause-stays : goal.lines_with-requires-clause-stays
-lines_with-requires-clause-stays c =
+pub changed_lines-requires-clause-stays : goal.changed_lines-requires-clause-stays
+changed_lines-requires-clause-stays c =
     let a = c.args in
     let cols : c.deref.result.now ≡ a.scoring.now.columns =
     c.deref.ensures.value ∙ ap (λ (s : Scoring). s.columns) c.scoring.view_is in
@@ -86,8 +86,14 @@ lines_with-requires-clause-stays c =
     c.deref-2.result.now rs c.deref-5.result.now found c.current-new.result
     c.index-old.result.now hers was
 
-pub returns : goal.returns
-returns c =
+pub returns-clause-each : goal.returns-clause-each
+returns-clause-each c =
+    let ls : c.deref-4.result.now ≡ c.args.scoring.now.lines =
+    c.deref-4.ensures.value ∙ ap (λ (s : Scoring). s.lines) c.scoring.view_is in
+    c.in_ok-lines.ensures.each ∙ ap length ls
+
+pub returns-clause-value : goal.returns-clause-value
+returns-clause-value c =
     let a = c.args in
     let cols : c.deref.result.now ≡ a.scoring.now.columns =
     c.deref.ensures.value ∙ ap (λ (s : Scoring). s.columns) c.scoring.view_is in
@@ -101,8 +107,9 @@ returns c =
     c.deref-2.result.now = c.deref-5.ensures.value ∙ c.in_ok-found.ensures
     ∙ (λ i. map (λ race. get_or (with_columns (cols i) a.columns.now) (race - 1) [])
     c.deref-2.result.now) in
-    turned_all a.rules.now a.kept.now c.requires.kept a.revision.now c.requires.next
+    ap (λ xs. with_changed xs c.in_ok-lines.lines.items) (sym ls)
+    ∙ turned_all a.rules.now a.kept.now c.requires.kept a.revision.now c.requires.next
     a.scoring.now c.requires.scoring a.columns.now c.requires.new a.race c.get.ensures.range
     c.requires.counts c.requires.turned c.deref-4.result.now ls
-    c.deref-2.result.now rs c.deref-5.result.now found c.in_ok-lines.lines.items
-    c.in_ok-lines.ensures
+    c.deref-2.result.now rs c.deref-5.result.now found
+    (with_changed c.deref-4.result.now c.in_ok-lines.lines.items) c.in_ok-lines.ensures.value

@@ -1,12 +1,12 @@
-use Rattle.std.proofs.Common.{◌∙◌, ap, sym, subst, arith, length}
+use Rattle.std.proofs.Common.{◌∙◌, ap, subst, arith, length}
 use Rattle.regatta_scores.specs.Ranking.{places}
 use Rattle.regatta_board.specs.Scoring.{AreColumns, lines_by}
 use Rattle.regatta_board.specs.Table.{Kept}
 use Rattle.regatta_board.proofs.ScoringFacts.{lines_by_long}
 use Rattle.regatta_board.proofs.scoring.Scoring.of.Goals as goal
 
-pub with_ranks-requires : goal.with_ranks-requires
-with_ranks-requires c =
+pub ranks-requires : goal.ranks-requires
+ranks-requires c =
     omega (
       arith,
       ap length c.in_ok-lines.ensures,
@@ -20,7 +20,6 @@ returns c = record {
   long = c.in_ok-columns.ensures.long;
   columns = subst (λ (k : Kept). AreColumns c.args.rules.now k c.in_ok-columns.columns.items)
       c.of-draft.ensures c.in_ok-columns.ensures.value;
-  lines = c.in_ok-lines-2.ensures.0 ∙ c.in_ok-lines.ensures
-      ∙ ap (lines_by c.args.rules.now) c.of-draft.ensures;
-  ranks = c.in_ok-lines-2.ensures.1 ∙ ap places (sym c.in_ok-lines-2.ensures.0);
+  lines = c.in_ok-lines.ensures ∙ ap (lines_by c.args.rules.now) c.of-draft.ensures;
+  ranks = c.in_ok-ranks.ensures ∙ ap places c.deref-2.ensures.value;
 }
