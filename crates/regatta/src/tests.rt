@@ -10,6 +10,7 @@ mod complaints;
 mod faults;
 mod handicap;
 mod journals;
+mod memory;
 mod offices;
 mod programs;
 mod replays;
