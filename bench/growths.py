@@ -6,10 +6,9 @@
 TESTS is the program of the tests as `rt test` builds it, `crates/regatta/out/regatta_tests`. Each
 test of `tests::memory` is run with a library that counts requests preloaded (growths.c, beside this
 file, built with the machine's C compiler). For each call that the test sweeps, it tells how many
-requests for memory the call makes where none is refused, how many runs were refused, and each
-request that was the first refused of no run, by its number and size: the heap gives it what the
-call has given back before. A call with a request that is passed over isn't at fault; bench/refuse.py
-refuses that one by its number. The script ends with status 1 where a test fails.
+requests for memory the call makes where none is refused, how many runs were refused, how many of
+the requests were met as the first refused, how many others the call had memory for anyway, and the
+number and size of each that was passed over. The script ends with status 1 where a test fails.
 """
 import os
 import subprocess

@@ -32,7 +32,7 @@ fn is_whole(written: &[u8]) -> bool {
         && written.len() == REPLIES.len() + TABLE.len()
 }
 
-/// A tape for so much text, which is never told of a tape that wants memory.
+/// A tape that gives this text and takes so many bytes.
 fn tape(alloc: Global, text: &[u8], take: usize) -> Result<Tape, AllocError> {
     Tape::new(alloc, text, 7, 4_000_000, take)
 }
@@ -103,40 +103,53 @@ fn replays_want_memory(rt: HostRuntime) -> Result<(), Fail> {
 /// A path at which no socket can be made.
 const NOWHERE: &str = "/no/such/folder/race.sock";
 
-/// A run of lines, the help, and serving: of that the words are read, and an office is opened and
-/// split, ahead of the socket.
+/// Whether a run of the program is refused at least so often before it meets no refusal.
+fn is_refused<R>(rt: &R, least: u32, call: Words<'_>) -> Result<bool, Fail>
+where
+    R: Files + AllocGlobal + Threads + Wait + Net + Sync,
+{
+    // made once ahead of the hoard, beside which the stack can't grow
+    let _ = runs(rt, &call);
+    let Some(mut hoard) = Hoard::new(rt.alloc())? else {
+        return Ok(true);
+    };
+    Ok(hoard.refuses(least, Steps::of_journals(32_768), || runs(rt, &call)))
+}
+
 #[test]
 fn the_program_wants_memory(rt: HostRuntime) -> Result<(), Fail> {
-    let calls = [
-        Words {
-            words: &["replay"],
-            status: 0,
-            end: TABLE,
-            complaint: b"",
-        },
-        Words {
-            words: &["--help"],
-            status: 0,
-            end: b"\n",
-            complaint: b"",
-        },
-        Words {
-            words: &["serve", "--socket", NOWHERE, "--clients", "2"],
-            status: 3,
-            end: b"",
-            complaint: b"regatta: device fault\n",
-        },
-    ];
-    // made once ahead of the hoard, beside which the stack can't grow
-    for call in &calls {
-        let _ = runs(&rt, call);
-    }
-    let Some(mut hoard) = Hoard::new(rt.alloc())? else {
-        return Ok(());
+    let call = Words {
+        words: &["replay"],
+        status: 0,
+        end: TABLE,
+        complaint: b"",
     };
-    for call in &calls {
-        assert!(rt; hoard.refuses(500, Steps::of_journals(65_536), || runs(&rt, call)));
-    }
+    assert!(rt; is_refused(&rt, 2048, call)?);
+    Ok(())
+}
+
+#[test]
+fn help_wants_memory(rt: HostRuntime) -> Result<(), Fail> {
+    let call = Words {
+        words: &["--help"],
+        status: 0,
+        end: b"\n",
+        complaint: b"",
+    };
+    assert!(rt; is_refused(&rt, 500, call)?);
+    Ok(())
+}
+
+/// The words of serving are read, and an office is opened and split, ahead of the socket.
+#[test]
+fn a_program_that_serves_wants_memory(rt: HostRuntime) -> Result<(), Fail> {
+    let call = Words {
+        words: &["serve", "--socket", NOWHERE, "--clients", "2"],
+        status: 3,
+        end: b"",
+        complaint: b"regatta: device fault\n",
+    };
+    assert!(rt; is_refused(&rt, 6000, call)?);
     Ok(())
 }
 
