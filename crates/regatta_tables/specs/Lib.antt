@@ -2,6 +2,7 @@ pub mod CsvTexts
 pub mod EntryLists
 pub mod JournalFiles
 pub mod JournalTexts
+pub mod Laws
 pub mod Lines
 pub mod ReplyTexts
 pub mod SheetTexts

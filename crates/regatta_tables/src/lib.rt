@@ -3,6 +3,7 @@
 
 mod entries;
 mod journals;
+pub mod laws;
 mod pieces;
 mod records;
 mod replies;
