@@ -1,25 +1,17 @@
 ghost use Rattle.std.specs.Prelude.{◌<◌};
 
-use regatta_office::{Form, RunFault, Tape, replay};
+use regatta_office::{Tape, program};
 use regatta_terms::{Absent, Entry, Rules};
 use std::alloc::Global;
+use std::fs::Files;
+use std::net::Net;
+use std::sync::Wait;
 use std::test::Fail;
+use std::thread::Threads;
 
-mod boards;
-mod complaints;
-mod faults;
-mod handicap;
-mod journals;
 mod offices;
-mod programs;
-mod replays;
-mod scores;
-mod season;
 mod serving;
 mod sessions;
-mod streams;
-mod texts;
-mod weekend;
 mod wires;
 
 /// The rules where none are stated.
@@ -37,16 +29,6 @@ fn joined(alloc: Global, parts: &[&[u8]]) -> Result<Vec<u8>, Fail> {
     let mut text = Vec::new(alloc);
     for part in parts {
         text.extend_from_slice(part)?;
-    }
-    Ok(text)
-}
-
-/// A text, and behind it the same line so many times.
-fn with_lines(alloc: Global, first: &[u8], line: &[u8], count: u32) -> Result<Vec<u8>, Fail> {
-    let mut text = Vec::new(alloc);
-    text.extend_from_slice(first)?;
-    for _ in 0..count {
-        text.extend_from_slice(line)?;
     }
     Ok(text)
 }
@@ -76,16 +58,22 @@ fn taking(alloc: Global, take: usize) -> Result<Tape, Fail> {
     Ok(Tape::new(alloc, b"", 1, 0, take)?)
 }
 
-/// What a run over memory writes for a text, and how it ends.
-fn replayed(
-    alloc: Global,
-    text: &[u8],
-    rules: &Rules,
-    start: &[Entry],
-    form: Form,
-) -> Result<(Tape, Result<(), RunFault>), Fail> {
-    let mut input = giving(alloc, text, 7)?;
-    let mut output = taking(alloc, 200_000)?;
-    let ended = replay(alloc, &mut input, &mut output, rules, start, form);
-    Ok((output, ended))
+/// The status of a run of the program over these tapes. It has no contract, so that its callers
+/// are proved quickly.
+fn status_of<R>(
+    rt: &R,
+    words: &[&str],
+    input: &mut Tape,
+    output: &mut Tape,
+    errors: &mut Tape,
+) -> u8
+where
+    R: Files + AllocGlobal + Threads + Wait + Net + Sync,
+{
+    program(rt, words, input, output, errors)
+}
+
+/// Whether this text was written, and no more.
+fn has_written(tape: &Tape, text: &str) -> bool {
+    tape.written() == text.as_bytes()
 }

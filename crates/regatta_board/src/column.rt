@@ -222,11 +222,11 @@ pub(crate) fn new_columns(
 
 /// The column of a race that counts.
 #[derive(Drop)]
-pub struct Counted<'a> {
+pub struct CurrentColumn<'a> {
     column: &'a Column,
 }
 
-impl<'a> Model for Counted<'a> {
+impl<'a> Model for CurrentColumn<'a> {
     ghost use Rattle.std.specs.Prelude.{List};
     ghost use Rattle.regatta_board.specs.declared.outcomes.Outcome.{Outcome};
 
@@ -235,7 +235,7 @@ impl<'a> Model for Counted<'a> {
     ghost view = { λ c. c.column.now };
 }
 
-impl<'a> Counted<'a> {
+impl<'a> CurrentColumn<'a> {
     /// What came of one boat.
     pub(crate) fn at(&self, boat: usize) -> Outcome
         requires { boat < length self.now }
@@ -246,7 +246,7 @@ impl<'a> Counted<'a> {
 }
 
 /// The column of a race, once the new ones have replaced the old ones.
-pub(crate) fn current<'a>(old: &'a [Column], new: &'a NewColumns, race: RaceNo) -> Counted<'a>
+pub(crate) fn current<'a>(old: &'a [Column], new: &'a NewColumns, race: RaceNo) -> CurrentColumn<'a>
     requires old { length old.now ≡ MAX_RACES }
     requires new { length (with_columns old.now new.now) ≡ MAX_RACES }
     ensures { result ≡ slice_index_or (with_columns old.now new.now) (race - 1) [] }
@@ -260,16 +260,16 @@ pub(crate) fn current<'a>(old: &'a [Column], new: &'a NewColumns, race: RaceNo) 
         NewColumns::Same | NewColumns::One { .. } => &old[at],
         NewColumns::All { columns } => &columns[at],
     };
-    Counted { column }
+    CurrentColumn { column }
 }
 
 /// The columns of these races, once the new ones have replaced the old ones.
-pub(crate) fn counted_columns<'a>(
+pub(crate) fn current_columns<'a>(
     alloc: Global,
     old: &'a [Column],
     new: &'a NewColumns,
     races: &[RaceNo],
-) -> Result<Vec<Counted<'a>>, AllocError>
+) -> Result<Vec<CurrentColumn<'a>>, AllocError>
     requires old { length old.now ≡ MAX_RACES }
     requires new { length (with_columns old.now new.now) ≡ MAX_RACES }
     ensures { IfOk result (λ found. found.items

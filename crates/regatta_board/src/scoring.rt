@@ -19,7 +19,7 @@ ghost use Rattle.regatta_board.specs.Table.{outcomes as outcomes_of, lines as li
 ghost use Rattle.regatta_board.specs.Table.{table as table_of};
 
 use crate::column::{
-    Column, Counted, NewColumns, all_columns, counted_columns, current, new_columns,
+    Column, CurrentColumn, NewColumns, all_columns, current, current_columns, new_columns,
 };
 use crate::kept::{Draft, Kept, Revision};
 use crate::outcomes::Outcome;
@@ -122,7 +122,7 @@ fn new_ranks(alloc: Global, old: &[BoatLine], new: &NewLines) -> Result<Places, 
 fn line_after(
     old: Outcome,
     new: Outcome,
-    columns: &[Counted<'_>],
+    columns: &[CurrentColumn<'_>],
     boat: usize,
     rules: &Rules,
 ) -> Option<BoatLine>
@@ -143,8 +143,8 @@ fn changed_lines(
     alloc: Global,
     lines: &[BoatLine],
     old: &Column,
-    new: &Counted<'_>,
-    columns: &[Counted<'_>],
+    new: &CurrentColumn<'_>,
+    columns: &[CurrentColumn<'_>],
     rules: &Rules,
 ) -> Result<Vec<Option<BoatLine>>, AllocError>
     requires even { All (λ column. length column ≡ length lines.now) columns.now }
@@ -182,7 +182,7 @@ fn drafted_lines(
     ensures { IfOk result (λ lines. lines.items ≡ lines_by rules.now draft.now) }
 {
     let races = races(alloc, draft)?;
-    let found = counted_columns(alloc, old, new, &races)?;
+    let found = current_columns(alloc, old, new, &races)?;
     let lines = all_lines(alloc, &found, draft.boats().len(), rules)?;
     Ok(lines)
 }
@@ -208,7 +208,7 @@ fn turned_lines(
         with_lines scoring.now.lines new ≡ lines_by rules.now (revised kept.now revision.now)) }
 {
     let races = races(alloc, &Draft::new(kept, revision))?;
-    let found = counted_columns(alloc, &scoring.columns, columns, &races)?;
+    let found = current_columns(alloc, &scoring.columns, columns, &races)?;
     let old = &scoring.columns[race.get() as usize - 1];
     let new = current(&scoring.columns, columns, race);
     let lines = changed_lines(alloc, &scoring.lines, old, &new, &found, rules)?;
@@ -391,7 +391,7 @@ impl Scoring {
     {
         let draft = Draft::of(kept);
         let races = races(alloc, &draft)?;
-        let found = counted_columns(alloc, &self.columns, &NewColumns::Same, &races)?;
+        let found = current_columns(alloc, &self.columns, &NewColumns::Same, &races)?;
         let rows = sorted_rows(
             alloc,
             &found,

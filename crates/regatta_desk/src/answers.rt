@@ -51,7 +51,8 @@ impl<N: OfficeName, R: Wait + Drop> Desk<N, R> {
     }
 
     /// Answers a line that asks for a command or a rank: runs the command for the pass in this
-    /// role, or looks the boat up, and appends the reply.
+    /// role, or looks the boat up, and appends the reply. Where there is room for one, the room
+    /// stays as it was.
     ///
     /// # Errors
     ///
@@ -70,6 +71,8 @@ impl<N: OfficeName, R: Wait + Drop> Desk<N, R> {
             × DeskReplies N.rules line role self.old self.new pass.old pass.new reply
             × (out.new.items ≡ out.old.items ++ reply_text reply)) }
         ensures fits { vec_len out.old + REPLY_ROOM ≤ vec_capacity out.old → IsOk result }
+        ensures stays { vec_len out.old + REPLY_ROOM ≤ vec_capacity out.old
+            → vec_capacity out.new ≡ vec_capacity out.old }
         ensures err { OnErr result ((self.new ≡ self.old) × (pass.new ≡ pass.old)
             × (out.new.items ≡ out.old.items)
             × (vec_capacity out.new ≡ vec_capacity out.old)) }
@@ -84,7 +87,8 @@ impl<N: OfficeName, R: Wait + Drop> Desk<N, R> {
 /// Appends the sheet of what is published, or the reply that stands for it.
 fn show<N: OfficeName>(pass: &mut Pass<N>, out: &mut Vec<u8>)
     requires { vec_len out.old + REPLY_ROOM ≤ vec_capacity out.old }
-    ensures { PassReplies N.rules (Ok Line.Show) pass.old pass.new out.old.items out.new.items }
+    ensures text { PassReplies N.rules (Ok Line.Show) pass.old pass.new out.old.items out.new.items }
+    ensures room { vec_capacity out.old ≤ vec_capacity out.new }
 {
     let reply = match pass.show() {
         Ok(sheet) => {
@@ -120,6 +124,7 @@ pub fn answer_alone<N: OfficeName>(
         (PassReplies N.rules asked pass.old pass.new out.old.items out.new.items) }
     ensures role { OnOk result (role.new ≡ role_after asked role.old) }
     ensures next { IfOk result (λ next. next ≡ next_after asked) }
+    ensures room { vec_capacity out.old ≤ vec_capacity out.new }
     ensures fits { vec_len out.old + REPLY_ROOM ≤ vec_capacity out.old → IsOk result }
     ensures err { OnErr result ((role.new ≡ role.old) × (pass.new ≡ pass.old)
         × (out.new.items ≡ out.old.items)

@@ -37,6 +37,7 @@ fn do_command(board: &mut Shown, role: Role, command: Command) -> Result<Reply, 
       entries = journal_after
           board.old.rules (record { role = role; journal = board.old.entries }) command;
     }) }
+    ensures err { OnErr result (board.new ≡ board.old) }
 {
     match board.apply(entry_of(board, role, command)) {
         Ok(answer) => Ok(reply_of(Ok(answer))),
@@ -63,7 +64,7 @@ fn answer_command(
       entries = journal_after
           board.old.rules (record { role = role; journal = board.old.entries }) command;
     }) }
-    ensures err { OnErr result (out.new.items ≡ out.old.items) }
+    ensures err { OnErr result ((board.new ≡ board.old) × (out.new.items ≡ out.old.items)) }
 {
     make_room(out)?;
     let reply = do_command(board, role, command)?;
@@ -95,7 +96,8 @@ fn answer_line(
         ≡ talk_for board.old.rules
         (record { role = role.old; journal = board.old.entries }) line) }
     ensures rules { OnOk result (board.new.rules ≡ board.old.rules) }
-    ensures err { OnErr result (out.new.items ≡ out.old.items) }
+    ensures err { OnErr result ((board.new ≡ board.old) × (role.new ≡ role.old)
+        × (out.new.items ≡ out.old.items)) }
 {
     match line {
         Line::Do(command) => answer_command(board, *role, command, out),
@@ -119,7 +121,8 @@ pub(crate) fn answer(
         ≡ talk_after board.old.rules
         (record { role = role.old; journal = board.old.entries }) asked) }
     ensures rules { OnOk result (board.new.rules ≡ board.old.rules) }
-    ensures err { OnErr result (out.new.items ≡ out.old.items) }
+    ensures err { OnErr result ((board.new ≡ board.old) × (role.new ≡ role.old)
+        × (out.new.items ≡ out.old.items)) }
 {
     match asked {
         Ok(line) => answer_line(board, role, line, out),

@@ -10,6 +10,7 @@ use Rattle.regatta_terms.specs.declared.line.LineFault.{LineFault}
 use Rattle.regatta_terms.specs.declared.reply.Reply.{Reply}
 use Rattle.regatta_board.specs.Refusals.{limits, is_lawful}
 use Rattle.regatta_tables.specs.ReplyTexts.{reply_text}
+use Rattle.regatta_streams.specs.Texts.{AppendsPrefix}
 use Rattle.regatta_talk.specs.Replies.{role_after}
 use Rattle.regatta_desk.specs.Desks.{DeskValue}
 use Rattle.regatta_desk.specs.Passes.{PassValue}
@@ -61,3 +62,11 @@ pub record Replied (rules : RulesParts) (asked : Result Line LineFault) (role la
   pub answered : Answers rules asked role before after [] text
   pub role_set : later ≡ role_after asked role
   pub wrote : Appends old new text
+
+-- a line that was answered so, where a write failed: a beginning of its reply was written
+pub record CutOff (rules : RulesParts) (asked : Result Line LineFault) (role later : Role)
+    (before after : PassValue) (old new : Option (List ℕ)) : Type 0 where
+  pub text : List ℕ
+  pub answered : Answers rules asked role before after [] text
+  pub role_set : later ≡ role_after asked role
+  pub wrote : AppendsPrefix old new text

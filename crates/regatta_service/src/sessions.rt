@@ -7,7 +7,8 @@ ghost use Rattle.regatta_talk.specs.Replies.{role_after};
 ghost use Rattle.regatta_tables.specs.declared.replies.TheConstants.{REPLY_ROOM};
 ghost use Rattle.regatta_desk.specs.Replies.{is_for_desk, is_for_pass, next_after};
 ghost use Rattle.regatta_service.specs.Ends.{failures_in, failures_so_far};
-ghost use Rattle.regatta_service.specs.Lines.{Answers, DeskAnswers, Replied, is_replied};
+ghost use Rattle.regatta_service.specs.Lines.{Answers, CutOff, DeskAnswers, Replied};
+ghost use Rattle.regatta_service.specs.Lines.{is_replied};
 
 use crate::gate::Gate;
 use regatta_desk::{Next, Office, OfficeName, Pass, answer_alone};
@@ -16,9 +17,13 @@ use regatta_talk::{Cutter, make_room};
 use regatta_terms::{Line, LineFault, Role, read_line};
 use std::alloc::{AllocError, Global};
 use std::sync::Wait;
+use std::thread;
 
 /// The bytes that one read asks for at most.
 const PIECE: usize = 512;
+
+/// How often a session whose line asked for a sheet lets others go first.
+const TURNS: u32 = 16;
 
 /// How a session ended.
 #[derive(Clone, Copy, Debug, PartialEq, Eq)]
@@ -49,6 +54,16 @@ fn for_desk(asked: &Result<Line, LineFault>) -> Option<Line>
             Line::SetRole(_) | Line::Show | Line::Quit => None,
         },
         Err(_) => None,
+    }
+}
+
+/// Lets others go first behind a line that asked for a sheet: a watcher who asks without a pause
+/// leaves the processors to those who send commands.
+fn make_way(asked: &Result<Line, LineFault>) {
+    if let Ok(Line::Show) = asked {
+        for _ in 0..TURNS {
+            thread::yield_now();
+        }
     }
 }
 
@@ -138,10 +153,16 @@ impl<N: OfficeName, H: Wait + Drop, G: Gate> Talk<'_, N, H, G> {
 
         // A line that isn't let through, or whose reply has no room and gets none, does nothing.
         ensures stopped { self.new.ended ≡ Some End.Stopped → (stream.new ≡ stream.old)
-            × (self.new.pass.now ≡ self.old.pass.now) × (self.new.cutter ≡ self.old.cutter) }
+            × (self.new.pass.now ≡ self.old.pass.now) × (self.new.role ≡ self.old.role)
+            × (self.new.cutter ≡ self.old.cutter) }
         ensures wanting { self.new.ended ≡ Some End.NoMemory →
             (stream.new ≡ stream.old) × (self.new.pass.now ≡ self.old.pass.now)
-            × (vec_capacity self.old.reply < REPLY_ROOM) }
+            × (self.new.role ≡ self.old.role) × (vec_capacity self.old.reply < REPLY_ROOM) }
+
+        // A line whose reply isn't written whole was answered all the same.
+        ensures cut_off { self.new.ended ≡ Some End.WriteFault →
+            CutOff N.rules (line_of self.old.cutter) self.old.role self.new.role
+            self.old.pass.now self.new.pass.now (S.contents stream.old) (S.contents stream.new) }
 
         // No read is made here, so none ends the session.
         ensures unread { (self.new.ended ≢ Some End.Closed)
@@ -163,6 +184,7 @@ impl<N: OfficeName, H: Wait + Drop, G: Gate> Talk<'_, N, H, G> {
             return;
         }
         self.gate.after(self.pass.seat(), self.line);
+        make_way(&asked);
         match next {
             Next::Go => {}
             Next::End => self.ended = Some(End::Quit),

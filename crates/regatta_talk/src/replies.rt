@@ -31,7 +31,8 @@ pub fn ranked(row: Option<Touched>) -> Reply
 }
 
 /// Answers a line that asks nothing of the board: a role, QUIT, or a line with a fault. The role
-/// of the lines to come changes only once there is room for the reply.
+/// of the lines to come changes only once there is room for the reply. Where there is room it takes
+/// no memory.
 ///
 /// # Errors
 ///
@@ -45,7 +46,10 @@ pub fn answer_apart(
     requires { asks_board asked ≡ false }
     ensures text { OnOk result (out.new.items ≡ out.old.items ++ reply_text (reply_apart asked)) }
     ensures role { OnOk result (role.new ≡ role_after asked role.old) }
+    ensures room { vec_capacity out.old ≤ vec_capacity out.new }
     ensures fits { vec_len out.old + REPLY_ROOM ≤ vec_capacity out.old → IsOk result }
+    ensures stays { vec_len out.old + REPLY_ROOM ≤ vec_capacity out.old
+        → vec_capacity out.new ≡ vec_capacity out.old }
     ensures err { OnErr result ((role.new ≡ role.old) × (out.new.items ≡ out.old.items)
         × (vec_capacity out.new ≡ vec_capacity out.old)) }
 {

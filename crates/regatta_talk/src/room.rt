@@ -28,10 +28,11 @@ pub fn make_room(out: &mut Vec<u8>) -> Result<(), AllocError>
     out.reserve(REPLY_ROOM)
 }
 
-/// Appends a reply where there is room for it.
+/// Appends a reply where there is room for it. It takes no memory.
 pub fn write_fitting(reply: &Reply, out: &mut Vec<u8>)
     requires { vec_len out.old + REPLY_ROOM ≤ vec_capacity out.old }
-    ensures { out.new.items ≡ out.old.items ++ reply_text reply.now }
+    ensures text { out.new.items ≡ out.old.items ++ reply_text reply.now }
+    ensures stays { vec_capacity out.new ≡ vec_capacity out.old }
 {
     write_reply(reply, out).unwrap();
 }

@@ -1,6 +1,5 @@
 ghost use Rattle.std.specs.Prelude.{◌≡◌};
 
-use super::programs::{has_written, status_of};
 use super::sessions::journal_text;
 use super::wires::{Hold, Wires, count, sent, wire_of};
 use super::*;

@@ -1,7 +1,5 @@
 ghost use Rattle.std.specs.Prelude.{◌≡◌};
 
-use super::faults::odd_lines;
-use super::handicap::{REPLIES, TIMES, handicap_rules};
 use super::wires::{Count, count, wire_of};
 use super::*;
 use regatta_office::{
@@ -231,6 +229,22 @@ fn run_by_guard<N: OfficeName, H: Wait + Drop, R: Wait + Abort>(
     Ok(())
 }
 
+/// Two lines that are too long, lines of bytes that are no words, and a line of 80 bytes and a CR.
+fn odd_lines(alloc: Global) -> Result<Vec<u8>, Fail> {
+    let first = repeated(alloc, b'X', 81)?;
+    let second = repeated(alloc, b'X', 5000)?;
+    let spaces = repeated(alloc, b' ', 73)?;
+    let parts: [&[u8]; 6] = [
+        first.as_slice(),
+        b"\n",
+        second.as_slice(),
+        b"\n\xff\0\n\r\nENTER\tA\nSHOW\r\r\nENTER \xc3\xa9\nENTER A",
+        spaces.as_slice(),
+        b"\r\n",
+    ];
+    joined(alloc, &parts)
+}
+
 #[test]
 fn lines_that_cannot_be_read(rt: HostRuntime) -> Result<(), Fail> {
     let mut tapes = [client(rt.alloc(), &odd_lines(rt.alloc())?)?];
@@ -241,18 +255,30 @@ fn lines_that_cannot_be_read(rt: HostRuntime) -> Result<(), Fail> {
     Ok(())
 }
 
+/// The default rules, with places by corrected time.
+fn handicap_rules() -> Rules {
+    Rules::new(Absent::A52, None, &[2], true).unwrap()
+}
+
+/// Three boats, of which two have equal seconds.
+const TIMES: &[u8] = b"ENTER A\nENTER B\nENTER C\nTIME 1 A 3605\nTIME 1 B 3600\nTIME 1 C 3605\n\
+    SCORE 1\n";
+
+const TIMES_REPLIES: &[u8] = b"OK 1 1 0.0\nOK 2 1= 0.0\nOK 3 1= 0.0\nOK 4 1= 0.0\nOK 5 1= 0.0\n\
+    OK 6 1= 0.0\nOK 7\n";
+
 /// Under corrected times a session answers as a replay does.
 #[test]
 fn corrected_times_in_a_session(rt: HostRuntime) -> Result<(), Fail> {
     let mut tapes = [
-        client(rt.alloc(), TIMES.as_bytes())?,
+        client(rt.alloc(), TIMES)?,
         client(
             rt.alloc(),
             b"STRIKE 1 A\nTIME 1 A 0003599\nTIME 1 A 03599\nFINISH 1 B\n",
         )?,
     ];
     let talked = talked_at_one_seat(&rt, &handicap_rules(), &mut tapes, &OpenGate)?;
-    assert_eq!(rt; tapes[0].written(), REPLIES.as_bytes());
+    assert_eq!(rt; tapes[0].written(), TIMES_REPLIES);
     let replies = b"OK 8 3 4.0\nNO 29\nOK 9 1 1.0\nNO 16\n";
     assert_eq!(rt; tapes[1].written(), replies.as_slice());
     let last = b"1 8 SCORER STRIKE 1 A\n1 9 SCORER TIME 1 A 3599\n";

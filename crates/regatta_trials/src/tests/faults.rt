@@ -102,7 +102,7 @@ fn quit_ends_within_the_limit(rt: HostRuntime) -> Result<(), Fail> {
 }
 
 /// Two lines that are too long, lines of bytes that are no words, and a line of 80 bytes and a CR.
-pub(crate) fn odd_lines(alloc: Global) -> Result<Vec<u8>, Fail> {
+fn odd_lines(alloc: Global) -> Result<Vec<u8>, Fail> {
     let first = repeated(alloc, b'X', 81)?;
     let second = repeated(alloc, b'X', 5000)?;
     let spaces = repeated(alloc, b' ', 73)?;

@@ -9,7 +9,7 @@ use std::{env, fs};
 
 /// The status of a run of the program over these tapes. It has no contract, so that its callers
 /// are proved quickly.
-pub(crate) fn status_of<R>(
+fn status_of<R>(
     rt: &R,
     words: &[&str],
     input: &mut Tape,
@@ -35,7 +35,7 @@ where
 }
 
 /// Whether this text was written, and no more.
-pub(crate) fn has_written(tape: &Tape, text: &str) -> bool {
+fn has_written(tape: &Tape, text: &str) -> bool {
     tape.written() == text.as_bytes()
 }
 

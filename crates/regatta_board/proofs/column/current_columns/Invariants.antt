@@ -1,6 +1,6 @@
 use Rattle.std.proofs.Common.{◌≡◌, ◌-◌, [], map, take, get_or}
 use Rattle.regatta_board.specs.Scoring.{with_columns}
-use Rattle.regatta_board.proofs.column.counted_columns.Given as goal
+use Rattle.regatta_board.proofs.column.current_columns.Given as goal
 
 -- the races so far
 abbrev pub invariant-loop-race : goal.invariant-loop-race
