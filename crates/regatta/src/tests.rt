@@ -9,6 +9,7 @@ use std::sync::Wait;
 use std::test::Fail;
 use std::thread::Threads;
 
+mod memory;
 mod offices;
 mod serving;
 mod sessions;

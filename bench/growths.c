@@ -1,0 +1,116 @@
+/* Counts the requests for memory of each run of a hoard, for bench/growths.py: it is preloaded ahead
+ * of the C library.
+ *
+ * A run begins behind a request of RUN_BEGINS bytes that is had, and ends where that block is given
+ * back (`leave` and `give_back` of the hoard). The runs of one call end with one that met no refusal.
+ * For each call a line is written to standard error: how many requests that last run made, how many
+ * runs were refused, how many requests were the first refused of some run, how many others asked
+ * for memory that the call had anyway, since their block was long enough already or was made of what
+ * the call had given back, and the number and size of the rest.
+ */
+#define _GNU_SOURCE
+#include <malloc.h>
+#include <stdio.h>
+#include <stdlib.h>
+#include <string.h>
+#include <unistd.h>
+
+#define RUN_BEGINS 2047
+#define MOST 200000
+
+extern void *__libc_malloc(size_t size);
+extern void *__libc_realloc(void *old, size_t size);
+extern void __libc_free(void *block);
+
+struct block {
+    char *begin, *end;
+};
+
+static void *begin_of_run;
+static int is_running;
+static long requests, first_refused, refused_runs, given_back;
+static unsigned char is_met[MOST], is_had[MOST];
+static size_t sizes[MOST];
+static struct block free_blocks[MOST];
+
+static struct block block_at(void *begin) {
+    struct block block = {begin, (char *)begin + malloc_usable_size(begin)};
+    return block;
+}
+
+static void give(struct block block) {
+    if (given_back < MOST)
+        free_blocks[given_back++] = block;
+}
+
+static void count(void *begin, size_t size, struct block before) {
+    if (requests + 1 >= MOST)
+        return;
+    sizes[++requests] = size;
+    is_had[requests] = begin && before.begin && size <= (size_t)(before.end - before.begin);
+    if (!begin) {
+        if (!first_refused)
+            first_refused = requests;
+        return;
+    }
+    struct block block = block_at(begin);
+    for (long i = 0; i < given_back; i++)
+        if (block.begin < free_blocks[i].end && free_blocks[i].begin < block.end)
+            is_had[requests] = 1;
+}
+
+static void end_run(void) {
+    is_running = 0;
+    if (first_refused) {
+        is_met[first_refused] = 1;
+        refused_runs++;
+        return;
+    }
+    long met = 0, had = 0;
+    for (long nth = 1; nth <= requests; nth++) {
+        met += is_met[nth];
+        had += !is_met[nth] && is_had[nth];
+    }
+    dprintf(STDERR_FILENO, "growths: %ld requests, %ld runs refused, %ld met, %ld had anyway,"
+            " passed over:", requests, refused_runs, met, had);
+    for (long nth = 1; nth <= requests; nth++)
+        if (!is_met[nth] && !is_had[nth])
+            dprintf(STDERR_FILENO, " %ld(%zu)", nth, sizes[nth]);
+    dprintf(STDERR_FILENO, "\n");
+    memset(is_met, 0, sizeof is_met);
+    refused_runs = 0;
+}
+
+void *malloc(size_t size) {
+    struct block none = {0, 0};
+    void *block = __libc_malloc(size);
+    if (is_running) {
+        count(block, size, none);
+    } else if (size == RUN_BEGINS && block) {
+        begin_of_run = block;
+        is_running = 1;
+        requests = first_refused = given_back = 0;
+    }
+    return block;
+}
+
+void *realloc(void *old, size_t size) {
+    struct block before = {0, 0};
+    if (is_running && old)
+        before = block_at(old);
+    void *block = __libc_realloc(old, size);
+    if (is_running) {
+        count(block, size, before);
+        if (block && old && block != old)
+            give(before);
+    }
+    return block;
+}
+
+void free(void *block) {
+    if (is_running && block == begin_of_run)
+        end_run();
+    else if (is_running && block)
+        give(block_at(block));
+    __libc_free(block);
+}

@@ -1,0 +1,5 @@
+use Rattle.regatta.proofs.tests.memory.offices.answers_want_memory.Given as goal
+
+-- the office that was just opened
+abbrev pub ghosts-answers_at : goal.ghosts-answers_at
+ghosts-answers_at g a = record { history = a.opened.history; rules = a.opened.rules }

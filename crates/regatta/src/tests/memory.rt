@@ -1,0 +1,55 @@
+//! Each growth refused in turn: every call that takes memory, on a short input, with more and more
+//! bytes left to it until it meets no refusal.
+
+use super::*;
+use hoard::{Hoard, MOST_RUNS, SMALL_STEPS, Steps, Told};
+use regatta_scores::Standing;
+use regatta_tables::{Journal, read_journal, write_table};
+use std::alloc::AllocError;
+
+mod boards;
+mod hoard;
+mod offices;
+mod runs;
+mod scoring;
+mod texts;
+
+/// A and B tie for first, and C is third. Then A is disqualified (RRS A6.1, A7).
+static DISQUALIFIED: &[u8] = b"1 1 SCORER ENTER A\n1 2 SCORER ENTER B\n1 3 SCORER ENTER C\n\
+    1 4 SCORER FINISH 1 A\n1 5 SCORER TIE 1 B A\n1 6 SCORER FINISH 1 C\n1 7 SCORER SCORE 1\n\
+    1 8 JURY MARK 1 A DSQ\n";
+
+/// The table behind these entries.
+static DISQUALIFIED_TABLE: &[u8] = b"TABLE 3 RACES 1\n1 B 1.0 1.0\n2 C 2.0 2.0\n\
+    3 A 4.0 4.0/DSQ\n";
+
+/// What a call that met no refusal tells.
+fn told(is_row: bool) -> Told {
+    if is_row { Told::Row } else { Told::Other }
+}
+
+/// What a call that was refused tells.
+fn refused(stands: bool) -> Told {
+    if stands { Told::Wanting } else { Told::Other }
+}
+
+/// What a call tells that has no other error than want of memory.
+fn tells(answer: Result<bool, AllocError>) -> Told {
+    match answer {
+        Ok(is_row) => told(is_row),
+        Err(_) => Told::Wanting,
+    }
+}
+
+/// The entries of a journal's text.
+fn journal_of(alloc: Global, text: &[u8]) -> Result<Journal, Fail> {
+    let journal = read_journal(alloc, text).ok().ok_or("a journal")?;
+    Ok(journal)
+}
+
+/// Whether a standing's table is this text.
+fn is_table(alloc: Global, standing: &Standing, wanted: &[u8]) -> Result<bool, AllocError> {
+    let mut text = Vec::new(alloc);
+    write_table(standing, &mut text)?;
+    Ok(text.as_slice() == wanted)
+}

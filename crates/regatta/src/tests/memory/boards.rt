@@ -1,0 +1,113 @@
+//! The calls of the board.
+
+use super::*;
+use regatta_board::{Board, ReplayFault, standing_of};
+use regatta_terms::Refusal;
+
+/// Every command by finishes, and who is where behind them: A is disqualified, cleared and struck
+/// out, goes ahead of B and has a penalty of one point, and C is given a score.
+static FINISHES: &[u8] = b"1 1 SCORER ENTER A\n1 2 SCORER ENTER B\n1 3 SCORER ENTER C\n\
+    1 4 SCORER FINISH 1 A\n1 5 SCORER TIE 1 B A\n1 6 SCORER FINISH 1 C\n1 7 SCORER SCORE 1\n\
+    1 8 JURY MARK 1 A DSQ\n1 9 JURY CLEAR 1 A\n1 10 SCORER STRIKE 1 A\n\
+    1 11 SCORER BEFORE 1 A B\n1 12 JURY PENALTY 1 A SCP\n1 13 JURY REDRESS 1 C 1.5\n\
+    1 14 SCORER UNSCORE 1\n1 15 SCORER SCORE 1\n";
+
+static FINISHES_TABLE: &[u8] = b"TABLE 3 RACES 1\n1 C 1.5 1.5/RDG\n2= A 2.0 2.0/SCP\n\
+    2= B 2.0 2.0\n";
+
+/// A race by corrected times, of which two are equal (RRS A3, A7).
+static TIMES: &[u8] = b"1 1 SCORER ENTER A\n1 2 SCORER ENTER B\n1 3 SCORER ENTER C\n\
+    1 4 SCORER TIME 1 A 3605\n1 5 SCORER TIME 1 B 3600\n1 6 SCORER TIME 1 C 3605\n\
+    1 7 SCORER SCORE 1\n";
+
+static TIMES_TABLE: &[u8] = b"TABLE 3 RACES 1\n1 B 1.0 1.0\n2= A 2.5 2.5\n2= C 2.5 2.5\n";
+
+/// What opening a board tells.
+fn opens(alloc: Global) -> Told {
+    match Board::open(alloc, default_rules()) {
+        Ok(board) => told(board.len() == 0),
+        Err(_) => Told::Wanting,
+    }
+}
+
+/// What preparing the entry tells.
+fn prepares(board: &Board, entry: Entry) -> Told {
+    match board.prepare(entry) {
+        Ok(staged) => told(*staged.entry() == entry && staged.place() as usize == board.len() + 1),
+        Err(why) => refused(why == Refusal::NoMemory),
+    }
+}
+
+/// What appending the entry tells. Behind a refusal the journal has no more entries.
+fn applies(board: &mut Board, entry: Entry) -> Told {
+    let before = board.len();
+    match board.apply(entry) {
+        Ok(answer) => told(board.len() == before + 1 && answer.place as usize == before + 1),
+        Err(why) => refused(why == Refusal::NoMemory && board.len() == before),
+    }
+}
+
+/// Whether all these entries are prepared and appended, each with each growth refused first.
+fn takes_all(hoard: &mut Hoard, board: &mut Board, entries: &[Entry]) -> bool {
+    for entry in entries {
+        if !hoard.refuses(10, SMALL_STEPS, || prepares(board, *entry)) {
+            return false;
+        }
+        if !hoard.refuses(10, SMALL_STEPS, || applies(board, *entry)) {
+            return false;
+        }
+    }
+    true
+}
+
+/// Whether the board's standing has this table.
+fn stands(alloc: Global, board: &Board, table: &[u8]) -> Result<bool, AllocError> {
+    let standing = board.standing()?;
+    is_table(alloc, &standing, table)
+}
+
+/// What the standing of entries tells.
+fn replays(alloc: Global, rules: &Rules, entries: &[Entry], table: &[u8]) -> Told {
+    match standing_of(alloc, rules, entries) {
+        Ok(standing) => tells(is_table(alloc, &standing, table)),
+        Err(why) => refused(why == ReplayFault::NoMemory),
+    }
+}
+
+/// Whether a board is opened and takes this journal, and the standing is made of the board and of
+/// the journal, all with each growth refused first.
+fn is_refused_throughout(
+    alloc: Global,
+    hoard: &mut Hoard,
+    rules: Rules,
+    text: &[u8],
+    table: &[u8],
+) -> Result<bool, Fail> {
+    let journal = journal_of(alloc, text)?;
+    let entries = journal.as_slice();
+    let mut board = Board::open(alloc, rules)?;
+    let steps = Steps::of_journals(16_384);
+    Ok(
+        takes_all(hoard, &mut board, entries)
+            && hoard.refuses(20, SMALL_STEPS, || tells(stands(alloc, &board, table)))
+            && hoard.refuses(1000, steps, || replays(alloc, &rules, entries, table)),
+    )
+}
+
+#[test]
+fn boards_want_memory(rt: HostRuntime) -> Result<(), Fail> {
+    let alloc = rt.alloc();
+    let by_times = Rules::new(Absent::A52, None, &[2], true)
+        .ok()
+        .ok_or("rules")?;
+    let Some(mut hoard) = Hoard::new(alloc)? else {
+        return Ok(());
+    };
+    assert!(rt; hoard.refuses(500, Steps::of_journals(8192), || opens(alloc)));
+    let finishes = (default_rules(), FINISHES, FINISHES_TABLE);
+    let times = (by_times, TIMES, TIMES_TABLE);
+    for (rules, text, table) in [finishes, times] {
+        assert!(rt; is_refused_throughout(alloc, &mut hoard, rules, text, table)?);
+    }
+    Ok(())
+}

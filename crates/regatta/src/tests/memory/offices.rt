@@ -1,0 +1,270 @@
+//! The calls of an office.
+ghost use Rattle.std.specs.Prelude.{◌≡◌};
+
+use super::*;
+use regatta_office::{
+    Office, OfficeName, OpenFault, Opened, Pass, Receipt, ShowFault, answer_alone,
+};
+use regatta_tables::write_entries;
+use regatta_terms::{Command, Line, Refusal, Role, Sail};
+use std::marker::Brand;
+use std::sync::Wait;
+
+/// The command that enters A.
+fn enter_a() -> Option<Command> {
+    let sail = Sail::read(b"A")?;
+    Some(Command::Enter { sail })
+}
+
+/// An office and the passes of its two seats.
+fn two_seats<N: OfficeName, H: Wait + Drop>(
+    opened: Opened<H>,
+) -> Option<(Office<N, H>, Pass<N>, Pass<N>)>
+    requires history { opened.history ≡ N.history }
+    requires rules { opened.rules ≡ N.rules }
+{
+    let (office, mut passes) = opened.split::<N>().ok()?;
+    let second = passes.pop()?;
+    let first = passes.pop()?;
+    Some((office, first, second))
+}
+
+/// What opening an office of two seats tells.
+fn opens<R: Wait + Drop>(rt: R, alloc: Global, rules: &Rules, start: &[Entry]) -> Told {
+    match Office::open(rt, alloc, rules, 2, start) {
+        Ok(_) => Told::Row,
+        Err(why) => refused(why == OpenFault::NoMemory || why == OpenFault::NoReader),
+    }
+}
+
+#[test]
+fn opening_wants_memory(rt: HostRuntime) -> Result<(), Fail> {
+    let alloc = rt.alloc();
+    let start = journal_of(alloc, b"1 1 SCORER ENTER A\n")?;
+    let rules = default_rules();
+    let Some(mut hoard) = Hoard::new(alloc)? else {
+        return Ok(());
+    };
+    let steps = Steps::of_journals(16_384);
+    assert!(rt; hoard.refuses(500, steps, || opens(&rt, alloc, &rules, start.as_slice())));
+    Ok(())
+}
+
+/// What splitting an office tells with so many bytes left.
+fn split_with<N: OfficeName, H: Wait + Drop>(
+    hoard: &mut Hoard,
+    bytes: usize,
+    opened: Opened<H>,
+) -> Told
+    requires history { opened.history ≡ N.history }
+    requires rules { opened.rules ≡ N.rules }
+{
+    if !hoard.leave(bytes) {
+        return Told::Other;
+    }
+    let split = opened.split::<N>();
+    hoard.give_back();
+    match split {
+        Ok((_, passes)) => told(passes.len() == 2),
+        Err(_) => Told::Wanting,
+    }
+}
+
+#[test]
+fn splitting_wants_memory(rt: HostRuntime) -> Result<(), Fail> {
+    let alloc = rt.alloc();
+    let rules = default_rules();
+    let Some(mut hoard) = Hoard::new(alloc)? else {
+        return Ok(());
+    };
+    let mut refusals = 0u32;
+    for run in 0..MOST_RUNS {
+        let opened = Office::open(&rt, alloc, &rules, 2, &[])?;
+        match split_with::<Brand, _>(&mut hoard, SMALL_STEPS.bytes(run), opened) {
+            Told::Wanting => refusals = refusals.saturating_add(1),
+            Told::Row => break,
+            Told::Other => return Err(Fail::new("another answer")),
+        }
+    }
+    assert!(rt; 10 < refusals);
+    Ok(())
+}
+
+/// The receipt for A, entered through the lock with so many bytes left.
+fn enter_with<N: OfficeName, H: Wait + Drop, R: Wait>(
+    rt: &R,
+    hoard: &mut Hoard,
+    bytes: usize,
+    office: &Office<N, H>,
+    pass: &mut Pass<N>,
+) -> Option<Result<Receipt<N>, Refusal>> {
+    let command = enter_a()?;
+    let mut desk = office.desk(rt);
+    if !hoard.leave(bytes) {
+        return None;
+    }
+    let answer = desk.run(rt, pass, Role::Scorer, command);
+    hoard.give_back();
+    Some(answer)
+}
+
+/// How many entries the desk has, and are shown to this pass.
+fn entries_seen<N: OfficeName, H: Wait + Drop, R: Wait>(
+    rt: &R,
+    office: &Office<N, H>,
+    pass: &mut Pass<N>,
+) -> Option<(usize, usize)> {
+    let sheet = pass.show().ok()?;
+    let desk = office.desk(rt);
+    Some((desk.board().len(), sheet.journal.as_slice().len()))
+}
+
+/// What seat 1 is told of A, entered with so many bytes left. Behind a refusal the desk has no
+/// entry, the seat's last number is 0, and seat 2 is shown no entry.
+fn entering_tells<N: OfficeName, H: Wait + Drop, R: Wait>(
+    rt: &R,
+    hoard: &mut Hoard,
+    bytes: usize,
+    office: &Office<N, H>,
+    passes: (&mut Pass<N>, &mut Pass<N>),
+) -> Option<Told> {
+    let (first, second) = passes;
+    let answer = enter_with(rt, hoard, bytes, office, first)?;
+    let seen = entries_seen(rt, office, second)?;
+    Some(match answer {
+        Ok(receipt) => told(receipt.place() == 1 && first.last() == 1 && seen == (1, 1)),
+        Err(Refusal::NoMemory) => refused(first.last() == 0 && seen == (0, 0)),
+        Err(_) => Told::Other,
+    })
+}
+
+/// Whether the desk's one entry is that of seat 1, who entered A as scorer.
+fn is_entered<N: OfficeName, H: Wait + Drop, R: Wait>(
+    rt: &R,
+    alloc: Global,
+    office: &Office<N, H>,
+) -> bool {
+    let desk = office.desk(rt);
+    let mut text = Vec::new(alloc);
+    let is_written = write_entries(desk.board().entries(), &mut text).is_ok();
+    is_written && text.as_slice() == b"1 1 SCORER ENTER A\n".as_slice()
+}
+
+/// Whether seat 1 enters A, with each growth refused first, and what the other pass shows then.
+fn enter_at<N: OfficeName, H: Wait + Drop, R: Wait>(
+    rt: &R,
+    alloc: Global,
+    hoard: &mut Hoard,
+    opened: Opened<H>,
+) -> Option<bool>
+    requires history { opened.history ≡ N.history }
+    requires rules { opened.rules ≡ N.rules }
+{
+    let (office, mut first, mut second) = two_seats::<N, H>(opened)?;
+    let mut refusals = 0u32;
+    for run in 0..MOST_RUNS {
+        let bytes = SMALL_STEPS.bytes(run);
+        match entering_tells(rt, hoard, bytes, &office, (&mut first, &mut second))? {
+            Told::Wanting => refusals = refusals.saturating_add(1),
+            Told::Row => break,
+            Told::Other => return Some(false),
+        }
+    }
+    let steps = Steps::of_journals(16_384);
+    let is_shown = hoard.refuses(500, steps, || shows(&mut second));
+    Some(300 < refusals && is_shown && is_entered(rt, alloc, &office))
+}
+
+/// What showing one entry tells.
+fn shows<N: OfficeName>(pass: &mut Pass<N>) -> Told {
+    match pass.show() {
+        Ok(sheet) => told(sheet.journal.as_slice().len() == 1),
+        Err(why) => refused(why == ShowFault::NoMemory),
+    }
+}
+
+/// Behind each refusal the desk has no entry, the seat has sent none, and the other seat is shown
+/// none.
+#[test]
+fn a_command_wants_memory(rt: HostRuntime) -> Result<(), Fail> {
+    let alloc = rt.alloc();
+    let opened = Office::open(&rt, alloc, &default_rules(), 2, &[])?;
+    let Some(mut hoard) = Hoard::new(alloc)? else {
+        return Ok(());
+    };
+    let entered = enter_at::<Brand, _, _>(&rt, alloc, &mut hoard, opened);
+    assert_eq!(rt; entered, Some(true));
+    Ok(())
+}
+
+/// What an answer tells: it is wanting where there is no room for a reply, or where it is `NO 1`.
+fn replied(is_answered: bool, out: &[u8], wanted: &[u8]) -> Told {
+    if !is_answered {
+        return refused(out.is_empty());
+    }
+    if out == b"NO 1\n".as_slice() {
+        return Told::Wanting;
+    }
+    told(out == wanted)
+}
+
+/// What the desk's answer to a command tells. Behind a refusal the seat has sent no entry.
+fn desk_answers<N: OfficeName, H: Wait + Drop, R: Wait>(
+    rt: &R,
+    office: &Office<N, H>,
+    pass: &mut Pass<N>,
+    command: Command,
+    out: &mut Vec<u8>,
+) -> Told {
+    out.clear();
+    let mut desk = office.desk(rt);
+    let answer = desk.answer(rt, pass, Role::Scorer, Line::Do(command), out);
+    let found = replied(answer.is_ok(), out, b"OK 1 1 0.0\n");
+    if found == Told::Wanting && pass.last() != 0 {
+        return Told::Other;
+    }
+    found
+}
+
+/// What SHOW is answered.
+static SHEET: &[u8] = b"JOURNAL 1\n1 1 SCORER ENTER A\nTABLE 1 RACES\n1 A 0.0\nEND\n";
+
+/// What the answer of a pass alone to SHOW tells.
+fn pass_answers<N: OfficeName>(pass: &mut Pass<N>, out: &mut Vec<u8>) -> Told {
+    out.clear();
+    let mut role = Role::Scorer;
+    let answer = answer_alone(pass, &mut role, Ok(Line::Show), out);
+    replied(answer.is_ok(), out, SHEET)
+}
+
+/// Whether lines are answered, with each growth refused first.
+fn answers_at<N: OfficeName, H: Wait + Drop, R: Wait>(
+    rt: &R,
+    alloc: Global,
+    hoard: &mut Hoard,
+    opened: Opened<H>,
+) -> Option<bool>
+    requires history { opened.history ≡ N.history }
+    requires rules { opened.rules ≡ N.rules }
+{
+    let command = enter_a()?;
+    let (office, mut first, mut second) = two_seats::<N, H>(opened)?;
+    let (mut reply, mut sheet) = (Vec::new(alloc), Vec::new(alloc));
+    let by_desk = hoard.refuses(300, SMALL_STEPS, || {
+        desk_answers(rt, &office, &mut first, command, &mut reply)
+    });
+    let steps = Steps::of_journals(16_384);
+    Some(by_desk && hoard.refuses(500, steps, || pass_answers(&mut second, &mut sheet)))
+}
+
+#[test]
+fn answers_want_memory(rt: HostRuntime) -> Result<(), Fail> {
+    let alloc = rt.alloc();
+    let opened = Office::open(&rt, alloc, &default_rules(), 2, &[])?;
+    let Some(mut hoard) = Hoard::new(alloc)? else {
+        return Ok(());
+    };
+    let answered = answers_at::<Brand, _, _>(&rt, alloc, &mut hoard, opened);
+    assert_eq!(rt; answered, Some(true));
+    Ok(())
+}

@@ -1,0 +1,150 @@
+//! The calls that write and read texts.
+
+use super::*;
+use regatta_board::standing_of;
+use regatta_office::start_of;
+use regatta_tables::{
+    EntriesFault, JournalFault, read_entries, write_csv, write_journal, write_reply, write_sheet,
+};
+use regatta_terms::{Reply, Sail, write_entry};
+
+/// What a text begins with that a call appends to: as long as the least block that the heap gives,
+/// so that whatever is appended asks for more.
+const BEFORE: &[u8] = b"what stood there before.";
+
+/// The texts that are written.
+#[derive(Clone, Copy)]
+enum Text {
+    Entry,
+    Journal,
+    Table,
+    Csv,
+    Sheet,
+    Reply,
+}
+
+/// What the texts are made of.
+#[derive(Drop)]
+struct Series {
+    alloc: Global,
+    journal: Journal,
+    standing: Standing,
+}
+
+impl Series {
+    /// Appends the text.
+    fn write(&self, what: Text, text: &mut Vec<u8>) -> Result<(), AllocError> {
+        let entries = self.journal.as_slice();
+        match what {
+            Text::Entry => match entries.first() {
+                Some(entry) => write_entry(entry, text),
+                None => Ok(()),
+            },
+            Text::Journal => write_journal(entries, text),
+            Text::Table => write_table(&self.standing, text),
+            Text::Csv => write_csv(self.alloc, &self.standing, text),
+            Text::Sheet => write_sheet(entries, &self.standing, text),
+            Text::Reply => write_reply(&Reply::Bye, text),
+        }
+    }
+
+    /// What appending the text tells. Behind a refusal there is what was there, and no less room.
+    fn appends(&self, what: Text, wanted: &[u8]) -> Told {
+        let Ok(mut text) = Vec::from_slice(self.alloc, BEFORE) else {
+            return Told::Wanting;
+        };
+        let room = text.capacity();
+        match self.write(what, &mut text) {
+            Ok(()) => told(text.strip_prefix(BEFORE) == Some(wanted)),
+            Err(_) => refused(text.as_slice() == BEFORE && room <= text.capacity()),
+        }
+    }
+}
+
+/// What `SHOW` prints of these entries.
+static SHEET: &[u8] = b"JOURNAL 8\n1 1 SCORER ENTER A\n1 2 SCORER ENTER B\n\
+    1 3 SCORER ENTER C\n1 4 SCORER FINISH 1 A\n1 5 SCORER TIE 1 B A\n\
+    1 6 SCORER FINISH 1 C\n1 7 SCORER SCORE 1\n1 8 JURY MARK 1 A DSQ\n\
+    TABLE 3 RACES 1\n1 B 1.0 1.0\n2 C 2.0 2.0\n3 A 4.0 4.0/DSQ\nEND\n";
+
+/// What a journal begins with that is written.
+static VERSION_LINE: &[u8] = b"REGATTA 2\n";
+
+#[test]
+fn texts_want_memory(rt: HostRuntime) -> Result<(), Fail> {
+    let alloc = rt.alloc();
+    let journal = journal_of(alloc, DISQUALIFIED)?;
+    let standing = standing_of(alloc, &default_rules(), journal.as_slice());
+    let standing = standing.ok().ok_or("a lawful journal")?;
+    let series = Series {
+        alloc,
+        journal,
+        standing,
+    };
+    let file = joined(alloc, &[VERSION_LINE, DISQUALIFIED])?;
+    let csv = b"rank,sail,net,R1\n1,B,1.0,1.0\n2,C,2.0,2.0\n3,A,4.0,4.0/DSQ\n".as_slice();
+    let texts = [
+        (Text::Entry, b"1 1 SCORER ENTER A".as_slice()),
+        (Text::Journal, &file),
+        (Text::Table, DISQUALIFIED_TABLE),
+        (Text::Csv, csv),
+        (Text::Sheet, SHEET),
+        (Text::Reply, b"BYE\n".as_slice()),
+    ];
+    let Some(mut hoard) = Hoard::new(alloc)? else {
+        return Ok(());
+    };
+    for (what, wanted) in texts {
+        assert!(rt; hoard.refuses(3, SMALL_STEPS, || series.appends(what, wanted)));
+    }
+    Ok(())
+}
+
+/// What reading a journal tells.
+fn reads_journal(alloc: Global) -> Told {
+    match read_journal(alloc, DISQUALIFIED) {
+        Ok(journal) => told(journal.as_slice().len() == 8),
+        Err(why) => refused(why == JournalFault::NoMemory),
+    }
+}
+
+/// An entry list with other columns than sails.
+static LIST: &[u8] = b"Boat,Sail,Club\nWind,gbr 12,X\n\"A, B\",NED7\n";
+
+/// Whether these are the sails of the entry list.
+fn are_sails(sails: &[Sail]) -> bool {
+    match sails {
+        [one, two] => one.text() == "GBR12" && two.text() == "NED7",
+        _ => false,
+    }
+}
+
+/// What reading an entry list tells.
+fn reads_list(alloc: Global) -> Told {
+    match read_entries(alloc, LIST) {
+        Ok(sails) => told(are_sails(sails.as_slice())),
+        Err(why) => refused(why == EntriesFault::NoMemory),
+    }
+}
+
+/// Whether the entries that a series starts with are those of two sails.
+fn starts(alloc: Global, sails: &[Sail]) -> Result<bool, AllocError> {
+    let start = start_of(alloc, &[], sails)?;
+    let mut text = Vec::new(alloc);
+    write_journal(start.as_slice(), &mut text)?;
+    let wanted = b"REGATTA 2\n1 1 SCORER ENTER GBR12\n1 2 SCORER ENTER NED7\n";
+    Ok(text.as_slice() == wanted.as_slice())
+}
+
+#[test]
+fn texts_that_are_read_want_memory(rt: HostRuntime) -> Result<(), Fail> {
+    let alloc = rt.alloc();
+    let sails = read_entries(alloc, LIST).ok().ok_or("sails")?;
+    let Some(mut hoard) = Hoard::new(alloc)? else {
+        return Ok(());
+    };
+    assert!(rt; hoard.refuses(20, SMALL_STEPS, || reads_journal(alloc)));
+    assert!(rt; hoard.refuses(20, SMALL_STEPS, || reads_list(alloc)));
+    assert!(rt; hoard.refuses(20, SMALL_STEPS, || tells(starts(alloc, sails.as_slice()))));
+    Ok(())
+}
