@@ -78,9 +78,9 @@ const APART: usize = 2047;
 /// The heap gives memory in multiples of so many bytes.
 const UNIT: usize = 16;
 
-/// How many blocks of the stack are used once ahead of a hoard: some four MiB, half of what a
-/// process has by default.
-const DEPTH: usize = 8192;
+/// How many blocks of the stack are used once ahead of a hoard: some two MiB, of which opening an
+/// office takes more than half, and a quarter of what a process has by default.
+const DEPTH: usize = 4096;
 
 /// More runs than any call is made of.
 pub(crate) const MOST_RUNS: usize = 100_000;
