@@ -1,5 +1,5 @@
 //! What a line is answered, by whoever holds the desk and by a pass alone.
-ghost use Rattle.std.specs.Prelude.{◌≡◌, ◌+◌, ◌≤◌, ◌++◌, true, Ok, IsOk, IfOk, OnOk, OnErr};
+ghost use Rattle.std.specs.Prelude.{◌≡◌, ◌≢◌, ◌+◌, ◌≤◌, ◌++◌, true, Ok, IsOk, IfOk, OnOk, OnErr};
 ghost use Rattle.std.specs.Prelude.{vec_len, vec_capacity};
 ghost use Rattle.regatta_terms.specs.declared.reply.Reply.{Reply as ReplyValue};
 ghost use Rattle.regatta_board.specs.Answers.{rank_of};
@@ -70,6 +70,7 @@ impl<N: OfficeName, R: Wait + Drop> Desk<N, R> {
         ensures ok { OnOk result ((reply : ReplyValue)
             × DeskReplies N.rules line role self.old self.new pass.old pass.new reply
             × (out.new.items ≡ out.old.items ++ reply_text reply)) }
+        ensures room { vec_capacity out.old ≤ vec_capacity out.new }
         ensures fits { vec_len out.old + REPLY_ROOM ≤ vec_capacity out.old → IsOk result }
         ensures stays { vec_len out.old + REPLY_ROOM ≤ vec_capacity out.old
             → vec_capacity out.new ≡ vec_capacity out.old }
@@ -126,6 +127,8 @@ pub fn answer_alone<N: OfficeName>(
     ensures next { IfOk result (λ next. next ≡ next_after asked) }
     ensures room { vec_capacity out.old ≤ vec_capacity out.new }
     ensures fits { vec_len out.old + REPLY_ROOM ≤ vec_capacity out.old → IsOk result }
+    ensures stays { asked ≢ Ok Line.Show → vec_len out.old + REPLY_ROOM ≤ vec_capacity out.old
+        → vec_capacity out.new ≡ vec_capacity out.old }
     ensures err { OnErr result ((role.new ≡ role.old) × (pass.new ≡ pass.old)
         × (out.new.items ≡ out.old.items)
         × (vec_capacity out.new ≡ vec_capacity out.old)) }

@@ -159,7 +159,7 @@ impl<N: OfficeName, H: Wait + Drop, G: Gate> Talk<'_, N, H, G> {
             (stream.new ≡ stream.old) × (self.new.pass.now ≡ self.old.pass.now)
             × (self.new.role ≡ self.old.role) × (vec_capacity self.old.reply < REPLY_ROOM) }
 
-        // A line whose reply isn't written whole was answered all the same.
+        // A line whose reply met a write that failed was answered all the same.
         ensures cut_off { self.new.ended ≡ Some End.WriteFault →
             CutOff N.rules (line_of self.old.cutter) self.old.role self.new.role
             self.old.pass.now self.new.pass.now (S.contents stream.old) (S.contents stream.new) }
