@@ -2,11 +2,12 @@
  * of the C library.
  *
  * A run begins behind a request of RUN_BEGINS bytes that is had, and ends where that block is given
- * back (`leave` and `give_back` of the hoard). The runs of one call end with one that met no refusal.
- * For each call a line is written to standard error: how many requests that last run made, how many
- * runs were refused, how many requests were the first refused of some run, how many others asked
- * for memory that the call had anyway, since their block was long enough already or was made of what
- * the call had given back, and the number and size of the rest.
+ * back (`leave` and `give_back` of the hoard). A request of CALL_ENDS bytes outside a run tells that
+ * the last run answered as the call does with ample memory (`verdict`). Then a line is written to
+ * standard error: how many requests that run made, how many runs were refused, how many requests were
+ * the first refused of some run, how many others asked for memory that the call had anyway, since
+ * their block was long enough already or was made of what the call had given back, and the number and
+ * size of the rest; and whether that run was refused a request, and answered so all the same.
  */
 #define _GNU_SOURCE
 #include <malloc.h>
@@ -16,6 +17,7 @@
 #include <unistd.h>
 
 #define RUN_BEGINS 2047
+#define CALL_ENDS 2045
 #define MOST 200000
 
 extern void *__libc_malloc(size_t size);
@@ -64,8 +66,10 @@ static void end_run(void) {
     if (first_refused) {
         is_met[first_refused] = 1;
         refused_runs++;
-        return;
     }
+}
+
+static void end_call(void) {
     long met = 0, had = 0;
     for (long nth = 1; nth <= requests; nth++) {
         met += is_met[nth];
@@ -76,6 +80,9 @@ static void end_run(void) {
     for (long nth = 1; nth <= requests; nth++)
         if (!is_met[nth] && !is_had[nth])
             dprintf(STDERR_FILENO, " %ld(%zu)", nth, sizes[nth]);
+    if (first_refused)
+        dprintf(STDERR_FILENO, "; answered behind a refusal of %ld(%zu)", first_refused,
+                sizes[first_refused]);
     dprintf(STDERR_FILENO, "\n");
     memset(is_met, 0, sizeof is_met);
     refused_runs = 0;
@@ -90,6 +97,8 @@ void *malloc(size_t size) {
         begin_of_run = block;
         is_running = 1;
         requests = first_refused = given_back = 0;
+    } else if (size == CALL_ENDS) {
+        end_call();
     }
     return block;
 }

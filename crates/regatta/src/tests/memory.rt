@@ -1,5 +1,6 @@
-//! Each growth refused in turn: every call that takes memory, on a short input, with more and more
-//! bytes left to it until it meets no refusal.
+//! Each growth refused in turn: calls that take memory, on a short input, with more and more bytes
+//! left to them until they meet no refusal. How often a call is refused at least before that is a
+//! little less than `bench/growths.py` counted.
 
 use super::*;
 use hoard::{Hoard, MOST_RUNS, SMALL_STEPS, Steps, Told};
@@ -23,20 +24,20 @@ static DISQUALIFIED: &[u8] = b"1 1 SCORER ENTER A\n1 2 SCORER ENTER B\n1 3 SCORE
 static DISQUALIFIED_TABLE: &[u8] = b"TABLE 3 RACES 1\n1 B 1.0 1.0\n2 C 2.0 2.0\n\
     3 A 4.0 4.0/DSQ\n";
 
-/// What a call that met no refusal tells.
-fn told(is_row: bool) -> Told {
-    if is_row { Told::Row } else { Told::Other }
+/// What a call tells that didn't answer as wanting memory.
+fn ordinary_if(is_due: bool) -> Told {
+    if is_due { Told::Ordinary } else { Told::Other }
 }
 
-/// What a call that was refused tells.
-fn refused(stands: bool) -> Told {
+/// What a call tells that answered as wanting memory.
+fn wanting_if(stands: bool) -> Told {
     if stands { Told::Wanting } else { Told::Other }
 }
 
 /// What a call tells that has no other error than want of memory.
 fn tells(answer: Result<bool, AllocError>) -> Told {
     match answer {
-        Ok(is_row) => told(is_row),
+        Ok(is_due) => ordinary_if(is_due),
         Err(_) => Told::Wanting,
     }
 }

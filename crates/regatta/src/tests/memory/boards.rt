@@ -2,30 +2,53 @@
 
 use super::*;
 use regatta_board::{Board, ReplayFault, standing_of};
-use regatta_terms::Refusal;
+use regatta_tables::write_reply;
+use regatta_terms::{Refusal, Reply};
+
+/// A journal's text, how often each of its entries is refused at least, and the table behind it.
+#[derive(Clone, Copy)]
+struct Series<'a> {
+    text: &'a [u8],
+    least: &'a [u32],
+    table: &'a [u8],
+}
 
 /// Every command by finishes, and who is where behind them: A is disqualified, cleared and struck
 /// out, goes ahead of B and has a penalty of one point, and C is given a score.
-static FINISHES: &[u8] = b"1 1 SCORER ENTER A\n1 2 SCORER ENTER B\n1 3 SCORER ENTER C\n\
+const FINISHES: &[u8] = b"1 1 SCORER ENTER A\n1 2 SCORER ENTER B\n1 3 SCORER ENTER C\n\
     1 4 SCORER FINISH 1 A\n1 5 SCORER TIE 1 B A\n1 6 SCORER FINISH 1 C\n1 7 SCORER SCORE 1\n\
     1 8 JURY MARK 1 A DSQ\n1 9 JURY CLEAR 1 A\n1 10 SCORER STRIKE 1 A\n\
     1 11 SCORER BEFORE 1 A B\n1 12 JURY PENALTY 1 A SCP\n1 13 JURY REDRESS 1 C 1.5\n\
     1 14 SCORER UNSCORE 1\n1 15 SCORER SCORE 1\n";
 
-static FINISHES_TABLE: &[u8] = b"TABLE 3 RACES 1\n1 C 1.5 1.5/RDG\n2= A 2.0 2.0/SCP\n\
+const FINISHES_TABLE: &[u8] = b"TABLE 3 RACES 1\n1 C 1.5 1.5/RDG\n2= A 2.0 2.0/SCP\n\
     2= B 2.0 2.0\n";
 
 /// A race by corrected times, of which two are equal (RRS A3, A7).
-static TIMES: &[u8] = b"1 1 SCORER ENTER A\n1 2 SCORER ENTER B\n1 3 SCORER ENTER C\n\
+const TIMES: &[u8] = b"1 1 SCORER ENTER A\n1 2 SCORER ENTER B\n1 3 SCORER ENTER C\n\
     1 4 SCORER TIME 1 A 3605\n1 5 SCORER TIME 1 B 3600\n1 6 SCORER TIME 1 C 3605\n\
     1 7 SCORER SCORE 1\n";
 
-static TIMES_TABLE: &[u8] = b"TABLE 3 RACES 1\n1 B 1.0 1.0\n2= A 2.5 2.5\n2= C 2.5 2.5\n";
+const TIMES_TABLE: &[u8] = b"TABLE 3 RACES 1\n1 B 1.0 1.0\n2= A 2.5 2.5\n2= C 2.5 2.5\n";
+
+const BY_FINISHES: Series<'static> = Series {
+    text: FINISHES,
+    least: &[
+        380, 415, 440, 11, 11, 65, 85, 95, 95, 95, 95, 95, 95, 80, 85,
+    ],
+    table: FINISHES_TABLE,
+};
+
+const BY_TIMES: Series<'static> = Series {
+    text: TIMES,
+    least: &[380, 415, 440, 11, 11, 11, 85],
+    table: TIMES_TABLE,
+};
 
 /// What opening a board tells.
 fn opens(alloc: Global) -> Told {
     match Board::open(alloc, default_rules()) {
-        Ok(board) => told(board.len() == 0),
+        Ok(board) => ordinary_if(board.len() == 0),
         Err(_) => Told::Wanting,
     }
 }
@@ -33,8 +56,10 @@ fn opens(alloc: Global) -> Told {
 /// What preparing the entry tells.
 fn prepares(board: &Board, entry: Entry) -> Told {
     match board.prepare(entry) {
-        Ok(staged) => told(*staged.entry() == entry && staged.place() as usize == board.len() + 1),
-        Err(why) => refused(why == Refusal::NoMemory),
+        Ok(staged) => ordinary_if(
+            *staged.entry() == entry && staged.place() as usize == board.len() + 1,
+        ),
+        Err(why) => wanting_if(why == Refusal::NoMemory),
     }
 }
 
@@ -42,18 +67,19 @@ fn prepares(board: &Board, entry: Entry) -> Told {
 fn applies(board: &mut Board, entry: Entry) -> Told {
     let before = board.len();
     match board.apply(entry) {
-        Ok(answer) => told(board.len() == before + 1 && answer.place as usize == before + 1),
-        Err(why) => refused(why == Refusal::NoMemory && board.len() == before),
+        Ok(answer) => ordinary_if(board.len() == before + 1 && answer.place as usize == before + 1),
+        Err(why) => wanting_if(why == Refusal::NoMemory && board.len() == before),
     }
 }
 
-/// Whether all these entries are prepared and appended, each with each growth refused first.
-fn takes_all(hoard: &mut Hoard, board: &mut Board, entries: &[Entry]) -> bool {
-    for entry in entries {
-        if !hoard.refuses(10, SMALL_STEPS, || prepares(board, *entry)) {
+/// Whether all these entries are prepared and appended, each with each growth refused first, so
+/// often at least.
+fn takes_all(hoard: &mut Hoard, board: &mut Board, entries: &[Entry], least: &[u32]) -> bool {
+    for (entry, least) in entries.iter().zip(least) {
+        if !hoard.refuses(*least, SMALL_STEPS, || prepares(board, *entry)) {
             return false;
         }
-        if !hoard.refuses(10, SMALL_STEPS, || applies(board, *entry)) {
+        if !hoard.refuses(*least, SMALL_STEPS, || applies(board, *entry)) {
             return false;
         }
     }
@@ -70,7 +96,7 @@ fn stands(alloc: Global, board: &Board, table: &[u8]) -> Result<bool, AllocError
 fn replays(alloc: Global, rules: &Rules, entries: &[Entry], table: &[u8]) -> Told {
     match standing_of(alloc, rules, entries) {
         Ok(standing) => tells(is_table(alloc, &standing, table)),
-        Err(why) => refused(why == ReplayFault::NoMemory),
+        Err(why) => wanting_if(why == ReplayFault::NoMemory),
     }
 }
 
@@ -80,17 +106,17 @@ fn is_refused_throughout(
     alloc: Global,
     hoard: &mut Hoard,
     rules: Rules,
-    text: &[u8],
-    table: &[u8],
+    series: Series<'_>,
 ) -> Result<bool, Fail> {
+    let Series { text, least, table } = series;
     let journal = journal_of(alloc, text)?;
     let entries = journal.as_slice();
     let mut board = Board::open(alloc, rules)?;
     let steps = Steps::of_journals(16_384);
     Ok(
-        takes_all(hoard, &mut board, entries)
+        takes_all(hoard, &mut board, entries, least)
             && hoard.refuses(20, SMALL_STEPS, || tells(stands(alloc, &board, table)))
-            && hoard.refuses(1000, steps, || replays(alloc, &rules, entries, table)),
+            && hoard.refuses(1800, steps, || replays(alloc, &rules, entries, table)),
     )
 }
 
@@ -103,11 +129,44 @@ fn boards_want_memory(rt: HostRuntime) -> Result<(), Fail> {
     let Some(mut hoard) = Hoard::new(alloc)? else {
         return Ok(());
     };
-    assert!(rt; hoard.refuses(500, Steps::of_journals(8192), || opens(alloc)));
-    let finishes = (default_rules(), FINISHES, FINISHES_TABLE);
-    let times = (by_times, TIMES, TIMES_TABLE);
-    for (rules, text, table) in [finishes, times] {
-        assert!(rt; is_refused_throughout(alloc, &mut hoard, rules, text, table)?);
+    assert!(rt; hoard.refuses(820, Steps::of_journals(8192), || opens(alloc)));
+    assert!(rt; is_refused_throughout(alloc, &mut hoard, default_rules(), BY_FINISHES)?);
+    assert!(rt; is_refused_throughout(alloc, &mut hoard, by_times, BY_TIMES)?);
+    Ok(())
+}
+
+/// Whether an entry that was prepared is appended, and the reply to it written where there is room
+/// for it, with no byte left.
+fn commits_with_nothing(
+    hoard: &mut Hoard,
+    board: &mut Board,
+    entry: Entry,
+    reply: &mut Vec<u8>,
+) -> bool {
+    let Ok(staged) = board.prepare(entry) else {
+        return false;
+    };
+    if !hoard.leave(0) {
+        return false;
     }
+    let answer = board.commit(staged);
+    let is_written = write_reply(&Reply::Done(answer), reply).is_ok();
+    hoard.give_back();
+    is_written && board.len() == 1
+}
+
+/// Nothing is wanting where a call takes no memory.
+#[test]
+fn commands_are_committed_without_memory(rt: HostRuntime) -> Result<(), Fail> {
+    let alloc = rt.alloc();
+    let journal = journal_of(alloc, DISQUALIFIED)?;
+    let mut board = Board::open(alloc, default_rules())?;
+    let first = journal.as_slice().first().copied().ok_or("an entry")?;
+    let mut reply = Vec::with_capacity(alloc, 64)?;
+    let Some(mut hoard) = Hoard::new(alloc)? else {
+        return Ok(());
+    };
+    assert!(rt; commits_with_nothing(&mut hoard, &mut board, first, &mut reply));
+    assert_eq!(rt; reply.as_slice(), b"OK 1 1 0.0\n".as_slice());
     Ok(())
 }

@@ -14,7 +14,7 @@ pub(crate) enum Told {
     /// Want of memory, and all that is to stand stands.
     Wanting,
     /// What it answers with ample memory.
-    Row,
+    Ordinary,
     /// Anything else.
     Other,
 }
@@ -36,18 +36,19 @@ pub(crate) struct Hoard {
     rest: Blocks,
     apart: Blocks,
     region: Blocks,
+    refused: u32,
 }
 
 /// More blocks than are ever held.
 const BLOCKS: usize = 400_000;
 
 /// The largest blocks that are taken: of all addresses, and of the region. Each is a power of two.
-const ALL: usize = 0x2000_0000_0000;
+const LARGEST: usize = 0x2000_0000_0000;
 
 const REGION: usize = 0x200_0000;
 
 /// The least of the large blocks.
-const SMALL: usize = 2048;
+const LEAST_LARGE: usize = 2048;
 
 /// More halvings than there are between any of these.
 const HALVINGS: usize = 64;
@@ -55,7 +56,8 @@ const HALVINGS: usize = 64;
 /// How many units the largest of the small blocks has.
 const MOST_UNITS: usize = 129;
 
-/// The least of the blocks by which a heap is known that doesn't give the same memory twice.
+/// Blocks of this size are taken of what is no region. That the last one which was given back can be
+/// had again tells a plain heap from a sanitizer's.
 const WIDE: usize = 0x400_0000;
 
 /// The region is made of pieces that the heap takes from its own pages.
@@ -71,15 +73,18 @@ const KEPT_SIZES: usize = 64;
 
 const KEPT_OF_EACH: usize = 7;
 
-/// A block of this size isn't kept apart by the heap when it is freed. No other block of a hoard has
-/// this size, so that whoever counts requests knows where a run begins: `bench/growths.c`.
-const APART: usize = 2047;
+/// Blocks of these sizes mark where a run begins, and where a call has answered as it does with ample
+/// memory. No other block of a hoard has them, so that `bench/growths.c`, which counts requests,
+/// knows. They are too large for the heap to keep apart.
+const BEGIN: usize = 2047;
+
+const END: usize = 2045;
 
 /// The heap gives memory in multiples of so many bytes.
 const UNIT: usize = 16;
 
-/// How many blocks of the stack are used once ahead of a hoard: some two MiB, of which opening an
-/// office takes more than half, and a quarter of what a process has by default.
+/// How many blocks of the stack are used once ahead of a hoard: some two MiB, a quarter of what a
+/// process has by default. Opening an office takes a little more than one.
 const DEPTH: usize = 4096;
 
 /// More runs than any call is made of.
@@ -88,8 +93,9 @@ pub(crate) const MOST_RUNS: usize = 100_000;
 /// How many bytes are left to the runs of a call: more by a unit each time, so that no growth that
 /// asks for more than the call has freed is passed over.
 ///
-/// Some calls ask for a room for all entries that there may be. Between two of those nothing else
-/// is asked for, so that behind so many runs as take all else the bytes jump by that room.
+/// Some calls ask for rooms for all entries that there may be. At any moment such a call has some of
+/// these rooms, and fewer bytes besides than these runs go through; so behind them the bytes jump by
+/// a room.
 #[derive(Clone, Copy)]
 pub(crate) struct Steps {
     runs: usize,
@@ -208,47 +214,51 @@ fn pieces(alloc: Global) -> Result<Vec<Vec<u8>>, AllocError> {
 }
 
 impl Hoard {
-    /// Takes all memory but for a region of the heap. None at a heap that looks for faults of its
-    /// own: it doesn't give the same memory twice, and ends the process where it has no more.
+    /// Takes all memory but for a region of the heap. None at the heap of a sanitizer, which doesn't
+    /// give the same memory twice, and ends the process where it has no more.
     pub(crate) fn new(alloc: Global) -> Result<Option<Hoard>, AllocError> {
         let depth = deepest(DEPTH, &[0; 512]);
         let (mut rest, mut apart) = (Blocks::new(alloc)?, Blocks::new(alloc)?);
         let region = Blocks::new(alloc)?;
         apart.take_kept();
         let left = pieces(alloc)?;
-        // this block lies above the region, so that the heap keeps the region when it is free
+        // This block lies above the region, so that the heap keeps the region when it is free. Its
+        // size makes the compiler keep the walk down the stack.
         rest.hold(64 + usize::from(depth));
-        rest.fill_large(ALL, WIDE);
+        rest.fill_large(LARGEST, WIDE);
         let _ = rest.held.pop();
         if !rest.hold(WIDE) {
             return Ok(None);
         }
-        rest.fill_large(WIDE, SMALL);
+        rest.fill_large(WIDE, LEAST_LARGE);
         rest.fill_small();
         drop(left);
         Ok(Some(Hoard {
             rest,
             apart,
             region,
+            refused: 0,
         }))
     }
 
     /// Leaves so many bytes to the calls that come, until `give_back`. False where there aren't so
     /// many.
     pub(crate) fn leave(&mut self, bytes: usize) -> bool {
+        // what the heap keeps apart from now on are blocks of `apart`, and none of the region
         self.region.take_kept();
         self.apart.held.clear();
         self.region.held.clear();
+        // the bytes to leave are held while all else of the region is taken
         let spare: Result<Vec<u8>, AllocError> = Vec::with_capacity(
             self.rest.alloc,
-            bytes.saturating_add(APART),
+            bytes.saturating_add(BEGIN),
         );
         let is_there = spare.is_ok();
-        self.region.fill_large(REGION, SMALL);
+        self.region.fill_large(REGION, LEAST_LARGE);
         self.apart.take_kept();
         self.region.fill_small();
         drop(spare);
-        is_there && self.region.hold(APART)
+        is_there && self.region.hold(BEGIN)
     }
 
     /// Makes the region free again.
@@ -256,8 +266,28 @@ impl Hoard {
         self.region.held.clear();
     }
 
-    /// Makes the call with more and more bytes left to it, until it answers its row: whether it
-    /// was refused before that at least `least` times, and answered nothing else.
+    /// Takes in what a run told. None where the call is to be made again, with more bytes; else the
+    /// runs are at their end: whether the call answered as it does with ample memory, and before
+    /// that was refused at least so often.
+    pub(crate) fn verdict(&mut self, told: Told, least: u32) -> Option<bool> {
+        match told {
+            Told::Wanting => {
+                self.refused = self.refused.saturating_add(1);
+                None
+            }
+            Told::Ordinary => {
+                let is_due = least <= self.refused;
+                self.refused = 0;
+                self.region.hold(END);
+                self.give_back();
+                Some(is_due)
+            }
+            Told::Other => Some(false),
+        }
+    }
+
+    /// Makes the call with more and more bytes left to it, until it answers as it does with ample
+    /// memory: whether it was refused before that at least so often, and answered nothing else.
     pub(crate) fn refuses<F: FnMut() -> Told>(
         &mut self,
         least: u32,
@@ -266,17 +296,14 @@ impl Hoard {
     ) -> bool
         requires { F.IsAlwaysCallable call }
     {
-        let mut refused = 0u32;
         for run in 0..MOST_RUNS {
             if !self.leave(steps.bytes(run)) {
                 return false;
             }
             let told = call();
             self.give_back();
-            match told {
-                Told::Wanting => refused = refused.saturating_add(1),
-                Told::Row => return least <= refused,
-                Told::Other => return false,
+            if let Some(passed) = self.verdict(told, least) {
+                return passed;
             }
         }
         false

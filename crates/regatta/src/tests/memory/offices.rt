@@ -10,6 +10,9 @@ use regatta_terms::{Command, Line, Refusal, Role, Sail};
 use std::marker::Brand;
 use std::sync::Wait;
 
+/// How often a SHOW of one entry is refused at least.
+const SHOWN: u32 = 1500;
+
 /// The command that enters A.
 fn enter_a() -> Option<Command> {
     let sail = Sail::read(b"A")?;
@@ -32,8 +35,8 @@ fn two_seats<N: OfficeName, H: Wait + Drop>(
 /// What opening an office of two seats tells.
 fn opens<R: Wait + Drop>(rt: R, alloc: Global, rules: &Rules, start: &[Entry]) -> Told {
     match Office::open(rt, alloc, rules, 2, start) {
-        Ok(_) => Told::Row,
-        Err(why) => refused(why == OpenFault::NoMemory || why == OpenFault::NoReader),
+        Ok(_) => Told::Ordinary,
+        Err(why) => wanting_if(why == OpenFault::NoMemory || why == OpenFault::NoReader),
     }
 }
 
@@ -46,7 +49,7 @@ fn opening_wants_memory(rt: HostRuntime) -> Result<(), Fail> {
         return Ok(());
     };
     let steps = Steps::of_journals(16_384);
-    assert!(rt; hoard.refuses(500, steps, || opens(&rt, alloc, &rules, start.as_slice())));
+    assert!(rt; hoard.refuses(3500, steps, || opens(&rt, alloc, &rules, start.as_slice())));
     Ok(())
 }
 
@@ -65,7 +68,7 @@ fn split_with<N: OfficeName, H: Wait + Drop>(
     let split = opened.split::<N>();
     hoard.give_back();
     match split {
-        Ok((_, passes)) => told(passes.len() == 2),
+        Ok((_, passes)) => ordinary_if(passes.len() == 2),
         Err(_) => Told::Wanting,
     }
 }
@@ -77,16 +80,16 @@ fn splitting_wants_memory(rt: HostRuntime) -> Result<(), Fail> {
     let Some(mut hoard) = Hoard::new(alloc)? else {
         return Ok(());
     };
-    let mut refusals = 0u32;
+    let mut passed = None;
     for run in 0..MOST_RUNS {
         let opened = Office::open(&rt, alloc, &rules, 2, &[])?;
-        match split_with::<Brand, _>(&mut hoard, SMALL_STEPS.bytes(run), opened) {
-            Told::Wanting => refusals = refusals.saturating_add(1),
-            Told::Row => break,
-            Told::Other => return Err(Fail::new("another answer")),
+        let told = split_with::<Brand, _>(&mut hoard, SMALL_STEPS.bytes(run), opened);
+        passed = hoard.verdict(told, 25);
+        if passed.is_some() {
+            break;
         }
     }
-    assert!(rt; 10 < refusals);
+    assert_eq!(rt; passed, Some(true));
     Ok(())
 }
 
@@ -132,8 +135,8 @@ fn entering_tells<N: OfficeName, H: Wait + Drop, R: Wait>(
     let answer = enter_with(rt, hoard, bytes, office, first)?;
     let seen = entries_seen(rt, office, second)?;
     Some(match answer {
-        Ok(receipt) => told(receipt.place() == 1 && first.last() == 1 && seen == (1, 1)),
-        Err(Refusal::NoMemory) => refused(first.last() == 0 && seen == (0, 0)),
+        Ok(receipt) => ordinary_if(receipt.place() == 1 && first.last() == 1 && seen == (1, 1)),
+        Err(Refusal::NoMemory) => wanting_if(first.last() == 0 && seen == (0, 0)),
         Err(_) => Told::Other,
     })
 }
@@ -161,25 +164,25 @@ fn enter_at<N: OfficeName, H: Wait + Drop, R: Wait>(
     requires rules { opened.rules ≡ N.rules }
 {
     let (office, mut first, mut second) = two_seats::<N, H>(opened)?;
-    let mut refusals = 0u32;
+    let mut is_refused = false;
     for run in 0..MOST_RUNS {
         let bytes = SMALL_STEPS.bytes(run);
-        match entering_tells(rt, hoard, bytes, &office, (&mut first, &mut second))? {
-            Told::Wanting => refusals = refusals.saturating_add(1),
-            Told::Row => break,
-            Told::Other => return Some(false),
+        let told = entering_tells(rt, hoard, bytes, &office, (&mut first, &mut second))?;
+        if let Some(passed) = hoard.verdict(told, 400) {
+            is_refused = passed;
+            break;
         }
     }
     let steps = Steps::of_journals(16_384);
-    let is_shown = hoard.refuses(500, steps, || shows(&mut second));
-    Some(300 < refusals && is_shown && is_entered(rt, alloc, &office))
+    let is_shown = hoard.refuses(SHOWN, steps, || shows(&mut second));
+    Some(is_refused && is_shown && is_entered(rt, alloc, &office))
 }
 
 /// What showing one entry tells.
 fn shows<N: OfficeName>(pass: &mut Pass<N>) -> Told {
     match pass.show() {
-        Ok(sheet) => told(sheet.journal.as_slice().len() == 1),
-        Err(why) => refused(why == ShowFault::NoMemory),
+        Ok(sheet) => ordinary_if(sheet.journal.as_slice().len() == 1),
+        Err(why) => wanting_if(why == ShowFault::NoMemory),
     }
 }
 
@@ -200,12 +203,12 @@ fn a_command_wants_memory(rt: HostRuntime) -> Result<(), Fail> {
 /// What an answer tells: it is wanting where there is no room for a reply, or where it is `NO 1`.
 fn replied(is_answered: bool, out: &[u8], wanted: &[u8]) -> Told {
     if !is_answered {
-        return refused(out.is_empty());
+        return wanting_if(out.is_empty());
     }
     if out == b"NO 1\n".as_slice() {
         return Told::Wanting;
     }
-    told(out == wanted)
+    ordinary_if(out == wanted)
 }
 
 /// What the desk's answer to a command tells. Behind a refusal the seat has sent no entry.
@@ -250,11 +253,11 @@ fn answers_at<N: OfficeName, H: Wait + Drop, R: Wait>(
     let command = enter_a()?;
     let (office, mut first, mut second) = two_seats::<N, H>(opened)?;
     let (mut reply, mut sheet) = (Vec::new(alloc), Vec::new(alloc));
-    let by_desk = hoard.refuses(300, SMALL_STEPS, || {
+    let by_desk = hoard.refuses(400, SMALL_STEPS, || {
         desk_answers(rt, &office, &mut first, command, &mut reply)
     });
     let steps = Steps::of_journals(16_384);
-    Some(by_desk && hoard.refuses(500, steps, || pass_answers(&mut second, &mut sheet)))
+    Some(by_desk && hoard.refuses(SHOWN, steps, || pass_answers(&mut second, &mut sheet)))
 }
 
 #[test]

@@ -50,19 +50,19 @@ fn replays(alloc: Global) -> Told {
     };
     let rules = default_rules();
     match replay(alloc, &mut input, &mut output, &rules, &[], Form::Table) {
-        Ok(()) => told(is_whole(output.written())),
-        Err(RunFault::NoMemory) => refused(are_first_replies(output.written())),
+        Ok(()) => ordinary_if(is_whole(output.written())),
+        Err(RunFault::NoMemory) => wanting_if(are_first_replies(output.written())),
         Err(_) => Told::Other,
     }
 }
 
-/// What the program is called with, and how it ends: its status, the end of what it writes, and
-/// what it says on standard error.
+/// What the program is called with, and how it ends: its status, what it writes, and what it says on
+/// standard error.
 #[derive(Clone, Copy)]
 struct Words<'a> {
     words: &'a [&'a str],
     status: u8,
-    end: &'a [u8],
+    output: &'a [u8],
     complaint: &'a [u8],
 }
 
@@ -81,9 +81,9 @@ where
     let status = status_of(rt, call.words, &mut input, &mut output, &mut errors);
     let (written, said) = (output.written(), errors.written());
     if status == 3 && said == b"regatta: no memory\n".as_slice() {
-        return refused(are_first_replies(written));
+        return wanting_if(are_first_replies(written));
     }
-    told(status == call.status && written.ends_with(call.end) && said == call.complaint)
+    ordinary_if(status == call.status && written == call.output && said == call.complaint)
 }
 
 #[test]
@@ -92,9 +92,9 @@ fn replays_want_memory(rt: HostRuntime) -> Result<(), Fail> {
     let Some(mut hoard) = Hoard::new(alloc)? else {
         return Ok(());
     };
-    assert!(rt; hoard.refuses(2, SMALL_STEPS, || tells(makes_tape(alloc))));
+    assert!(rt; hoard.refuses(11, SMALL_STEPS, || tells(makes_tape(alloc))));
     let steps = Steps::of_journals(16_384);
-    assert!(rt; hoard.refuses(800, steps, || replays(alloc)));
+    assert!(rt; hoard.refuses(1800, steps, || replays(alloc)));
     Ok(())
 }
 
@@ -110,17 +110,14 @@ where
         return Ok(true);
     };
     let steps = Steps::of_journals(32_768);
-    let mut refusals = 0u32;
     for run in 0..MOST_RUNS {
         if !hoard.leave(steps.bytes(run)) {
             return Ok(false);
         }
         let told = runs(rt, &call);
         hoard.give_back();
-        match told {
-            Told::Wanting => refusals = refusals.saturating_add(1),
-            Told::Row => return Ok(least <= refusals),
-            Told::Other => return Ok(false),
+        if let Some(passed) = hoard.verdict(told, least) {
+            return Ok(passed);
         }
     }
     Ok(false)
@@ -128,25 +125,30 @@ where
 
 #[test]
 fn the_program_wants_memory(rt: HostRuntime) -> Result<(), Fail> {
+    let output = joined(rt.alloc(), &[REPLIES, TABLE])?;
     let call = Words {
         words: &["replay"],
         status: 0,
-        end: TABLE,
+        output: &output,
         complaint: b"",
     };
-    assert!(rt; is_refused(&rt, 2048, call)?);
+    assert!(rt; is_refused(&rt, 3700, call)?);
     Ok(())
 }
 
 #[test]
 fn help_wants_memory(rt: HostRuntime) -> Result<(), Fail> {
+    let (mut input, mut output) = (giving(rt.alloc(), b"", 7)?, taking(rt.alloc(), 4000)?);
+    let mut errors = taking(rt.alloc(), 400)?;
+    let status = status_of(&rt, &["--help"], &mut input, &mut output, &mut errors);
     let call = Words {
         words: &["--help"],
         status: 0,
-        end: b"\n",
+        output: output.written(),
         complaint: b"",
     };
-    assert!(rt; is_refused(&rt, 500, call)?);
+    assert_eq!(rt; status, 0);
+    assert!(rt; is_refused(&rt, 1900, call)?);
     Ok(())
 }
 
@@ -156,10 +158,10 @@ fn a_program_that_serves_wants_memory(rt: HostRuntime) -> Result<(), Fail> {
     let call = Words {
         words: &["serve", "--socket", NOWHERE, "--clients", "2"],
         status: 3,
-        end: b"",
+        output: b"",
         complaint: b"regatta: device fault\n",
     };
-    assert!(rt; is_refused(&rt, 6000, call)?);
+    assert!(rt; is_refused(&rt, 7900, call)?);
     Ok(())
 }
 
@@ -195,15 +197,15 @@ static NOBODY_ENTERED: &[u8] = b"NO 1\nJOURNAL 0\nTABLE 0 RACES\nEND\nBYE\n";
 /// refused where memory was wanting for a reply, or where a line was answered so.
 fn session_tells(end: End, written: &[u8], last: u32) -> Told {
     if end == End::NoMemory {
-        return refused(written.is_empty() && last == 0);
+        return wanting_if(written.is_empty() && last == 0);
     }
     if end != End::Quit {
         return Told::Other;
     }
     if written == TALK {
-        return told(last == 1);
+        return ordinary_if(last == 1);
     }
-    refused(match last {
+    wanting_if(match last {
         0 => written == NOBODY_ENTERED || written == b"NO 1\nNO 1\nBYE\n".as_slice(),
         _ => last == 1 && written == b"OK 1 1 0.0\nNO 1\nBYE\n".as_slice(),
     })
@@ -216,17 +218,16 @@ fn sessions_want_memory(rt: HostRuntime) -> Result<(), Fail> {
         return Ok(());
     };
     let steps = Steps::of_journals(16_384);
-    let mut refusals = 0u32;
+    let mut passed = None;
     for run in 0..MOST_RUNS {
         let opened = Office::open(&rt, alloc, &default_rules(), 1, &[])?;
-        let bytes = steps.bytes(run);
-        match session_with::<Brand, _, _>(&rt, alloc, &mut hoard, bytes, opened)? {
-            Told::Wanting => refusals = refusals.saturating_add(1),
-            Told::Row => break,
-            Told::Other => return Err(Fail::new("another answer")),
+        let told = session_with::<Brand, _, _>(&rt, alloc, &mut hoard, steps.bytes(run), opened)?;
+        passed = hoard.verdict(told, 1900);
+        if passed.is_some() {
+            break;
         }
     }
-    assert!(rt; 500 < refusals);
+    assert_eq!(rt; passed, Some(true));
     Ok(())
 }
 
@@ -267,7 +268,8 @@ where
     Ok((back, if is_read { Some(replies) } else { None }))
 }
 
-/// Where all memory is taken, no thread is to be had. Behind that the client is served.
+/// Where all memory is taken, no thread is to be had, so that no session begins whose memory could
+/// be wanting. With ample memory the client is served.
 #[test]
 fn serving_wants_memory(rt: HostRuntime) -> Result<(), Fail> {
     let alloc = rt.alloc();

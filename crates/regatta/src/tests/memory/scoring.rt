@@ -2,50 +2,91 @@
 ghost use Rattle.std.specs.Prelude.{◌≡◌, IfOk};
 ghost use Rattle.regatta_scores.specs.Changes.{after};
 ghost use Rattle.regatta_scores.specs.Sheet.{empty_sheet};
+ghost use Rattle.regatta_scores.specs.SheetFacts.{Allows};
 ghost use Rattle.regatta_scores.specs.declared.sheet.Change.TheVariants.{Last};
 
 use super::*;
 use regatta_scores::{
     BoatLine, Change, Held, NOTHING_HELD, Place, RaceSheet, RowItem, Scored, Work, averages,
-    excluded, race_points, ranks, ranks_of,
+    excluded, race_points, race_scores, ranks, ranks_of,
 };
 use regatta_terms::{Award, Redress, Seconds, Tenths};
-
-/// The calls, each on a short input: what happens in a race of three boats, the points of a race
-/// in which one of three finished, and those of a series.
-#[derive(Clone, Copy)]
-enum Call {
-    Adds,
-    Finishes,
-    Ties,
-    GoesAhead,
-    TakesTime,
-    GoesOut,
-    IsPenalised,
-    Averages,
-    Excluded,
-    Ranks,
-    RanksOf,
-}
-
-/// Whether the call answers its row.
-fn answer(alloc: Global, call: Call) -> Result<bool, AllocError> {
-    match call {
-        Call::Adds | Call::GoesOut => scores(alloc, call, [40, 40, 40]),
-        Call::Finishes | Call::TakesTime => scores(alloc, call, [10, 40, 40]),
-        Call::Ties => scores(alloc, call, [15, 15, 40]),
-        Call::GoesAhead => scores(alloc, call, [20, 10, 40]),
-        Call::IsPenalised => scores(alloc, call, [20, 40, 40]),
-        Call::Averages => are_averages(alloc),
-        Call::Excluded => is_excluded(alloc),
-        Call::Ranks => are_ranks(alloc),
-        Call::RanksOf => are_ranks_of(alloc),
-    }
-}
 
 /// So many tenths, or ten where there are none such.
 fn tenths(points: u32) -> Tenths {
     Tenths::new(points).unwrap_or(Tenths::new(10).unwrap())
+}
+
+/// What making a sheet of three boats tells.
+fn makes_sheet(alloc: Global) -> Result<bool, AllocError> {
+    let sheet = RaceSheet::new(alloc, 3)?;
+    Ok(sheet.is_empty() && !sheet.placed(2))
+}
+
+/// Whether these are the points of the sheet's boats, under the default rules. Behind a refusal no
+/// race is counted as scored.
+fn are_points(alloc: Global, sheet: &RaceSheet, wanted: [u32; 3]) -> Result<bool, AllocError> {
+    let wanted = wanted.map(tenths);
+    let mut work = Work::new();
+    match race_points(alloc, sheet, &default_rules(), &mut work) {
+        Ok(points) => Ok(points.as_slice() == wanted.as_slice() && work.count() == 1),
+        Err(_) if work.count() != 0 => Ok(false),
+        Err(why) => Err(why),
+    }
+}
+
+/// Whether three boats have scores of which the first stands in the order, and no other. Behind a
+/// refusal no race is counted as scored.
+fn are_scores(alloc: Global, sheet: &RaceSheet) -> Result<bool, AllocError> {
+    let mut work = Work::new();
+    match race_scores(alloc, sheet, &default_rules(), &mut work) {
+        Ok(scores) => Ok(match scores.as_slice() {
+            [one, two, three] => one.placed && !two.placed && !three.placed && work.count() == 1,
+            _ => false,
+        }),
+        Err(_) if work.count() != 0 => Ok(false),
+        Err(why) => Err(why),
+    }
+}
+
+/// The sheet behind a change, with so many bytes left. None where there aren't so many.
+fn changed_with(
+    hoard: &mut Hoard,
+    bytes: usize,
+    sheet: &RaceSheet,
+    change: Change,
+) -> Option<Result<RaceSheet, AllocError>>
+    requires { Allows sheet.now change }
+{
+    if !hoard.leave(bytes) {
+        return None;
+    }
+    let changed = sheet.after(change);
+    hoard.give_back();
+    Some(changed)
+}
+
+/// Whether a change is made, with each growth refused first, and the boats then have these points.
+fn is_changed(
+    alloc: Global,
+    hoard: &mut Hoard,
+    sheet: &RaceSheet,
+    change: Change,
+    wanted: [u32; 3],
+) -> Result<bool, AllocError>
+    requires { Allows sheet.now change }
+{
+    for run in 0..MOST_RUNS {
+        let told = match changed_with(hoard, SMALL_STEPS.bytes(run), sheet, change) {
+            Some(Ok(next)) => ordinary_if(are_points(alloc, &next, wanted)?),
+            Some(Err(_)) => Told::Wanting,
+            None => Told::Other,
+        };
+        if let Some(passed) = hoard.verdict(told, 4) {
+            return Ok(passed);
+        }
+    }
+    Ok(false)
 }
 
 /// The first of three boats has finished.
@@ -56,38 +97,36 @@ fn one_finished(alloc: Global) -> Result<RaceSheet, AllocError>
     blank.after(Change::Last { boat: 0 })
 }
 
-/// A race behind one more change (RRS A3, A7, 44.3(c)).
-fn changed(alloc: Global, call: Call) -> Result<RaceSheet, AllocError> {
+/// Whether a boat is added, finishes, and is placed by her corrected time (RRS A3).
+fn first_changes(alloc: Global, hoard: &mut Hoard) -> Result<bool, AllocError> {
+    let (two, three) = (RaceSheet::new(alloc, 2)?, RaceSheet::new(alloc, 3)?);
     let seconds = Seconds::new(3600).unwrap();
+    let last = Change::Last { boat: 0 };
+    let timed = Change::Timed { boat: 0, seconds };
+    Ok(
+        is_changed(alloc, hoard, &two, Change::AddBoat, [40, 40, 40])?
+            && is_changed(alloc, hoard, &three, last, [10, 40, 40])?
+            && is_changed(alloc, hoard, &three, timed, [10, 40, 40])?,
+    )
+}
+
+/// Whether, behind one who finished, a boat ties with her and goes ahead of her, and she goes out
+/// and has a penalty (RRS A7, 44.3(c)).
+fn later_changes(alloc: Global, hoard: &mut Hoard) -> Result<bool, AllocError> {
+    let first = one_finished(alloc)?;
     let held = Held {
         scp: 1,
         ..NOTHING_HELD
     };
-    let (two, three) = (RaceSheet::new(alloc, 2)?, RaceSheet::new(alloc, 3)?);
-    let first = one_finished(alloc)?;
-    match call {
-        Call::Adds => two.after(Change::AddBoat),
-        Call::TakesTime => three.after(Change::Timed { boat: 0, seconds }),
-        Call::Ties => first.after(Change::Join { boat: 1, other: 0 }),
-        Call::GoesAhead => first.after(Change::Ahead { boat: 1, other: 0 }),
-        Call::GoesOut => first.after(Change::Out { boat: 0 }),
-        Call::IsPenalised => first.after(Change::Hold { boat: 0, held }),
-        _ => Ok(first),
-    }
-}
-
-/// Whether these are the points of three boats. Behind a refusal no race is counted as scored.
-fn scores(alloc: Global, call: Call, wanted: [u32; 3]) -> Result<bool, AllocError> {
-    let sheet = changed(alloc, call)?;
-    let mut work = Work::new();
-    match race_points(alloc, &sheet, &default_rules(), &mut work) {
-        Ok(points) => {
-            let wanted = wanted.map(tenths);
-            Ok(points.as_slice() == wanted.as_slice() && work.count() == 1)
-        }
-        Err(_) if work.count() != 0 => Ok(false),
-        Err(why) => Err(why),
-    }
+    let joined = Change::Join { boat: 1, other: 0 };
+    let ahead = Change::Ahead { boat: 1, other: 0 };
+    let hold = Change::Hold { boat: 0, held };
+    Ok(
+        is_changed(alloc, hoard, &first, joined, [15, 15, 40])?
+            && is_changed(alloc, hoard, &first, ahead, [20, 10, 40])?
+            && is_changed(alloc, hoard, &first, Change::Out { boat: 0 }, [40, 40, 40])?
+            && is_changed(alloc, hoard, &first, hold, [20, 40, 40])?,
+    )
 }
 
 /// A score that is handed in, one without redress, and the average of both (RRS A9).
@@ -138,26 +177,35 @@ fn are_ranks_of(alloc: Global) -> Result<bool, AllocError> {
 }
 
 #[test]
-fn scoring_wants_memory(rt: HostRuntime) -> Result<(), Fail> {
+fn races_want_memory(rt: HostRuntime) -> Result<(), Fail> {
+    let alloc = rt.alloc();
+    let first = one_finished(alloc)?;
+    let Some(mut hoard) = Hoard::new(alloc)? else {
+        return Ok(());
+    };
+    assert!(rt; hoard.refuses(4, SMALL_STEPS, || tells(makes_sheet(alloc))));
+    assert!(rt; first_changes(alloc, &mut hoard)?);
+    assert!(rt; later_changes(alloc, &mut hoard)?);
+    assert!(rt;
+        hoard.refuses(
+            4,
+            SMALL_STEPS,
+            || tells(are_points(alloc, &first, [10, 40, 40]))
+        )
+    );
+    assert!(rt; hoard.refuses(4, SMALL_STEPS, || tells(are_scores(alloc, &first))));
+    Ok(())
+}
+
+#[test]
+fn series_want_memory(rt: HostRuntime) -> Result<(), Fail> {
     let alloc = rt.alloc();
     let Some(mut hoard) = Hoard::new(alloc)? else {
         return Ok(());
     };
-    let calls = [
-        (Call::Adds, 20),
-        (Call::Finishes, 20),
-        (Call::Ties, 20),
-        (Call::GoesAhead, 20),
-        (Call::TakesTime, 20),
-        (Call::GoesOut, 20),
-        (Call::IsPenalised, 20),
-        (Call::Averages, 2),
-        (Call::Excluded, 2),
-        (Call::Ranks, 5),
-        (Call::RanksOf, 5),
-    ];
-    for (call, least) in calls {
-        assert!(rt; hoard.refuses(least, SMALL_STEPS, || tells(answer(alloc, call))));
-    }
+    assert!(rt; hoard.refuses(2, SMALL_STEPS, || tells(are_averages(alloc))));
+    assert!(rt; hoard.refuses(1, SMALL_STEPS, || tells(is_excluded(alloc))));
+    assert!(rt; hoard.refuses(7, SMALL_STEPS, || tells(are_ranks(alloc))));
+    assert!(rt; hoard.refuses(5, SMALL_STEPS, || tells(are_ranks_of(alloc))));
     Ok(())
 }

@@ -55,8 +55,8 @@ impl Series {
         };
         let room = text.capacity();
         match self.write(what, &mut text) {
-            Ok(()) => told(text.strip_prefix(BEFORE) == Some(wanted)),
-            Err(_) => refused(text.as_slice() == BEFORE && room <= text.capacity()),
+            Ok(()) => ordinary_if(text.strip_prefix(BEFORE) == Some(wanted)),
+            Err(_) => wanting_if(text.as_slice() == BEFORE && room <= text.capacity()),
         }
     }
 }
@@ -84,18 +84,18 @@ fn texts_want_memory(rt: HostRuntime) -> Result<(), Fail> {
     let file = joined(alloc, &[VERSION_LINE, DISQUALIFIED])?;
     let csv = b"rank,sail,net,R1\n1,B,1.0,1.0\n2,C,2.0,2.0\n3,A,4.0,4.0/DSQ\n".as_slice();
     let texts = [
-        (Text::Entry, b"1 1 SCORER ENTER A".as_slice()),
-        (Text::Journal, &file),
-        (Text::Table, DISQUALIFIED_TABLE),
-        (Text::Csv, csv),
-        (Text::Sheet, SHEET),
-        (Text::Reply, b"BYE\n".as_slice()),
+        (Text::Entry, b"1 1 SCORER ENTER A".as_slice(), 4),
+        (Text::Journal, &file, 75),
+        (Text::Table, DISQUALIFIED_TABLE, 65),
+        (Text::Csv, csv, 40),
+        (Text::Sheet, SHEET, 75),
+        (Text::Reply, b"BYE\n".as_slice(), 4),
     ];
     let Some(mut hoard) = Hoard::new(alloc)? else {
         return Ok(());
     };
-    for (what, wanted) in texts {
-        assert!(rt; hoard.refuses(3, SMALL_STEPS, || series.appends(what, wanted)));
+    for (what, wanted, least) in texts {
+        assert!(rt; hoard.refuses(least, SMALL_STEPS, || series.appends(what, wanted)));
     }
     Ok(())
 }
@@ -103,8 +103,8 @@ fn texts_want_memory(rt: HostRuntime) -> Result<(), Fail> {
 /// What reading a journal tells.
 fn reads_journal(alloc: Global) -> Told {
     match read_journal(alloc, DISQUALIFIED) {
-        Ok(journal) => told(journal.as_slice().len() == 8),
-        Err(why) => refused(why == JournalFault::NoMemory),
+        Ok(journal) => ordinary_if(journal.as_slice().len() == 8),
+        Err(why) => wanting_if(why == JournalFault::NoMemory),
     }
 }
 
@@ -122,8 +122,8 @@ fn are_sails(sails: &[Sail]) -> bool {
 /// What reading an entry list tells.
 fn reads_list(alloc: Global) -> Told {
     match read_entries(alloc, LIST) {
-        Ok(sails) => told(are_sails(sails.as_slice())),
-        Err(why) => refused(why == EntriesFault::NoMemory),
+        Ok(sails) => ordinary_if(are_sails(sails.as_slice())),
+        Err(why) => wanting_if(why == EntriesFault::NoMemory),
     }
 }
 
@@ -143,8 +143,8 @@ fn texts_that_are_read_want_memory(rt: HostRuntime) -> Result<(), Fail> {
     let Some(mut hoard) = Hoard::new(alloc)? else {
         return Ok(());
     };
-    assert!(rt; hoard.refuses(20, SMALL_STEPS, || reads_journal(alloc)));
-    assert!(rt; hoard.refuses(20, SMALL_STEPS, || reads_list(alloc)));
-    assert!(rt; hoard.refuses(20, SMALL_STEPS, || tells(starts(alloc, sails.as_slice()))));
+    assert!(rt; hoard.refuses(35, SMALL_STEPS, || reads_journal(alloc)));
+    assert!(rt; hoard.refuses(55, SMALL_STEPS, || reads_list(alloc)));
+    assert!(rt; hoard.refuses(80, SMALL_STEPS, || tells(starts(alloc, sails.as_slice()))));
     Ok(())
 }
