@@ -1,4 +1,4 @@
--- The replies to commands of one seat, one after another: the plain, slow meaning of a run.
+-- The replies to commands of one seat, one after another: what a run means, told plainly.
 use Rattle.std.specs.Prelude.{List, [], ◌∷◌, ◌++◌, Option, Some, None, Result, Ok, Err}
 use Rattle.regatta_terms.specs.Entries.{EntryParts}
 use Rattle.regatta_terms.specs.Rules.{RulesParts}

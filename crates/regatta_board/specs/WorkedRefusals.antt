@@ -25,7 +25,7 @@ use Rattle.regatta_board.specs.Worked.{ok, ok_alone}
 pub limits_are : (limits.boats ≡ 500) × (limits.entries ≡ 8192)
 limits_are = (refl, refl)
 
--- each refusal that one boat and one race can meet
+-- refusals that one boat and one race can meet
 abbrev pub each_refusal_commands : List (Role × Command)
 each_refusal_commands =
     scorer (Enter a)

@@ -44,7 +44,7 @@ pub refused_leave_no_trace :
     ≡ journal (tie_for_first ++ jury (Mark 1 a code.Dsq) ∷ [])
 refused_leave_no_trace = refl
 
--- a late entry is scored as absent from the earlier race (A2.2, A5.2)
+-- a late entry is scored DNC in the earlier race (A2.2, A5.2)
 pub late_entry_replies :
     replies default_rules [] (two_of_three ++ scorer (Enter d) ∷ [])
     ≡ ok 1 1 false 0

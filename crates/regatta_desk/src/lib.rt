@@ -1,4 +1,4 @@
-//! The office under its lock, and the passes by which seats run commands and watch without it.
+//! The desk under its lock, and the passes by which seats run commands and watch without it.
 #![tactic(auto)]
 
 mod answers;

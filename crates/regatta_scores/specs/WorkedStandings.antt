@@ -111,7 +111,7 @@ pub boats_that_did_not_finish : standing default_rules (journal two_of_three)
     ∷ row c 3 false 40 (marked 40 abbreviation.Dnf ∷ []) ∷ [])
 boats_that_did_not_finish = refl
 
--- a late entry counts as absent from the race, and every code scores one more (A2.2, A5.2)
+-- a late entry is scored DNC in the race, and every code scores one more (A2.2, A5.2)
 pub late_entries_change_earlier_races :
     standing default_rules (journal (two_of_three ++ scorer (Enter d) ∷ []))
     ≡ table (1 ∷ []) (row a 1 false 10 (scored 10 ∷ []) ∷ row b 2 false 20 (scored 20 ∷ [])

@@ -48,7 +48,7 @@ struck = three_timed ++ scorer (Strike 1 a) ∷ []
 pub struck_boats_have_no_time : time (journal struck) 1 a ≡ None
 struck_boats_have_no_time = refl
 
--- and counts as absent
+-- and is scored DNC
 pub struck_boats_leave_the_order : standing by_times (journal struck)
     ≡ table (1 ∷ []) (row b 1 false 10 (scored 10 ∷ []) ∷ row c 2 false 20 (scored 20 ∷ [])
     ∷ row a 3 false 40 (marked 40 abbreviation.Dnc ∷ []) ∷ [])

@@ -58,7 +58,7 @@ impl Model for SocketDoor {
 }
 
 impl SocketDoor {
-    /// Binds a new socket at this path. The door closes after that many streams; 0 is no end.
+    /// Binds a new socket at this path. The door closes after `sessions` streams; 0 is no end.
     ///
     /// # Errors
     ///

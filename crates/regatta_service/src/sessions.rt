@@ -96,7 +96,7 @@ impl<N: OfficeName, H: Wait + Drop, G: Gate> Talk<'_, N, H, G> {
         ensures ended { self.new.ended ≡ self.old.ended }
     {
         let mut desk = self.office.desk(rt);
-        // does nothing: its contract says that the journal is lawful
+        // read for what it promises: the journal is lawful
         let _ = desk.board();
         desk.answer(rt, self.pass, self.role, line, &mut self.reply)?;
         Ok(())

@@ -31,7 +31,7 @@ asks_board (Ok (SetRole role)) = false
 asks_board (Ok Quit) = false
 asks_board (Err fault) = false
 
--- the reply to a line that asks nothing of the board; of other lines nothing is said
+-- the reply to a line that asks nothing of the board; nobody asks for that of other lines
 abbrev pub reply_apart : Result Line LineFault → Reply
 reply_apart (Ok (SetRole role)) = RoleSet role
 reply_apart (Ok Quit) = Bye
