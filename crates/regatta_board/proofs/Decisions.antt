@@ -14,7 +14,7 @@ use Rattle.regatta_terms.specs.declared.command.Command.{Command}
 use Rattle.regatta_terms.specs.declared.command.Command.TheVariants.{Mark, Penalise, Redress, Clear}
 use Rattle.regatta_scores.specs.declared.sheet.Held.{Held}
 use Rattle.regatta_scores.specs.Sheet.{nothing_held}
-use Rattle.regatta_scores.specs.Journal.{same_sail, held_by, standing_decisions, decides, is_clear}
+use Rattle.regatta_scores.specs.Journal.{same_sail, held_by, lasting_decisions, is_decision_on, is_clear}
 use Rattle.regatta_scores.specs.Journal.{is_zfp, is_scp, code_marked, redress_given, last_item}
 use Rattle.regatta_scores.proofs.Coded.{after_last_push, last_push}
 use Rattle.regatta_board.proofs.Lines.{drop_past}
@@ -22,22 +22,22 @@ use Rattle.regatta_board.proofs.Numbers.{index_in, same_is, is_same}
 use Rattle.regatta_board.specs.Step.{one_more}
 
 abbrev pub held_from : List Command → Sail → Held
-held_from commands boat = held_by (standing_decisions commands boat)
+held_from commands boat = held_by (lasting_decisions commands boat)
 
-pub others_hold : (commands : List Command) (c : Command) (boat : Sail) → decides boat c ≡ false
+pub others_hold : (commands : List Command) (c : Command) (boat : Sail) → is_decision_on boat c ≡ false
     → held_from (commands ++ c ∷ []) boat ≡ held_from commands boat
 others_hold commands c boat h =
-    let now : filter (decides boat) (commands ++ c ∷ []) ≡ filter (decides boat) commands =
-    filter-append (decides boat) commands (c ∷ []) ∙ rw h (append-nil _) in
+    let now : filter (is_decision_on boat) (commands ++ c ∷ []) ≡ filter (is_decision_on boat) commands =
+    filter-append (is_decision_on boat) commands (c ∷ []) ∙ rw h (append-nil _) in
     ap (λ ds. held_by (after_last is_clear ds)) now
 
-decided : (commands : List Command) (c : Command) (boat : Sail) → decides boat c ≡ true
+decided : (commands : List Command) (c : Command) (boat : Sail) → is_decision_on boat c ≡ true
     → is_clear c ≡ false
-    → standing_decisions (commands ++ c ∷ []) boat ≡ standing_decisions commands boat ++ c ∷ []
+    → lasting_decisions (commands ++ c ∷ []) boat ≡ lasting_decisions commands boat ++ c ∷ []
 decided commands c boat h e =
-    let now : filter (decides boat) (commands ++ c ∷ []) ≡ filter (decides boat) commands ++ c
-    ∷ [] = filter-append (decides boat) commands (c ∷ []) ∙ rw h refl in
-    ap (after_last is_clear) now ∙ after_last_push is_clear (filter (decides boat) commands) c e
+    let now : filter (is_decision_on boat) (commands ++ c ∷ []) ≡ filter (is_decision_on boat) commands ++ c
+    ∷ [] = filter-append (is_decision_on boat) commands (c ∷ []) ∙ rw h refl in
+    ap (after_last is_clear) now ∙ after_last_push is_clear (filter (is_decision_on boat) commands) c e
 
 after_last_hit : {X : Type 0} (p : X → Bool) (xs : List X) (x : X) → p x ≡ true
     → after_last p (xs ++ x ∷ []) ≡ []
@@ -76,7 +76,7 @@ module _ (commands : List Command) (race : ℕ) (boat : Sail) where
   pub mark_held : (code : Code) → held_from (commands ++ Mark race boat code ∷ []) boat
       ≡ record (held_from commands boat) { code = Some code }
   mark_held code =
-      let ds = standing_decisions commands boat in
+      let ds = lasting_decisions commands boat in
       let c = Mark race boat code in
       ap held_by (decided commands c boat (is_same boat) refl)
       ∙ (λ i. record {
@@ -90,7 +90,7 @@ module _ (commands : List Command) (race : ℕ) (boat : Sail) where
   pub zfp_held : held_from (commands ++ Penalise race boat Zfp ∷ []) boat
       ≡ one_more Zfp (held_from commands boat)
   zfp_held =
-      let ds = standing_decisions commands boat in
+      let ds = lasting_decisions commands boat in
       let c = Penalise race boat Zfp in
       ap held_by (decided commands c boat (is_same boat) refl)
       ∙ (λ i. record {
@@ -103,7 +103,7 @@ module _ (commands : List Command) (race : ℕ) (boat : Sail) where
   pub scp_held : held_from (commands ++ Penalise race boat Scp ∷ []) boat
       ≡ one_more Scp (held_from commands boat)
   scp_held =
-      let ds = standing_decisions commands boat in
+      let ds = lasting_decisions commands boat in
       let c = Penalise race boat Scp in
       ap held_by (decided commands c boat (is_same boat) refl)
       ∙ (λ i. record {
@@ -117,7 +117,7 @@ module _ (commands : List Command) (race : ℕ) (boat : Sail) where
       → held_from (commands ++ Redress race boat redress ∷ []) boat
       ≡ record (held_from commands boat) { redress = Some redress }
   redress_held redress =
-      let ds = standing_decisions commands boat in
+      let ds = lasting_decisions commands boat in
       let c = Redress race boat redress in
       ap held_by (decided commands c boat (is_same boat) refl)
       ∙ (λ i. record {
@@ -131,10 +131,10 @@ module _ (commands : List Command) (race : ℕ) (boat : Sail) where
 
   pub clear_held : held_from (commands ++ Clear race boat ∷ []) boat ≡ nothing_held
   clear_held =
-      let ds = filter (decides boat) commands in
+      let ds = filter (is_decision_on boat) commands in
       let c = Clear race boat in
-      let now : filter (decides boat) (commands ++ c ∷ []) ≡ ds ++ c ∷ [] =
-      filter-append (decides boat) commands (c ∷ []) ∙ rw (is_same boat) refl in
+      let now : filter (is_decision_on boat) (commands ++ c ∷ []) ≡ ds ++ c ∷ [] =
+      filter-append (is_decision_on boat) commands (c ∷ []) ∙ rw (is_same boat) refl in
       ap (λ xs. held_by (after_last is_clear xs)) now
       ∙ ap held_by (after_last_hit is_clear ds c refl)
 

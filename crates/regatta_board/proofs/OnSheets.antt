@@ -19,7 +19,7 @@ use Rattle.regatta_scores.specs.Journal.{time}
 use Rattle.regatta_scores.specs.CorrectedTimes.{with_time}
 use Rattle.regatta_scores.proofs.Sheets.{last_sheet, joined_sheet, ahead_sheet, without_sheet}
 use Rattle.regatta_scores.proofs.Sheets.{more_sheet, copied_sheet, timed_sheet}
-use Rattle.regatta_scores.proofs.StandingTimes.{order_with}
+use Rattle.regatta_scores.proofs.LastingTimes.{order_with}
 use Rattle.regatta_board.specs.Refusals.{limits, is_entered, is_placed}
 use Rattle.regatta_board.specs.KeptJournal.{number, blank, IsOnSheet}
 use Rattle.regatta_board.specs.Step.{MayStep}

@@ -16,15 +16,15 @@ use Rattle.regatta_terms.specs.declared.command.Command.TheVariants.{Redress, Cl
 use Rattle.regatta_scores.specs.Order.{is_empty, in_group, stands_in, with_last, joined, with_ahead}
 use Rattle.regatta_scores.specs.Order.{without}
 use Rattle.regatta_scores.specs.Journal.{Journal, same_sail, names_race, sail_entered, entered}
-use Rattle.regatta_scores.specs.Journal.{order, held, order_by, race_commands, decides, time}
+use Rattle.regatta_scores.specs.Journal.{order, held, order_by, race_commands, is_decision_on, time}
 use Rattle.regatta_scores.specs.Journal.{ends_time}
 use Rattle.regatta_scores.specs.CorrectedTimes.{is_lower, is_equal, is_later, group_time}
 use Rattle.regatta_scores.specs.CorrectedTimes.{lower_groups, equal_boats, later_groups, with_time}
 use Rattle.regatta_scores.proofs.Apart.{race_commands_more, entered_more}
 use Rattle.regatta_scores.proofs.Members.{or_left, or_right}
 use Rattle.regatta_scores.proofs.NoEmpty.{order_has_none}
-use Rattle.regatta_scores.proofs.StandingTimes.{time_by, time_of_others, order_with, Suits}
-use Rattle.regatta_scores.proofs.StandingTimes.{order_by_more}
+use Rattle.regatta_scores.proofs.LastingTimes.{time_by, time_of_others, order_with, Suits}
+use Rattle.regatta_scores.proofs.LastingTimes.{order_by_more}
 use Rattle.regatta_scores.proofs.TiedTimes.{any_filter}
 use Rattle.regatta_board.specs.Refusals.{limits, is_entered, is_placed}
 use Rattle.regatta_board.specs.KeptJournal.{IsOnSheet, IsOrderly}
@@ -229,7 +229,7 @@ not_about boats s b false h out e = refl
 
 undecided : (rules : RulesParts) (journal : Journal) (c : Command) → MayStep rules journal c
     → (b : Sail)
-    → is_entered journal b ≡ false → decides b c ≡ false
+    → is_entered journal b ≡ false → is_decision_on b c ≡ false
 undecided rules journal (Mark r s code) may b out = not_about (entered journal) s b _ may out refl
 undecided rules journal (Penalise r s kind) may b out =
     not_about (entered journal) s b _ may out refl
@@ -285,7 +285,7 @@ time_more journal entry c race b is none =
     (time_of_others (race_commands journal race) c b none)
 
 held_more : (journal : Journal) (entry : EntryParts) (c : Command) (race : ℕ) (b : Sail)
-    → entry.command ≡ c → decides b c ≡ false
+    → entry.command ≡ c → is_decision_on b c ≡ false
     → held (journal ++ entry ∷ []) race b ≡ held journal race b
 held_more journal entry c race b is none =
     told_more (λ cs. held_from cs b) journal entry c race is

@@ -14,7 +14,7 @@ use Rattle.regatta_terms.specs.declared.limits.TheConstants.{MAX_RACES}
 use Rattle.regatta_scores.specs.Journal.{Journal, is_scored}
 use Rattle.regatta_board.specs.Answers.{most_rescored}
 use Rattle.regatta_board.specs.KeptJournal.{kept_of, IsOrderly}
-use Rattle.regatta_board.specs.Scoring.{most_named}
+use Rattle.regatta_board.specs.Scoring.{most_remade_by}
 use Rattle.regatta_board.specs.Step.{step, NamesRace, MayStep}
 use Rattle.regatta_board.specs.Table.{Kept, races}
 use Rattle.regatta_board.proofs.StepOf.{step_is}
@@ -43,7 +43,7 @@ module _ (rules : RulesParts) (journal : Journal) (orderly : IsOrderly rules jou
       omega (arith, within.0, within.1, length-map-range_with_len (is_scored journal) 1 MAX_RACES)
 
   pub named_few : (c : Command) → entry.command ≡ c → NamesRace c → MayStep rules journal c
-      → most_named (kept_of rules journal) c ≡ most_rescored (journal ++ entry ∷ []) c
+      → most_remade_by (kept_of rules journal) c ≡ most_rescored (journal ++ entry ∷ []) c
   named_few (Enter sail) is named may =
       ap (λ (k : Kept). length (races k.counts))
       (step_is rules journal orderly entry (Enter sail) is named may)

@@ -16,9 +16,9 @@ use Rattle.regatta_board.specs.declared.kept.Revision.{Revision}
 use Rattle.regatta_board.specs.declared.kept.Revision.TheVariants as revision
 use Rattle.regatta_board.specs.declared.outcomes.Outcome.{Outcome}
 use Rattle.regatta_board.specs.Outcomes.{line}
-use Rattle.regatta_board.specs.Revisions.{revised, touches}
+use Rattle.regatta_board.specs.Revisions.{revised, may_change_standing}
 use Rattle.regatta_board.specs.Scoring.{Scoring, IsScoring, AreColumns, AreNewColumns}
-use Rattle.regatta_board.specs.Scoring.{TurnsOneColumn, TurnsOnly, with_columns, lines_by}
+use Rattle.regatta_board.specs.Scoring.{RemakesOneColumn, RemakesOnly, with_columns, lines_by}
 use Rattle.regatta_board.specs.Scoring.{AreNewScores, SaysTheSame, FitLines, IsOfEach, with_lines}
 use Rattle.regatta_board.specs.Scoring.{AreRanked, lines_after, ranks_after, with_scores}
 use Rattle.regatta_board.specs.declared.scoring.NewScores.{NewScores}
@@ -84,19 +84,19 @@ lines_by_long rules kept =
 
 -- a new sheet of a race turns its column alone
 pub sheet_turns : (rules : RulesParts) (kept : Kept) (scoring : Scoring) (change : Revision)
-    (new : NewColumns) → TurnsOneColumn rules change new → (race : ℕ) (sheet : Sheet)
-    → change ≡ revision.Sheet race sheet → TurnsOnly rules kept change race scoring new
+    (new : NewColumns) → RemakesOneColumn rules change new → (race : ℕ) (sheet : Sheet)
+    → change ≡ revision.Sheet race sheet → RemakesOnly rules kept change race scoring new
 sheet_turns rules kept scoring change new one race sheet turned = record {
   counts = ap (λ r. (revised kept r).counts) turned;
   sails = ap (λ r. (revised kept r).sails) turned;
   sheet = sheet;
-  column = subst (λ r. TurnsOneColumn rules r new) turned one scoring.columns;
+  column = subst (λ r. RemakesOneColumn rules r new) turned one scoring.columns;
 }
 
 -- where the column of one race is made anew, the line of a boat stays of whom it says what it said
 module _ (rules : RulesParts) (kept : Kept) (scoring : Scoring)
     (is : IsScoring rules kept scoring) (change : Revision) (new : NewColumns) (race : ℕ)
-    (turned : TurnsOnly rules kept change race scoring new) (within : IsRace race) where
+    (turned : RemakesOnly rules kept change race scoring new) (within : IsRace race) where
   pub turned_line : (found : List (List Outcome))
       → found ≡ map (λ race. get_or (with_columns scoring.columns new) (race - 1) [])
       (races (revised kept change).counts)
@@ -142,7 +142,7 @@ module _ (rules : RulesParts) (kept : Kept) (is_kept : IsKept kept) (change : Re
     (is : IsScoring rules kept scoring) (new : NewColumns)
     (are : AreNewColumns rules kept (revised kept change) new) (race : ℕ) (within : IsRace race)
     (counts : get_or kept.counts (race - 1) false ≡ true)
-    (turned : TurnsOnly rules kept change race scoring new) (ls : List BoatScores)
+    (turned : RemakesOnly rules kept change race scoring new) (ls : List BoatScores)
     (lines_are : ls ≡ scoring.lines) where
   abbrev slots : List (List Outcome)
   slots = with_columns scoring.columns new
@@ -236,7 +236,7 @@ are_ranked rules before after old is ranked each made ranks = (
 
 -- a revision that touches no race that counts changes no score
 pub untouched_scores : (rules : RulesParts) (kept : Kept) (change : Revision)
-    → touches kept change ≡ false
+    → may_change_standing kept change ≡ false
     → AreNewScores rules kept (revised kept change) (record { columns = Same; ranked = None })
 untouched_scores rules kept (revision.Enter boats sheets) e = cc
 untouched_scores rules kept (revision.Counts race counts) e = cc

@@ -18,7 +18,7 @@ revised_by kept (Some revision) = revised kept revision
 
 -- whether a revision may change the standing: all do but that of the sheet of a race that doesn't
 -- count
-abbrev pub touches : Kept → Revision → Bool
-touches kept (Enter boats sheets) = true
-touches kept (Sheet race sheet) = slice_index_or kept.counts (race - 1) false
-touches kept (Counts race counts) = true
+abbrev pub may_change_standing : Kept → Revision → Bool
+may_change_standing kept (Enter boats sheets) = true
+may_change_standing kept (Sheet race sheet) = slice_index_or kept.counts (race - 1) false
+may_change_standing kept (Counts race counts) = true

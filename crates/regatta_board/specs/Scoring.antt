@@ -61,19 +61,19 @@ most_remade kept (revision.Sheet race sheet) = once_if_counted kept race
 most_remade kept (revision.Counts race counts) = if counts then 1 else 0
 
 -- the same by the command that is accepted
-abbrev pub most_named : Kept → Command → ℕ
-most_named kept (Enter sail) = length (races kept.counts)
-most_named kept (Finish race sail) = once_if_counted kept race
-most_named kept (Tie race sail other) = once_if_counted kept race
-most_named kept (Before race sail other) = once_if_counted kept race
-most_named kept (Time race sail seconds) = once_if_counted kept race
-most_named kept (Strike race sail) = once_if_counted kept race
-most_named kept (Mark race sail code) = once_if_counted kept race
-most_named kept (Penalise race sail kind) = once_if_counted kept race
-most_named kept (Redress race sail redress) = once_if_counted kept race
-most_named kept (Clear race sail) = once_if_counted kept race
-most_named kept (Score race) = 1
-most_named kept (Unscore race) = 0
+abbrev pub most_remade_by : Kept → Command → ℕ
+most_remade_by kept (Enter sail) = length (races kept.counts)
+most_remade_by kept (Finish race sail) = once_if_counted kept race
+most_remade_by kept (Tie race sail other) = once_if_counted kept race
+most_remade_by kept (Before race sail other) = once_if_counted kept race
+most_remade_by kept (Time race sail seconds) = once_if_counted kept race
+most_remade_by kept (Strike race sail) = once_if_counted kept race
+most_remade_by kept (Mark race sail code) = once_if_counted kept race
+most_remade_by kept (Penalise race sail kind) = once_if_counted kept race
+most_remade_by kept (Redress race sail redress) = once_if_counted kept race
+most_remade_by kept (Clear race sail) = once_if_counted kept race
+most_remade_by kept (Score race) = 1
+most_remade_by kept (Unscore race) = 0
 
 -- the lines of all boats, made from what is kept of the journal
 abbrev pub lines_by : RulesParts → Kept → List BoatScores
@@ -119,16 +119,16 @@ AreNewColumns rules before after new =
     → (length (with_columns old new) ≡ MAX_RACES) × AreColumns rules after (with_columns old new)
 
 -- a new sheet turns the column of its race alone
-abbrev pub TurnsOneColumn : RulesParts → Revision → NewColumns → Type 0
-TurnsOneColumn rules (revision.Enter boats sheets) new = Unit {0}
-TurnsOneColumn rules (revision.Sheet race sheet) new =
+abbrev pub RemakesOneColumn : RulesParts → Revision → NewColumns → Type 0
+RemakesOneColumn rules (revision.Enter boats sheets) new = Unit {0}
+RemakesOneColumn rules (revision.Sheet race sheet) new =
     (old : List (List Outcome))
     → with_columns old new ≡ slice_set old (race - 1) (column rules sheet)
-TurnsOneColumn rules (revision.Counts race counts) new = Unit {0}
+RemakesOneColumn rules (revision.Counts race counts) new = Unit {0}
 
 -- a revision turns the column of this race, and leaves the races that count and the boats as they
 -- are
-pub record TurnsOnly (rules : RulesParts) (kept : Kept) (change : Revision) (race : ℕ)
+pub record RemakesOnly (rules : RulesParts) (kept : Kept) (change : Revision) (race : ℕ)
     (scoring : Scoring) (new : NewColumns) : Type 0 where
   pub counts : (revised kept change).counts ≡ kept.counts
   pub sails : (revised kept change).sails ≡ kept.sails

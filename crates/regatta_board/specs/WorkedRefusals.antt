@@ -1,5 +1,5 @@
 -- Worked examples: the refusals of commands.
-use Rattle.std.specs.Prelude.{◌≡◌, refl, false, List, [], ◌∷◌, Err}
+use Rattle.std.specs.Prelude.{◌≡◌, refl, false, List, [], ◌∷◌, replicate, Err}
 use Rattle.regatta_terms.specs.declared.command.Code.TheVariants as code
 use Rattle.regatta_terms.specs.declared.command.PenaltyKind.TheVariants as kind
 use Rattle.regatta_terms.specs.declared.command.Redress.TheVariants as redress
@@ -13,6 +13,7 @@ use Rattle.regatta_terms.specs.declared.reply.Refusal.TheVariants.{NotEntered, A
 use Rattle.regatta_terms.specs.declared.reply.Refusal.TheVariants.{NotPlaced, Decided}
 use Rattle.regatta_terms.specs.declared.reply.Refusal.TheVariants.{NothingToClear, AlreadyScored}
 use Rattle.regatta_terms.specs.declared.reply.Refusal.TheVariants.{NotScored, NoFinisher}
+use Rattle.regatta_terms.specs.declared.reply.Refusal.TheVariants.{PenaltyLimit}
 use Rattle.regatta_scores.specs.declared.table.Abbrev.TheVariants as abbreviation
 use Rattle.regatta_scores.specs.Standing.{standing}
 use Rattle.regatta_scores.specs.WorkedStandings.{a, b, scorer, jury, default_rules, table, row}
@@ -83,3 +84,14 @@ pub each_refusal_table :
     standing default_rules (journal_after default_rules [] each_refusal_commands)
     ≡ table (1 ∷ []) (row a 1 false 25 (marked 25 abbreviation.Rdg ∷ []) ∷ [])
 each_refusal_table = refl
+
+-- nine 20% penalties for one boat in one race (30.2)
+abbrev pub nine_penalties : List (Role × Command)
+nine_penalties = scorer (Enter a) ∷ replicate 9 (scorer (Penalise 1 a kind.Zfp))
+
+-- a tenth is refused, and a penalty of the other kind is not
+pub tenth_penalty :
+    replies default_rules (journal_after default_rules [] nine_penalties)
+    (scorer (Penalise 1 a kind.Zfp) ∷ jury (Penalise 1 a kind.Scp) ∷ [])
+    ≡ Err PenaltyLimit ∷ ok 11 1 false 0 ∷ []
+tenth_penalty = refl

@@ -8,7 +8,7 @@ use Rattle.regatta_terms.specs.declared.reply.Refusal.TheVariants.{WrongSystem, 
 use Rattle.regatta_terms.specs.declared.reply.Refusal.TheVariants.{NotEntered, NotYours}
 use Rattle.regatta_scores.specs.Standing.{standing}
 use Rattle.regatta_scores.specs.WorkedStandings.{a, b, c, d, scorer, jury, journal, default_rules}
-use Rattle.regatta_scores.specs.WorkedStandings.{tie_for_first, scored, row, table}
+use Rattle.regatta_scores.specs.WorkedStandings.{tie_for_first, plain, row, table}
 use Rattle.regatta_scores.specs.WorkedTimes.{by_times, three_timed, timed_again}
 use Rattle.regatta_board.specs.Refusals.{limits, is_lawful, refused_from}
 use Rattle.regatta_board.specs.Runs.{replies, journal_after}
@@ -44,8 +44,8 @@ times_of_three_replies = refl
 -- and the standing that they leave
 pub times_of_three_table :
     standing by_times (journal_after by_times [] times_of_three)
-    ≡ table (1 ∷ []) (row a 1 false 10 (scored 10 ∷ []) ∷ row b 2 false 20 (scored 20 ∷ [])
-    ∷ row c 3 false 30 (scored 30 ∷ []) ∷ [])
+    ≡ table (1 ∷ []) (row a 1 false 10 (plain 10 ∷ []) ∷ row b 2 false 20 (plain 20 ∷ [])
+    ∷ row c 3 false 30 (plain 30 ∷ []) ∷ [])
 times_of_three_table = refl
 
 -- the journal of the run is lawful

@@ -5,8 +5,8 @@ ghost use Rattle.regatta_terms.specs.Entries.{IsRace};
 ghost use Rattle.regatta_scores.specs.Sheet.{boats as boats_of, empty_sheet, nothing_held};
 ghost use Rattle.regatta_board.specs.declared.outcomes.Outcome.{Outcome};
 ghost use Rattle.regatta_board.specs.Refusals.{limits};
-ghost use Rattle.regatta_board.specs.Revisions.{revised, touches};
-ghost use Rattle.regatta_board.specs.Scoring.{AreColumns, AreNewColumns, TurnsOneColumn};
+ghost use Rattle.regatta_board.specs.Revisions.{revised, may_change_standing};
+ghost use Rattle.regatta_board.specs.Scoring.{AreColumns, AreNewColumns, RemakesOneColumn};
 ghost use Rattle.regatta_board.specs.Scoring.{column_at, with_columns, most_remade};
 ghost use Rattle.regatta_board.specs.Table.{no_outcome, IsKept, column as column_of};
 ghost use Rattle.regatta_board.specs.Table.{races as races_of};
@@ -195,11 +195,11 @@ pub(crate) fn new_columns(
 ) -> Result<NewColumns, AllocError>
     requires kept { IsKept kept.now }
     requires next { IsKept (revised kept.now revision.now) }
-    requires touched { touches kept.now revision.now ≡ true }
+    requires touched { may_change_standing kept.now revision.now ≡ true }
     requires work { work.old + MAX_RACES < 2 ^ 32 }
     ensures value { IfOk result
         (AreNewColumns rules.now kept.now (revised kept.now revision.now)) }
-    ensures one { IfOk result (TurnsOneColumn rules.now revision.now) }
+    ensures one { IfOk result (RemakesOneColumn rules.now revision.now) }
     ensures counted { OnOk result
         (work.new ≤ work.old + most_remade kept.now revision.now) }
 {

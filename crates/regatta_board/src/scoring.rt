@@ -7,9 +7,9 @@ ghost use Rattle.regatta_scores.specs.Entrants.{lines_behind};
 ghost use Rattle.regatta_scores.specs.Ranking.{places as places_of};
 ghost use Rattle.regatta_board.specs.Outcomes.{line as line_of};
 ghost use Rattle.regatta_board.specs.Refusals.{limits};
-ghost use Rattle.regatta_board.specs.Revisions.{revised, touches};
+ghost use Rattle.regatta_board.specs.Revisions.{revised, may_change_standing};
 ghost use Rattle.regatta_board.specs.Scoring.{IsScoring, AreNewScores, AreNewColumns};
-ghost use Rattle.regatta_board.specs.Scoring.{AreColumns, TurnsOneColumn, TurnsOnly, SaysTheSame};
+ghost use Rattle.regatta_board.specs.Scoring.{AreColumns, RemakesOneColumn, RemakesOnly, SaysTheSame};
 ghost use Rattle.regatta_board.specs.Scoring.{FitLines, IsOfEach};
 ghost use Rattle.regatta_board.specs.Scoring.{lines_by, most_remade, with_columns, with_scores};
 ghost use Rattle.regatta_board.specs.Scoring.{with_changed, with_lines};
@@ -188,7 +188,7 @@ fn drafted_lines(
 }
 
 /// The lines that change, where the sheet of one race that counts is made anew.
-fn turned_lines(
+fn remade_lines(
     alloc: Global,
     scoring: &Scoring,
     kept: &Kept,
@@ -201,7 +201,7 @@ fn turned_lines(
     requires next { IsKept (revised kept.now revision.now) }
     requires scoring { IsScoring rules.now kept.now scoring.now }
     requires counts { slice_index_or kept.now.counts (race - 1) false ≡ true }
-    requires turned { TurnsOnly rules.now kept.now revision.now race scoring.now columns.now }
+    requires turned { RemakesOnly rules.now kept.now revision.now race scoring.now columns.now }
     requires new { AreNewColumns rules.now kept.now (revised kept.now revision.now) columns.now }
     ensures each { IfOk result (IsOfEach scoring.now.lines) }
     ensures value { IfOk result (λ new.
@@ -227,15 +227,15 @@ fn new_lines(
     requires kept { IsKept kept.now }
     requires next { IsKept (revised kept.now revision.now) }
     requires scoring { IsScoring rules.now kept.now scoring.now }
-    requires touched { touches kept.now revision.now ≡ true }
+    requires touched { may_change_standing kept.now revision.now ≡ true }
     requires new { AreNewColumns rules.now kept.now (revised kept.now revision.now) columns.now }
-    requires one { TurnsOneColumn rules.now revision.now columns.now }
+    requires one { RemakesOneColumn rules.now revision.now columns.now }
     ensures each { IfOk result (IsOfEach scoring.now.lines) }
     ensures value { IfOk result (λ new.
         with_lines scoring.now.lines new ≡ lines_by rules.now (revised kept.now revision.now)) }
 {
     if let Revision::Sheet { race, .. } = revision {
-        let lines = turned_lines(alloc, scoring, kept, revision, *race, columns, rules)?;
+        let lines = remade_lines(alloc, scoring, kept, revision, *race, columns, rules)?;
         return Ok(lines);
     }
     let draft = Draft::new(kept, revision);
@@ -274,7 +274,7 @@ pub(crate) fn new_scores(
     ensures counted { OnOk result
         (work.new ≤ work.old + most_remade kept.now revision.now) }
 {
-    if !kept.touched_by(revision) {
+    if !kept.may_change_standing(revision) {
         return Ok(NewScores {
             columns: NewColumns::Same,
             ranked: None,

@@ -45,7 +45,7 @@ is_for_pass (Err fault) = true
 
 -- a command that was run: its entry is in the journal and published, the pass has learnt it, and
 -- its answer is the reply
-pub record Ran (rules : RulesParts) (role : Role) (command : Command) (old new : DeskValue)
+pub record RanCommand (rules : RulesParts) (role : Role) (command : Command) (old new : DeskValue)
     (before after : PassValue) (reply : Reply) : Type 0 where
   pub accepted : refusal limits rules old.entries (entry_of before role command) ≡ None
   pub desk : new ≡ desk_with old (entry_of before role command)
@@ -56,7 +56,7 @@ pub record Ran (rules : RulesParts) (role : Role) (command : Command) (old new :
   pub answered : reply ≡ reply_of (Ok (answer rules old.entries (entry_of before role command)))
 
 -- a command that was refused: nothing has changed
-pub record Turned (rules : RulesParts) (role : Role) (command : Command) (old new : DeskValue)
+pub record RefusedCommand (rules : RulesParts) (role : Role) (command : Command) (old new : DeskValue)
     (before after : PassValue) (reply : Reply) : Type 0 where
   pub why : Refusal
   pub due : IsRefusal (refusal limits rules old.entries (entry_of before role command)) why
@@ -69,8 +69,8 @@ pub record Turned (rules : RulesParts) (role : Role) (command : Command) (old ne
 abbrev pub DeskReplies : RulesParts → Line → Role → DeskValue → DeskValue → PassValue → PassValue
     → Reply → Type 0
 DeskReplies rules (Do command) role old new before after reply =
-    Ran rules role command old new before after reply
-    ⊎ Turned rules role command old new before after reply
+    RanCommand rules role command old new before after reply
+    ⊎ RefusedCommand rules role command old new before after reply
 DeskReplies rules (Rank sail) role old new before after reply =
     (new ≡ old) × (after ≡ before) × (reply ≡ ranked (rank_of rules old.entries sail))
 DeskReplies rules (SetRole next) role old new before after reply = Unit {0}

@@ -14,10 +14,10 @@ use Rattle.regatta_terms.specs.declared.command.Command.TheVariants.{Time, Strik
 use Rattle.regatta_terms.specs.declared.command.Command.TheVariants.{Redress, Clear, Score, Unscore}
 use Rattle.regatta_scores.specs.Journal.{Journal, same_sail, names_race, sail_entered, commands}
 use Rattle.regatta_scores.specs.Journal.{entered, race_commands, order_by, order}
-use Rattle.regatta_scores.specs.Journal.{held_by, standing_decisions, decides, is_clear, held}
+use Rattle.regatta_scores.specs.Journal.{held_by, lasting_decisions, is_decision_on, is_clear, held}
 use Rattle.regatta_scores.specs.RacePoints.{Race, journal_race, status, dnf, plain}
 use Rattle.regatta_scores.specs.RaceLaws.{SaysTheSame, RacesAreApart}
-use Rattle.regatta_scores.proofs.StandingTimes.{places, order_by_stays}
+use Rattle.regatta_scores.proofs.LastingTimes.{places, order_by_stays}
 
 no_other : (race other r : ℕ) (b : Bool) → nat_eq race r ≡ true → other ≢ race →
     nat_eq other r ≡ b → b ≡ false
@@ -93,21 +93,21 @@ order_stays rules journal entry same race =
 
 -- what a boat holds whom the command is no decision about
 pub held_stays : (journal : Journal) (entry : EntryParts) (boat : Sail) →
-    decides boat entry.command ≡ false → (race : ℕ) →
+    is_decision_on boat entry.command ≡ false → (race : ℕ) →
     held (journal ++ entry ∷ []) race boat ≡ held journal race boat
 held_stays journal entry boat out race =
-    ap (λ cs. held_by (standing_decisions cs boat)) (race_commands_more journal entry race)
+    ap (λ cs. held_by (lasting_decisions cs boat)) (race_commands_more journal entry race)
     ∙ ap (λ ds. held_by (after_last is_clear ds)) (by (names_race race entry.command))
   where
     by : (b : Bool) →
-        filter (decides boat) (race_commands journal race ++ cond b (entry.command ∷ []) [])
-        ≡ filter (decides boat) (race_commands journal race)
+        filter (is_decision_on boat) (race_commands journal race ++ cond b (entry.command ∷ []) [])
+        ≡ filter (is_decision_on boat) (race_commands journal race)
     by true =
-        let none : filter (decides boat) (entry.command ∷ []) ≡ [] =
+        let none : filter (is_decision_on boat) (entry.command ∷ []) ≡ [] =
         ap (λ b. cond b (entry.command ∷ []) []) out in
-        filter-append (decides boat) (race_commands journal race) (entry.command ∷ [])
-        ∙ ap (λ ds. filter (decides boat) (race_commands journal race) ++ ds) none ∙ append-nil _
-    by false = ap (filter (decides boat)) (append-nil (race_commands journal race))
+        filter-append (is_decision_on boat) (race_commands journal race) (entry.command ∷ [])
+        ∙ ap (λ ds. filter (is_decision_on boat) (race_commands journal race) ++ ds) none ∙ append-nil _
+    by false = ap (filter (is_decision_on boat)) (append-nil (race_commands journal race))
 
 -- a race is made of the entry list and its own commands
 pub same_race : (rules : RulesParts) (old new : Journal) (race : ℕ) → entered new ≡ entered old →
@@ -117,7 +117,7 @@ same_race rules old new race boats cs i =
     record {
       entered = boats i;
       order = order_by rules (cs i);
-      held = λ boat. held_by (standing_decisions (cs i) boat);
+      held = λ boat. held_by (lasting_decisions (cs i) boat);
     }
 
 says_the_same : (rules : RulesParts) (old new : Journal) (race : ℕ) →

@@ -22,8 +22,8 @@ use Rattle.regatta_scores.specs.declared.boats.RowItem.{RowItem}
 use Rattle.regatta_scores.specs.declared.table.Cell.{Cell}
 use Rattle.regatta_scores.specs.declared.table.Row.{Row}
 use Rattle.regatta_scores.specs.Journal.{Journal, same_sail, commands, names_race}
-use Rattle.regatta_scores.specs.Journal.{race_commands, decides, is_clear, redress_given, held}
-use Rattle.regatta_scores.specs.Journal.{standing_decisions, scored}
+use Rattle.regatta_scores.specs.Journal.{race_commands, is_decision_on, is_clear, redress_given, held}
+use Rattle.regatta_scores.specs.Journal.{lasting_decisions, scored}
 use Rattle.regatta_scores.specs.RacePoints.{Race, Status, Finished, Coded, shared_points, penalised}
 use Rattle.regatta_scores.specs.RacePoints.{finishers, dnf_by, base_by, status, groups_ahead}
 use Rattle.regatta_scores.specs.RacePoints.{sharing, place_points, number_came, dnf, base, plain}
@@ -154,12 +154,12 @@ redress_in_range journal race boat each =
     (λ k d h. (each k d h).command) in
     let of_race : All IsCommand (race_commands journal race) =
     All-filter (names_race race) IsCommand (commands journal) all in
-    let hers = filter (decides boat) (race_commands journal race) in
-    let of_boat : All IsCommand (filter (decides boat) (race_commands journal race)) =
-    All-filter (decides boat) IsCommand (race_commands journal race) of_race in
-    let stand : All IsCommand (standing_decisions (race_commands journal race) boat) =
+    let hers = filter (is_decision_on boat) (race_commands journal race) in
+    let of_boat : All IsCommand (filter (is_decision_on boat) (race_commands journal race)) =
+    All-filter (is_decision_on boat) IsCommand (race_commands journal race) of_race in
+    let stand : All IsCommand (lasting_decisions (race_commands journal race) boat) =
     All-drop IsCommand (length hers - suffix_len (λ c. not (is_clear c)) hers) hers of_boat in
-    let decisions = standing_decisions (race_commands journal race) boat in
+    let decisions = lasting_decisions (race_commands journal race) boat in
     last_in_range None (filter_map redress_given decisions) tt
     (given_in_range decisions (recursion_from_All IsCommand decisions stand))
 

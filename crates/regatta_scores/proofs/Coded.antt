@@ -18,13 +18,13 @@ use Rattle.regatta_terms.specs.declared.command.Command.TheVariants.{Mark}
 use Rattle.regatta_scores.specs.declared.sheet.Held.{Held}
 use Rattle.regatta_scores.specs.Order.{in_group, stands_in}
 use Rattle.regatta_scores.specs.Journal.{Journal, same_sail, race_commands, order}
-use Rattle.regatta_scores.specs.Journal.{held, decides, is_clear, code_marked}
+use Rattle.regatta_scores.specs.Journal.{held, is_decision_on, is_clear, code_marked}
 use Rattle.regatta_scores.specs.Journal.{last_item}
 use Rattle.regatta_scores.specs.RacePoints.{Finished, Coded, journal_race, status}
 use Rattle.regatta_scores.specs.RacePoints.{status_by, finishers, groups_ahead, her_group}
 use Rattle.regatta_scores.specs.RaceLaws.{CodedBoatsLeaveTheOrder}
 use Rattle.regatta_scores.proofs.Apart.{race_commands_more, order_stays, held_stays}
-use Rattle.regatta_scores.proofs.StandingTimes.{places}
+use Rattle.regatta_scores.proofs.LastingTimes.{places}
 use Rattle.regatta_scores.proofs.Counts.{count_split, sum_split, count_one, sum_one, found_le}
 
 -- what stands after the last element that passes, where one more comes that doesn't
@@ -55,22 +55,22 @@ module _ (rules : RulesParts) (journal : Journal) (entry : EntryParts) (race : �
   order_is = order_stays rules journal entry (ap places is_mark) race
 
   decisions_by : (boat : Sail) (b : Bool) → same_sail boat coded ≡ b →
-      filter (decides boat) (race_commands (journal ++ entry ∷ []) race)
-      ≡ filter (decides boat) (race_commands journal race) ++ cond b (Mark race coded code ∷ []) []
+      filter (is_decision_on boat) (race_commands (journal ++ entry ∷ []) race)
+      ≡ filter (is_decision_on boat) (race_commands journal race) ++ cond b (Mark race coded code ∷ []) []
   decisions_by boat b e =
-      ap (filter (decides boat)) commands_after
-      ∙ filter-append (decides boat) (race_commands journal race) (Mark race coded code ∷ [])
+      ap (filter (is_decision_on boat)) commands_after
+      ∙ filter-append (is_decision_on boat) (race_commands journal race) (Mark race coded code ∷ [])
       ∙ rw e refl
 
   held_is : (boat : Sail) → same_sail boat coded ≡ false →
       held (journal ++ entry ∷ []) race boat ≡ held journal race boat
-  held_is boat e = held_stays journal entry boat (ap (decides boat) is_mark ∙ e) race
+  held_is boat e = held_stays journal entry boat (ap (is_decision_on boat) is_mark ∙ e) race
 
   code_given : (boat : Sail) → same_sail boat coded ≡ true →
       (held (journal ++ entry ∷ []) race boat).code ≡ Some code
   code_given boat e =
-      let ds = filter (decides boat) (race_commands journal race) in
-      let now : after_last is_clear (filter (decides boat)
+      let ds = filter (is_decision_on boat) (race_commands journal race) in
+      let now : after_last is_clear (filter (is_decision_on boat)
       (race_commands (journal ++ entry ∷ []) race))
       ≡ after_last is_clear ds ++ Mark race coded code ∷ [] =
       ap (after_last is_clear) (decisions_by boat true e)

@@ -17,7 +17,7 @@ use Rattle.regatta_scores.specs.CorrectedTimes.{CorrectedTime, times_behind, tie
 use Rattle.regatta_scores.specs.CorrectedTimes.{order_of_times, is_lower, is_later, group_time}
 use Rattle.regatta_scores.specs.CorrectedTimes.{lower_groups, equal_boats, later_groups, with_time}
 use Rattle.regatta_scores.specs.Journal.{same_sail, order_after, order_by, race_commands}
-use Rattle.regatta_scores.specs.Journal.{standing_times}
+use Rattle.regatta_scores.specs.Journal.{lasting_times}
 use Rattle.regatta_scores.specs.RaceLaws.{OrdersHaveNoEmptyGroup}
 use Rattle.regatta_scores.proofs.Members.{all_passed}
 
@@ -152,8 +152,8 @@ pub order_has_none : (rules : RulesParts) (commands : List Command) →
 order_has_none rules commands = by rules.handicap
   where
     by : (b : Bool) → HasNoEmptyGroup
-        (cond b (order_of_times (standing_times commands)) (fold order_after [] commands))
-    by true = times_have_none (standing_times commands)
+        (cond b (order_of_times (lasting_times commands)) (fold order_after [] commands))
+    by true = times_have_none (lasting_times commands)
     by false = fold_has_none commands [] (All-from_recursion HasBoats [] tt)
 
 pub orders_have_no_empty_group : OrdersHaveNoEmptyGroup

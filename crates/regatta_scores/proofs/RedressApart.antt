@@ -16,7 +16,7 @@ use Rattle.regatta_terms.specs.declared.command.Command.{Command}
 use Rattle.regatta_terms.specs.declared.command.Command.TheVariants.{Redress}
 use Rattle.regatta_scores.specs.Journal.{Journal, same_sail, sail_entered, race_commands, entered}
 use Rattle.regatta_scores.specs.Journal.{order, held}
-use Rattle.regatta_scores.specs.Journal.{standing_decisions, decides, is_clear, code_marked, is_zfp}
+use Rattle.regatta_scores.specs.Journal.{lasting_decisions, is_decision_on, is_clear, code_marked, is_zfp}
 use Rattle.regatta_scores.specs.Journal.{is_scp, counting, last_item, is_some_true, is_scored}
 use Rattle.regatta_scores.specs.Journal.{scored}
 use Rattle.regatta_scores.specs.RacePoints.{Race, journal_race, plain}
@@ -26,7 +26,7 @@ use Rattle.regatta_scores.specs.Standing.{row_items, points, excluded, is_dne}
 use Rattle.regatta_scores.specs.RedressLaws.{RedressLeavesOthers}
 use Rattle.regatta_scores.proofs.Apart.{race_commands_more, same_entered, order_stays}
 use Rattle.regatta_scores.proofs.Apart.{held_stays}
-use Rattle.regatta_scores.proofs.StandingTimes.{places}
+use Rattle.regatta_scores.proofs.LastingTimes.{places}
 use Rattle.regatta_scores.proofs.Coded.{after_last_push}
 
 -- ---- a score before redress reads no redress
@@ -81,30 +81,30 @@ module _ (rules : RulesParts) (journal : Journal) (entry : EntryParts) (race : �
 
   -- what stands of the decisions about a boat: the same, or the redress too
   decisions_by : (other : Sail) (cs : List Command) (b s : Bool) → same_sail other boat ≡ s →
-      standing_decisions (cs ++ cond b (Redress race boat redress ∷ []) []) other
-      ≡ standing_decisions cs other ++ cond (b && s) (Redress race boat redress ∷ []) []
+      lasting_decisions (cs ++ cond b (Redress race boat redress ∷ []) []) other
+      ≡ lasting_decisions cs other ++ cond (b && s) (Redress race boat redress ∷ []) []
   decisions_by other cs true true e =
-      let both : filter (decides other) (cs ++ Redress race boat redress ∷ [])
-      ≡ filter (decides other) cs ++ Redress race boat redress ∷ [] =
-      filter-append (decides other) cs (Redress race boat redress ∷ []) ∙ rw e refl in
-      ap (after_last is_clear) both ∙ after_last_push is_clear (filter (decides other) cs)
+      let both : filter (is_decision_on other) (cs ++ Redress race boat redress ∷ [])
+      ≡ filter (is_decision_on other) cs ++ Redress race boat redress ∷ [] =
+      filter-append (is_decision_on other) cs (Redress race boat redress ∷ []) ∙ rw e refl in
+      ap (after_last is_clear) both ∙ after_last_push is_clear (filter (is_decision_on other) cs)
       (Redress race boat redress) refl
   decisions_by other cs true false e =
-      let same : filter (decides other) (cs ++ Redress race boat redress ∷ [])
-      ≡ filter (decides other) cs =
-      filter-append (decides other) cs (Redress race boat redress ∷ [])
-      ∙ rw e (append-nil (filter (decides other) cs)) in
-      ap (after_last is_clear) same ∙ sym (append-nil (standing_decisions cs other))
+      let same : filter (is_decision_on other) (cs ++ Redress race boat redress ∷ [])
+      ≡ filter (is_decision_on other) cs =
+      filter-append (is_decision_on other) cs (Redress race boat redress ∷ [])
+      ∙ rw e (append-nil (filter (is_decision_on other) cs)) in
+      ap (after_last is_clear) same ∙ sym (append-nil (lasting_decisions cs other))
   decisions_by other cs false s e =
-      ap (λ ds. standing_decisions ds other) (append-nil cs)
-      ∙ sym (append-nil (standing_decisions cs other))
+      ap (λ ds. lasting_decisions ds other) (append-nil cs)
+      ∙ sym (append-nil (lasting_decisions cs other))
 
   decisions_after : (r : ℕ) (other : Sail) →
-      standing_decisions (race_commands (journal ++ entry ∷ []) r) other
-      ≡ standing_decisions (race_commands journal r) other ++
+      lasting_decisions (race_commands (journal ++ entry ∷ []) r) other
+      ≡ lasting_decisions (race_commands journal r) other ++
       cond (nat_eq r race && same_sail other boat) (Redress race boat redress ∷ []) []
   decisions_after r other =
-      ap (λ cs. standing_decisions cs other) (commands_after r)
+      ap (λ cs. lasting_decisions cs other) (commands_after r)
       ∙ decisions_by other (race_commands journal r) (nat_eq r race) (same_sail other boat) refl
 
   code_by : (ds : List Command) (b : Bool) →
@@ -131,21 +131,21 @@ module _ (rules : RulesParts) (journal : Journal) (entry : EntryParts) (race : �
       (held (journal ++ entry ∷ []) r other).code ≡ (held journal r other).code
   code_stays r other =
       ap (λ ds. last_item (filter_map code_marked ds)) (decisions_after r other)
-      ∙ ap last_item (code_by (standing_decisions (race_commands journal r) other)
+      ∙ ap last_item (code_by (lasting_decisions (race_commands journal r) other)
       (nat_eq r race && same_sail other boat))
 
   zfp_stays : (r : ℕ) (other : Sail) →
       (held (journal ++ entry ∷ []) r other).zfp ≡ (held journal r other).zfp
   zfp_stays r other =
       ap (count_by is_zfp) (decisions_after r other)
-      ∙ zfp_by (standing_decisions (race_commands journal r) other)
+      ∙ zfp_by (lasting_decisions (race_commands journal r) other)
       (nat_eq r race && same_sail other boat)
 
   scp_stays : (r : ℕ) (other : Sail) →
       (held (journal ++ entry ∷ []) r other).scp ≡ (held journal r other).scp
   scp_stays r other =
       ap (count_by is_scp) (decisions_after r other)
-      ∙ scp_by (standing_decisions (race_commands journal r) other)
+      ∙ scp_by (lasting_decisions (race_commands journal r) other)
       (nat_eq r race && same_sail other boat)
 
   -- the race is what it was but for redress
@@ -175,7 +175,7 @@ module _ (rules : RulesParts) (journal : Journal) (entry : EntryParts) (race : �
   -- another boat
   module _ (other : Sail) (another : same_sail other boat ≡ false) where
     held_is : (r : ℕ) → held (journal ++ entry ∷ []) r other ≡ held journal r other
-    held_is = held_stays journal entry other (ap (decides other) is ∙ another)
+    held_is = held_stays journal entry other (ap (is_decision_on other) is ∙ another)
 
     items_stay : row_items rules (journal ++ entry ∷ []) other ≡ row_items rules journal other
     items_stay i =

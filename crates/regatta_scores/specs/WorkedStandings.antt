@@ -60,8 +60,8 @@ abbrev pub no_exclusions : RulesParts
 no_exclusions = record { absent = A52; scp = None; thresholds = []; handicap = false }
 
 -- points in a cell without an abbreviation
-abbrev pub scored : ℕ → Cell
-scored points = record { points = points; mark = None; dropped = false }
+abbrev pub plain : ℕ → Cell
+plain points = record { points = points; mark = None; dropped = false }
 
 -- points in a cell with an abbreviation
 abbrev pub marked : ℕ → Abbrev → Cell
@@ -89,14 +89,14 @@ tie_for_first =
     ∷ scorer (Finish 1 a) ∷ scorer (Tie 1 b a) ∷ scorer (Finish 1 c) ∷ scorer (Score 1) ∷ []
 
 pub tied_boats_share_a_rank : standing default_rules (journal tie_for_first)
-    ≡ table (1 ∷ []) (row a 1 true 15 (scored 15 ∷ []) ∷ row b 1 true 15 (scored 15 ∷ [])
-    ∷ row c 3 false 30 (scored 30 ∷ []) ∷ [])
+    ≡ table (1 ∷ []) (row a 1 true 15 (plain 15 ∷ []) ∷ row b 1 true 15 (plain 15 ∷ [])
+    ∷ row c 3 false 30 (plain 30 ∷ []) ∷ [])
 tied_boats_share_a_rank = refl
 
 -- then A is disqualified (A5.2, A6.1)
 pub disqualified_boats_fall_behind :
     standing default_rules (journal (tie_for_first ++ jury (Mark 1 a code.Dsq) ∷ []))
-    ≡ table (1 ∷ []) (row b 1 false 10 (scored 10 ∷ []) ∷ row c 2 false 20 (scored 20 ∷ [])
+    ≡ table (1 ∷ []) (row b 1 false 10 (plain 10 ∷ []) ∷ row c 2 false 20 (plain 20 ∷ [])
     ∷ row a 3 false 40 (marked 40 abbreviation.Dsq ∷ []) ∷ [])
 disqualified_boats_fall_behind = refl
 
@@ -107,14 +107,14 @@ two_of_three =
     ∷ scorer (Finish 1 a) ∷ scorer (Finish 1 b) ∷ scorer (Mark 1 c code.Dnf) ∷ scorer (Score 1) ∷ []
 
 pub boats_that_did_not_finish : standing default_rules (journal two_of_three)
-    ≡ table (1 ∷ []) (row a 1 false 10 (scored 10 ∷ []) ∷ row b 2 false 20 (scored 20 ∷ [])
+    ≡ table (1 ∷ []) (row a 1 false 10 (plain 10 ∷ []) ∷ row b 2 false 20 (plain 20 ∷ [])
     ∷ row c 3 false 40 (marked 40 abbreviation.Dnf ∷ []) ∷ [])
 boats_that_did_not_finish = refl
 
 -- a late entry is scored DNC in the race, and every code scores one more (A2.2, A5.2)
 pub late_entries_change_earlier_races :
     standing default_rules (journal (two_of_three ++ scorer (Enter d) ∷ []))
-    ≡ table (1 ∷ []) (row a 1 false 10 (scored 10 ∷ []) ∷ row b 2 false 20 (scored 20 ∷ [])
+    ≡ table (1 ∷ []) (row a 1 false 10 (plain 10 ∷ []) ∷ row b 2 false 20 (plain 20 ∷ [])
     ∷ row c 3 true 50 (marked 50 abbreviation.Dnf ∷ [])
     ∷ row d 3 true 50 (marked 50 abbreviation.Dnc ∷ []) ∷ [])
 late_entries_change_earlier_races = refl
@@ -134,21 +134,21 @@ average_in_the_second =
     ++ jury (Redress 2 a AllRaces) ∷ scorer (Strike 1 a) ∷ scorer (Before 1 a b) ∷ []
 
 pub averages_follow_the_other_race : standing no_exclusions (journal average_in_the_second)
-    ≡ table (1 ∷ 2 ∷ []) (row a 1 false 20 (scored 10 ∷ marked 10 abbreviation.Rdg ∷ [])
-    ∷ row b 2 false 30 (scored 20 ∷ scored 10 ∷ []) ∷ [])
+    ≡ table (1 ∷ 2 ∷ []) (row a 1 false 20 (plain 10 ∷ marked 10 abbreviation.Rdg ∷ [])
+    ∷ row b 2 false 30 (plain 20 ∷ plain 10 ∷ []) ∷ [])
 averages_follow_the_other_race = refl
 
 -- the same with one exclusion: of A's equal scores the earlier is excluded (A2.1)
 pub earlier_of_equal_scores_excluded : standing default_rules (journal average_in_the_second)
     ≡ table (1 ∷ 2 ∷ []) (row a 1 false 10 (excluded 10 ∷ marked 10 abbreviation.Rdg ∷ [])
-    ∷ row b 2 false 10 (excluded 20 ∷ scored 10 ∷ []) ∷ [])
+    ∷ row b 2 false 10 (excluded 20 ∷ plain 10 ∷ []) ∷ [])
 earlier_of_equal_scores_excluded = refl
 
 -- A has her average in race 1, made of race 2 alone, where a late entry costs her a point more
 pub late_entries_change_averages :
     standing no_exclusions
     (journal (two_races ++ jury (Redress 1 a AllRaces) ∷ scorer (Enter c) ∷ []))
-    ≡ table (1 ∷ 2 ∷ []) (row b 1 false 30 (scored 20 ∷ scored 10 ∷ [])
+    ≡ table (1 ∷ 2 ∷ []) (row b 1 false 30 (plain 20 ∷ plain 10 ∷ [])
     ∷ row a 2 true 80 (marked 40 abbreviation.Rdg ∷ marked 40 abbreviation.Dnc ∷ [])
     ∷ row c 2 true 80 (marked 40 abbreviation.Dnc ∷ marked 40 abbreviation.Dnc ∷ []) ∷ [])
 late_entries_change_averages = refl

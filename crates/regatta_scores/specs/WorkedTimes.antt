@@ -15,7 +15,7 @@ use Rattle.regatta_scores.specs.Journal.{order, time}
 use Rattle.regatta_scores.specs.Sheet.{Sheet, empty_sheet}
 use Rattle.regatta_scores.specs.Standing.{standing}
 use Rattle.regatta_scores.specs.WorkedStandings.{a, b, c, scorer, jury, journal, default_rules}
-use Rattle.regatta_scores.specs.WorkedStandings.{scored, marked, row, table}
+use Rattle.regatta_scores.specs.WorkedStandings.{plain, marked, row, table}
 
 -- places by corrected times
 abbrev pub by_times : RulesParts
@@ -35,8 +35,8 @@ pub lower_times_come_first : order by_times (journal three_timed) 1
 lower_times_come_first = refl
 
 pub equal_times_share_their_places : standing by_times (journal three_timed)
-    ≡ table (1 ∷ []) (row b 1 false 10 (scored 10 ∷ []) ∷ row a 2 true 25 (scored 25 ∷ [])
-    ∷ row c 2 true 25 (scored 25 ∷ []) ∷ [])
+    ≡ table (1 ∷ []) (row b 1 false 10 (plain 10 ∷ []) ∷ row a 2 true 25 (plain 25 ∷ [])
+    ∷ row c 2 true 25 (plain 25 ∷ []) ∷ [])
 equal_times_share_their_places = refl
 
 -- ---- a boat struck, and timed again
@@ -50,7 +50,7 @@ struck_boats_have_no_time = refl
 
 -- and is scored DNC
 pub struck_boats_leave_the_order : standing by_times (journal struck)
-    ≡ table (1 ∷ []) (row b 1 false 10 (scored 10 ∷ []) ∷ row c 2 false 20 (scored 20 ∷ [])
+    ≡ table (1 ∷ []) (row b 1 false 10 (plain 10 ∷ []) ∷ row c 2 false 20 (plain 20 ∷ [])
     ∷ row a 3 false 40 (marked 40 abbreviation.Dnc ∷ []) ∷ [])
 struck_boats_leave_the_order = refl
 
@@ -62,8 +62,8 @@ pub boats_timed_again_have_the_new_time : time (journal timed_again) 1 a ≡ Som
 boats_timed_again_have_the_new_time = refl
 
 pub boats_timed_again_are_placed_anew : standing by_times (journal timed_again)
-    ≡ table (1 ∷ []) (row a 1 false 10 (scored 10 ∷ []) ∷ row b 2 false 20 (scored 20 ∷ [])
-    ∷ row c 3 false 30 (scored 30 ∷ []) ∷ [])
+    ≡ table (1 ∷ []) (row a 1 false 10 (plain 10 ∷ []) ∷ row b 2 false 20 (plain 20 ∷ [])
+    ∷ row c 3 false 30 (plain 30 ∷ []) ∷ [])
 boats_timed_again_are_placed_anew = refl
 
 -- within a group the times that stand are in the order in which they were handed in: A's came last
@@ -99,7 +99,7 @@ coded_boats_keep_their_time = refl
 
 pub coded_boats_with_a_time_leave_their_place :
     standing by_times (journal (three_timed ++ jury (Mark 1 b code.Dsq) ∷ []))
-    ≡ table (1 ∷ []) (row a 1 true 15 (scored 15 ∷ []) ∷ row c 1 true 15 (scored 15 ∷ [])
+    ≡ table (1 ∷ []) (row a 1 true 15 (plain 15 ∷ []) ∷ row c 1 true 15 (plain 15 ∷ [])
     ∷ row b 3 false 40 (marked 40 abbreviation.Dsq ∷ []) ∷ [])
 coded_boats_with_a_time_leave_their_place = refl
 

@@ -176,7 +176,7 @@ where
     };
     let pool = Mutex::new(pool);
     let shared = &pool;
-    let (served, lent) = thread::scope(
+    let (served, door_back) = thread::scope(
         thread::scope_env(),
         rt,
         move |scope| -> (Result<(), ServeFault>, &mut D)
@@ -188,7 +188,7 @@ where
             (served, door)
         },
     );
-    take_back(lent);
+    take_back(door_back);
     if let Err(fault) = served {
         return Err(fault);
     }

@@ -133,7 +133,7 @@ impl<N: OfficeName, H: Wait + Drop, G: Gate> Talk<'_, N, H, G> {
     }
 
     /// Answers the line at hand, which may end the session.
-    fn end_line<R: Wait, S: Sink>(&mut self, rt: &R, stream: &mut S)
+    fn answer_line<R: Wait, S: Sink>(&mut self, rt: &R, stream: &mut S)
         // No line is answered behind the end.
         requires { self.old.ended ≡ None }
         ensures failures { S.failures stream.new
@@ -201,7 +201,7 @@ impl<N: OfficeName, H: Wait + Drop, G: Gate> Talk<'_, N, H, G> {
     {
         for byte in piece {
             if self.cutter.take(*byte) {
-                self.end_line(rt, stream);
+                self.answer_line(rt, stream);
                 if self.ended.is_some() {
                     return;
                 }

@@ -6,10 +6,10 @@ use Rattle.regatta_board.proofs.ScoringFacts.{untouched_scores, unchanged_lines,
 use Rattle.regatta_board.proofs.ScoringFacts.{are_ranked}
 use Rattle.regatta_board.proofs.scoring.new_scores.Goals as goal
 
-pub returns-then-not-touched_by-clause-value : goal.returns-then-not-touched_by-clause-value
-returns-then-not-touched_by-clause-value c =
+pub returns-then-not-may_change_standing-clause-value : goal.returns-then-not-may_change_standing-clause-value
+returns-then-not-may_change_standing-clause-value c =
     untouched_scores c.args.rules.now c.args.kept.now c.args.revision.now
-    (sym c.touched_by.ensures ∙ c.if-not-touched_by.true)
+    (sym c.may_change_standing.ensures ∙ c.if-not-may_change_standing.true)
 
 pub new_ranks-requires-clause-each : goal.new_ranks-requires-clause-each
 new_ranks-requires-clause-each c =

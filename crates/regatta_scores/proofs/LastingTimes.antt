@@ -16,14 +16,14 @@ use Rattle.regatta_terms.specs.declared.command.Command.TheVariants.{Redress, Cl
 use Rattle.regatta_scores.specs.Order.{is_empty, stands_in, HasNoEmptyGroup, without}
 use Rattle.regatta_scores.specs.CorrectedTimes.{CorrectedTime, order_of_times, time_in, with_time}
 use Rattle.regatta_scores.specs.Journal.{same_sail, order_after, order_by, time_given, ends_time}
-use Rattle.regatta_scores.specs.Journal.{lasting, standing_times}
+use Rattle.regatta_scores.specs.Journal.{unless_ended, lasting_times}
 use Rattle.regatta_scores.proofs.Members.{all_passed}
 use Rattle.regatta_scores.proofs.RisingNumbers.{or_false}
 use Rattle.regatta_scores.proofs.TimedOrders.{order_with_time, order_without, stays_by}
 
 -- the time of the boat after these commands of a race, if one of hers stands
 abbrev pub time_by : List Command → Sail → Option ℕ
-time_by commands boat = time_in same_sail (standing_times commands) boat
+time_by commands boat = time_in same_sail (lasting_times commands) boat
 
 same_is : (x y : Sail) → same_sail x y ≡ true → x ≡ y
 same_is x y e = (bytes_decides x y).0 e
@@ -39,7 +39,7 @@ all_append P (x ∷ xs) ys first rest = (first.0, all_append P xs ys first.1 res
 -- ---- one more command
 
 lasting_more : (given : Option (CorrectedTime Sail)) (cs : List Command) (c : Command) →
-    lasting given (cs ++ c ∷ []) ≡ filter (λ t. not (ends_time t.boat c)) (lasting given cs)
+    unless_ended given (cs ++ c ∷ []) ≡ filter (λ t. not (ends_time t.boat c)) (unless_ended given cs)
 lasting_more None cs c = refl
 lasting_more (Some t) cs c =
     ap (λ b. cond b [] (t ∷ [])) (list_any-append (ends_time t.boat) cs (c ∷ []))
@@ -52,16 +52,16 @@ lasting_more (Some t) cs c =
     by false false e = rw e refl
 
 pub times_more : (cs : List Command) (c : Command) →
-    standing_times (cs ++ c ∷ [])
-    ≡ filter (λ t. not (ends_time t.boat c)) (standing_times cs) ++ lasting (time_given c) []
-times_more [] c = append-nil (lasting (time_given c) [])
+    lasting_times (cs ++ c ∷ [])
+    ≡ filter (λ t. not (ends_time t.boat c)) (lasting_times cs) ++ unless_ended (time_given c) []
+times_more [] c = append-nil (unless_ended (time_given c) [])
 times_more (d ∷ cs) c =
     let left = filter (λ (t : CorrectedTime Sail). not (ends_time t.boat c)) in
-    let new = lasting (time_given c) [] in
+    let new = unless_ended (time_given c) [] in
     (λ i. lasting_more (time_given d) cs c i ++ times_more cs c i)
     ∙ sym (ap (λ ts. ts ++ new)
-    (filter-append (λ t. not (ends_time t.boat c)) (lasting (time_given d) cs) (standing_times cs))
-    ∙ append_assoc (left (lasting (time_given d) cs)) (left (standing_times cs)) new)
+    (filter-append (λ t. not (ends_time t.boat c)) (unless_ended (time_given d) cs) (lasting_times cs))
+    ∙ append_assoc (left (unless_ended (time_given d) cs)) (left (lasting_times cs)) new)
 
 all_left : {X : Type 0} (p : X → Bool) → ((x : X) → p x ≡ true) → (xs : List X) →
     filter p xs ≡ xs
@@ -71,12 +71,12 @@ all_left p each (x ∷ xs) = rw (each x) (ap (λ ys. x ∷ ys) (all_left p each 
 -- a command that times and strikes nobody
 pub times_stay : (cs : List Command) (c : Command) → time_given c ≡ None →
     ((boat : Sail) → ends_time boat c ≡ false) →
-    standing_times (cs ++ c ∷ []) ≡ standing_times cs
+    lasting_times (cs ++ c ∷ []) ≡ lasting_times cs
 times_stay cs c none no_end =
     times_more cs c
     ∙ (λ i. all_left (λ (t : CorrectedTime Sail). not (ends_time t.boat c))
-    (λ t. ap not (no_end t.boat)) (standing_times cs) i ++ lasting (none i) [])
-    ∙ append-nil (standing_times cs)
+    (λ t. ap not (no_end t.boat)) (lasting_times cs) i ++ unless_ended (none i) [])
+    ∙ append-nil (lasting_times cs)
 
 -- ---- each boat has one time
 
@@ -85,7 +85,7 @@ Distinct [] = Unit {0}
 Distinct (t ∷ ts) = AllByRecursion (λ o. same_sail t.boat o.boat ≡ false) ts × Distinct ts
 
 none_given : (boat : Sail) (d : Command) (cs : List Command) → ends_time boat d ≡ false →
-    AllByRecursion (λ o. same_sail boat o.boat ≡ false) (lasting (time_given d) cs)
+    AllByRecursion (λ o. same_sail boat o.boat ≡ false) (unless_ended (time_given d) cs)
 none_given boat (Time race sail seconds) cs h = by (list_any (ends_time sail) cs)
   where
     by : (b : Bool) → AllByRecursion (λ (o : CorrectedTime Sail). same_sail boat o.boat ≡ false)
@@ -105,25 +105,25 @@ none_given boat (Score race) cs h = tt
 none_given boat (Unscore race) cs h = tt
 
 none_stands : (boat : Sail) (cs : List Command) → list_any (ends_time boat) cs ≡ false →
-    AllByRecursion (λ o. same_sail boat o.boat ≡ false) (standing_times cs)
+    AllByRecursion (λ o. same_sail boat o.boat ≡ false) (lasting_times cs)
 none_stands boat [] h = tt
 none_stands boat (d ∷ cs) h =
     let parts = or_false (ends_time boat d) (list_any (ends_time boat) cs) h in
-    all_append (λ o. same_sail boat o.boat ≡ false) (lasting (time_given d) cs) (standing_times cs)
+    all_append (λ o. same_sail boat o.boat ≡ false) (unless_ended (time_given d) cs) (lasting_times cs)
     (none_given boat d cs parts.0) (none_stands boat cs parts.1)
 
 distinct_more : (given : Option (CorrectedTime Sail)) (cs : List Command) →
-    Distinct (standing_times cs) → Distinct (lasting given cs ++ standing_times cs)
+    Distinct (lasting_times cs) → Distinct (unless_ended given cs ++ lasting_times cs)
 unfolding Distinct
 distinct_more None cs rest = rest
 distinct_more (Some t) cs rest = by (list_any (ends_time t.boat) cs) refl
   where
     by : (b : Bool) → list_any (ends_time t.boat) cs ≡ b →
-        Distinct (cond b [] (t ∷ []) ++ standing_times cs)
+        Distinct (cond b [] (t ∷ []) ++ lasting_times cs)
     by true e = rest
     by false e = (none_stands t.boat cs e, rest)
 
-distinct : (cs : List Command) → Distinct (standing_times cs)
+distinct : (cs : List Command) → Distinct (lasting_times cs)
 unfolding Distinct
 distinct [] = tt
 distinct (d ∷ cs) = distinct_more (time_given d) cs (distinct cs)
@@ -205,10 +205,10 @@ module _ (cs : List Command) (race : ℕ) (boat : Sail) where
   pub timed_now : (seconds : ℕ) → time_by (cs ++ Time race boat seconds ∷ []) boat ≡ Some seconds
   timed_now seconds =
       let left = filter (λ (t : CorrectedTime Sail). not (same_sail t.boat boat))
-      (standing_times cs) in
+      (lasting_times cs) in
       let new : CorrectedTime Sail = record { boat = boat; seconds = seconds } in
       ap (λ ts. time_in same_sail ts boat) (times_more cs (Time race boat seconds))
-      ∙ time_pushed left new boat (time_struck (standing_times cs) boat boat
+      ∙ time_pushed left new boat (time_struck (lasting_times cs) boat boat
       ∙ rw (is_same boat) refl)
       ∙ rw (is_same boat) refl
 
@@ -216,27 +216,27 @@ module _ (cs : List Command) (race : ℕ) (boat : Sail) where
       time_by (cs ++ Time race boat seconds ∷ []) x ≡ time_by cs x
   others_timed seconds x apart =
       let left = filter (λ (t : CorrectedTime Sail). not (same_sail t.boat boat))
-      (standing_times cs) in
+      (lasting_times cs) in
       let new : CorrectedTime Sail = record { boat = boat; seconds = seconds } in
       ap (λ ts. time_in same_sail ts x) (times_more cs (Time race boat seconds))
       ∙ time_kept left new x apart
-      ∙ time_struck (standing_times cs) boat x ∙ rw apart refl
+      ∙ time_struck (lasting_times cs) boat x ∙ rw apart refl
 
   pub struck_now : time_by (cs ++ Strike race boat ∷ []) boat ≡ None
   struck_now =
       let left = filter (λ (t : CorrectedTime Sail). not (same_sail t.boat boat))
-      (standing_times cs) in
+      (lasting_times cs) in
       ap (λ ts. time_in same_sail ts boat)
       (times_more cs (Strike race boat) ∙ append-nil left)
-      ∙ time_struck (standing_times cs) boat boat ∙ rw (is_same boat) refl
+      ∙ time_struck (lasting_times cs) boat boat ∙ rw (is_same boat) refl
 
   pub others_struck : (x : Sail) → same_sail boat x ≡ false →
       time_by (cs ++ Strike race boat ∷ []) x ≡ time_by cs x
   others_struck x apart =
       let left = filter (λ (t : CorrectedTime Sail). not (same_sail t.boat boat))
-      (standing_times cs) in
+      (lasting_times cs) in
       ap (λ ts. time_in same_sail ts x) (times_more cs (Strike race boat) ∙ append-nil left)
-      ∙ time_struck (standing_times cs) boat x ∙ rw apart refl
+      ∙ time_struck (lasting_times cs) boat x ∙ rw apart refl
 
 -- ---- the order after one more command
 
@@ -298,16 +298,16 @@ struck_by : (rules : RulesParts) (cs : List Command) (race : ℕ) (sail : Sail) 
     order_by rules (cs ++ Strike race sail ∷ []) ≡ without same_sail (order_by rules cs) sail
 struck_by rules cs race sail = by rules.handicap
   where
-    timed : order_of_times (standing_times (cs ++ Strike race sail ∷ []))
-        ≡ without same_sail (order_of_times (standing_times cs)) sail
+    timed : order_of_times (lasting_times (cs ++ Strike race sail ∷ []))
+        ≡ without same_sail (order_of_times (lasting_times cs)) sail
     timed =
         ap order_of_times (times_more cs (Strike race sail) ∙ append-nil _)
-        ∙ order_without same_sail (standing_times cs) sail
+        ∙ order_without same_sail (lasting_times cs) sail
 
-    by : (b : Bool) → cond b (order_of_times (standing_times (cs ++ Strike race sail ∷ [])))
+    by : (b : Bool) → cond b (order_of_times (lasting_times (cs ++ Strike race sail ∷ [])))
         (fold order_after [] (cs ++ Strike race sail ∷ []))
         ≡ without same_sail
-        (cond b (order_of_times (standing_times cs)) (fold order_after [] cs)) sail
+        (cond b (order_of_times (lasting_times cs)) (fold order_after [] cs)) sail
     by true = timed
     by false = fold_push order_after [] cs (Strike race sail)
 
@@ -323,18 +323,18 @@ timed_by : (rules : RulesParts) (cs : List Command) (race : ℕ) (sail : Sail) (
     order_by rules (cs ++ Time race sail seconds ∷ [])
     ≡ with_time (time_by cs) (order_by rules cs) sail seconds
 timed_by rules cs race sail seconds h full out =
-    let now : order_by rules cs ≡ order_of_times (standing_times cs) = rw h refl in
+    let now : order_by rules cs ≡ order_of_times (lasting_times cs) = rw h refl in
     let left = filter (λ (t : CorrectedTime Sail). not (same_sail t.boat sail))
-    (standing_times cs) in
+    (lasting_times cs) in
     let new : CorrectedTime Sail = record { boat = sail; seconds = seconds } in
     let later : order_by rules (cs ++ Time race sail seconds ∷ [])
-    ≡ order_of_times (standing_times (cs ++ Time race sail seconds ∷ [])) = rw h refl in
+    ≡ order_of_times (lasting_times (cs ++ Time race sail seconds ∷ [])) = rw h refl in
     later ∙ ap order_of_times (times_more cs (Time race sail seconds))
     ∙ order_with_time (time_by cs) left
     (all_passed (λ t. time_by cs t.boat ≡ Some t.seconds) (λ t. not (same_sail t.boat sail))
-    (standing_times cs) (own_time (standing_times cs) (distinct cs))) new
+    (lasting_times cs) (own_time (lasting_times cs) (distinct cs))) new
     ∙ ap (λ order. with_time (time_by cs) order sail seconds)
-    (order_without same_sail (standing_times cs) sail
+    (order_without same_sail (lasting_times cs) sail
     ∙ ap (λ order. without same_sail order sail) (sym now)
     ∙ stays_by same_sail sail (order_by rules cs)
     (recursion_from_All (λ group. is_empty group ≡ false) (order_by rules cs) full) out)

@@ -5,7 +5,7 @@ use Rattle.regatta_board.specs.Scoring.{Scoring, with_changed, with_columns}
 use Rattle.regatta_board.specs.Table.{Kept, races}
 use Rattle.regatta_board.proofs.ScoringFacts.{old_long, new_long, turned_even, turned_stays}
 use Rattle.regatta_board.proofs.ScoringFacts.{turned_all}
-use Rattle.regatta_board.proofs.scoring.turned_lines.Goals as goal
+use Rattle.regatta_board.proofs.scoring.remade_lines.Goals as goal
 
 pub changed_lines-requires-clause-even : goal.changed_lines-requires-clause-even
 changed_lines-requires-clause-even c =
