@@ -2,4 +2,3 @@ pub mod Telling
 pub mod Watching
 pub mod Running
 pub mod Seats
-pub mod Starts

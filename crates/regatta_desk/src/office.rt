@@ -1,5 +1,5 @@
 //! How an office is opened, named and shared.
-ghost use Rattle.std.specs.Prelude.{◌≡◌, ◌+◌, ◌<◌, ◌⊎◌, ◌↔◌, [], true, Err, vec_len};
+ghost use Rattle.std.specs.Prelude.{◌≡◌, ◌+◌, ◌<◌, ◌≤◌, ◌⊎◌, ◌↔◌, [], true, Err, vec_len};
 ghost use Rattle.std.specs.Prelude.{IfOk, IfErr, OnOk};
 ghost use Rattle.regatta_board.specs.Refusals.{limits, is_lawful, last_number};
 ghost use Rattle.regatta_terms.specs.declared.limits.TheConstants.{MAX_SEATS};
@@ -7,7 +7,7 @@ ghost use Rattle.regatta_watch.specs.Views.{Sees};
 ghost use Rattle.regatta_desk.specs.Offices.{IsOpenFault, AreSeated};
 
 use crate::desk::Desk;
-use crate::opening::{OpenFault, board_of, first_copy, history_of, watchers};
+use crate::opening::{OpenFault, beginnings, board_of, watchers};
 use crate::pass::{Pass, Seen};
 use regatta_board::Board;
 use regatta_terms::{Entry, MAX_SEATS, Rules};
@@ -91,30 +91,40 @@ impl<R: Wait + Drop> Office<Brand, R> {
             return Err(OpenFault::BadSeats);
         }
         let board = board_of(alloc, rules, start)?;
-        // do nothing: their contracts say that the journal is lawful and not too long
+        // does nothing: its contract says that the journal is lawful
         let _ = board.entries();
-        let _ = board.len();
-        let Ok(mut history) = history_of(alloc, start) else {
-            return Err(OpenFault::NoMemory);
-        };
-        let Ok(first) = first_copy(alloc, &board, &mut history, seats) else {
-            return Err(OpenFault::NoMemory);
-        };
-        let Ok(second) = first_copy(alloc, &board, &mut history, seats) else {
-            return Err(OpenFault::NoMemory);
-        };
-        let Ok(mut publisher) = Publisher::open(alloc, rt, first, second, usize::from(seats)) else {
-            return Err(OpenFault::NoMemory);
-        };
-        let watchers = watchers(alloc, &mut publisher, seats)?;
-        Ok(Opened {
-            alloc,
-            board,
-            publisher,
-            history,
-            watchers,
-        })
+        opened_with(rt, alloc, board, seats)
     }
+}
+
+/// The office of a board, with a watcher for each of so many seats.
+fn opened_with<R: Wait + Drop>(
+    rt: R,
+    alloc: Global,
+    board: Board,
+    seats: u8,
+) -> Result<Opened<R>, OpenFault>
+    requires some { 0 < seats }
+    requires few { seats ≤ MAX_SEATS }
+    ensures journal { IfOk result (λ o. o.entries ≡ board.entries) }
+    ensures rules { IfOk result (λ o. o.rules ≡ board.rules) }
+    ensures seats { IfOk result (λ o. o.seats ≡ seats) }
+    ensures fault { IfErr result (λ f. (f ≡ OpenFault.NoReader) ⊎ (f ≡ OpenFault.NoMemory)) }
+{
+    let Ok((history, first, second)) = beginnings(alloc, &board, seats) else {
+        return Err(OpenFault::NoMemory);
+    };
+    let Ok(mut publisher) = Publisher::open(alloc, rt, first, second, usize::from(seats)) else {
+        return Err(OpenFault::NoMemory);
+    };
+    let watchers = watchers(alloc, &mut publisher, seats)?;
+    Ok(Opened {
+        alloc,
+        board,
+        publisher,
+        history,
+        watchers,
+    })
 }
 
 impl<R: Wait + Drop> Opened<R> {

@@ -13,7 +13,8 @@ ghost use Rattle.regatta_office.specs.Words.{serve as serve_of, serving_with};
 ghost use Rattle.regatta_office.specs.Words.{with_seats as with_seats_of};
 ghost use Rattle.regatta_office.specs.Words.{option as option_of, option_or as option_or_of};
 ghost use Rattle.regatta_office.specs.Words.{regatta as regatta_of, replay as replay_of};
-ghost use Rattle.regatta_office.specs.Words.{series_with, with_rules as with_rules_of};
+ghost use Rattle.regatta_office.specs.Words.{series_by, series_with};
+ghost use Rattle.regatta_office.specs.Words.{with_rules as with_rules_of};
 ghost use Rattle.regatta_office.specs.Words.{with_start as with_start_of};
 
 use crate::form::Form;
@@ -326,20 +327,40 @@ fn is_given(flag: Option<&str>) -> bool
     }
 }
 
+/// The series by the values of its options, of which two have defaults.
+fn series<'a>(
+    rules: (Option<&'a str>, Option<&'a str>, Option<&'a str>, bool),
+    files: (Option<&'a str>, Option<&'a str>),
+) -> Option<SeriesOptions<'a>>
+    ensures { result ≡ series_by (option_copied rules.entry.0) (option_copied rules.entry.1)
+        (option_copied rules.entry.2) rules.entry.3 (option_copied files.entry.0)
+        (option_copied files.entry.1) }
+{
+    let (Some(absent), scp, Some(exclude), handicap) = rules else {
+        return None;
+    };
+    let (journal, entries) = files;
+    Some(SeriesOptions {
+        absent,
+        scp,
+        exclude,
+        handicap,
+        journal,
+        entries,
+    })
+}
+
 /// The series that the options of a subcommand ask for.
 fn series_of<'a>(options: &ArgMatches<'a>) -> Option<SeriesOptions<'a>>
     ensures { result ≡ series_with (first_value (found_of options.now)) }
 {
-    let absent = options.get_str("absent")?;
-    let exclude = options.get_str("exclude")?;
-    Some(SeriesOptions {
-        absent,
-        scp: options.get_str("scp"),
-        exclude,
-        handicap: is_given(options.get_str("handicap")),
-        journal: options.get_str("journal"),
-        entries: options.get_str("entries"),
-    })
+    let handicap = is_given(options.get_str("handicap"));
+    let (absent, scp) = (options.get_str("absent"), options.get_str("scp"));
+    let rules = (absent, scp, options.get_str("exclude"), handicap);
+    series(
+        rules,
+        (options.get_str("journal"), options.get_str("entries")),
+    )
 }
 
 /// What the options of `replay` ask for.
