@@ -20,7 +20,7 @@ fn enter(sail: &[u8]) -> Option<Command> {
 }
 
 /// What a command as scorer is answered through the lock.
-fn run<N: OfficeName, H: Wait + Drop, R: Wait>(
+pub(crate) fn run<N: OfficeName, H: Wait + Drop, R: Wait>(
     rt: &R,
     office: &Office<N, H>,
     pass: &mut Pass<N>,
@@ -41,7 +41,7 @@ fn entered<N: OfficeName, H: Wait + Drop, R: Wait>(
 }
 
 /// An office and the passes of its two seats.
-fn two_seats<N: OfficeName, H: Wait + Drop>(
+pub(crate) fn two_seats<N: OfficeName, H: Wait + Drop>(
     opened: Opened<H>,
 ) -> Option<(Office<N, H>, Pass<N>, Pass<N>)>
     requires history { opened.history ≡ N.history }

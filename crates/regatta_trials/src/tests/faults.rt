@@ -63,13 +63,6 @@ fn an_input_is_too_long(rt: HostRuntime) -> Result<(), Fail> {
     Ok(())
 }
 
-#[test]
-fn what_follows_quit_is_never_too_long(rt: HostRuntime) -> Result<(), Fail> {
-    let text = long_text(rt.alloc(), b"QUIT\n", 2_000_000)?;
-    assert!(rt; says(rt.alloc(), &text, 4096, Ok(()), b"BYE\nTABLE 0 RACES\n")?);
-    Ok(())
-}
-
 /// So many bytes `X`, and then these lines.
 fn long_first_line(alloc: Global, count: usize, lines: &[u8]) -> Result<Vec<u8>, Fail> {
     let first = repeated(alloc, b'X', count)?;
@@ -98,53 +91,5 @@ fn quit_ends_within_the_limit(rt: HostRuntime) -> Result<(), Fail> {
             b"NO 20\n"
         )?
     );
-    Ok(())
-}
-
-/// Two lines that are too long, lines of bytes that are no words, and a line of 80 bytes and a CR.
-fn odd_lines(alloc: Global) -> Result<Vec<u8>, Fail> {
-    let first = repeated(alloc, b'X', 81)?;
-    let second = repeated(alloc, b'X', 5000)?;
-    let spaces = repeated(alloc, b' ', 73)?;
-    let parts: [&[u8]; 6] = [
-        first.as_slice(),
-        b"\n",
-        second.as_slice(),
-        b"\n\xff\0\n\r\nENTER\tA\nSHOW\r\r\nENTER \xc3\xa9\nENTER A",
-        spaces.as_slice(),
-        b"\r\n",
-    ];
-    joined(alloc, &parts)
-}
-
-#[test]
-fn lines_are_cut_at_their_ends(rt: HostRuntime) -> Result<(), Fail> {
-    let text = odd_lines(rt.alloc())?;
-    let written = b"NO 20\nNO 20\nNO 21\nNO 21\nNO 21\nNO 21\nNO 23\nOK 1 1 0.0\n\
-        TABLE 1 RACES\n1 A 0.0\n";
-    for piece in [1, 80, 82, 4096] {
-        assert!(rt; says(rt.alloc(), &text, piece, Ok(()), written)?);
-    }
-    Ok(())
-}
-
-/// So many replies to empty lines, and then the table of nobody.
-fn replies_to_empty_lines(alloc: Global, count: u32) -> Result<Vec<u8>, Fail> {
-    let replies = with_lines(alloc, b"", b"NO 21\n", count)?;
-    joined(alloc, &[replies.as_slice(), b"TABLE 0 RACES\n"])
-}
-
-/// More replies to the lines of one piece than are gathered before they are written.
-#[test]
-fn replies_of_a_piece_are_written_in_order(rt: HostRuntime) -> Result<(), Fail> {
-    let text = repeated(rt.alloc(), b'\n', 2000)?;
-    let replies = replies_to_empty_lines(rt.alloc(), 2000)?;
-    let (output, result) = ended(
-        rt.alloc(),
-        giving(rt.alloc(), &text, 4096)?,
-        taking(rt.alloc(), 20_000)?,
-    );
-    assert_eq!(rt; result, Ok(()));
-    assert_eq!(rt; output.written(), replies.as_slice());
     Ok(())
 }

@@ -1,5 +1,4 @@
-//! Texts that no contract tells: what refusals and faults print. And the final part of a run in
-//! which nothing was entered.
+//! Texts that no contract tells: what refusals and faults print.
 
 use super::*;
 use regatta_tables::{EntriesFault, JournalFault};
@@ -122,16 +121,5 @@ fn prints_each_fault_of_a_journal_with_its_number(rt: HostRuntime) -> Result<(),
         fault.as_str(),
         "journal fault 2: more than 8192 entries, from line 8194"
     );
-    Ok(())
-}
-
-#[test]
-fn nobody_has_results_and_a_journal(rt: HostRuntime) -> Result<(), Fail> {
-    let rules = default_rules();
-    let (output, _) = replayed(rt.alloc(), b"", &rules, &[], Form::Csv)?;
-    assert_eq!(rt; output.written(), b"rank,sail,net\n".as_slice());
-    let (output, ended) = replayed(rt.alloc(), b"", &rules, &[], Form::Journal)?;
-    assert_eq!(rt; output.written(), b"REGATTA 2\n".as_slice());
-    assert_eq!(rt; ended, Ok(()));
     Ok(())
 }

@@ -1,6 +1,7 @@
 //! The calls of an office.
 ghost use Rattle.std.specs.Prelude.{◌≡◌};
 
+use super::super::offices::{run, two_seats};
 use super::*;
 use regatta_office::{
     Office, OfficeName, OpenFault, Opened, Pass, Receipt, ShowFault, answer_alone,
@@ -17,19 +18,6 @@ const SHOWN: u32 = 1500;
 fn enter_a() -> Option<Command> {
     let sail = Sail::read(b"A")?;
     Some(Command::Enter { sail })
-}
-
-/// An office and the passes of its two seats.
-fn two_seats<N: OfficeName, H: Wait + Drop>(
-    opened: Opened<H>,
-) -> Option<(Office<N, H>, Pass<N>, Pass<N>)>
-    requires history { opened.history ≡ N.history }
-    requires rules { opened.rules ≡ N.rules }
-{
-    let (office, mut passes) = opened.split::<N>().ok()?;
-    let second = passes.pop()?;
-    let first = passes.pop()?;
-    Some((office, first, second))
 }
 
 /// What opening an office of two seats tells.
@@ -102,11 +90,10 @@ fn enter_with<N: OfficeName, H: Wait + Drop, R: Wait>(
     pass: &mut Pass<N>,
 ) -> Option<Result<Receipt<N>, Refusal>> {
     let command = enter_a()?;
-    let mut desk = office.desk(rt);
     if !hoard.leave(bytes) {
         return None;
     }
-    let answer = desk.run(rt, pass, Role::Scorer, command);
+    let answer = run(rt, office, pass, command);
     hoard.give_back();
     Some(answer)
 }
