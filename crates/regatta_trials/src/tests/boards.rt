@@ -1,18 +1,89 @@
-//! The calls of a board: what they answer is told by their contracts, and here is shown that they
-//! do answer.
+//! What a board tells, and that its standing is that of its entries taken anew: contracts say so,
+//! and here is shown that the calls do answer.
 
 use super::*;
-use regatta_board::{Board, next_entry};
-use regatta_tables::read_journal;
-use regatta_terms::{Answer, Code, Command, RaceNo, Role, Sail, Touched};
+use regatta_board::{Board, ReplayFault, next_entry, standing_of};
+use regatta_tables::{Journal, read_journal, write_table};
+use regatta_terms::{Answer, Code, Command, RaceNo, Refusal, Role, Sail, Touched};
+
+/// A and B tie for first, and C is third. Then A is disqualified.
+static DISQUALIFIED: &[u8] = b"1 1 SCORER ENTER A\n1 2 SCORER ENTER B\n1 3 SCORER ENTER C\n\
+    1 4 FINISH FINISH 1 A\n1 5 FINISH TIE 1 B A\n1 6 FINISH FINISH 1 C\n1 7 SCORER SCORE 1\n\
+    1 8 JURY MARK 1 A DSQ\n";
+
+/// D is entered late, and C's score for not finishing gets a point worse (RRS A2.2, A5.2).
+static LATE: &[u8] = b"1 1 SCORER ENTER A\n1 2 SCORER ENTER B\n1 3 SCORER ENTER C\n\
+    1 4 FINISH FINISH 1 A\n1 5 FINISH FINISH 1 B\n1 6 SCORER MARK 1 C DNF\n\
+    1 7 SCORER SCORE 1\n1 8 SCORER ENTER D\n";
+
+/// A's average as redress in race 2 follows her place in race 1 (RRS A9).
+static AVERAGE: &[u8] = b"1 1 SCORER ENTER A\n1 2 SCORER ENTER B\n1 3 SCORER FINISH 1 A\n\
+    1 4 SCORER FINISH 1 B\n1 5 SCORER FINISH 2 B\n1 6 SCORER SCORE 1\n1 7 SCORER SCORE 2\n\
+    1 8 JURY REDRESS 2 A ALL\n1 9 SCORER STRIKE 1 A\n1 10 SCORER BEFORE 1 A B\n";
+
+/// A has her average in race 1, made of race 2 alone, where a late entry costs her a point more.
+static LATE_AND_AVERAGE: &[u8] = b"1 1 SCORER ENTER A\n1 2 SCORER ENTER B\n\
+    1 3 SCORER FINISH 1 A\n1 4 SCORER FINISH 1 B\n1 5 SCORER FINISH 2 B\n1 6 SCORER SCORE 1\n\
+    1 7 SCORER SCORE 2\n1 8 JURY REDRESS 1 A ALL\n1 9 SCORER ENTER C\n";
+
+/// Decisions on one boat, each in place of the one before (RRS A5, A9, A10).
+static DECIDED: &[u8] = b"1 1 SCORER ENTER A\n1 2 SCORER FINISH 1 A\n1 3 SCORER SCORE 1\n\
+    1 4 JURY MARK 1 A DSQ\n1 5 JURY CLEAR 1 A\n1 6 JURY REDRESS 1 A 2.5\n";
+
+/// Three boats by corrected times, two of them equal, in a race that counts: A is struck, timed as
+/// before, struck and timed anew, and then disqualified (RRS A3, A6.1, A7).
+static TIMED: &[u8] = b"1 1 SCORER ENTER A\n1 2 SCORER ENTER B\n1 3 SCORER ENTER C\n\
+    1 4 FINISH TIME 1 A 3605\n1 5 FINISH TIME 1 B 3600\n1 6 FINISH TIME 1 C 3605\n\
+    1 7 SCORER SCORE 1\n1 8 SCORER STRIKE 1 A\n1 9 SCORER TIME 1 A 3605\n\
+    1 10 SCORER STRIKE 1 A\n1 11 SCORER TIME 1 A 3599\n1 12 JURY MARK 1 A DSQ\n";
 
 /// A and B tie for first, and C is third.
 static TIED_FIRST: &[u8] = b"1 1 SCORER ENTER A\n1 2 SCORER ENTER B\n1 3 SCORER ENTER C\n\
     1 4 FINISH FINISH 1 A\n1 5 FINISH TIE 1 B A\n1 6 FINISH FINISH 1 C\n1 7 SCORER SCORE 1\n";
 
+/// The journal with this text.
+fn journal_of(alloc: Global, text: &[u8]) -> Result<Journal, Fail> {
+    let journal = read_journal(alloc, text).ok().ok_or("a journal")?;
+    Ok(journal)
+}
+
+/// Whether the board's standing is that of its entries taken anew.
+fn is_of_its_entries(alloc: Global, board: &Board) -> Result<bool, Fail> {
+    let anew = standing_of(alloc, board.rules(), board.entries());
+    let anew = anew.ok().ok_or("a lawful journal")?;
+    let (mut kept, mut made) = (Vec::new(alloc), Vec::new(alloc));
+    write_table(&board.standing()?, &mut kept)?;
+    write_table(&anew, &mut made)?;
+    Ok(kept.as_slice() == made.as_slice())
+}
+
+/// Whether the standing is that of the entries behind each entry of this journal.
+fn is_so_throughout(alloc: Global, rules: Rules, text: &[u8]) -> Result<bool, Fail> {
+    let journal = journal_of(alloc, text)?;
+    let mut board = Board::open(alloc, rules)?;
+    for entry in journal.as_slice() {
+        board.apply(*entry).ok().ok_or("an accepted entry")?;
+        if !is_of_its_entries(alloc, &board)? {
+            return Ok(false);
+        }
+    }
+    Ok(true)
+}
+
+#[test]
+fn a_standing_is_that_of_its_entries(rt: HostRuntime) -> Result<(), Fail> {
+    for text in [DISQUALIFIED, LATE, AVERAGE, LATE_AND_AVERAGE, DECIDED] {
+        let rules = Rules::new(Absent::A52, None, &[], false).unwrap();
+        assert!(rt; is_so_throughout(rt.alloc(), rules, text)?);
+    }
+    let by_times = Rules::new(Absent::A52, None, &[], true).unwrap();
+    assert!(rt; is_so_throughout(rt.alloc(), by_times, TIMED)?);
+    Ok(())
+}
+
 /// The board of the journal with this text.
 fn board_of(alloc: Global, text: &[u8]) -> Result<Board, Fail> {
-    let journal = read_journal(alloc, text).ok().ok_or("a journal")?;
+    let journal = journal_of(alloc, text)?;
     let board = regatta_board::replayed(alloc, &default_rules(), journal.as_slice());
     Ok(board.ok().ok_or("a lawful journal")?)
 }
@@ -47,10 +118,11 @@ fn a_board_tells_what_it_took(rt: HostRuntime) -> Result<(), Fail> {
     Ok(())
 }
 
-/// The place of a prepared command, which holds this entry, and how many races were scored for it.
-fn prepared(board: &Board, entry: Entry) -> Option<(u32, u32)> {
+/// The place of a prepared command, which holds this entry, and for which one race was scored at
+/// most.
+fn prepared(board: &Board, entry: Entry) -> Option<u32> {
     let staged = board.prepare(entry).ok()?;
-    (*staged.entry() == entry).then_some((staged.place(), staged.rescored()))
+    (*staged.entry() == entry && staged.rescored() <= 1).then_some(staged.place())
 }
 
 /// Prepares an entry and commits it.
@@ -65,10 +137,19 @@ fn a_prepared_command_is_committed(rt: HostRuntime) -> Result<(), Fail> {
     let race = RaceNo::new(1).ok_or("a race")?;
     let (sail, code) = (sail("A")?, Code::Dsq);
     let entry = next_entry(2, 0, Role::Jury, Command::Mark { race, sail, code });
-    assert!(rt; prepared(&board, entry) == Some((8, 1)));
+    assert!(rt; prepared(&board, entry) == Some(8));
     let touched = Some(LAST);
     let answer = Answer { place: 8, touched };
     assert!(rt; committed(&mut board, entry) == Some(answer));
     assert!(rt; board.rank(sail) == touched);
+    Ok(())
+}
+
+#[test]
+fn an_entry_that_is_refused_is_named(rt: HostRuntime) -> Result<(), Fail> {
+    let journal = journal_of(rt.alloc(), b"1 1 SCORER ENTER A\n1 1 SCORER ENTER B\n")?;
+    let fault = standing_of(rt.alloc(), &default_rules(), journal.as_slice()).err();
+    let refusal = Refusal::OldNumber { last: 1 };
+    assert!(rt; fault == Some(ReplayFault::Refused { at: 2, refusal }));
     Ok(())
 }

@@ -1,7 +1,8 @@
-//! Journals as text: the form that says its version in its first line, and the old one without it.
+//! Texts that are read: a journal that says its version in its first line, an old one without it,
+//! and an entry list at its limit.
 
 use super::*;
-use regatta_tables::{read_journal, write_entries, write_journal};
+use regatta_tables::{EntriesFault, read_entries, read_journal, write_entries, write_journal};
 use regatta_terms::{VersionLine, read_version};
 
 /// A journal of two seats.
@@ -27,5 +28,29 @@ fn journals_of_both_forms_are_read(rt: HostRuntime) -> Result<(), Fail> {
         assert_eq!(rt; written.as_slice(), both.as_slice());
     }
     assert!(rt; read_version(b"regatta  2\r") == VersionLine::Second);
+    Ok(())
+}
+
+/// An entry list of so many boats.
+fn list_of(alloc: Global, boats: u32) -> Result<Vec<u8>, Fail> {
+    let mut text = Vec::new(alloc);
+    text.extend_from_slice(b"Sail\n")?;
+    for boat in 1..=boats {
+        let line = format!(in alloc; "{boat}\n")?;
+        text.extend_from_slice(line.as_bytes())?;
+    }
+    Ok(text)
+}
+
+#[test]
+fn an_entry_list_has_a_boat_too_many(rt: HostRuntime) -> Result<(), Fail> {
+    let text = list_of(rt.alloc(), 501)?;
+    let fault = read_entries(rt.alloc(), &text).err();
+    assert!(rt; fault == Some(EntriesFault::TooMany { row: 502 }));
+    let within = text
+        .as_slice()
+        .strip_suffix(b"501\n")
+        .ok_or("a list of 500")?;
+    assert!(rt; read_entries(rt.alloc(), within).is_ok());
     Ok(())
 }

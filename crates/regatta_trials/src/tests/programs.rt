@@ -402,7 +402,7 @@ struct Start {
     status: u8,
 }
 
-static STARTS: [Start; 12] = [
+static STARTS: [Start; 13] = [
     Start {
         entries: "1 1 SCORER ENTER A\n2 1 JURY REDRESS 1 A 7.5\n",
         sails: "Sail\nb\n",
@@ -486,6 +486,13 @@ static STARTS: [Start; 12] = [
         said: "regatta: start refused 4 at 1\n",
         written: "",
         status: 1,
+    },
+    Start {
+        entries: "1 4294967295 SCORER ENTER A\n",
+        sails: "Sail\n",
+        said: "",
+        written: "NO 3\nTABLE 1 RACES\n1 A 0.0\n",
+        status: 0,
     },
 ];
 

@@ -1,4 +1,4 @@
-//! The one call of scoring that no board makes: a board never asks for a time.
+//! The call of scoring that neither a board nor a test of memory makes.
 
 use super::*;
 use regatta_scores::{Change, RaceSheet};

@@ -95,6 +95,8 @@ fn a_full_season_runs(rt: HostRuntime) -> Result<(), Fail> {
     let rules = Rules::new(Absent::A52, None, &[4, 8, 16, 30], false).map_err(|_| "rules")?;
     let mut board = Board::open(rt.alloc(), rules)?;
     enter_all(&mut board)?;
+    let entry = next_entry(1, 500, Role::Scorer, Command::Enter { sail: sail(500)? });
+    assert!(rt; board.apply(entry) == Err(Refusal::EntryFull));
     sail_all(&mut board)?;
     assert_eq!(rt; board.len(), 8192);
     let standing = board.standing()?;
