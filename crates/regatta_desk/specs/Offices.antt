@@ -5,6 +5,7 @@ use Rattle.regatta_terms.specs.Rules.{RulesParts}
 use Rattle.regatta_scores.specs.Journal.{Journal}
 use Rattle.regatta_board.specs.Refusals.{last_number}
 use Rattle.regatta_board.specs.Replays.{first_refused}
+use Rattle.regatta_watch.specs.Published.{Published}
 use Rattle.regatta_desk.specs.Passes.{PassValue}
 use Rattle.regatta_desk.specs.declared.opening.OpenFault.{OpenFault}
 use Rattle.regatta_desk.specs.declared.opening.OpenFault.TheVariants as fault
@@ -23,6 +24,16 @@ IsOpenFault rules start (fault.Refused at why) = first_refused rules start ≡ S
 IsOpenFault rules start fault.NoReader = first_refused rules start ≡ None
 IsOpenFault rules start fault.BadSeats = Unit {0}
 IsOpenFault rules start fault.NoMemory = Unit {0}
+
+-- what is published first: all of the journal, which is noted, and no entry came last
+abbrev pub first_published : RulesParts → Journal → TableId → Published
+first_published rules entries history = record {
+  entries = entries;
+  rules = rules;
+  noted = entries;
+  history = history;
+  last = None;
+}
 
 -- the pass of the seat after k others: it has seen the journal, and was told nothing
 abbrev pub seated : Journal → ℕ → PassValue

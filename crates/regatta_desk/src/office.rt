@@ -1,13 +1,13 @@
 //! How an office is opened, named and shared.
-ghost use Rattle.std.specs.Prelude.{◌≡◌, ◌+◌, ◌<◌, ◌≤◌, ◌⊎◌, ◌↔◌, [], true, Err, vec_len};
+ghost use Rattle.std.specs.Prelude.{◌≡◌, ◌<◌, ◌≤◌, ◌⊎◌, ◌↔◌, true, Err, All, vec_len};
 ghost use Rattle.std.specs.Prelude.{IfOk, IfErr, OnOk};
-ghost use Rattle.regatta_board.specs.Refusals.{limits, is_lawful, last_number};
+ghost use Rattle.regatta_board.specs.Refusals.{limits, is_lawful};
 ghost use Rattle.regatta_terms.specs.declared.limits.TheConstants.{MAX_SEATS};
 ghost use Rattle.regatta_watch.specs.Views.{Sees};
-ghost use Rattle.regatta_desk.specs.Offices.{IsOpenFault, AreSeated};
+ghost use Rattle.regatta_desk.specs.Offices.{IsOpenFault, AreSeated, seated};
 
 use crate::desk::Desk;
-use crate::opening::{OpenFault, beginnings, board_of, watchers};
+use crate::opening::{OpenFault, board_of, history_and_copies, watchers};
 use crate::pass::{Pass, Seen};
 use regatta_board::Board;
 use regatta_terms::{Entry, MAX_SEATS, Rules};
@@ -91,7 +91,7 @@ impl<R: Wait + Drop> Office<Brand, R> {
             return Err(OpenFault::BadSeats);
         }
         let board = board_of(alloc, rules, start)?;
-        // does nothing: its contract says that the journal is lawful
+        // read for what it promises: the journal is lawful
         let _ = board.entries();
         opened_with(rt, alloc, board, seats)
     }
@@ -111,7 +111,7 @@ fn opened_with<R: Wait + Drop>(
     ensures seats { IfOk result (λ o. o.seats ≡ seats) }
     ensures fault { IfErr result (λ f. (f ≡ OpenFault.NoReader) ⊎ (f ≡ OpenFault.NoMemory)) }
 {
-    let Ok((history, first, second)) = beginnings(alloc, &board, seats) else {
+    let Ok((history, first, second)) = history_and_copies(alloc, &board, seats) else {
         return Err(OpenFault::NoMemory);
     };
     let Ok(mut publisher) = Publisher::open(alloc, rt, first, second, usize::from(seats)) else {
@@ -147,12 +147,7 @@ impl<R: Wait + Drop> Opened<R> {
             mut history,
             watchers,
         } = self;
-        let mut passes = Vec::with_capacity(alloc, watchers.len())?;
-        for watcher in watchers {
-            let shared = history.share()?;
-            let pass = pass_of(alloc, &board, &mut history, shared, watcher, passes.len());
-            passes.push(pass)?;
-        }
+        let passes = passes_of(alloc, &board, &mut history, watchers)?;
         let desk = Desk::new(board, publisher, history);
         Ok((
             Office {
@@ -161,6 +156,30 @@ impl<R: Wait + Drop> Opened<R> {
             passes,
         ))
     }
+}
+
+/// A pass for each of these watchers, in order of seat from 1.
+fn passes_of<N: OfficeName>(
+    alloc: Global,
+    board: &Board,
+    history: &mut History,
+    watchers: Vec<Watcher>,
+) -> Result<Vec<Pass<N>>, AllocError>
+    requires few { vec_len watchers ≤ MAX_SEATS }
+    requires journal { history.old.journal ≡ board.now.entries }
+    requires history { history.old.history ≡ N.history }
+    requires watchers { All (λ w. Sees w board.now.entries N.rules N.history) watchers.items }
+    ensures same { history.new ≡ history.old }
+    ensures passes { IfOk result (λ v. AreSeated board.now.entries v.items) }
+    ensures count { IfOk result (λ v. vec_len v ≡ vec_len watchers) }
+{
+    let mut passes = Vec::with_capacity(alloc, watchers.len())?;
+    for watcher in watchers {
+        let shared = history.share()?;
+        let pass = pass_of(alloc, board, history, shared, watcher, passes.len());
+        passes.push(pass)?;
+    }
+    Ok(passes)
 }
 
 /// The pass of the seat after so many.
@@ -178,12 +197,7 @@ fn pass_of<N: OfficeName>(
     requires shared { shared ≡ N.history }
     requires watcher { Sees watcher board.now.entries N.rules N.history }
     ensures same { history.new ≡ history.old }
-    ensures pass { result ≡ record {
-      seat = before + 1;
-      last = last_number board.now.entries (before + 1);
-      seen = board.now.entries;
-      told = [];
-    } }
+    ensures pass { result ≡ seated board.now.entries before }
 {
     let seat = before as u8 + 1;
     let seen = Seen {
