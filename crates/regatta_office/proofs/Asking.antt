@@ -4,7 +4,8 @@ use Rattle.std.proofs.Common.{◌≡◌, Bool, true, false, List, Option, Some, 
 use Rattle.std.proofs.Common.{Ok, Err, IfSome, codes, inl, inr, option_map, refl, sym, ap}
 use Rattle.std.proofs.Common.{◌∙◌, subst}
 use Rattle.std.specs.Box.{box_value}
-use Rattle.clap.specs.Words.{App, FailsBy, HasMatchesOf, IsAmong, Row, Text, fault_of}
+use Rattle.clap.specs.Words.{App, FailsBy, HasMatchesOf, IsAmong, Row, Rule, Text, fault_of}
+use Rattle.clap.specs.Words.{with_rule}
 use Rattle.clap.specs.Words.{first_value, is_simple, kind_of, rows_of, subcommand_of}
 use Rattle.clap.specs.Words.{subcommand_rows_of, is_simple_and_free}
 use Rattle.clap.specs.Simple.{subcommand_rows}
@@ -22,7 +23,12 @@ use Rattle.regatta_office.specs.Asked.{ReplayAsked, ServingAsked}
 use Rattle.regatta_office.specs.declared.options.Asked.{Asked}
 use Rattle.regatta_office.specs.declared.options.Asked.TheVariants.{Replay, Serve}
 use Rattle.regatta_office.specs.Words.{AskHelp, AskRun, asked_by, asked_of, regatta, replay_with}
-use Rattle.regatta_office.specs.Words.{serving_with}
+use Rattle.regatta_office.specs.Words.{serving_with, with_rules, with_seats, with_start}
+
+-- what the program understands, with one more option
+pub with_one_more : (new old app : App) (rule known : Rule) → new ≡ with_rule old rule
+    → old ≡ app → rule ≡ known → new ≡ with_rule app known
+with_one_more new old app rule known is before same = is ∙ (λ i. with_rule (before i) (same i))
 
 -- no argument of the command is global, with one more that isn't
 pub stays_local : (new old global : Bool) → new ≡ (old || global) → global ≡ false → new ≡ old
@@ -72,11 +78,11 @@ serving_is met f asked named found is = ap asked_by (subcommand_is met _ _ named
 
 -- the program's words are of the kind whose matches `clap` tells
 simple : (forms : ValueParser) → is_simple (regatta forms) ≡ true
-unfolding clap_on_literals
+unfolding clap_on_literals regatta with_rules with_start with_seats
 simple forms = refl
 
 free : (forms : ValueParser) → is_simple_and_free (regatta forms) ≡ true
-unfolding clap_on_literals
+unfolding clap_on_literals regatta with_rules with_start with_seats
 free forms = refl
 
 -- words that are taken have no fault, and ask for a run

@@ -49,18 +49,18 @@ TakesForms forms = (names : Bor (List (Bor Text))) × (forms ≡ Names names)
 
 -- the options of the series rules, with their defaults: A5.2, 20% for a Scoring Penalty, one score
 -- excluded from two races on, and places by the finishing order (RRS A3)
-abbrev pub with_rules : App → App
+unfoldable pub with_rules : App → App
 with_rules app =
     with_rule (with_rule (with_rule (with_rule app (option_or (codes "absent") (codes "a52")))
     (option (codes "scp"))) (option_or (codes "exclude") (codes "2"))) (flag (codes "handicap"))
 
 -- the options of the start files
-abbrev pub with_start : App → App
+unfoldable pub with_start : App → App
 with_start app = with_rule (with_rule app (option (codes "journal"))) (option (codes "entries"))
 
 -- the options of the socket and its clients: the path has to be given, 4 seats are the default,
 -- and no end
-abbrev pub with_seats : App → App
+unfoldable pub with_seats : App → App
 with_seats app =
     with_rule (with_rule (with_rule app (record (option (codes "socket")) { required = true }))
     (number_option (codes "clients") (codes "4") 1 MAX_SEATS))
@@ -80,7 +80,7 @@ bare_program =
     let app = new_app (codes "regatta") in
     record app { top = record app.top { no_binary_name = true; subcommand_required = true } }
 
-abbrev pub regatta : ValueParser → App
+unfoldable pub regatta : ValueParser → App
 regatta forms = with_subcommand (with_subcommand bare_program (replay forms).top) serve.top
 
 -- ---- what words ask for

@@ -9,7 +9,7 @@ use Rattle.clap.specs.declared.error.kind.ErrorKind.TheVariants.{ArgumentConflic
 use Rattle.clap.specs.declared.error.kind.ErrorKind.TheVariants.{MissingRequiredArgument}
 use Rattle.clap.specs.declared.error.kind.ErrorKind.TheVariants.{ValueValidation}
 use Rattle.regatta_office.specs.declared.form.Form.TheVariants.{Table, Csv}
-use Rattle.regatta_office.specs.Words.{AskHelp, asked_of, regatta}
+use Rattle.regatta_office.specs.Words.{AskHelp, asked_of, regatta, with_rules, with_seats, with_start}
 use Rattle.regatta_office.specs.declared.options.Asked.TheVariants.{Replay, Serve}
 
 -- the defaults: A5.2, 20% for a Scoring Penalty, one score excluded from two races on, places by
@@ -25,7 +25,7 @@ pub defaults : (forms : ValueParser) → asked_of forms (codes "replay" ∷ []) 
   };
   form = Table;
 }))
-unfolding clap_on_literals
+unfolding clap_on_literals regatta with_rules with_start with_seats
 defaults forms = refl
 
 -- each option, in both ways that its value may be given
@@ -44,7 +44,7 @@ pub each_option : (forms : ValueParser) → asked_of forms
       };
       form = Csv;
     }))
-unfolding clap_on_literals
+unfolding clap_on_literals regatta with_rules with_start with_seats
 each_option forms = refl
 
 -- a serving with its defaults: four seats, and no end
@@ -62,7 +62,7 @@ pub serving_defaults : (forms : ValueParser) → asked_of forms
       clients = 4;
       sessions = 0;
     }))
-unfolding clap_on_literals
+unfolding clap_on_literals regatta with_rules with_start with_seats
 serving_defaults forms = refl
 
 -- with options of its own and of the series
@@ -82,7 +82,7 @@ pub serving_options : (forms : ValueParser) → asked_of forms
       clients = 16;
       sessions = 1000000;
     }))
-unfolding clap_on_literals
+unfolding clap_on_literals regatta with_rules with_start with_seats
 serving_options forms = refl
 
 -- a serving under corrected times
@@ -100,47 +100,47 @@ pub serving_times : (forms : ValueParser) → asked_of forms
       clients = 4;
       sessions = 0;
     }))
-unfolding clap_on_literals
+unfolding clap_on_literals regatta with_rules with_start with_seats
 serving_times forms = refl
 
 -- help, and words that aren't enough
 pub help : (forms : ValueParser) → AskHelp forms (codes "--help" ∷ [])
-unfolding clap_on_literals
+unfolding clap_on_literals regatta with_rules with_start with_seats
 help forms = inl refl
 
 pub help_of_replay : (forms : ValueParser) → AskHelp forms (codes "replay" ∷ codes "--help" ∷ [])
-unfolding clap_on_literals
+unfolding clap_on_literals regatta with_rules with_start with_seats
 help_of_replay forms = inl refl
 
 pub no_words : (forms : ValueParser) → fault_of (regatta forms) [] ≡ MissingSubcommand ∷ []
-unfolding clap_on_literals
+unfolding clap_on_literals regatta with_rules with_start with_seats
 no_words forms = refl
 
 -- an option that isn't the program's, and one that is given twice, are faults
 pub unknown_option : (forms : ValueParser)
     → fault_of (regatta forms) (codes "replay" ∷ codes "--speed" ∷ []) ≡ UnknownArgument ∷ []
-unfolding clap_on_literals
+unfolding clap_on_literals regatta with_rules with_start with_seats
 unknown_option forms = refl
 
 pub option_twice : (forms : ValueParser) → fault_of (regatta forms)
     (codes "replay" ∷ codes "--scp" ∷ codes "3" ∷ codes "--scp" ∷ codes "4" ∷ [])
     ≡ ArgumentConflict ∷ []
-unfolding clap_on_literals
+unfolding clap_on_literals regatta with_rules with_start with_seats
 option_twice forms = refl
 
 -- a flag takes no value
 pub flag_with_a_value : (forms : ValueParser) → fault_of (regatta forms)
     (codes "replay" ∷ codes "--handicap=yes" ∷ []) ≡ TooManyValues ∷ []
-unfolding clap_on_literals
+unfolding clap_on_literals regatta with_rules with_start with_seats
 flag_with_a_value forms = refl
 
 -- so are a serving without a path, and seventeen seats
 pub no_socket : (forms : ValueParser)
     → fault_of (regatta forms) (codes "serve" ∷ []) ≡ MissingRequiredArgument ∷ []
-unfolding clap_on_literals
+unfolding clap_on_literals regatta with_rules with_start with_seats
 no_socket forms = refl
 
 pub seventeen_seats : (forms : ValueParser) → fault_of (regatta forms)
     (codes "serve" ∷ codes "--socket=s" ∷ codes "--clients=17" ∷ []) ≡ ValueValidation ∷ []
-unfolding clap_on_literals
+unfolding clap_on_literals regatta with_rules with_start with_seats
 seventeen_seats forms = refl

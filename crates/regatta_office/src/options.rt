@@ -327,8 +327,10 @@ fn is_given(flag: Option<&str>) -> bool
     }
 }
 
-/// The series by the values of its options, of which two have defaults.
-fn series<'a>(
+/// The series by the values of its options: those of `--absent`, `--scp`, `--exclude` and
+/// `--handicap`, and those of `--journal` and `--entries`. None where there is no value for one of
+/// the two that have defaults, `--absent` and `--exclude`.
+fn series_given<'a>(
     rules: (Option<&'a str>, Option<&'a str>, Option<&'a str>, bool),
     files: (Option<&'a str>, Option<&'a str>),
 ) -> Option<SeriesOptions<'a>>
@@ -357,10 +359,8 @@ fn series_of<'a>(options: &ArgMatches<'a>) -> Option<SeriesOptions<'a>>
     let handicap = is_given(options.get_str("handicap"));
     let (absent, scp) = (options.get_str("absent"), options.get_str("scp"));
     let rules = (absent, scp, options.get_str("exclude"), handicap);
-    series(
-        rules,
-        (options.get_str("journal"), options.get_str("entries")),
-    )
+    let files = (options.get_str("journal"), options.get_str("entries"));
+    series_given(rules, files)
 }
 
 /// What the options of `replay` ask for.
@@ -387,14 +387,15 @@ fn serving_asked<'a>(options: &ArgMatches<'a>) -> Option<ServeOptions<'a>>
     ensures { IfSome result (λ asked.
         serving_with (first_value (found_of options.now)) ≡ Some asked) }
 {
-    let series = series_of(options)?;
     let socket = options.get_str("socket")?;
     let clients = number_of(options, "clients")?;
+    let clients = u8::try_from(clients).ok()?;
     let sessions = number_of(options, "sessions")?;
+    let series = series_of(options)?;
     Some(ServeOptions {
         series,
         socket,
-        clients: u8::try_from(clients).ok()?,
+        clients,
         sessions,
     })
 }

@@ -20,7 +20,7 @@ fn enter(sail: &[u8]) -> Option<Command> {
 }
 
 /// What a command as scorer is answered through the lock.
-pub(crate) fn run<N: OfficeName, H: Wait + Drop, R: Wait>(
+pub(crate) fn answered<N: OfficeName, H: Wait + Drop, R: Wait>(
     rt: &R,
     office: &Office<N, H>,
     pass: &mut Pass<N>,
@@ -37,7 +37,7 @@ fn entered<N: OfficeName, H: Wait + Drop, R: Wait>(
     pass: &mut Pass<N>,
     sail: &[u8],
 ) -> Option<Receipt<N>> {
-    run(rt, office, pass, enter(sail)?).ok()
+    answered(rt, office, pass, enter(sail)?).ok()
 }
 
 /// An office and the passes of its two seats.
@@ -316,7 +316,7 @@ fn run_again<N: OfficeName, H: Wait + Drop, R: Wait + Abort>(
     office: &Office<N, H>,
     pass: &mut Pass<N>,
 ) -> Option<()> {
-    let again = run(rt, office, pass, enter(b"A")?);
+    let again = answered(rt, office, pass, enter(b"A")?);
     assert_eq!(rt; again.err(), Some(Refusal::AlreadyEntered));
     let second = entered(rt, office, pass, b"B")?;
     assert_eq!(rt; (second.place(), pass.last(), pass.seat()), (2, 2, 1));
@@ -431,14 +431,14 @@ fn write_a_quarter<N: OfficeName, H: Wait + Drop, R: Wait>(
 ) -> Option<usize> {
     let sail = Sail::read(&[b'A' + pass.seat()])?;
     let race = RaceNo::new(1)?;
-    let _ = run(rt, office, pass, Command::Enter { sail }).ok()?;
+    let _ = answered(rt, office, pass, Command::Enter { sail }).ok()?;
     for turn in 1..MAX_ENTRIES / usize::from(WRITERS) {
         let command = if turn % 2 == 1 {
             Command::Finish { race, sail }
         } else {
             Command::Strike { race, sail }
         };
-        let _ = run(rt, office, pass, command).ok()?;
+        let _ = answered(rt, office, pass, command).ok()?;
     }
     Some(pass.last() as usize)
 }

@@ -53,12 +53,16 @@ fn opens(alloc: Global) -> Told {
     }
 }
 
+/// The entry that was prepared, and its place.
+fn prepared(board: &Board, entry: Entry) -> Result<(Entry, u32), Refusal> {
+    let staged = board.prepare(entry)?;
+    Ok((*staged.entry(), staged.place()))
+}
+
 /// What preparing the entry tells.
 fn prepares(board: &Board, entry: Entry) -> Told {
-    match board.prepare(entry) {
-        Ok(staged) => ordinary_if(
-            *staged.entry() == entry && staged.place() as usize == board.len() + 1,
-        ),
+    match prepared(board, entry) {
+        Ok((found, place)) => ordinary_if(found == entry && place as usize == board.len() + 1),
         Err(why) => wanting_if(why == Refusal::NoMemory),
     }
 }

@@ -1,7 +1,7 @@
 //! The calls of an office.
 ghost use Rattle.std.specs.Prelude.{◌≡◌};
 
-use super::super::offices::{run, two_seats};
+use super::super::offices::{answered, two_seats};
 use super::*;
 use regatta_office::{
     Office, OfficeName, OpenFault, Opened, Pass, Receipt, ShowFault, answer_alone,
@@ -20,11 +20,21 @@ fn enter_a() -> Option<Command> {
     Some(Command::Enter { sail })
 }
 
+/// Why an office of two seats isn't opened.
+fn open_fault<R: Wait + Drop>(
+    rt: R,
+    alloc: Global,
+    rules: &Rules,
+    start: &[Entry],
+) -> Option<OpenFault> {
+    Office::open(rt, alloc, rules, 2, start).err()
+}
+
 /// What opening an office of two seats tells.
 fn opens<R: Wait + Drop>(rt: R, alloc: Global, rules: &Rules, start: &[Entry]) -> Told {
-    match Office::open(rt, alloc, rules, 2, start) {
-        Ok(_) => Told::Ordinary,
-        Err(why) => wanting_if(why == OpenFault::NoMemory || why == OpenFault::NoReader),
+    match open_fault(rt, alloc, rules, start) {
+        None => Told::Ordinary,
+        Some(why) => wanting_if(why == OpenFault::NoMemory || why == OpenFault::NoReader),
     }
 }
 
@@ -41,6 +51,15 @@ fn opening_wants_memory(rt: HostRuntime) -> Result<(), Fail> {
     Ok(())
 }
 
+/// How many passes an office is split into.
+fn passes_made<N: OfficeName, H: Wait + Drop>(opened: Opened<H>) -> Option<usize>
+    requires history { opened.history ≡ N.history }
+    requires rules { opened.rules ≡ N.rules }
+{
+    let (_, passes) = opened.split::<N>().ok()?;
+    Some(passes.len())
+}
+
 /// What splitting an office tells with so many bytes left.
 fn split_with<N: OfficeName, H: Wait + Drop>(
     hoard: &mut Hoard,
@@ -53,11 +72,11 @@ fn split_with<N: OfficeName, H: Wait + Drop>(
     if !hoard.leave(bytes) {
         return Told::Other;
     }
-    let split = opened.split::<N>();
+    let made = passes_made::<N, H>(opened);
     hoard.give_back();
-    match split {
-        Ok((_, passes)) => ordinary_if(passes.len() == 2),
-        Err(_) => Told::Wanting,
+    match made {
+        Some(passes) => ordinary_if(passes == 2),
+        None => Told::Wanting,
     }
 }
 
@@ -93,9 +112,15 @@ fn enter_with<N: OfficeName, H: Wait + Drop, R: Wait>(
     if !hoard.leave(bytes) {
         return None;
     }
-    let answer = run(rt, office, pass, command);
+    let answer = answered(rt, office, pass, command);
     hoard.give_back();
     Some(answer)
+}
+
+/// How many entries are shown to this pass.
+fn shown<N: OfficeName>(pass: &mut Pass<N>) -> Result<usize, ShowFault> {
+    let sheet = pass.show()?;
+    Ok(sheet.journal.as_slice().len())
 }
 
 /// How many entries the desk has, and are shown to this pass.
@@ -104,9 +129,9 @@ fn entries_seen<N: OfficeName, H: Wait + Drop, R: Wait>(
     office: &Office<N, H>,
     pass: &mut Pass<N>,
 ) -> Option<(usize, usize)> {
-    let sheet = pass.show().ok()?;
+    let shown = shown(pass).ok()?;
     let desk = office.desk(rt);
-    Some((desk.board().len(), sheet.journal.as_slice().len()))
+    Some((desk.board().len(), shown))
 }
 
 /// What seat 1 is told of A, entered with so many bytes left. Behind a refusal the desk has no
@@ -167,8 +192,8 @@ fn enter_at<N: OfficeName, H: Wait + Drop, R: Wait>(
 
 /// What showing one entry tells.
 fn shows<N: OfficeName>(pass: &mut Pass<N>) -> Told {
-    match pass.show() {
-        Ok(sheet) => ordinary_if(sheet.journal.as_slice().len() == 1),
+    match shown(pass) {
+        Ok(count) => ordinary_if(count == 1),
         Err(why) => wanting_if(why == ShowFault::NoMemory),
     }
 }

@@ -1,9 +1,10 @@
 use Rattle.std.proofs.Common.{◌≡◌, rules, ◌∙◌}
 use Rattle.clap.specs.Words.{app_of, with_subcommand}
-use Rattle.regatta_office.specs.Words.{bare_program, serve}
+use Rattle.regatta_office.specs.Words.{bare_program, regatta, serve}
 use Rattle.regatta_office.proofs.options.regatta.Goals as goal
 
 pub returns : goal.returns
+unfolding regatta
 returns c =
     let replay = c.in_ok-replay.ensures.app in
     let bare : app_of c.in_ok-command.command ≡ bare_program = search rules in (
