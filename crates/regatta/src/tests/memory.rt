@@ -3,9 +3,10 @@
 //! little less than `bench/growths.py` counted.
 
 use super::*;
-use hoard::{Hoard, MOST_RUNS, SMALL_STEPS, Steps, Told};
+use hoard::{Hoard, MOST_RUNS, SMALL_STEPS, Steps, Told, holds_with};
 use regatta_scores::Standing;
 use regatta_tables::{Journal, read_journal, write_table};
+use regatta_terms::{Command, Sail, read_entry};
 use std::alloc::AllocError;
 
 mod boards;
@@ -42,10 +43,15 @@ fn tells(answer: Result<bool, AllocError>) -> Told {
     }
 }
 
-/// The entries of a journal's text.
-fn journal_of(alloc: Global, text: &[u8]) -> Result<Journal, Fail> {
-    let journal = read_journal(alloc, text).ok().ok_or("a journal")?;
-    Ok(journal)
+/// The command that enters A.
+fn enter_a() -> Option<Command> {
+    let sail = Sail::read(b"A")?;
+    Some(Command::Enter { sail })
+}
+
+/// The entry by which seat 1 enters A as scorer.
+fn entry_of_a() -> Option<Entry> {
+    read_entry(b"1 1 SCORER ENTER A").ok()
 }
 
 /// Whether a standing's table is this text.

@@ -40,6 +40,12 @@ fn entered<N: OfficeName, H: Wait + Drop, R: Wait>(
     answered(rt, office, pass, enter(sail)?).ok()
 }
 
+/// An office of so many seats in which nothing was entered. It has no contract, so that its callers
+/// are proved quickly.
+pub(crate) fn opened_office<R: Wait>(rt: &R, alloc: Global, seats: u8) -> Option<Opened<&R>> {
+    Office::open(rt, alloc, &default_rules(), seats, &[]).ok()
+}
+
 /// An office and the passes of its two seats.
 pub(crate) fn two_seats<N: OfficeName, H: Wait + Drop>(
     opened: Opened<H>,
@@ -51,6 +57,18 @@ pub(crate) fn two_seats<N: OfficeName, H: Wait + Drop>(
     let second = passes.pop()?;
     let first = passes.pop()?;
     Some((office, first, second))
+}
+
+/// An office and the pass of its one seat.
+pub(crate) fn one_seat<N: OfficeName, H: Wait + Drop>(
+    opened: Opened<H>,
+) -> Option<(Office<N, H>, Pass<N>)>
+    requires history { opened.history ≡ N.history }
+    requires rules { opened.rules ≡ N.rules }
+{
+    let (office, mut passes) = opened.split::<N>().ok()?;
+    let pass = passes.pop()?;
+    Some((office, pass))
 }
 
 /// The entries of a sheet, as text.
@@ -101,38 +119,31 @@ fn offices_open_by_their_seats_and_start(rt: HostRuntime) -> Result<(), Fail> {
 
 #[test]
 fn watchers_see_what_they_were_not_told(rt: HostRuntime) -> Result<(), Fail> {
-    let opened = Office::open(&rt, rt.alloc(), &default_rules(), 2, &[]);
-    let opened = opened.ok().ok_or("an office")?;
+    let opened = opened_office(&rt, rt.alloc(), 2).ok_or("an office")?;
     Ok(watch_untold::<Brand, _, _>(&rt, rt.alloc(), opened).ok_or("two seats")?)
 }
 
 #[test]
 fn seats_show_and_tell(rt: HostRuntime) -> Result<(), Fail> {
-    let opened = Office::open(&rt, rt.alloc(), &default_rules(), 2, &[]);
-    let opened = opened.ok().ok_or("an office")?;
+    let opened = opened_office(&rt, rt.alloc(), 2).ok_or("an office")?;
     show_beside_a_guard::<Brand, _, _>(&rt, rt.alloc(), opened).ok_or("two seats")?;
-    let opened = Office::open(&rt, rt.alloc(), &default_rules(), 2, &[]);
-    let opened = opened.ok().ok_or("an office")?;
+    let opened = opened_office(&rt, rt.alloc(), 2).ok_or("an office")?;
     tell::<Brand, _, _>(&rt, rt.alloc(), opened).ok_or("two seats")?;
-    let opened = Office::open(&rt, rt.alloc(), &default_rules(), 1, &[]);
-    let opened = opened.ok().ok_or("an office")?;
+    let opened = opened_office(&rt, rt.alloc(), 1).ok_or("an office")?;
     Ok(talk::<Brand, _, _>(&rt, rt.alloc(), opened).ok_or("a seat")?)
 }
 
 #[test]
 fn threads_share_an_office(rt: HostRuntime) -> Result<(), Fail> {
-    let opened = Office::open(&rt, rt.alloc(), &default_rules(), 2, &[]);
-    let opened = opened.ok().ok_or("an office")?;
+    let opened = opened_office(&rt, rt.alloc(), 2).ok_or("an office")?;
     race::<Brand, _, _>(&rt, rt.alloc(), opened).ok_or("two seats")?;
-    let opened = Office::open(&rt, rt.alloc(), &default_rules(), 2, &[]);
-    let opened = opened.ok().ok_or("an office")?;
+    let opened = opened_office(&rt, rt.alloc(), 2).ok_or("an office")?;
     Ok(show_at_once::<Brand, _, _>(&rt, opened).ok_or("two seats")?)
 }
 
 #[test]
 fn four_write_and_four_watch(rt: HostRuntime) -> Result<(), Fail> {
-    let opened = Office::open(&rt, rt.alloc(), &default_rules(), 8, &[]);
-    let opened = opened.ok().ok_or("an office")?;
+    let opened = opened_office(&rt, rt.alloc(), 8).ok_or("an office")?;
     Ok(fill::<Brand, _, _>(&rt, rt.alloc(), opened).ok_or("eight seats")?)
 }
 
@@ -298,8 +309,7 @@ fn talk<N: OfficeName, H: Wait + Drop, R: Wait + Abort>(
     requires history { opened.history ≡ N.history }
     requires rules { opened.rules ≡ N.rules }
 {
-    let (office, mut passes) = opened.split::<N>().ok()?;
-    let mut pass = passes.pop()?;
+    let (office, mut pass) = one_seat::<N, H>(opened)?;
     let mut role = Role::Scorer;
     let mut out = Vec::new(alloc);
     first_lines(rt, &office, &mut pass, &mut role, &mut out)?;

@@ -1,12 +1,13 @@
 ghost use Rattle.std.specs.Prelude.{◌≡◌};
 
+use super::offices::{answered, one_seat};
 use super::wires::{Count, count, wire_of};
 use super::*;
 use regatta_office::{
     End, Gate, Office, OfficeName, OpenGate, Opened, Pass, Sink, Source, session,
 };
 use regatta_tables::write_entries;
-use regatta_terms::{Command, Refusal, Role, Sail};
+use regatta_terms::{Command, Refusal, Sail};
 use std::marker::Brand;
 use std::process::Abort;
 use std::sync::Wait;
@@ -90,8 +91,7 @@ fn talk_at<N: OfficeName, H: Wait + Drop, R: Wait, S: Source + Sink, G: Gate>(
 ) -> Result<Talked, Fail>
     requires { (opened.history ≡ N.history) × (opened.rules ≡ N.rules) }
 {
-    let (office, mut passes) = opened.split::<N>()?;
-    let mut pass = passes.pop().ok_or("a pass")?;
+    let (office, mut pass) = one_seat::<N, H>(opened).ok_or("a seat")?;
     let ends = talk(rt, alloc, &office, &mut pass, streams, gate)?;
     let journal = journal_text(rt, alloc, &office)?;
     Ok(Talked {
@@ -147,15 +147,14 @@ fn enter(sail: &[u8]) -> Result<Command, Fail> {
     Ok(Command::Enter { sail })
 }
 
-/// Runs a command by the guard: its place, or the refusal.
-fn place_of<N: OfficeName, H: Wait + Drop, R: Wait>(
+/// The place in the journal of a command as scorer through the lock, or its refusal.
+pub(crate) fn place_of<N: OfficeName, H: Wait + Drop, R: Wait>(
     rt: &R,
     office: &Office<N, H>,
     pass: &mut Pass<N>,
     command: Command,
 ) -> Result<u32, Refusal> {
-    let mut desk = office.desk(rt);
-    let receipt = desk.run(rt, pass, Role::Scorer, command)?;
+    let receipt = answered(rt, office, pass, command)?;
     Ok(receipt.place())
 }
 
@@ -207,8 +206,7 @@ fn go_on<N: OfficeName, H: Wait + Drop, R: Wait + Abort>(
 ) -> Result<(), Fail>
     requires { (opened.history ≡ N.history) × (opened.rules ≡ N.rules) }
 {
-    let (office, mut passes) = opened.split::<N>()?;
-    let mut pass = passes.pop().ok_or("a pass")?;
+    let (office, mut pass) = one_seat::<N, H>(opened).ok_or("a seat")?;
     look_first(rt, alloc, &office, &mut pass)?;
     enter_next(rt, alloc, &office, &mut pass)?;
     run_by_guard(rt, &office, &mut pass)

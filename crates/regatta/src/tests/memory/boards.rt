@@ -104,39 +104,62 @@ fn replays(alloc: Global, rules: &Rules, entries: &[Entry], table: &[u8]) -> Tol
     }
 }
 
-/// Whether a board is opened and takes this journal, and the standing is made of the board and of
-/// the journal, all with each growth refused first.
+/// Whether a board takes this journal, and gives its standing, all with each growth refused first.
+fn is_taking_refused(
+    alloc: Global,
+    hoard: &mut Hoard,
+    rules: Rules,
+    entries: &[Entry],
+    series: Series<'_>,
+) -> bool {
+    let Ok(mut board) = Board::open(alloc, rules) else {
+        return false;
+    };
+    takes_all(hoard, &mut board, entries, series.least)
+        && hoard.refuses(
+            20,
+            SMALL_STEPS,
+            || tells(stands(alloc, &board, series.table)),
+        )
+}
+
+/// Whether a board takes this journal, and the standing is made of the board and of the journal, all
+/// with each growth refused first.
 fn is_refused_throughout(
     alloc: Global,
     hoard: &mut Hoard,
     rules: Rules,
     series: Series<'_>,
-) -> Result<bool, Fail> {
-    let Series { text, least, table } = series;
-    let journal = journal_of(alloc, text)?;
+) -> bool {
+    let Ok(journal) = read_journal(alloc, series.text) else {
+        return false;
+    };
     let entries = journal.as_slice();
-    let mut board = Board::open(alloc, rules)?;
     let steps = Steps::of_journals(16_384);
-    Ok(
-        takes_all(hoard, &mut board, entries, least)
-            && hoard.refuses(20, SMALL_STEPS, || tells(stands(alloc, &board, table)))
-            && hoard.refuses(1800, steps, || replays(alloc, &rules, entries, table)),
-    )
+    is_taking_refused(alloc, hoard, rules, entries, series)
+        && hoard.refuses(
+            1800,
+            steps,
+            || replays(alloc, &rules, entries, series.table),
+        )
+}
+
+/// The rules of a series by corrected times.
+fn rules_by_times() -> Rules {
+    Rules::new(Absent::A52, None, &[2], true).unwrap()
+}
+
+/// Whether all calls of a board are refused first, by finishes and by times.
+fn are_boards_refused(alloc: Global, hoard: &mut Hoard) -> bool {
+    hoard.refuses(820, Steps::of_journals(8192), || opens(alloc))
+        && is_refused_throughout(alloc, hoard, default_rules(), BY_FINISHES)
+        && is_refused_throughout(alloc, hoard, rules_by_times(), BY_TIMES)
 }
 
 #[test]
-fn boards_want_memory(rt: HostRuntime) -> Result<(), Fail> {
+fn boards_want_memory(rt: HostRuntime) {
     let alloc = rt.alloc();
-    let by_times = Rules::new(Absent::A52, None, &[2], true)
-        .ok()
-        .ok_or("rules")?;
-    let Some(mut hoard) = Hoard::new(alloc)? else {
-        return Ok(());
-    };
-    assert!(rt; hoard.refuses(820, Steps::of_journals(8192), || opens(alloc)));
-    assert!(rt; is_refused_throughout(alloc, &mut hoard, default_rules(), BY_FINISHES)?);
-    assert!(rt; is_refused_throughout(alloc, &mut hoard, by_times, BY_TIMES)?);
-    Ok(())
+    assert!(rt; holds_with(alloc, |hoard| are_boards_refused(alloc, hoard)));
 }
 
 /// Whether an entry that was prepared is appended, and the reply to it written where there is room
@@ -150,27 +173,30 @@ fn commits_with_nothing(
     let Ok(staged) = board.prepare(entry) else {
         return false;
     };
-    if !hoard.leave(0) {
-        return false;
-    }
+    let is_left = hoard.leave(0);
     let answer = board.commit(staged);
     let is_written = write_reply(&Reply::Done(answer), reply).is_ok();
     hoard.give_back();
-    is_written && board.len() == 1
+    is_left && is_written && board.len() == 1
+}
+
+/// Whether the first entry of a journal is appended and answered so.
+fn is_first_committed(alloc: Global, hoard: &mut Hoard, entry: Entry) -> bool {
+    let Ok(mut board) = Board::open(alloc, default_rules()) else {
+        return false;
+    };
+    let Ok(mut reply) = Vec::with_capacity(alloc, 64) else {
+        return false;
+    };
+    commits_with_nothing(hoard, &mut board, entry, &mut reply)
+        && reply.as_slice() == b"OK 1 1 0.0\n".as_slice()
 }
 
 /// Nothing is wanting where a call takes no memory.
 #[test]
 fn commands_are_committed_without_memory(rt: HostRuntime) -> Result<(), Fail> {
     let alloc = rt.alloc();
-    let journal = journal_of(alloc, DISQUALIFIED)?;
-    let mut board = Board::open(alloc, default_rules())?;
-    let first = journal.as_slice().first().copied().ok_or("an entry")?;
-    let mut reply = Vec::with_capacity(alloc, 64)?;
-    let Some(mut hoard) = Hoard::new(alloc)? else {
-        return Ok(());
-    };
-    assert!(rt; commits_with_nothing(&mut hoard, &mut board, first, &mut reply));
-    assert_eq!(rt; reply.as_slice(), b"OK 1 1 0.0\n".as_slice());
+    let entry = entry_of_a().ok_or("an entry")?;
+    assert!(rt; holds_with(alloc, |hoard| is_first_committed(alloc, hoard, entry)));
     Ok(())
 }

@@ -309,3 +309,14 @@ impl Hoard {
         false
     }
 }
+
+/// Whether this holds with a hoard, or the heap is one that has none.
+pub(crate) fn holds_with<F: FnMut(&mut Hoard) -> bool>(alloc: Global, mut test: F) -> bool
+    requires { F.IsAlwaysCallable test }
+{
+    match Hoard::new(alloc) {
+        Ok(Some(mut hoard)) => test(&mut hoard),
+        Ok(None) => true,
+        Err(_) => false,
+    }
+}

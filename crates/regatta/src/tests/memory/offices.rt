@@ -1,24 +1,19 @@
 //! The calls of an office.
 ghost use Rattle.std.specs.Prelude.{◌≡◌};
 
-use super::super::offices::{answered, two_seats};
+use super::super::offices::{opened_office, two_seats};
+use super::super::sessions::place_of;
 use super::*;
 use regatta_office::{
     Office, OfficeName, OpenFault, Opened, Pass, Receipt, ShowFault, answer_alone,
 };
 use regatta_tables::write_entries;
-use regatta_terms::{Command, Line, Refusal, Role, Sail};
+use regatta_terms::{Command, Line, Refusal, Role};
 use std::marker::Brand;
 use std::sync::Wait;
 
 /// How often a SHOW of one entry is refused at least.
 const SHOWN: u32 = 1500;
-
-/// The command that enters A.
-fn enter_a() -> Option<Command> {
-    let sail = Sail::read(b"A")?;
-    Some(Command::Enter { sail })
-}
 
 /// Why an office of two seats isn't opened.
 fn open_fault<R: Wait + Drop>(
@@ -38,17 +33,20 @@ fn opens<R: Wait + Drop>(rt: R, alloc: Global, rules: &Rules, start: &[Entry]) -
     }
 }
 
-#[test]
-fn opening_wants_memory(rt: HostRuntime) -> Result<(), Fail> {
-    let alloc = rt.alloc();
-    let start = journal_of(alloc, b"1 1 SCORER ENTER A\n")?;
-    let rules = default_rules();
-    let Some(mut hoard) = Hoard::new(alloc)? else {
-        return Ok(());
+/// Whether an office with one entry to begin from is opened, with each growth refused first.
+fn is_opening_refused<R: Wait>(rt: &R, alloc: Global, hoard: &mut Hoard) -> bool {
+    let Some(entry) = entry_of_a() else {
+        return false;
     };
+    let rules = default_rules();
     let steps = Steps::of_journals(16_384);
-    assert!(rt; hoard.refuses(3500, steps, || opens(&rt, alloc, &rules, start.as_slice())));
-    Ok(())
+    hoard.refuses(3500, steps, || opens(rt, alloc, &rules, &[entry]))
+}
+
+#[test]
+fn opening_wants_memory(rt: HostRuntime) {
+    let alloc = rt.alloc();
+    assert!(rt; holds_with(alloc, |hoard| is_opening_refused(&rt, alloc, hoard)));
 }
 
 /// How many passes an office is split into.
@@ -69,52 +67,53 @@ fn split_with<N: OfficeName, H: Wait + Drop>(
     requires history { opened.history ≡ N.history }
     requires rules { opened.rules ≡ N.rules }
 {
-    if !hoard.leave(bytes) {
-        return Told::Other;
-    }
+    let is_left = hoard.leave(bytes);
     let made = passes_made::<N, H>(opened);
     hoard.give_back();
     match made {
-        Some(passes) => ordinary_if(passes == 2),
-        None => Told::Wanting,
+        Some(passes) => ordinary_if(is_left && passes == 2),
+        None => wanting_if(is_left),
     }
+}
+
+/// What splitting an office that was just opened tells with so many bytes left.
+fn splits<R: Wait>(rt: &R, alloc: Global, hoard: &mut Hoard, bytes: usize) -> Told {
+    match opened_office(rt, alloc, 2) {
+        Some(opened) => split_with::<Brand, _>(hoard, bytes, opened),
+        None => Told::Other,
+    }
+}
+
+/// Whether an office is split, with each growth refused first.
+fn is_splitting_refused<R: Wait>(rt: &R, alloc: Global, hoard: &mut Hoard) -> bool {
+    for turn in 0..MOST_RUNS {
+        let told = splits(rt, alloc, hoard, SMALL_STEPS.bytes(turn));
+        if let Some(passed) = hoard.verdict(told, 25) {
+            return passed;
+        }
+    }
+    false
 }
 
 #[test]
-fn splitting_wants_memory(rt: HostRuntime) -> Result<(), Fail> {
+fn splitting_wants_memory(rt: HostRuntime) {
     let alloc = rt.alloc();
-    let rules = default_rules();
-    let Some(mut hoard) = Hoard::new(alloc)? else {
-        return Ok(());
-    };
-    let mut passed = None;
-    for run in 0..MOST_RUNS {
-        let opened = Office::open(&rt, alloc, &rules, 2, &[])?;
-        let told = split_with::<Brand, _>(&mut hoard, SMALL_STEPS.bytes(run), opened);
-        passed = hoard.verdict(told, 25);
-        if passed.is_some() {
-            break;
-        }
-    }
-    assert_eq!(rt; passed, Some(true));
-    Ok(())
+    assert!(rt; holds_with(alloc, |hoard| is_splitting_refused(&rt, alloc, hoard)));
 }
 
-/// The receipt for A, entered through the lock with so many bytes left.
+/// The place of A in the journal, entered through the lock with so many bytes left.
 fn enter_with<N: OfficeName, H: Wait + Drop, R: Wait>(
     rt: &R,
     hoard: &mut Hoard,
     bytes: usize,
     office: &Office<N, H>,
     pass: &mut Pass<N>,
-) -> Option<Result<Receipt<N>, Refusal>> {
+) -> Option<Result<u32, Refusal>> {
     let command = enter_a()?;
-    if !hoard.leave(bytes) {
-        return None;
-    }
-    let answer = answered(rt, office, pass, command);
+    let is_left = hoard.leave(bytes);
+    let place = place_of(rt, office, pass, command);
     hoard.give_back();
-    Some(answer)
+    is_left.then_some(place)
 }
 
 /// How many entries are shown to this pass.
@@ -144,10 +143,10 @@ fn entering_tells<N: OfficeName, H: Wait + Drop, R: Wait>(
     passes: (&mut Pass<N>, &mut Pass<N>),
 ) -> Option<Told> {
     let (first, second) = passes;
-    let answer = enter_with(rt, hoard, bytes, office, first)?;
+    let place = enter_with(rt, hoard, bytes, office, first)?;
     let seen = entries_seen(rt, office, second)?;
-    Some(match answer {
-        Ok(receipt) => ordinary_if(receipt.place() == 1 && first.last() == 1 && seen == (1, 1)),
+    Some(match place {
+        Ok(place) => ordinary_if(place == 1 && first.last() == 1 && seen == (1, 1)),
         Err(Refusal::NoMemory) => wanting_if(first.last() == 0 && seen == (0, 0)),
         Err(_) => Told::Other,
     })
@@ -165,29 +164,41 @@ fn is_entered<N: OfficeName, H: Wait + Drop, R: Wait>(
     is_written && text.as_slice() == b"1 1 SCORER ENTER A\n".as_slice()
 }
 
-/// Whether seat 1 enters A, with each growth refused first, and what the other pass shows then.
+/// Whether seat 1 enters A, with each growth refused first.
+fn is_entering_refused<N: OfficeName, H: Wait + Drop, R: Wait>(
+    rt: &R,
+    hoard: &mut Hoard,
+    office: &Office<N, H>,
+    first: &mut Pass<N>,
+    second: &mut Pass<N>,
+) -> bool {
+    for turn in 0..MOST_RUNS {
+        let bytes = SMALL_STEPS.bytes(turn);
+        let told = entering_tells(rt, hoard, bytes, office, (&mut *first, &mut *second));
+        if let Some(passed) = hoard.verdict(told.unwrap_or(Told::Other), 400) {
+            return passed;
+        }
+    }
+    false
+}
+
+/// Whether seat 1 enters A, and the other seat is shown her, with each growth refused first.
 fn enter_at<N: OfficeName, H: Wait + Drop, R: Wait>(
     rt: &R,
     alloc: Global,
     hoard: &mut Hoard,
     opened: Opened<H>,
-) -> Option<bool>
+) -> bool
     requires history { opened.history ≡ N.history }
     requires rules { opened.rules ≡ N.rules }
 {
-    let (office, mut first, mut second) = two_seats::<N, H>(opened)?;
-    let mut is_refused = false;
-    for run in 0..MOST_RUNS {
-        let bytes = SMALL_STEPS.bytes(run);
-        let told = entering_tells(rt, hoard, bytes, &office, (&mut first, &mut second))?;
-        if let Some(passed) = hoard.verdict(told, 400) {
-            is_refused = passed;
-            break;
-        }
-    }
+    let Some((office, mut first, mut second)) = two_seats::<N, H>(opened) else {
+        return false;
+    };
+    let is_refused = is_entering_refused(rt, hoard, &office, &mut first, &mut second);
     let steps = Steps::of_journals(16_384);
     let is_shown = hoard.refuses(SHOWN, steps, || shows(&mut second));
-    Some(is_refused && is_shown && is_entered(rt, alloc, &office))
+    is_refused && is_shown && is_entered(rt, alloc, &office)
 }
 
 /// What showing one entry tells.
@@ -198,18 +209,20 @@ fn shows<N: OfficeName>(pass: &mut Pass<N>) -> Told {
     }
 }
 
+/// The same, at an office that is opened for it.
+fn is_a_command_refused<R: Wait>(rt: &R, alloc: Global, hoard: &mut Hoard) -> bool {
+    match opened_office(rt, alloc, 2) {
+        Some(opened) => enter_at::<Brand, _, _>(rt, alloc, hoard, opened),
+        None => false,
+    }
+}
+
 /// Behind each refusal the desk has no entry, the seat has sent none, and the other seat is shown
 /// none.
 #[test]
-fn a_command_wants_memory(rt: HostRuntime) -> Result<(), Fail> {
+fn a_command_wants_memory(rt: HostRuntime) {
     let alloc = rt.alloc();
-    let opened = Office::open(&rt, alloc, &default_rules(), 2, &[])?;
-    let Some(mut hoard) = Hoard::new(alloc)? else {
-        return Ok(());
-    };
-    let entered = enter_at::<Brand, _, _>(&rt, alloc, &mut hoard, opened);
-    assert_eq!(rt; entered, Some(true));
-    Ok(())
+    assert!(rt; holds_with(alloc, |hoard| is_a_command_refused(&rt, alloc, hoard)));
 }
 
 /// What an answer tells: it is wanting where there is no room for a reply, or where it is `NO 1`.
@@ -252,34 +265,62 @@ fn pass_answers<N: OfficeName>(pass: &mut Pass<N>, out: &mut Vec<u8>) -> Told {
     replied(answer.is_ok(), out, SHEET)
 }
 
+/// Whether the desk answers a command, with each growth refused first.
+fn is_desk_refused<N: OfficeName, H: Wait + Drop, R: Wait>(
+    rt: &R,
+    alloc: Global,
+    hoard: &mut Hoard,
+    office: &Office<N, H>,
+    pass: &mut Pass<N>,
+) -> bool {
+    let Some(command) = enter_a() else {
+        return false;
+    };
+    let mut reply = Vec::new(alloc);
+    hoard.refuses(
+        400,
+        SMALL_STEPS,
+        || desk_answers(rt, office, pass, command, &mut reply),
+    )
+}
+
+/// Whether a pass answers SHOW, with each growth refused first.
+fn is_pass_refused<N: OfficeName>(alloc: Global, hoard: &mut Hoard, pass: &mut Pass<N>) -> bool {
+    let mut sheet = Vec::new(alloc);
+    hoard.refuses(
+        SHOWN,
+        Steps::of_journals(16_384),
+        || pass_answers(pass, &mut sheet),
+    )
+}
+
 /// Whether lines are answered, with each growth refused first.
 fn answers_at<N: OfficeName, H: Wait + Drop, R: Wait>(
     rt: &R,
     alloc: Global,
     hoard: &mut Hoard,
     opened: Opened<H>,
-) -> Option<bool>
+) -> bool
     requires history { opened.history ≡ N.history }
     requires rules { opened.rules ≡ N.rules }
 {
-    let command = enter_a()?;
-    let (office, mut first, mut second) = two_seats::<N, H>(opened)?;
-    let (mut reply, mut sheet) = (Vec::new(alloc), Vec::new(alloc));
-    let by_desk = hoard.refuses(400, SMALL_STEPS, || {
-        desk_answers(rt, &office, &mut first, command, &mut reply)
-    });
-    let steps = Steps::of_journals(16_384);
-    Some(by_desk && hoard.refuses(SHOWN, steps, || pass_answers(&mut second, &mut sheet)))
+    let Some((office, mut first, mut second)) = two_seats::<N, H>(opened) else {
+        return false;
+    };
+    is_desk_refused(rt, alloc, hoard, &office, &mut first)
+        && is_pass_refused(alloc, hoard, &mut second)
+}
+
+/// The same, at an office that is opened for it.
+fn are_answers_refused<R: Wait>(rt: &R, alloc: Global, hoard: &mut Hoard) -> bool {
+    match opened_office(rt, alloc, 2) {
+        Some(opened) => answers_at::<Brand, _, _>(rt, alloc, hoard, opened),
+        None => false,
+    }
 }
 
 #[test]
-fn answers_want_memory(rt: HostRuntime) -> Result<(), Fail> {
+fn answers_want_memory(rt: HostRuntime) {
     let alloc = rt.alloc();
-    let opened = Office::open(&rt, alloc, &default_rules(), 2, &[])?;
-    let Some(mut hoard) = Hoard::new(alloc)? else {
-        return Ok(());
-    };
-    let answered = answers_at::<Brand, _, _>(&rt, alloc, &mut hoard, opened);
-    assert_eq!(rt; answered, Some(true));
-    Ok(())
+    assert!(rt; holds_with(alloc, |hoard| are_answers_refused(&rt, alloc, hoard)));
 }

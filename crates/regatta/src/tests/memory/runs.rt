@@ -1,10 +1,12 @@
 //! Tapes, replays, sessions, serving and the program.
 ghost use Rattle.std.specs.Prelude.{◌≡◌};
 
+use super::super::offices::{one_seat, opened_office};
 use super::super::wires::{Wires, count, wire_of};
 use super::*;
 use regatta_office::{
-    End, Form, Office, OfficeName, OpenGate, Opened, RunFault, ServeFault, replay, serve, session,
+    End, Form, Office, OfficeName, OpenGate, Opened, Pass, RunFault, ServeFault, replay, serve,
+    session,
 };
 use std::fs::Files;
 use std::io::Read;
@@ -66,61 +68,73 @@ struct Words<'a> {
     complaint: &'a [u8],
 }
 
-/// What the program tells. Behind a refusal whole replies were written, and nothing else.
-fn runs<R>(rt: &R, call: &Words<'_>) -> Told
-where
-    R: Files + AllocGlobal + Threads + Wait + Net + Sync,
-{
-    let alloc = rt.alloc();
-    let (Ok(mut input), Ok(mut output)) = (tape(alloc, LINES, 0), tape(alloc, b"", 4000)) else {
-        return Told::Wanting;
-    };
-    let Ok(mut errors) = tape(alloc, b"", 400) else {
-        return Told::Wanting;
-    };
-    let status = status_of(rt, call.words, &mut input, &mut output, &mut errors);
-    let (written, said) = (output.written(), errors.written());
+/// The tapes of a run of the program: its input, its output, and what it says.
+fn tapes(alloc: Global) -> Result<(Tape, Tape, Tape), AllocError> {
+    let input = tape(alloc, LINES, 0)?;
+    let output = tape(alloc, b"", 4000)?;
+    let errors = tape(alloc, b"", 400)?;
+    Ok((input, output, errors))
+}
+
+/// What a run of the program tells, by its status, what it wrote, and what it said. Behind a refusal
+/// whole replies were written, and nothing else.
+fn run_tells(call: &Words<'_>, status: u8, written: &[u8], said: &[u8]) -> Told {
     if status == 3 && said == b"regatta: no memory\n".as_slice() {
         return wanting_if(are_first_replies(written));
     }
     ordinary_if(status == call.status && written == call.output && said == call.complaint)
 }
 
-#[test]
-fn replays_want_memory(rt: HostRuntime) -> Result<(), Fail> {
-    let alloc = rt.alloc();
-    let Some(mut hoard) = Hoard::new(alloc)? else {
-        return Ok(());
+/// What the program tells.
+fn runs<R>(rt: &R, call: &Words<'_>) -> Told
+where
+    R: Files + AllocGlobal + Threads + Wait + Net + Sync,
+{
+    let Ok((mut input, mut output, mut errors)) = tapes(rt.alloc()) else {
+        return Told::Wanting;
     };
-    assert!(rt; hoard.refuses(11, SMALL_STEPS, || tells(makes_tape(alloc))));
-    let steps = Steps::of_journals(16_384);
-    assert!(rt; hoard.refuses(1800, steps, || replays(alloc)));
-    Ok(())
+    let status = status_of(rt, call.words, &mut input, &mut output, &mut errors);
+    run_tells(call, status, output.written(), errors.written())
+}
+
+/// Whether a tape is made and the lines are replayed, with each growth refused first.
+fn are_replays_refused(alloc: Global, hoard: &mut Hoard) -> bool {
+    hoard.refuses(11, SMALL_STEPS, || tells(makes_tape(alloc)))
+        && hoard.refuses(1800, Steps::of_journals(16_384), || replays(alloc))
+}
+
+#[test]
+fn replays_want_memory(rt: HostRuntime) {
+    let alloc = rt.alloc();
+    assert!(rt; holds_with(alloc, |hoard| are_replays_refused(alloc, hoard)));
 }
 
 /// A path at which no socket can be made.
 const NOWHERE: &str = "/no/such/folder/race.sock";
 
 /// Whether a run of the program is refused at least so often before it meets no refusal.
-fn is_refused<R>(rt: &R, least: u32, call: Words<'_>) -> Result<bool, Fail>
+fn are_runs_refused<R>(rt: &R, hoard: &mut Hoard, least: u32, call: &Words<'_>) -> bool
 where
     R: Files + AllocGlobal + Threads + Wait + Net + Sync,
 {
-    let Some(mut hoard) = Hoard::new(rt.alloc())? else {
-        return Ok(true);
-    };
     let steps = Steps::of_journals(32_768);
-    for run in 0..MOST_RUNS {
-        if !hoard.leave(steps.bytes(run)) {
-            return Ok(false);
-        }
-        let told = runs(rt, &call);
+    for turn in 0..MOST_RUNS {
+        let is_left = hoard.leave(steps.bytes(turn));
+        let told = runs(rt, call);
         hoard.give_back();
         if let Some(passed) = hoard.verdict(told, least) {
-            return Ok(passed);
+            return is_left && passed;
         }
     }
-    Ok(false)
+    false
+}
+
+/// The same, with a hoard.
+fn is_refused<R>(rt: &R, least: u32, call: &Words<'_>) -> bool
+where
+    R: Files + AllocGlobal + Threads + Wait + Net + Sync,
+{
+    holds_with(rt.alloc(), |hoard| are_runs_refused(rt, hoard, least, call))
 }
 
 #[test]
@@ -132,58 +146,81 @@ fn the_program_wants_memory(rt: HostRuntime) -> Result<(), Fail> {
         output: &output,
         complaint: b"",
     };
-    assert!(rt; is_refused(&rt, 3700, call)?);
+    assert!(rt; is_refused(&rt, 3700, &call));
     Ok(())
+}
+
+/// What the program writes where it is asked for help.
+fn help<R>(rt: &R) -> Result<Tape, AllocError>
+where
+    R: Files + AllocGlobal + Threads + Wait + Net + Sync,
+{
+    let (mut input, mut output, mut errors) = tapes(rt.alloc())?;
+    let _ = status_of(rt, &["--help"], &mut input, &mut output, &mut errors);
+    Ok(output)
 }
 
 #[test]
 fn help_wants_memory(rt: HostRuntime) -> Result<(), Fail> {
-    let (mut input, mut output) = (giving(rt.alloc(), b"", 7)?, taking(rt.alloc(), 4000)?);
-    let mut errors = taking(rt.alloc(), 400)?;
-    let status = status_of(&rt, &["--help"], &mut input, &mut output, &mut errors);
+    let help = help(&rt)?;
     let call = Words {
         words: &["--help"],
         status: 0,
-        output: output.written(),
+        output: help.written(),
         complaint: b"",
     };
-    assert_eq!(rt; status, 0);
-    assert!(rt; is_refused(&rt, 1900, call)?);
+    assert!(rt; is_refused(&rt, 1900, &call));
     Ok(())
 }
 
 /// The words of serving are read, and an office is opened and split, ahead of the socket.
 #[test]
-fn a_program_that_serves_wants_memory(rt: HostRuntime) -> Result<(), Fail> {
+fn a_program_that_serves_wants_memory(rt: HostRuntime) {
     let call = Words {
         words: &["serve", "--socket", NOWHERE, "--clients", "2"],
         status: 3,
         output: b"",
         complaint: b"regatta: device fault\n",
     };
-    assert!(rt; is_refused(&rt, 7900, call)?);
-    Ok(())
+    assert!(rt; is_refused(&rt, 7900, &call));
 }
 
-/// What a session tells with so many bytes left, at an office that was just opened.
+/// What a session tells with so many bytes left.
+fn session_told<N: OfficeName, H: Wait + Drop, R: Wait>(
+    rt: &R,
+    alloc: Global,
+    hoard: &mut Hoard,
+    bytes: usize,
+    seat: (&Office<N, H>, &mut Pass<N>),
+    tape: &mut Tape,
+) -> Told {
+    let (office, pass) = seat;
+    let is_left = hoard.leave(bytes);
+    let end = session(rt, alloc, tape, office, pass, &OpenGate);
+    hoard.give_back();
+    if !is_left {
+        return Told::Other;
+    }
+    session_tells(end, tape.written(), pass.last())
+}
+
+/// The same, at an office that was just opened.
 fn session_with<N: OfficeName, H: Wait + Drop, R: Wait>(
     rt: &R,
     alloc: Global,
     hoard: &mut Hoard,
     bytes: usize,
     opened: Opened<H>,
-) -> Result<Told, Fail>
+    tape: &mut Tape,
+) -> Told
     requires { (opened.history ≡ N.history) × (opened.rules ≡ N.rules) }
 {
-    let (office, mut passes) = opened.split::<N>()?;
-    let mut pass = passes.pop().ok_or("a pass")?;
-    let mut tape = Tape::new(alloc, b"ENTER A\nSHOW\nQUIT\n", 100, 1000, 1000)?;
-    if !hoard.leave(bytes) {
-        return Ok(Told::Other);
+    match one_seat::<N, H>(opened) {
+        Some((office, mut pass)) => {
+            session_told(rt, alloc, hoard, bytes, (&office, &mut pass), tape)
+        }
+        None => Told::Other,
     }
-    let end = session(rt, alloc, &mut tape, &office, &mut pass, &OpenGate);
-    hoard.give_back();
-    Ok(session_tells(end, tape.written(), pass.last()))
 }
 
 /// What a client is sent where no memory is wanting.
@@ -211,24 +248,33 @@ fn session_tells(end: End, written: &[u8], last: u32) -> Told {
     })
 }
 
-#[test]
-fn sessions_want_memory(rt: HostRuntime) -> Result<(), Fail> {
-    let alloc = rt.alloc();
-    let Some(mut hoard) = Hoard::new(alloc)? else {
-        return Ok(());
+/// What a session tells with so many bytes left, at an office that is opened for it.
+fn session_at<R: Wait>(rt: &R, alloc: Global, hoard: &mut Hoard, bytes: usize) -> Told {
+    let Ok(mut tape) = Tape::new(alloc, b"ENTER A\nSHOW\nQUIT\n", 100, 1000, 1000) else {
+        return Told::Other;
     };
+    match opened_office(rt, alloc, 1) {
+        Some(opened) => session_with::<Brand, _, _>(rt, alloc, hoard, bytes, opened, &mut tape),
+        None => Told::Other,
+    }
+}
+
+/// Whether a session is held, with each growth refused first.
+fn is_a_session_refused<R: Wait>(rt: &R, alloc: Global, hoard: &mut Hoard) -> bool {
     let steps = Steps::of_journals(16_384);
-    let mut passed = None;
-    for run in 0..MOST_RUNS {
-        let opened = Office::open(&rt, alloc, &default_rules(), 1, &[])?;
-        let told = session_with::<Brand, _, _>(&rt, alloc, &mut hoard, steps.bytes(run), opened)?;
-        passed = hoard.verdict(told, 1900);
-        if passed.is_some() {
-            break;
+    for turn in 0..MOST_RUNS {
+        let told = session_at(rt, alloc, hoard, steps.bytes(turn));
+        if let Some(passed) = hoard.verdict(told, 1900) {
+            return passed;
         }
     }
-    assert_eq!(rt; passed, Some(true));
-    Ok(())
+    false
+}
+
+#[test]
+fn sessions_want_memory(rt: HostRuntime) {
+    let alloc = rt.alloc();
+    assert!(rt; holds_with(alloc, |hoard| is_a_session_refused(&rt, alloc, hoard)));
 }
 
 /// How serving one client ends with so many bytes left, at an office that was just opened, and
@@ -268,33 +314,66 @@ where
     Ok((back, if is_read { Some(replies) } else { None }))
 }
 
+/// The same, at an office that is opened for it.
+fn serve_once<R: Threads + Wait + Net + Sync>(
+    rt: &R,
+    alloc: Global,
+    hoard: &mut Option<Hoard>,
+    bytes: usize,
+) -> Result<(Result<usize, ServeFault>, Option<Vec<u8>>), Fail> {
+    let opened = opened_office(rt, alloc, 1).ok_or("an office")?;
+    serve_with::<Brand, _, _>(rt, alloc, hoard, bytes, opened)
+}
+
+/// The fault by which serving ends with so many bytes left, where its client is sent nothing.
+fn silent_fault<R: Threads + Wait + Net + Sync>(
+    rt: &R,
+    alloc: Global,
+    hoard: &mut Option<Hoard>,
+    bytes: usize,
+) -> Result<Option<ServeFault>, Fail> {
+    let (back, replies) = serve_once(rt, alloc, hoard, bytes)?;
+    let is_silent = replies.is_none_or(|replies| replies.is_empty());
+    Ok(match back {
+        Err(fault) if is_silent => Some(fault),
+        _ => None,
+    })
+}
+
+/// Whether serving is refused its memory, and then its thread, with each growth refused first.
+fn is_serving_refused<R: Threads + Wait + Net + Sync>(
+    rt: &R,
+    alloc: Global,
+    hoard: &mut Option<Hoard>,
+) -> Result<bool, Fail> {
+    let (mut memory, mut threads) = (0u32, 0u32);
+    for turn in 0..512 {
+        match silent_fault(rt, alloc, hoard, SMALL_STEPS.bytes(turn))? {
+            Some(ServeFault::NoMemory) => memory = memory.saturating_add(1),
+            Some(ServeFault::Thread) => threads = threads.saturating_add(1),
+            _ => return Ok(false),
+        }
+    }
+    Ok(3 < memory && 100 < threads)
+}
+
+/// Whether one client is served where memory is ample.
+fn is_served<R: Threads + Wait + Net + Sync>(rt: &R, alloc: Global) -> Result<bool, Fail> {
+    let (back, replies) = serve_once(rt, alloc, &mut None, 0)?;
+    let is_answered = replies.is_some_and(|text| text.as_slice() == b"OK 1 1 0.0\n".as_slice());
+    Ok(back == Ok(1) && is_answered)
+}
+
 /// Where all memory is taken, no thread is to be had, so that no session begins whose memory could
 /// be wanting. With ample memory the client is served.
 #[test]
 fn serving_wants_memory(rt: HostRuntime) -> Result<(), Fail> {
     let alloc = rt.alloc();
     let mut hoard = Hoard::new(alloc)?;
-    if hoard.is_none() {
-        return Ok(());
+    if hoard.is_some() {
+        assert!(rt; is_serving_refused(&rt, alloc, &mut hoard)?);
     }
-    let mut refusals = (0u32, 0u32);
-    for run in 0..512 {
-        let opened = Office::open(&rt, alloc, &default_rules(), 1, &[])?;
-        let bytes = SMALL_STEPS.bytes(run);
-        let served = serve_with::<Brand, _, _>(&rt, alloc, &mut hoard, bytes, opened)?;
-        assert!(rt; served.1.is_none_or(|replies| replies.is_empty()));
-        match served.0 {
-            Err(ServeFault::NoMemory) => refusals.0 = refusals.0.saturating_add(1),
-            Err(ServeFault::Thread) => refusals.1 = refusals.1.saturating_add(1),
-            _ => return Err(Fail::new("another answer")),
-        }
-    }
-    assert!(rt; 3 < refusals.0 && 100 < refusals.1);
-    hoard = None;
-    let opened = Office::open(&rt, alloc, &default_rules(), 1, &[])?;
-    let served = serve_with::<Brand, _, _>(&rt, alloc, &mut hoard, 0, opened)?;
-    assert_eq!(rt; served.0, Ok(1));
-    let replies = served.1.ok_or("replies")?;
-    assert_eq!(rt; replies.as_slice(), b"OK 1 1 0.0\n".as_slice());
+    drop(hoard);
+    assert!(rt; is_served(&rt, alloc)?);
     Ok(())
 }

@@ -66,27 +66,49 @@ fn changed_with(
     Some(changed)
 }
 
+/// Whether these are the points of the sheet's boats, and there is memory to tell.
+fn has_points(alloc: Global, sheet: &RaceSheet, wanted: [u32; 3]) -> bool {
+    match are_points(alloc, sheet, wanted) {
+        Ok(is_due) => is_due,
+        Err(_) => false,
+    }
+}
+
+/// What a change tells with so many bytes left: the boats then have these points.
+fn changes(
+    alloc: Global,
+    hoard: &mut Hoard,
+    bytes: usize,
+    sheet: &RaceSheet,
+    change: &Change,
+    wanted: [u32; 3],
+) -> Told
+    requires { Allows sheet.now change.now }
+{
+    match changed_with(hoard, bytes, sheet, *change) {
+        Some(Ok(next)) => ordinary_if(has_points(alloc, &next, wanted)),
+        Some(Err(_)) => Told::Wanting,
+        None => Told::Other,
+    }
+}
+
 /// Whether a change is made, with each growth refused first, and the boats then have these points.
 fn is_changed(
     alloc: Global,
     hoard: &mut Hoard,
     sheet: &RaceSheet,
-    change: Change,
+    change: &Change,
     wanted: [u32; 3],
-) -> Result<bool, AllocError>
-    requires { Allows sheet.now change }
+) -> bool
+    requires { Allows sheet.now change.now }
 {
-    for run in 0..MOST_RUNS {
-        let told = match changed_with(hoard, SMALL_STEPS.bytes(run), sheet, change) {
-            Some(Ok(next)) => ordinary_if(are_points(alloc, &next, wanted)?),
-            Some(Err(_)) => Told::Wanting,
-            None => Told::Other,
-        };
+    for turn in 0..MOST_RUNS {
+        let told = changes(alloc, hoard, SMALL_STEPS.bytes(turn), sheet, change, wanted);
         if let Some(passed) = hoard.verdict(told, 4) {
-            return Ok(passed);
+            return passed;
         }
     }
-    Ok(false)
+    false
 }
 
 /// The first of three boats has finished.
@@ -97,36 +119,54 @@ fn one_finished(alloc: Global) -> Result<RaceSheet, AllocError>
     blank.after(Change::Last { boat: 0 })
 }
 
-/// Whether a boat is added, finishes, and is placed by her corrected time (RRS A3).
-fn first_changes(alloc: Global, hoard: &mut Hoard) -> Result<bool, AllocError> {
-    let (two, three) = (RaceSheet::new(alloc, 2)?, RaceSheet::new(alloc, 3)?);
-    let seconds = Seconds::new(3600).unwrap();
-    let last = Change::Last { boat: 0 };
-    let timed = Change::Timed { boat: 0, seconds };
-    Ok(
-        is_changed(alloc, hoard, &two, Change::AddBoat, [40, 40, 40])?
-            && is_changed(alloc, hoard, &three, last, [10, 40, 40])?
-            && is_changed(alloc, hoard, &three, timed, [10, 40, 40])?,
-    )
+/// Whether a boat is added.
+fn is_added(alloc: Global, hoard: &mut Hoard) -> bool {
+    match RaceSheet::new(alloc, 2) {
+        Ok(two) => is_changed(alloc, hoard, &two, &Change::AddBoat, [40, 40, 40]),
+        Err(_) => false,
+    }
 }
 
-/// Whether, behind one who finished, a boat ties with her and goes ahead of her, and she goes out
-/// and has a penalty (RRS A7, 44.3(c)).
-fn later_changes(alloc: Global, hoard: &mut Hoard) -> Result<bool, AllocError> {
-    let first = one_finished(alloc)?;
+/// Whether a boat finishes, and is placed by her corrected time (RRS A3).
+fn is_placed(alloc: Global, hoard: &mut Hoard) -> bool {
+    let seconds = Seconds::new(3600).unwrap();
+    let (last, timed) = (Change::Last { boat: 0 }, Change::Timed { boat: 0, seconds });
+    match RaceSheet::new(alloc, 3) {
+        Ok(three) => {
+            is_changed(alloc, hoard, &three, &last, [10, 40, 40])
+                && is_changed(alloc, hoard, &three, &timed, [10, 40, 40])
+        }
+        Err(_) => false,
+    }
+}
+
+/// Whether, behind one who finished, a boat ties with her or goes ahead of her (RRS A7).
+fn is_joined(alloc: Global, hoard: &mut Hoard) -> bool {
+    let joined = Change::Join { boat: 1, other: 0 };
+    let ahead = Change::Ahead { boat: 1, other: 0 };
+    match one_finished(alloc) {
+        Ok(first) => {
+            is_changed(alloc, hoard, &first, &joined, [15, 15, 40])
+                && is_changed(alloc, hoard, &first, &ahead, [20, 10, 40])
+        }
+        Err(_) => false,
+    }
+}
+
+/// Whether the one who finished goes out of the order, or has a penalty (RRS 44.3(c)).
+fn is_out_or_held(alloc: Global, hoard: &mut Hoard) -> bool {
     let held = Held {
         scp: 1,
         ..NOTHING_HELD
     };
-    let joined = Change::Join { boat: 1, other: 0 };
-    let ahead = Change::Ahead { boat: 1, other: 0 };
     let hold = Change::Hold { boat: 0, held };
-    Ok(
-        is_changed(alloc, hoard, &first, joined, [15, 15, 40])?
-            && is_changed(alloc, hoard, &first, ahead, [20, 10, 40])?
-            && is_changed(alloc, hoard, &first, Change::Out { boat: 0 }, [40, 40, 40])?
-            && is_changed(alloc, hoard, &first, hold, [20, 40, 40])?,
-    )
+    match one_finished(alloc) {
+        Ok(first) => {
+            is_changed(alloc, hoard, &first, &Change::Out { boat: 0 }, [40, 40, 40])
+                && is_changed(alloc, hoard, &first, &hold, [20, 40, 40])
+        }
+        Err(_) => false,
+    }
 }
 
 /// A score that is handed in, one without redress, and the average of both (RRS A9).
@@ -176,36 +216,49 @@ fn are_ranks_of(alloc: Global) -> Result<bool, AllocError> {
     Ok(are_places(places.as_slice()))
 }
 
-#[test]
-fn races_want_memory(rt: HostRuntime) -> Result<(), Fail> {
-    let alloc = rt.alloc();
-    let first = one_finished(alloc)?;
-    let Some(mut hoard) = Hoard::new(alloc)? else {
-        return Ok(());
+/// Whether a sheet is made, and a race scored, with each growth refused first.
+fn are_races_refused(alloc: Global, hoard: &mut Hoard) -> bool {
+    let Ok(first) = one_finished(alloc) else {
+        return false;
     };
-    assert!(rt; hoard.refuses(4, SMALL_STEPS, || tells(makes_sheet(alloc))));
-    assert!(rt; first_changes(alloc, &mut hoard)?);
-    assert!(rt; later_changes(alloc, &mut hoard)?);
-    assert!(rt;
-        hoard.refuses(
+    hoard.refuses(4, SMALL_STEPS, || tells(makes_sheet(alloc)))
+        && hoard.refuses(
             4,
             SMALL_STEPS,
-            || tells(are_points(alloc, &first, [10, 40, 40]))
+            || tells(are_points(alloc, &first, [10, 40, 40])),
         )
-    );
-    assert!(rt; hoard.refuses(4, SMALL_STEPS, || tells(are_scores(alloc, &first))));
-    Ok(())
+        && hoard.refuses(4, SMALL_STEPS, || tells(are_scores(alloc, &first)))
+}
+
+/// Whether each change of a sheet is made, with each growth refused first.
+fn are_changes_refused(alloc: Global, hoard: &mut Hoard) -> bool {
+    is_added(alloc, hoard)
+        && is_placed(alloc, hoard)
+        && is_joined(alloc, hoard)
+        && is_out_or_held(alloc, hoard)
 }
 
 #[test]
-fn series_want_memory(rt: HostRuntime) -> Result<(), Fail> {
+fn races_want_memory(rt: HostRuntime) {
     let alloc = rt.alloc();
-    let Some(mut hoard) = Hoard::new(alloc)? else {
-        return Ok(());
-    };
-    assert!(rt; hoard.refuses(2, SMALL_STEPS, || tells(are_averages(alloc))));
-    assert!(rt; hoard.refuses(1, SMALL_STEPS, || tells(is_excluded(alloc))));
-    assert!(rt; hoard.refuses(7, SMALL_STEPS, || tells(are_ranks(alloc))));
-    assert!(rt; hoard.refuses(5, SMALL_STEPS, || tells(are_ranks_of(alloc))));
-    Ok(())
+    assert!(rt;
+        holds_with(
+            alloc,
+            |hoard| are_races_refused(alloc, hoard) && are_changes_refused(alloc, hoard)
+        )
+    );
+}
+
+/// Whether the steps of a series are made, with each growth refused first.
+fn are_series_refused(alloc: Global, hoard: &mut Hoard) -> bool {
+    hoard.refuses(2, SMALL_STEPS, || tells(are_averages(alloc)))
+        && hoard.refuses(1, SMALL_STEPS, || tells(is_excluded(alloc)))
+        && hoard.refuses(7, SMALL_STEPS, || tells(are_ranks(alloc)))
+        && hoard.refuses(5, SMALL_STEPS, || tells(are_ranks_of(alloc)))
+}
+
+#[test]
+fn series_want_memory(rt: HostRuntime) {
+    let alloc = rt.alloc();
+    assert!(rt; holds_with(alloc, |hoard| are_series_refused(alloc, hoard)));
 }

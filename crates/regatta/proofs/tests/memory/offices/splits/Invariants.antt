@@ -1,4 +1,4 @@
-use Rattle.regatta.proofs.tests.memory.offices.splitting_wants_memory.Given as goal
+use Rattle.regatta.proofs.tests.memory.offices.splits.Given as goal
 
 -- the office that was just opened
 abbrev pub ghosts-split_with : goal.ghosts-split_with

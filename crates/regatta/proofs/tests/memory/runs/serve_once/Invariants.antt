@@ -1,4 +1,4 @@
-use Rattle.regatta.proofs.tests.memory.runs.serving_wants_memory.Given as goal
+use Rattle.regatta.proofs.tests.memory.runs.serve_once.Given as goal
 
 -- the office that was just opened
 abbrev pub ghosts-serve_with : goal.ghosts-serve_with

@@ -1,4 +1,4 @@
-use Rattle.regatta.proofs.tests.memory.offices.answers_want_memory.Given as goal
+use Rattle.regatta.proofs.tests.memory.offices.are_answers_refused.Given as goal
 
 -- the office that was just opened
 abbrev pub ghosts-answers_at : goal.ghosts-answers_at

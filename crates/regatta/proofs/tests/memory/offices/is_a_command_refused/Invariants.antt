@@ -1,4 +1,4 @@
-use Rattle.regatta.proofs.tests.memory.offices.a_command_wants_memory.Given as goal
+use Rattle.regatta.proofs.tests.memory.offices.is_a_command_refused.Given as goal
 
 -- the office that was just opened
 abbrev pub ghosts-enter_at : goal.ghosts-enter_at
