@@ -2,7 +2,7 @@ ghost use Rattle.std.specs.Prelude.{◌<◌};
 
 use regatta_office::{Tape, program};
 use regatta_terms::{Absent, Entry, Rules};
-use std::alloc::Global;
+use std::alloc::{AllocError, Global};
 use std::fs::Files;
 use std::net::Net;
 use std::sync::Wait;
@@ -21,12 +21,12 @@ fn default_rules() -> Rules {
 }
 
 /// The same byte so many times.
-fn repeated(alloc: Global, byte: u8, count: usize) -> Result<Vec<u8>, Fail> {
-    Ok(vec![in alloc; byte; count]?)
+fn repeated(alloc: Global, byte: u8, count: usize) -> Result<Vec<u8>, AllocError> {
+    vec![in alloc; byte; count]
 }
 
 /// These parts, one behind the other.
-fn joined(alloc: Global, parts: &[&[u8]]) -> Result<Vec<u8>, Fail> {
+fn joined(alloc: Global, parts: &[&[u8]]) -> Result<Vec<u8>, AllocError> {
     let mut text = Vec::new(alloc);
     for part in parts {
         text.extend_from_slice(part)?;
@@ -34,11 +34,9 @@ fn joined(alloc: Global, parts: &[&[u8]]) -> Result<Vec<u8>, Fail> {
     Ok(text)
 }
 
-/// A tape that gives this text in pieces of so many bytes.
-fn giving(alloc: Global, text: &[u8], piece: usize) -> Result<Tape, Fail>
-    requires { 0 < piece }
-{
-    Ok(Tape::new(alloc, text, piece, 4_000_000, 0)?)
+/// A tape that gives this text and takes so many bytes.
+fn tape(alloc: Global, text: &[u8], takes: usize) -> Result<Tape, AllocError> {
+    Tape::new(alloc, text, 7, 4_000_000, takes)
 }
 
 /// A tape that gives this text in pieces of so many bytes, and fails once it gave and took so many.
@@ -48,33 +46,47 @@ fn failing(
     piece: usize,
     gives: usize,
     takes: usize,
-) -> Result<Tape, Fail>
+) -> Result<Tape, AllocError>
     requires { 0 < piece }
 {
-    Ok(Tape::new(alloc, text, piece, gives, takes)?)
+    Tape::new(alloc, text, piece, gives, takes)
 }
 
-/// A tape that takes so many bytes.
-fn taking(alloc: Global, take: usize) -> Result<Tape, Fail> {
-    Ok(Tape::new(alloc, b"", 1, 0, take)?)
+/// The streams of a run of the program over memory: what it is given, what it writes, and what it
+/// says.
+#[derive(Drop)]
+struct Streams {
+    input: Tape,
+    output: Tape,
+    errors: Tape,
 }
 
-/// The status of a run of the program over these tapes. It has no contract, so that its callers
+impl Streams {
+    /// An input of this text, an output that takes so many bytes, and room to say something.
+    fn new(alloc: Global, text: &[u8], takes: usize) -> Result<Streams, AllocError> {
+        Ok(Streams {
+            input: tape(alloc, text, 0)?,
+            output: tape(alloc, b"", takes)?,
+            errors: tape(alloc, b"", 400)?,
+        })
+    }
+
+    /// Were these written and said, and no more?
+    fn has_told(&self, written: &str, said: &str) -> bool {
+        self.output.written() == written.as_bytes() && self.errors.written() == said.as_bytes()
+    }
+}
+
+/// The status of a run of the program over these streams. It has no contract, so that its callers
 /// are proved quickly.
-fn status_of<R>(
-    rt: &R,
-    words: &[&str],
-    input: &mut Tape,
-    output: &mut Tape,
-    errors: &mut Tape,
-) -> u8
+fn status_of<R>(rt: &R, words: &[&str], streams: &mut Streams) -> u8
 where
     R: Files + AllocGlobal + Threads + Wait + Net + Sync,
 {
+    let Streams {
+        input,
+        output,
+        errors,
+    } = streams;
     program(rt, words, input, output, errors)
-}
-
-/// Whether this text was written, and no more.
-fn has_written(tape: &Tape, text: &str) -> bool {
-    tape.written() == text.as_bytes()
 }

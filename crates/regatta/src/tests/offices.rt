@@ -161,10 +161,20 @@ fn watch_untold<N: OfficeName, H: Wait + Drop, R: Wait + Abort>(
     requires rules { opened.rules ≡ N.rules }
 {
     let (office, mut first, mut second) = two_seats::<N, H>(opened)?;
-    let _ = entered(rt, &office, &mut first, b"A")?;
-    is_shown(rt, alloc, &mut second, ONE)?;
-    let _ = entered(rt, &office, &mut first, b"B")?;
-    is_shown(rt, alloc, &mut second, TWO)
+    enter_untold(rt, alloc, &office, &mut first, &mut second)
+}
+
+fn enter_untold<N: OfficeName, H: Wait + Drop, R: Wait + Abort>(
+    rt: &R,
+    alloc: Global,
+    office: &Office<N, H>,
+    first: &mut Pass<N>,
+    second: &mut Pass<N>,
+) -> Option<()> {
+    let _ = entered(rt, office, first, b"A")?;
+    is_shown(rt, alloc, second, ONE)?;
+    let _ = entered(rt, office, first, b"B")?;
+    is_shown(rt, alloc, second, TWO)
 }
 
 /// Both seats show while the desk is held, seat 2 once it has learnt what seat 1 ran, and the desk
@@ -180,11 +190,22 @@ fn show_beside_a_guard<N: OfficeName, H: Wait + Drop, R: Wait + Abort>(
     let (office, mut first, mut second) = two_seats::<N, H>(opened)?;
     let receipt = entered(rt, &office, &mut first, b"A")?;
     let mut desk = office.desk(rt);
-    is_shown(rt, alloc, &mut first, ONE)?;
-    second.learn(receipt);
-    is_shown(rt, alloc, &mut second, ONE)?;
+    let shown = show_both(rt, alloc, &mut first, &mut second, receipt);
     assert!(rt; desk.confirm(&mut first) && desk.confirm(&mut second));
-    Some(())
+    shown
+}
+
+/// Asserts that both passes are shown the first entry, the second once it has learnt the receipt.
+fn show_both<N: OfficeName, R: Abort>(
+    rt: &R,
+    alloc: Global,
+    first: &mut Pass<N>,
+    second: &mut Pass<N>,
+    receipt: Receipt<N>,
+) -> Option<()> {
+    second.learn(receipt);
+    is_shown(rt, alloc, first, ONE)?;
+    is_shown(rt, alloc, second, ONE)
 }
 
 /// Each seat enters a boat, and learns the other's receipt.
@@ -226,6 +247,20 @@ fn is_closed<N: OfficeName, R: Abort>(rt: &R, alloc: Global, pass: &mut Pass<N>)
     Some(())
 }
 
+/// Asserts that the first seat is shown what both ran.
+fn learn_and_show<N: OfficeName, H: Wait + Drop, R: Wait + Abort>(
+    rt: &R,
+    alloc: Global,
+    office: &Office<N, H>,
+    first: &mut Pass<N>,
+    second: &mut Pass<N>,
+) -> Option<()> {
+    learn_each_other(rt, office, first, second)?;
+    let journal = b"1 1 SCORER ENTER A\n2 1 SCORER ENTER B\n";
+    let table = b"TABLE 2 RACES\n1= A 0.0\n1= B 0.0\n";
+    is_shown_with(rt, alloc, first, journal, table)
+}
+
 /// Seat 1 is shown what both ran. Once the office is gone nothing is shown.
 fn tell<N: OfficeName, H: Wait + Drop, R: Wait + Abort>(
     rt: &R,
@@ -236,11 +271,9 @@ fn tell<N: OfficeName, H: Wait + Drop, R: Wait + Abort>(
     requires rules { opened.rules ≡ N.rules }
 {
     let (office, mut first, mut second) = two_seats::<N, H>(opened)?;
-    learn_each_other(rt, &office, &mut first, &mut second)?;
-    let journal = b"1 1 SCORER ENTER A\n2 1 SCORER ENTER B\n";
-    let table = b"TABLE 2 RACES\n1= A 0.0\n1= B 0.0\n";
-    is_shown_with(rt, alloc, &mut first, journal, table)?;
+    let shown = learn_and_show(rt, alloc, &office, &mut first, &mut second);
     drop(office);
+    assert!(rt; shown.is_some());
     is_closed(rt, alloc, &mut first)
 }
 
@@ -310,13 +343,22 @@ fn talk<N: OfficeName, H: Wait + Drop, R: Wait + Abort>(
     requires rules { opened.rules ≡ N.rules }
 {
     let (office, mut pass) = one_seat::<N, H>(opened)?;
+    talk_at(rt, alloc, &office, &mut pass)
+}
+
+fn talk_at<N: OfficeName, H: Wait + Drop, R: Wait + Abort>(
+    rt: &R,
+    alloc: Global,
+    office: &Office<N, H>,
+    pass: &mut Pass<N>,
+) -> Option<()> {
     let mut role = Role::Scorer;
     let mut out = Vec::new(alloc);
-    first_lines(rt, &office, &mut pass, &mut role, &mut out)?;
-    let next = last_lines(rt, &office, &mut pass, &mut role, &mut out)?;
+    first_lines(rt, office, pass, &mut role, &mut out)?;
+    let next = last_lines(rt, office, pass, &mut role, &mut out)?;
     assert_eq!(rt; next, Next::End);
     assert_eq!(rt; out.as_slice(), REPLIES.as_bytes());
-    run_again(rt, alloc, &office, &mut pass)
+    run_again(rt, alloc, office, pass)
 }
 
 /// One command is refused, and another runs with the next number.
@@ -359,7 +401,7 @@ fn race<N: OfficeName + Send + Sync, H: Wait + Drop + Send, R: Threads + Wait + 
     let (office, passes) = opened.split::<N>().ok()?;
     let shared = &office;
     let ended = map_vec(rt, passes, &|pass| enter_ten(rt, shared, pass));
-    assert_eq!(rt; ended.ok()?.as_slice(), [10, 10].as_slice());
+    assert!(rt; ended.is_ok_and(|last| last.as_slice() == [10, 10].as_slice()));
     let desk = office.desk(rt);
     check_board(rt, alloc, desk.board())
 }
@@ -424,8 +466,8 @@ fn show_at_once<N: OfficeName + Send + Sync, H: Wait + Drop, R: Threads + Abort 
 {
     let (office, passes) = opened.split::<N>().ok()?;
     let let_in = map_vec(rt, passes, &|pass| are_let_in(pass, 2_000));
-    assert_eq!(rt; let_in.ok()?.as_slice(), [true, true].as_slice());
     drop(office);
+    assert_eq!(rt; let_in.ok()?.as_slice(), [true, true].as_slice());
     Some(())
 }
 
@@ -517,6 +559,7 @@ fn fill<N: OfficeName + Send + Sync, H: Wait + Drop + Send, R: Threads + Wait + 
         passes,
         &|pass| take_part(rt, alloc, shared, pass).unwrap_or(0),
     );
+    drop(office);
     let (made, seen) = (MAX_ENTRIES / 4, MAX_ENTRIES);
     assert_eq!(rt;
         ended.ok()?.as_slice(),

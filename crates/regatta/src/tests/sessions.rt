@@ -16,41 +16,30 @@ use std::sync::atomic::{AtomicU64, Ordering};
 /// More bytes than any session here gives or takes.
 const PLENTY: usize = 100_000;
 
-/// The text of the entries of the office's journal.
-pub(crate) fn journal_text<N: OfficeName, H: Wait + Drop, R: Wait>(
+/// Whether the entries of the office's journal are this text.
+pub(crate) fn has_journal<N: OfficeName, H: Wait + Drop, R: Wait>(
     rt: &R,
     alloc: Global,
     office: &Office<N, H>,
-) -> Result<Vec<u8>, Fail> {
+    journal: &[u8],
+) -> bool {
     let desk = office.desk(rt);
     let mut text = Vec::new(alloc);
-    write_entries(desk.board().entries(), &mut text)?;
-    Ok(text)
+    let is_written = write_entries(desk.board().entries(), &mut text).is_ok();
+    is_written && text.as_slice() == journal
 }
 
 /// A tape that gives all of this text, in small pieces, and takes whatever comes.
-fn client(alloc: Global, text: &[u8]) -> Result<Tape, Fail> {
+fn client(alloc: Global, text: &[u8]) -> Result<Tape, AllocError> {
     failing(alloc, text, 7, PLENTY, PLENTY)
 }
 
-/// What sessions on one pass left: how each ended, the pass's last number, and the journal.
+/// What sessions on one pass are to leave: how each ended, the pass's last number, and the journal.
 #[derive(Drop)]
-struct Talked {
-    ends: Vec<End>,
+struct Left<'a> {
+    ends: &'a [End],
     last: u32,
-    journal: Vec<u8>,
-}
-
-impl Talked {
-    /// Did the sessions end so?
-    fn ended(&self, ends: &[End]) -> bool {
-        self.ends.as_slice() == ends
-    }
-
-    /// Is the pass's last number this, and the journal this text?
-    fn left(&self, last: u32, journal: &[u8]) -> bool {
-        self.last == last && self.journal.as_slice() == journal
-    }
+    journal: &'a [u8],
 }
 
 /// How a session on this pass ends. It has no contract, so that its callers are proved quickly.
@@ -65,52 +54,58 @@ fn end_of<N: OfficeName, H: Wait + Drop, R: Wait, S: Source + Sink, G: Gate>(
     session(rt, alloc, stream, office, pass, gate)
 }
 
-/// One session after another on this pass.
-fn talk<N: OfficeName, H: Wait + Drop, R: Wait, S: Source + Sink, G: Gate>(
+/// Whether sessions on this pass, one after another, end so.
+fn end_so<N: OfficeName, H: Wait + Drop, R: Wait, S: Source + Sink, G: Gate>(
     rt: &R,
     alloc: Global,
     office: &Office<N, H>,
     pass: &mut Pass<N>,
     streams: &mut [S],
     gate: &G,
-) -> Result<Vec<End>, Fail> {
-    let mut ends = Vec::new(alloc);
-    for stream in streams {
-        ends.push(end_of(rt, alloc, stream, office, pass, gate))?;
+    ends: &[End],
+) -> bool {
+    for (stream, end) in streams.iter_mut().zip(ends) {
+        if end_of(rt, alloc, stream, office, pass, gate) != *end {
+            return false;
+        }
     }
-    Ok(ends)
+    true
 }
 
-/// One session after another on the pass of an office's last seat.
-fn talk_at<N: OfficeName, H: Wait + Drop, R: Wait, S: Source + Sink, G: Gate>(
+/// Whether sessions at the one seat of this office leave this.
+fn leave_at<N: OfficeName, H: Wait + Drop, R: Wait, S: Source + Sink, G: Gate>(
     rt: &R,
     alloc: Global,
     opened: Opened<H>,
     streams: &mut [S],
     gate: &G,
-) -> Result<Talked, Fail>
+    left: &Left<'_>,
+) -> bool
     requires { (opened.history ≡ N.history) × (opened.rules ≡ N.rules) }
 {
-    let (office, mut pass) = one_seat::<N, H>(opened).ok_or("a seat")?;
-    let ends = talk(rt, alloc, &office, &mut pass, streams, gate)?;
-    let journal = journal_text(rt, alloc, &office)?;
-    Ok(Talked {
-        ends,
-        last: pass.last(),
-        journal,
-    })
+    match one_seat::<N, H>(opened) {
+        Some((office, mut pass)) => {
+            end_so(rt, alloc, &office, &mut pass, streams, gate, left.ends)
+                && pass.last() == left.last
+                && has_journal(rt, alloc, &office, left.journal)
+        }
+        None => false,
+    }
 }
 
-/// What sessions left, one after another, at the one seat of an office in which nothing was
-/// entered. It has no contract, so that its callers are proved quickly.
-fn talked_at_one_seat<R: AllocGlobal + Wait, S: Source + Sink, G: Gate>(
+/// Whether sessions, one after another, at the one seat of an office in which nothing was entered
+/// leave this. It has no contract, so that its callers are proved quickly.
+fn leave<R: AllocGlobal + Wait, S: Source + Sink, G: Gate>(
     rt: &R,
     rules: &Rules,
     streams: &mut [S],
     gate: &G,
-) -> Result<Talked, Fail> {
-    let opened = Office::open(rt, rt.alloc(), rules, 1, &[])?;
-    talk_at::<Brand, _, _, _, _>(rt, rt.alloc(), opened, streams, gate)
+    left: &Left<'_>,
+) -> bool {
+    match Office::open(rt, rt.alloc(), rules, 1, &[]) {
+        Ok(opened) => leave_at::<Brand, _, _, _, _>(rt, rt.alloc(), opened, streams, gate, left),
+        Err(_) => false,
+    }
 }
 
 /// What a jury sends: its role holds from `ROLE` on, and may enter no boat.
@@ -127,12 +122,14 @@ fn two_sessions_on_one_pass(rt: HostRuntime) -> Result<(), Fail> {
         client(rt.alloc(), JURY_LINES)?,
         client(rt.alloc(), b"ENTER B\nQUIT\nENTER C\n")?,
     ];
-    let talked = talked_at_one_seat(&rt, &default_rules(), &mut tapes, &OpenGate)?;
+    let left = Left {
+        ends: &[End::Closed, End::Quit],
+        last: 3,
+        journal: b"1 1 SCORER ENTER A\n1 2 JURY MARK 1 A DSQ\n1 3 SCORER ENTER B\n",
+    };
+    assert!(rt; leave(&rt, &default_rules(), &mut tapes, &OpenGate, &left));
     assert_eq!(rt; tapes[0].written(), JURY_REPLIES);
     assert_eq!(rt; tapes[1].written(), b"OK 3 1= 0.0\nBYE\n".as_slice());
-    assert!(rt; talked.ended(&[End::Closed, End::Quit]));
-    let journal = b"1 1 SCORER ENTER A\n1 2 JURY MARK 1 A DSQ\n1 3 SCORER ENTER B\n";
-    assert!(rt; talked.left(3, journal));
     Ok(())
 }
 
@@ -191,9 +188,8 @@ fn enter_next<N: OfficeName, H: Wait + Drop, R: Wait + Abort>(
     let end = end_of(rt, alloc, &mut tape, office, pass, &OpenGate);
     assert_eq!(rt; tape.written(), b"OK 2 1= 0.0\nBYE\n".as_slice());
     assert_eq!(rt; end, End::Quit);
-    let journal = journal_text(rt, alloc, office)?;
-    let wanted = b"1 1 SCORER ENTER A\n1 2 SCORER ENTER B\n";
-    assert_eq!(rt; journal.as_slice(), wanted.as_slice());
+    let journal = b"1 1 SCORER ENTER A\n1 2 SCORER ENTER B\n";
+    assert!(rt; has_journal(rt, alloc, office, journal));
     Ok(())
 }
 
@@ -207,9 +203,18 @@ fn go_on<N: OfficeName, H: Wait + Drop, R: Wait + Abort>(
     requires { (opened.history ≡ N.history) × (opened.rules ≡ N.rules) }
 {
     let (office, mut pass) = one_seat::<N, H>(opened).ok_or("a seat")?;
-    look_first(rt, alloc, &office, &mut pass)?;
-    enter_next(rt, alloc, &office, &mut pass)?;
-    run_by_guard(rt, &office, &mut pass)
+    go_on_at(rt, alloc, &office, &mut pass)
+}
+
+fn go_on_at<N: OfficeName, H: Wait + Drop, R: Wait + Abort>(
+    rt: &R,
+    alloc: Global,
+    office: &Office<N, H>,
+    pass: &mut Pass<N>,
+) -> Result<(), Fail> {
+    look_first(rt, alloc, office, pass)?;
+    enter_next(rt, alloc, office, pass)?;
+    run_by_guard(rt, office, pass)
 }
 
 /// One command is refused, two more are taken, and the sheet has the four entries.
@@ -228,7 +233,7 @@ fn run_by_guard<N: OfficeName, H: Wait + Drop, R: Wait + Abort>(
 }
 
 /// Two lines that are too long, lines of bytes that are no words, and a line of 80 bytes and a CR.
-fn odd_lines(alloc: Global) -> Result<Vec<u8>, Fail> {
+fn odd_lines(alloc: Global) -> Result<Vec<u8>, AllocError> {
     let first = repeated(alloc, b'X', 81)?;
     let second = repeated(alloc, b'X', 5000)?;
     let spaces = repeated(alloc, b' ', 73)?;
@@ -246,10 +251,14 @@ fn odd_lines(alloc: Global) -> Result<Vec<u8>, Fail> {
 #[test]
 fn lines_that_cannot_be_read(rt: HostRuntime) -> Result<(), Fail> {
     let mut tapes = [client(rt.alloc(), &odd_lines(rt.alloc())?)?];
-    let talked = talked_at_one_seat(&rt, &default_rules(), &mut tapes, &OpenGate)?;
+    let left = Left {
+        ends: &[End::Closed],
+        last: 1,
+        journal: b"1 1 SCORER ENTER A\n",
+    };
+    assert!(rt; leave(&rt, &default_rules(), &mut tapes, &OpenGate, &left));
     let written = "NO 20\nNO 20\nNO 21\nNO 21\nNO 21\nNO 21\nNO 23\nOK 1 1 0.0\n";
     assert_eq!(rt; tapes[0].written(), written.as_bytes());
-    assert!(rt; talked.ended(&[End::Closed]));
     Ok(())
 }
 
@@ -265,6 +274,11 @@ const TIMES: &[u8] = b"ENTER A\nENTER B\nENTER C\nTIME 1 A 3605\nTIME 1 B 3600\n
 const TIMES_REPLIES: &[u8] = b"OK 1 1 0.0\nOK 2 1= 0.0\nOK 3 1= 0.0\nOK 4 1= 0.0\nOK 5 1= 0.0\n\
     OK 6 1= 0.0\nOK 7\n";
 
+/// The journal behind them, and behind one boat's time taken back and given anew.
+const TIMES_JOURNAL: &[u8] = b"1 1 SCORER ENTER A\n1 2 SCORER ENTER B\n1 3 SCORER ENTER C\n\
+    1 4 SCORER TIME 1 A 3605\n1 5 SCORER TIME 1 B 3600\n1 6 SCORER TIME 1 C 3605\n\
+    1 7 SCORER SCORE 1\n1 8 SCORER STRIKE 1 A\n1 9 SCORER TIME 1 A 3599\n";
+
 /// Under corrected times a session answers as a replay does.
 #[test]
 fn corrected_times_in_a_session(rt: HostRuntime) -> Result<(), Fail> {
@@ -275,14 +289,21 @@ fn corrected_times_in_a_session(rt: HostRuntime) -> Result<(), Fail> {
             b"STRIKE 1 A\nTIME 1 A 0003599\nTIME 1 A 03599\nFINISH 1 B\n",
         )?,
     ];
-    let talked = talked_at_one_seat(&rt, &handicap_rules(), &mut tapes, &OpenGate)?;
+    let left = Left {
+        ends: &[End::Closed, End::Closed],
+        last: 9,
+        journal: TIMES_JOURNAL,
+    };
+    assert!(rt; leave(&rt, &handicap_rules(), &mut tapes, &OpenGate, &left));
     assert_eq!(rt; tapes[0].written(), TIMES_REPLIES);
     let replies = b"OK 8 3 4.0\nNO 29\nOK 9 1 1.0\nNO 16\n";
     assert_eq!(rt; tapes[1].written(), replies.as_slice());
-    let last = b"1 8 SCORER STRIKE 1 A\n1 9 SCORER TIME 1 A 3599\n";
-    assert!(rt; talked.journal.ends_with(last));
     Ok(())
 }
+
+/// The journal of three boats.
+const THREE_BOATS: &[u8] =
+    b"1 1 SCORER ENTER A\n1 2 SCORER ENTER B\n1 3 SCORER ENTER C\n";
 
 /// The second reply can't be written: what was committed stays, and the next session on the pass
 /// goes on from there.
@@ -292,12 +313,14 @@ fn a_write_that_fails(rt: HostRuntime) -> Result<(), Fail> {
         failing(rt.alloc(), b"ENTER A\nENTER B\nENTER C\n", 7, PLENTY, 16)?,
         client(rt.alloc(), b"ENTER C\n")?,
     ];
-    let talked = talked_at_one_seat(&rt, &default_rules(), &mut tapes, &OpenGate)?;
+    let left = Left {
+        ends: &[End::WriteFault, End::Closed],
+        last: 3,
+        journal: THREE_BOATS,
+    };
+    assert!(rt; leave(&rt, &default_rules(), &mut tapes, &OpenGate, &left));
     assert_eq!(rt; tapes[0].written(), b"OK 1 1 0.0\nOK 2 ".as_slice());
     assert_eq!(rt; tapes[1].written(), b"OK 3 1= 0.0\n".as_slice());
-    assert!(rt; talked.ended(&[End::WriteFault, End::Closed]));
-    let journal = b"1 1 SCORER ENTER A\n1 2 SCORER ENTER B\n1 3 SCORER ENTER C\n";
-    assert!(rt; talked.left(3, journal));
     Ok(())
 }
 
@@ -305,10 +328,13 @@ fn a_write_that_fails(rt: HostRuntime) -> Result<(), Fail> {
 #[test]
 fn a_read_that_fails(rt: HostRuntime) -> Result<(), Fail> {
     let mut tapes = [failing(rt.alloc(), b"ENTER A\nENT", 7, 11, PLENTY)?];
-    let talked = talked_at_one_seat(&rt, &default_rules(), &mut tapes, &OpenGate)?;
+    let left = Left {
+        ends: &[End::ReadFault],
+        last: 1,
+        journal: b"1 1 SCORER ENTER A\n",
+    };
+    assert!(rt; leave(&rt, &default_rules(), &mut tapes, &OpenGate, &left));
     assert_eq!(rt; tapes[0].written(), b"OK 1 1 0.0\n".as_slice());
-    assert!(rt; talked.ended(&[End::ReadFault]));
-    assert!(rt; talked.left(1, b"1 1 SCORER ENTER A\n"));
     Ok(())
 }
 
@@ -326,7 +352,7 @@ impl Gate for NoFourth {
 }
 
 /// An unknown word, a line that is too long, and two commands.
-fn four_lines(alloc: Global) -> Result<Vec<u8>, Fail> {
+fn four_lines(alloc: Global) -> Result<Vec<u8>, AllocError> {
     let long = repeated(alloc, b'X', 81)?;
     let parts: [&[u8]; 3] = [b"NOPE\n", long.as_slice(), b"\nENTER A\nENTER B\nENTER C\n"];
     joined(alloc, &parts)
@@ -336,13 +362,16 @@ fn four_lines(alloc: Global) -> Result<Vec<u8>, Fail> {
 #[test]
 fn a_gate_stops_a_session(rt: HostRuntime) -> Result<(), Fail> {
     let mut tapes = [client(rt.alloc(), &four_lines(rt.alloc())?)?];
-    let talked = talked_at_one_seat(&rt, &default_rules(), &mut tapes, &NoFourth)?;
+    let left = Left {
+        ends: &[End::Stopped],
+        last: 1,
+        journal: b"1 1 SCORER ENTER A\n",
+    };
+    assert!(rt; leave(&rt, &default_rules(), &mut tapes, &NoFourth, &left));
     assert_eq!(rt;
         tapes[0].written(),
         b"NO 21\nNO 20\nOK 1 1 0.0\n".as_slice()
     );
-    assert!(rt; talked.ended(&[End::Stopped]));
-    assert!(rt; talked.left(1, b"1 1 SCORER ENTER A\n"));
     Ok(())
 }
 
@@ -383,8 +412,12 @@ fn a_gate_is_told_of_replies(rt: HostRuntime) -> Result<(), Fail> {
         told: AtomicU64::new(0),
     };
     let mut wires = [one, two];
-    let talked = talked_at_one_seat(&rt, &default_rules(), &mut wires, &gate)?;
+    let left = Left {
+        ends: &[End::Closed, End::WriteFault],
+        last: 3,
+        journal: THREE_BOATS,
+    };
+    assert!(rt; leave(&rt, &default_rules(), &mut wires, &gate, &left));
     assert_eq!(rt; gate.told.load(Ordering::SeqCst), 1122);
-    assert!(rt; talked.ended(&[End::Closed, End::WriteFault]));
     Ok(())
 }

@@ -85,29 +85,56 @@ pub(crate) fn wire_of<R: Net>(
     Ok((wire, theirs))
 }
 
-/// What a client was sent.
-pub(crate) fn sent(alloc: Global, mut theirs: UnixStream) -> Result<Vec<u8>, Fail> {
-    let mut text = Vec::new(alloc);
-    theirs.read_to_end(&mut text).ok().ok_or("an end")?;
-    Ok(text)
+/// Whether a client was sent this text, and then the end of the stream.
+pub(crate) fn was_sent(alloc: Global, theirs: &mut UnixStream, text: &[u8]) -> bool {
+    let mut found = Vec::new(alloc);
+    theirs.read_to_end(&mut found).is_ok() && found.as_slice() == text
 }
 
 /// A door that gives these clients, the last of them first, and then closes or fails.
 #[derive(Drop)]
 pub(crate) struct Wires {
-    pub(crate) clients: Vec<Wire>,
+    clients: Vec<Wire>,
     pub(crate) fails_at_end: bool,
     failures: Failures,
 }
 
 impl Wires {
-    pub(crate) fn new(clients: Vec<Wire>, fails_at_end: bool) -> Wires {
+    fn new(clients: Vec<Wire>, fails_at_end: bool) -> Wires {
         Wires {
             clients,
             fails_at_end,
             failures: Failures::none(),
         }
     }
+}
+
+/// A door that gives one client, who sends this text and whose stream may fail, and the client's own
+/// end.
+pub(crate) fn door_of<R: Net>(
+    rt: &R,
+    alloc: Global,
+    text: &[u8],
+    fails_at_end: bool,
+    writes: &Count,
+) -> Result<(Wires, UnixStream), Fail> {
+    let (wire, theirs) = wire_of(rt, text, fails_at_end, writes)?;
+    let clients = vec![in alloc; wire]?;
+    Ok((Wires::new(clients, false), theirs))
+}
+
+/// A door that gives two clients, of whom the first enters A and the other sends this text, and the
+/// clients' own ends.
+pub(crate) fn door_of_two<R: Net>(
+    rt: &R,
+    alloc: Global,
+    text: &[u8],
+    writes: [&Count; 2],
+) -> Result<(Wires, [UnixStream; 2]), Fail> {
+    let (one, first) = wire_of(rt, b"ENTER A\n", false, writes[0])?;
+    let (two, second) = wire_of(rt, text, false, writes[1])?;
+    let clients = vec![in alloc; two, one]?;
+    Ok((Wires::new(clients, false), [first, second]))
 }
 
 impl Device for Wires {
@@ -140,12 +167,16 @@ pub(crate) struct Hold {
 impl Hold {
     /// Holds line 1 of seat 1 until the first count isn't 0, where there is one. The second counts
     /// once line 1 of seat 2 was answered.
-    pub(crate) fn new(until: Option<Count>, second: Count) -> Hold {
-        Hold {
+    pub(crate) fn new(until: Option<&Count>, second: &Count) -> Result<Hold, Fail> {
+        let until = match until {
+            Some(until) => Some(Arc::try_clone(until)?),
+            None => None,
+        };
+        Ok(Hold {
             until,
-            second,
+            second: Arc::try_clone(second)?,
             ends: AtomicU64::new(0),
-        }
+        })
     }
 
     /// How sessions ended: the sum of a digit for each, ten times as much for another seat than 1.

@@ -3,40 +3,81 @@ use super::*;
 use regatta_office::program;
 use std::fs::Files;
 use std::net::Net;
+use std::process::Abort;
 use std::sync::Wait;
 use std::thread::Threads;
 use std::{env, fs};
 
-/// The status of a run of the program over these tapes. It has no contract, so that its callers
+/// More bytes than any input here has.
+const PLENTY: usize = 4_000_000;
+
+/// The streams of a run over memory: what it is given, what it writes, and what it says.
+#[derive(Drop)]
+struct Streams {
+    input: Tape,
+    output: Tape,
+    errors: Tape,
+}
+
+impl Streams {
+    /// An input of this text, and room for all that comes.
+    fn of(alloc: Global, text: &str) -> Result<Streams, Fail> {
+        Streams::failing(alloc, text, PLENTY, 10_000, 10_000)
+    }
+
+    /// An input of this text that fails once it gave so many bytes, an output that fails once it
+    /// took so many, and room to say so many.
+    fn failing(
+        alloc: Global,
+        text: &str,
+        gives: usize,
+        takes: usize,
+        room: usize,
+    ) -> Result<Streams, Fail> {
+        Ok(Streams {
+            input: failing(alloc, text.as_bytes(), 5, gives, 0)?,
+            output: taking(alloc, takes)?,
+            errors: taking(alloc, room)?,
+        })
+    }
+
+    /// Was this said, and no more?
+    fn has_said(&self, text: &str) -> bool {
+        self.errors.written() == text.as_bytes()
+    }
+}
+
+/// The status of a run of the program over these streams. It has no contract, so that its callers
 /// are proved quickly.
-fn status_of<R>(
-    rt: &R,
-    words: &[&str],
-    input: &mut Tape,
-    output: &mut Tape,
-    errors: &mut Tape,
-) -> u8
+fn status_of<R>(rt: &R, words: &[&str], streams: &mut Streams) -> u8
 where
     R: Files + AllocGlobal + Threads + Wait + Net + Sync,
 {
+    let Streams {
+        input,
+        output,
+        errors,
+    } = streams;
     program(rt, words, input, output, errors)
 }
 
-/// A run of the program over memory: its status, what it wrote, and what it said.
-fn run<R>(rt: &R, words: &[&str], text: &str) -> Result<(u8, Tape, Tape), Fail>
+/// How a run is to end: its status, what it writes, and what it says.
+#[derive(Drop)]
+struct Ending<'a> {
+    status: u8,
+    written: &'a str,
+    said: &'a str,
+}
+
+/// Whether a run of these words over this text ends so.
+fn ends<R>(rt: &R, words: &[&str], text: &str, ending: &Ending) -> Result<bool, Fail>
 where
     R: Files + AllocGlobal + Threads + Wait + Net + Sync,
 {
-    let mut input = giving(rt.alloc(), text.as_bytes(), 5)?;
-    let mut output = taking(rt.alloc(), 10_000)?;
-    let mut errors = taking(rt.alloc(), 10_000)?;
-    let status = status_of(rt, words, &mut input, &mut output, &mut errors);
-    Ok((status, output, errors))
-}
-
-/// Whether this text was written, and no more.
-fn has_written(tape: &Tape, text: &str) -> bool {
-    tape.written() == text.as_bytes()
+    let mut streams = Streams::of(rt.alloc(), text)?;
+    let status = status_of(rt, words, &mut streams);
+    let is_written = streams.output.written() == ending.written.as_bytes();
+    Ok(status == ending.status && is_written && streams.has_said(ending.said))
 }
 
 /// Whether a run ends well that prints these replies, and then this.
@@ -44,9 +85,24 @@ fn prints<R>(rt: &R, words: &[&str], text: &str, replies: &str, last: &str) -> R
 where
     R: Files + AllocGlobal + Threads + Wait + Net + Sync,
 {
-    let (status, output, errors) = run(rt, words, text)?;
-    let printed = format!(in rt.alloc(); "{replies}{last}")?;
-    Ok(status == 0 && has_written(&errors, "") && has_written(&output, printed.as_str()))
+    let mut streams = Streams::of(rt.alloc(), text)?;
+    let status = status_of(rt, words, &mut streams);
+    let printed = streams.output.written().strip_prefix(replies.as_bytes());
+    Ok(status == 0 && printed == Some(last.as_bytes()) && streams.has_said(""))
+}
+
+/// Whether a run of these words writes nothing, says this, and ends with this status.
+fn refuses<R>(rt: &R, words: &[&str], status: u8, said: &str) -> Result<bool, Fail>
+where
+    R: Files + AllocGlobal + Threads + Wait + Net + Sync,
+{
+    let written = "";
+    let ending = Ending {
+        status,
+        written,
+        said,
+    };
+    ends(rt, words, "ENTER A\n", &ending)
 }
 
 /// One race of three boats, of whom one didn't finish, one didn't come, and one has a penalty.
@@ -121,9 +177,8 @@ fn has_rules_fault<R>(rt: &R, words: &[&str], number: u8) -> Result<bool, Fail>
 where
     R: Files + AllocGlobal + Threads + Wait + Net + Sync,
 {
-    let (status, output, errors) = run(rt, words, "ENTER A\n")?;
     let said = format!(in rt.alloc(); "regatta: rules fault {number}\n")?;
-    Ok(status == 2 && has_written(&output, "") && has_written(&errors, said.as_str()))
+    refuses(rt, words, 2, said.as_str())
 }
 
 #[test]
@@ -146,8 +201,9 @@ fn are_refused<R>(rt: &R, words: &[&str]) -> Result<bool, Fail>
 where
     R: Files + AllocGlobal + Threads + Wait + Net + Sync,
 {
-    let (status, output, errors) = run(rt, words, "ENTER A\n")?;
-    Ok(status == 2 && has_written(&output, "") && !has_written(&errors, ""))
+    let mut streams = Streams::of(rt.alloc(), "ENTER A\n")?;
+    let status = status_of(rt, words, &mut streams);
+    Ok(status == 2 && streams.output.written().is_empty() && !streams.has_said(""))
 }
 
 #[test]
@@ -168,13 +224,29 @@ fn other_words_are_refused(rt: HostRuntime) -> Result<(), Fail> {
     Ok(())
 }
 
+/// Asserts that this help has each of these words.
+fn are_named<R: Abort>(rt: &R, help: &[u8], names: &[&str]) {
+    let help = str::from_utf8(help).unwrap_or("");
+    for &name in names {
+        assert!(rt; help.contains(name), "at {name}");
+    }
+}
+
+/// Asserts that a run of these words ends well, and that all it prints is help with these names.
+fn helps<R>(rt: &R, words: &[&str], names: &[&str]) -> Result<(), Fail>
+where
+    R: Files + AllocGlobal + Threads + Wait + Net + Abort + Sync,
+{
+    let mut streams = Streams::of(rt.alloc(), "ENTER A\n")?;
+    assert_eq!(rt; status_of(rt, words, &mut streams), 0);
+    assert!(rt; streams.has_said(""));
+    are_named(rt, streams.output.written(), names);
+    Ok(())
+}
+
 #[test]
 fn help_names_the_options_and_their_rules(rt: HostRuntime) -> Result<(), Fail> {
-    let (status, output, errors) = run(&rt, &["replay", "--help"], "ENTER A\n")?;
-    assert_eq!(rt; errors.written(), b"".as_slice());
-    assert_eq!(rt; status, 0);
-    let help = std::str::from_utf8(output.written()).unwrap_or("");
-    for word in [
+    let names = [
         "regatta replay",
         "--absent",
         "A5.3",
@@ -189,22 +261,14 @@ fn help_names_the_options_and_their_rules(rt: HostRuntime) -> Result<(), Fail> {
         "--entries",
         "--print",
         "sed '1,/^BYE$/d'",
-    ] {
-        assert!(rt; help.contains(word), "at {word}");
-    }
-    let (status, output, _) = run(&rt, &["--help"], "ENTER A\n")?;
-    let help = std::str::from_utf8(output.written()).unwrap_or("");
-    assert!(rt; help.contains("regatta replay --help"));
-    assert_eq!(rt; status, 0);
-    Ok(())
+    ];
+    helps(&rt, &["replay", "--help"], &names)?;
+    helps(&rt, &["--help"], &["regatta replay --help"])
 }
 
 #[test]
 fn help_names_the_options_of_serving(rt: HostRuntime) -> Result<(), Fail> {
-    let (status, output, _) = run(&rt, &["serve", "--help"], "ENTER A\n")?;
-    assert_eq!(rt; status, 0);
-    let help = std::str::from_utf8(output.written()).unwrap_or("");
-    for word in [
+    let names = [
         "FINISH 1 GBR7",
         "SHOW",
         "regatta serve --socket race.sock",
@@ -215,134 +279,214 @@ fn help_names_the_options_of_serving(rt: HostRuntime) -> Result<(), Fail> {
         "--sessions",
         "--entries",
         "--handicap",
-    ] {
-        assert!(rt; help.contains(word), "at {word}");
-    }
-    Ok(())
+    ];
+    helps(&rt, &["serve", "--help"], &names)
 }
 
-/// A run of `serve` at this socket, with this amount of a Scoring Penalty, and with the journal
-/// file and the entry list of this folder.
-fn served<R>(rt: &R, folder: &str, socket: &str, scp: &str) -> Result<(u8, Tape, Tape), Fail>
+/// The files that a run starts from, in a folder of their own.
+#[derive(Drop)]
+struct StartFiles {
+    folder: String,
+    journal: String,
+    boats: String,
+}
+
+impl StartFiles {
+    /// Their paths in a new folder.
+    fn new(rt: &HostRuntime) -> Result<StartFiles, Fail> {
+        let folder = new_folder(rt)?;
+        let journal = format!(in rt.alloc(); "{folder}/journal.txt")?;
+        let boats = format!(in rt.alloc(); "{folder}/boats.csv")?;
+        Ok(StartFiles {
+            folder,
+            journal,
+            boats,
+        })
+    }
+
+    /// Writes both.
+    fn write<R: Files + AllocGlobal>(&self, rt: &R, journal: &str, boats: &str) -> Result<(), Fail> {
+        fs::write(rt, self.journal.as_str(), journal)?;
+        fs::write(rt, self.boats.as_str(), boats)?;
+        Ok(())
+    }
+
+    /// Takes them away.
+    fn remove<R: Files + AllocGlobal>(&self, rt: &R) -> Result<(), Fail> {
+        fs::remove_dir_all(rt, self.folder.as_str())?;
+        Ok(())
+    }
+}
+
+/// A start of a run from files, and how the run ends.
+struct Start {
+    entries: &'static str,
+    sails: &'static str,
+    ending: Ending<'static>,
+}
+
+/// A start of a run of `serve` at this socket, with this amount of a Scoring Penalty.
+struct Serving {
+    socket: &'static str,
+    scp: &'static str,
+    start: Start,
+}
+
+/// A socket that can't be bound.
+const NOWHERE: &str = "/no/such/folder/race.sock";
+
+static SERVINGS: [Serving; 6] = [
+    Serving {
+        socket: NOWHERE,
+        scp: "0",
+        start: Start {
+            entries: "X\n",
+            sails: "Boat\n",
+            ending: Ending {
+                status: 2,
+                written: "",
+                said: "regatta: rules fault 1\n",
+            },
+        },
+    },
+    Serving {
+        socket: NOWHERE,
+        scp: "1",
+        start: Start {
+            entries: "1 1 JURY ENTER A\nX\n",
+            sails: "Boat\n",
+            ending: Ending {
+                status: 1,
+                written: "",
+                said: "regatta: journal fault 1 line 2\n",
+            },
+        },
+    },
+    Serving {
+        socket: NOWHERE,
+        scp: "1",
+        start: Start {
+            entries: "1 1 JURY ENTER A\n",
+            sails: "Boat\n",
+            ending: Ending {
+                status: 1,
+                written: "",
+                said: "regatta: entries fault 1 row 1\n",
+            },
+        },
+    },
+    Serving {
+        socket: NOWHERE,
+        scp: "1",
+        start: Start {
+            entries: "1 1 JURY ENTER A\n",
+            sails: "Sail\n",
+            ending: Ending {
+                status: 1,
+                written: "",
+                said: "regatta: start refused 4 at 1\n",
+            },
+        },
+    },
+    Serving {
+        socket: NOWHERE,
+        scp: "1",
+        start: Start {
+            entries: "",
+            sails: "Sail\n",
+            ending: Ending {
+                status: 3,
+                written: "",
+                said: "regatta: device fault\n",
+            },
+        },
+    },
+    Serving {
+        socket: "",
+        scp: "1",
+        start: Start {
+            entries: "",
+            sails: "Sail\n",
+            ending: Ending {
+                status: 3,
+                written: "",
+                said: "regatta: device fault\n",
+            },
+        },
+    },
+];
+
+/// Whether a run of `serve` from these files ends so.
+fn serves_to<R>(rt: &R, files: &StartFiles, serving: &Serving) -> Result<bool, Fail>
 where
     R: Files + AllocGlobal + Threads + Wait + Net + Sync,
 {
-    let journal = format!(in rt.alloc(); "{folder}/journal.txt")?;
-    let boats = format!(in rt.alloc(); "{folder}/boats.csv")?;
+    files.write(rt, serving.start.entries, serving.start.sails)?;
     let words = [
         "serve",
         "--socket",
-        socket,
+        serving.socket,
         "--sessions",
         "1",
         "--scp",
-        scp,
+        serving.scp,
         "--journal",
-        journal.as_str(),
+        files.journal.as_str(),
         "--entries",
-        boats.as_str(),
+        files.boats.as_str(),
     ];
-    let ended = run(rt, &words, "ENTER A\n")?;
-    Ok(ended)
+    ends(rt, &words, "ENTER A\n", &serving.start.ending)
 }
 
 /// Rules, journal file, entry list, start and socket are looked at in this order. A socket without
 /// a path is none.
 #[test]
 fn serving_says_why_it_stops_short(rt: HostRuntime) -> Result<(), Fail> {
-    let folder = new_folder(&rt)?;
-    let boats = format!(in rt.alloc(); "{folder}/boats.csv")?;
-    let journal = format!(in rt.alloc(); "{folder}/journal.txt")?;
-    let nowhere = "/no/such/folder/race.sock";
-    let cases: [(&str, &str, &str, &str, &str, u8); 6] = [
-        (nowhere, "0", "X\n", "Boat\n", "regatta: rules fault 1\n", 2),
-        (
-            nowhere,
-            "1",
-            "1 1 JURY ENTER A\nX\n",
-            "Boat\n",
-            "regatta: journal fault 1 line 2\n",
-            1,
-        ),
-        (
-            nowhere,
-            "1",
-            "1 1 JURY ENTER A\n",
-            "Boat\n",
-            "regatta: entries fault 1 row 1\n",
-            1,
-        ),
-        (
-            nowhere,
-            "1",
-            "1 1 JURY ENTER A\n",
-            "Sail\n",
-            "regatta: start refused 4 at 1\n",
-            1,
-        ),
-        (nowhere, "1", "", "Sail\n", "regatta: device fault\n", 3),
-        ("", "1", "", "Sail\n", "regatta: device fault\n", 3),
-    ];
-    for (socket, scp, entries, sails, said, wanted) in cases {
-        fs::write(&rt, journal.as_str(), entries)?;
-        fs::write(&rt, boats.as_str(), sails)?;
-        let (status, output, errors) = served(&rt, folder.as_str(), socket, scp)?;
-        assert_eq!(rt; errors.written(), said.as_bytes());
-        assert_eq!(rt; output.written(), b"".as_slice());
-        assert_eq!(rt; status, wanted);
+    let files = StartFiles::new(&rt)?;
+    for serving in &SERVINGS {
+        let said = serving.start.ending.said;
+        assert!(rt; serves_to(&rt, &files, serving)?, "at {said}");
     }
-    fs::remove_dir_all(&rt, folder.as_str())?;
-    Ok(())
+    files.remove(&rt)
 }
 
 /// A journal file that isn't there is a device fault.
 #[test]
 fn serving_wants_its_journal_file(rt: HostRuntime) -> Result<(), Fail> {
-    let words = [
-        "serve",
-        "--socket",
-        "/no/such/folder/race.sock",
-        "--journal",
-        "/no/such/file",
-    ];
-    let (status, _, errors) = run(&rt, &words, "")?;
-    assert_eq!(rt; errors.written(), b"regatta: device fault\n".as_slice());
-    assert_eq!(rt; status, 3);
+    let words = ["serve", "--socket", NOWHERE, "--journal", "/no/such/file"];
+    assert!(rt; refuses(&rt, &words, 3, "regatta: device fault\n")?);
     Ok(())
 }
 
-/// Whether a run of these words says this, and ends with status 1.
-fn refuses<R>(rt: &R, words: &[&str], said: &str) -> Result<bool, Fail>
+/// Asserts that a journal of finishes is no start of corrected times, and the other way round.
+fn systems_are_kept_apart<R>(rt: &R, files: &StartFiles) -> Result<(), Fail>
 where
-    R: Files + AllocGlobal + Threads + Wait + Net + Sync,
+    R: Files + AllocGlobal + Threads + Wait + Net + Abort + Sync,
 {
-    let (status, output, errors) = run(rt, words, "ENTER A\n")?;
-    Ok(status == 1 && output.written().is_empty() && errors.written() == said.as_bytes())
-}
-
-/// A journal of finishes is no start of corrected times, and the other way round.
-#[test]
-fn starts_of_the_other_system_are_refused(rt: HostRuntime) -> Result<(), Fail> {
-    let folder = new_folder(&rt)?;
-    let path = format!(in rt.alloc(); "{folder}/journal.txt")?;
-    let journal = path.as_str();
+    let journal = files.journal.as_str();
     let said = "regatta: start refused 16 at 2\n";
-    fs::write(&rt, journal, "1 1 SCORER ENTER A\n1 2 SCORER FINISH 1 A\n")?;
+    fs::write(rt, journal, "1 1 SCORER ENTER A\n1 2 SCORER FINISH 1 A\n")?;
     let words = ["replay", "--handicap", "--journal", journal];
-    assert!(rt; refuses(&rt, &words, said)?);
+    assert!(rt; refuses(rt, &words, 1, said)?);
     let words = [
         "serve",
         "--handicap",
         "--socket",
-        "/no/such/folder/s",
+        NOWHERE,
         "--journal",
         journal,
     ];
-    assert!(rt; refuses(&rt, &words, said)?);
-    fs::write(&rt, journal, "1 1 SCORER ENTER A\n1 2 SCORER TIME 1 A 7\n")?;
-    assert!(rt; refuses(&rt, &["replay", "--journal", journal], said)?);
-    fs::remove_dir_all(&rt, folder.as_str())?;
+    assert!(rt; refuses(rt, &words, 1, said)?);
+    fs::write(rt, journal, "1 1 SCORER ENTER A\n1 2 SCORER TIME 1 A 7\n")?;
+    assert!(rt; refuses(rt, &["replay", "--journal", journal], 1, said)?);
     Ok(())
+}
+
+#[test]
+fn starts_of_the_other_system_are_refused(rt: HostRuntime) -> Result<(), Fail> {
+    let files = StartFiles::new(&rt)?;
+    systems_are_kept_apart(&rt, &files)?;
+    files.remove(&rt)
 }
 
 /// Whether the program has a device fault where its input gives, and its output takes, so many
@@ -351,11 +495,9 @@ fn has_device_fault<R>(rt: &R, words: &[&str], gives: usize, takes: usize) -> Re
 where
     R: Files + AllocGlobal + Threads + Wait + Net + Sync,
 {
-    let mut input = failing(rt.alloc(), b"ENTER A\n", 4, gives, 0)?;
-    let mut output = taking(rt.alloc(), takes)?;
-    let mut errors = taking(rt.alloc(), 100)?;
-    let status = status_of(rt, words, &mut input, &mut output, &mut errors);
-    Ok(status == 3 && has_written(&errors, "regatta: device fault\n"))
+    let mut streams = Streams::failing(rt.alloc(), "ENTER A\n", gives, takes, 100)?;
+    let status = status_of(rt, words, &mut streams);
+    Ok(status == 3 && streams.has_said("regatta: device fault\n"))
 }
 
 /// The status where so many bytes can be said.
@@ -363,10 +505,8 @@ fn status_saying<R>(rt: &R, words: &[&str], room: usize) -> Result<u8, Fail>
 where
     R: Files + AllocGlobal + Threads + Wait + Net + Sync,
 {
-    let mut input = giving(rt.alloc(), b"ENTER A\n", 4)?;
-    let mut output = taking(rt.alloc(), 10)?;
-    let mut errors = taking(rt.alloc(), room)?;
-    Ok(status_of(rt, words, &mut input, &mut output, &mut errors))
+    let mut streams = Streams::failing(rt.alloc(), "ENTER A\n", PLENTY, 10, room)?;
+    Ok(status_of(rt, words, &mut streams))
 }
 
 #[test]
@@ -393,165 +533,185 @@ fn new_folder(rt: &HostRuntime) -> Result<String, Fail> {
     Err(Fail::new("no new folder is to be had"))
 }
 
-/// A start of a run from files, and what comes of it: what is said and written, and the status.
-struct Start {
-    entries: &'static str,
-    sails: &'static str,
-    said: &'static str,
-    written: &'static str,
-    status: u8,
-}
-
 static STARTS: [Start; 13] = [
     Start {
         entries: "1 1 SCORER ENTER A\n2 1 JURY REDRESS 1 A 7.5\n",
         sails: "Sail\nb\n",
-        said: "",
-        written: "OK 4 1= 0.0\nTABLE 3 RACES\n1= A 0.0\n1= B 0.0\n1= C 0.0\n",
-        status: 0,
+        ending: Ending {
+            status: 0,
+            written: "OK 4 1= 0.0\nTABLE 3 RACES\n1= A 0.0\n1= B 0.0\n1= C 0.0\n",
+            said: "",
+        },
     },
     Start {
         entries: "1 1 SCORER ENTER A\nX\n",
         sails: "Sail\n",
-        said: "regatta: journal fault 1 line 2\n",
-        written: "",
-        status: 1,
+        ending: Ending {
+            status: 1,
+            written: "",
+            said: "regatta: journal fault 1 line 2\n",
+        },
     },
     Start {
         entries: "REGATTA 2\n1 1 SCORER ENTER A\n",
         sails: "Sail\nb\n",
-        said: "",
-        written: "OK 3 1= 0.0\nTABLE 3 RACES\n1= A 0.0\n1= B 0.0\n1= C 0.0\n",
-        status: 0,
+        ending: Ending {
+            status: 0,
+            written: "OK 3 1= 0.0\nTABLE 3 RACES\n1= A 0.0\n1= B 0.0\n1= C 0.0\n",
+            said: "",
+        },
     },
     Start {
         entries: "REGATTA 3\nX\n",
         sails: "Boat\nX\n",
-        said: "regatta: journal fault 4 line 1\n",
-        written: "",
-        status: 1,
+        ending: Ending {
+            status: 1,
+            written: "",
+            said: "regatta: journal fault 4 line 1\n",
+        },
     },
     Start {
         entries: "",
         sails: "Boat\nX\n",
-        said: "regatta: entries fault 1 row 1\n",
-        written: "",
-        status: 1,
+        ending: Ending {
+            status: 1,
+            written: "",
+            said: "regatta: entries fault 1 row 1\n",
+        },
     },
     Start {
         entries: "",
         sails: "Boat,Sail\nX\n",
-        said: "regatta: entries fault 2 row 2\n",
-        written: "",
-        status: 1,
+        ending: Ending {
+            status: 1,
+            written: "",
+            said: "regatta: entries fault 2 row 2\n",
+        },
     },
     Start {
         entries: "",
         sails: "Sail\nA_B\n",
-        said: "regatta: entries fault 3 row 2\n",
-        written: "",
-        status: 1,
+        ending: Ending {
+            status: 1,
+            written: "",
+            said: "regatta: entries fault 3 row 2\n",
+        },
     },
     Start {
         entries: "",
         sails: "Sail\nA\na\n",
-        said: "regatta: entries fault 4 row 3\n",
-        written: "",
-        status: 1,
+        ending: Ending {
+            status: 1,
+            written: "",
+            said: "regatta: entries fault 4 row 3\n",
+        },
     },
     Start {
         entries: "X",
         sails: "Boat\nX\n",
-        said: "regatta: journal fault 1 line 1\n",
-        written: "",
-        status: 1,
+        ending: Ending {
+            status: 1,
+            written: "",
+            said: "regatta: journal fault 1 line 1\n",
+        },
     },
     Start {
         entries: "1 1 SCORER ENTER A\n",
         sails: "Sail\nA\n",
-        said: "regatta: start refused 6 at 2\n",
-        written: "",
-        status: 1,
+        ending: Ending {
+            status: 1,
+            written: "",
+            said: "regatta: start refused 6 at 2\n",
+        },
     },
     Start {
         entries: "1 1 JURY ENTER A\n",
         sails: "Boat\nX\n",
-        said: "regatta: entries fault 1 row 1\n",
-        written: "",
-        status: 1,
+        ending: Ending {
+            status: 1,
+            written: "",
+            said: "regatta: entries fault 1 row 1\n",
+        },
     },
     Start {
         entries: "1 1 JURY ENTER A\n",
         sails: "Sail\nB\n",
-        said: "regatta: start refused 4 at 1\n",
-        written: "",
-        status: 1,
+        ending: Ending {
+            status: 1,
+            written: "",
+            said: "regatta: start refused 4 at 1\n",
+        },
     },
     Start {
         entries: "1 4294967295 SCORER ENTER A\n",
         sails: "Sail\n",
-        said: "",
-        written: "NO 3\nTABLE 1 RACES\n1 A 0.0\n",
-        status: 0,
+        ending: Ending {
+            status: 0,
+            written: "NO 3\nTABLE 1 RACES\n1 A 0.0\n",
+            said: "",
+        },
     },
 ];
 
 /// Whether a run of the program from these files, on one line, comes to this.
-fn comes_to<R>(rt: &R, folder: &str, start: &Start) -> Result<bool, Fail>
+fn comes_to<R>(rt: &R, files: &StartFiles, start: &Start) -> Result<bool, Fail>
 where
     R: Files + AllocGlobal + Threads + Wait + Net + Sync,
 {
-    let boats = format!(in rt.alloc(); "{folder}/boats.csv")?;
-    let journal = format!(in rt.alloc(); "{folder}/journal.txt")?;
-    fs::write(rt, journal.as_str(), start.entries)?;
-    fs::write(rt, boats.as_str(), start.sails)?;
+    files.write(rt, start.entries, start.sails)?;
     let words = [
         "replay",
         "--journal",
-        journal.as_str(),
+        files.journal.as_str(),
         "--entries",
-        boats.as_str(),
+        files.boats.as_str(),
     ];
-    let (status, output, errors) = run(rt, &words, "ENTER C\n")?;
-    let is_said = has_written(&errors, start.said);
-    Ok(status == start.status && is_said && has_written(&output, start.written))
+    ends(rt, &words, "ENTER C\n", &start.ending)
 }
 
 #[test]
 fn start_files_are_read(rt: HostRuntime) -> Result<(), Fail> {
-    let folder = new_folder(&rt)?;
+    let files = StartFiles::new(&rt)?;
     for start in &STARTS {
-        assert!(rt;
-            comes_to(&rt, folder.as_str(), start)?,
-            "at {}",
-            start.entries
-        );
+        assert!(rt; comes_to(&rt, &files, start)?, "at {}", start.entries);
     }
-    fs::remove_dir_all(&rt, folder.as_str())?;
-    Ok(())
+    files.remove(&rt)
 }
 
 /// Whether a run from this journal file alone says this, and ends with status 1.
-fn refuses_file<R>(rt: &R, folder: &str, text: &[u8], said: &str) -> Result<bool, Fail>
+fn refuses_file<R>(
+    rt: &R,
+    files: &StartFiles,
+    text: &[u8],
+    said: &str,
+) -> Result<bool, Fail>
 where
     R: Files + AllocGlobal + Threads + Wait + Net + Sync,
 {
-    let journal = format!(in rt.alloc(); "{folder}/journal.txt")?;
-    fs::write(rt, journal.as_str(), text)?;
-    refuses(rt, &["replay", "--journal", journal.as_str()], said)
+    let journal = files.journal.as_str();
+    fs::write(rt, journal, text)?;
+    refuses(rt, &["replay", "--journal", journal], 1, said)
+}
+
+/// Asserts that a start file of too many lines, and one of too many bytes, are refused as such.
+fn limits_hold<R>(rt: &R, files: &StartFiles) -> Result<(), Fail>
+where
+    R: Files + AllocGlobal + Threads + Wait + Net + Abort + Sync,
+{
+    let text = with_lines(rt.alloc(), b"REGATTA 2\n", b"1 1 SCORER ENTER A\n", 8193)?;
+    let said = "regatta: journal fault 2 line 8194\n";
+    assert!(rt; refuses_file(rt, files, &text, said)?);
+    let long = repeated(rt.alloc(), b'\n', 1_048_577)?;
+    assert!(rt; refuses_file(rt, files, &long, "regatta: input too long\n")?);
+    let longest = &long[..long.len().saturating_sub(1)];
+    let said = "regatta: journal fault 1 line 1\n";
+    assert!(rt; refuses_file(rt, files, longest, said)?);
+    Ok(())
 }
 
 #[test]
 fn start_files_have_their_limits(rt: HostRuntime) -> Result<(), Fail> {
-    let folder = new_folder(&rt)?;
-    let full = with_lines(rt.alloc(), b"REGATTA 2\n", b"1 1 SCORER ENTER A\n", 8193)?;
-    let said = "regatta: journal fault 2 line 8194\n";
-    assert!(rt; refuses_file(&rt, folder.as_str(), &full, said)?);
-    let long = repeated(rt.alloc(), b'\n', 1_048_577)?;
-    assert!(rt; refuses_file(&rt, folder.as_str(), &long, "regatta: input too long\n")?);
-    let longest = repeated(rt.alloc(), b'\n', 1_048_576)?;
-    let said = "regatta: journal fault 1 line 1\n";
-    assert!(rt; refuses_file(&rt, folder.as_str(), &longest, said)?);
-    fs::remove_dir_all(&rt, folder.as_str())?;
-    Ok(())
+    let files = StartFiles::new(&rt)?;
+    limits_hold(&rt, &files)?;
+    files.remove(&rt)
 }

@@ -2,7 +2,7 @@
 ghost use Rattle.std.specs.Prelude.{◌≡◌};
 
 use super::super::offices::{one_seat, opened_office};
-use super::super::wires::{Wires, count, wire_of};
+use super::super::wires::{Wires, count, door_of, was_sent};
 use super::*;
 use regatta_office::{
     End, Form, Office, OfficeName, OpenGate, Opened, Pass, RunFault, ServeFault, replay, serve,
@@ -34,11 +34,6 @@ fn is_whole(written: &[u8]) -> bool {
         && written.len() == REPLIES.len() + TABLE.len()
 }
 
-/// A tape that gives this text and takes so many bytes.
-fn tape(alloc: Global, text: &[u8], take: usize) -> Result<Tape, AllocError> {
-    Tape::new(alloc, text, 7, 4_000_000, take)
-}
-
 /// Whether a tape is made, with nothing on it.
 fn makes_tape(alloc: Global) -> Result<bool, AllocError> {
     let tape = tape(alloc, LINES, 100)?;
@@ -47,7 +42,10 @@ fn makes_tape(alloc: Global) -> Result<bool, AllocError> {
 
 /// What a replay tells. Behind a refusal whole replies were written, and no final part.
 fn replays(alloc: Global) -> Told {
-    let (Ok(mut input), Ok(mut output)) = (tape(alloc, LINES, 0), tape(alloc, b"", 400)) else {
+    let Ok(mut input) = tape(alloc, LINES, 0) else {
+        return Told::Wanting;
+    };
+    let Ok(mut output) = tape(alloc, b"", 400) else {
         return Told::Wanting;
     };
     let rules = default_rules();
@@ -68,14 +66,6 @@ struct Words<'a> {
     complaint: &'a [u8],
 }
 
-/// The tapes of a run of the program: its input, its output, and what it says.
-fn tapes(alloc: Global) -> Result<(Tape, Tape, Tape), AllocError> {
-    let input = tape(alloc, LINES, 0)?;
-    let output = tape(alloc, b"", 4000)?;
-    let errors = tape(alloc, b"", 400)?;
-    Ok((input, output, errors))
-}
-
 /// What a run of the program tells, by its status, what it wrote, and what it said. Behind a refusal
 /// whole replies were written, and nothing else.
 fn run_tells(call: &Words<'_>, status: u8, written: &[u8], said: &[u8]) -> Told {
@@ -90,11 +80,11 @@ fn runs<R>(rt: &R, call: &Words<'_>) -> Told
 where
     R: Files + AllocGlobal + Threads + Wait + Net + Sync,
 {
-    let Ok((mut input, mut output, mut errors)) = tapes(rt.alloc()) else {
+    let Ok(mut streams) = Streams::new(rt.alloc(), LINES, 4000) else {
         return Told::Wanting;
     };
-    let status = status_of(rt, call.words, &mut input, &mut output, &mut errors);
-    run_tells(call, status, output.written(), errors.written())
+    let status = status_of(rt, call.words, &mut streams);
+    run_tells(call, status, streams.output.written(), streams.errors.written())
 }
 
 /// Whether a tape is made and the lines are replayed, with each growth refused first.
@@ -150,23 +140,14 @@ fn the_program_wants_memory(rt: HostRuntime) -> Result<(), Fail> {
     Ok(())
 }
 
-/// What the program writes where it is asked for help.
-fn help<R>(rt: &R) -> Result<Tape, AllocError>
-where
-    R: Files + AllocGlobal + Threads + Wait + Net + Sync,
-{
-    let (mut input, mut output, mut errors) = tapes(rt.alloc())?;
-    let _ = status_of(rt, &["--help"], &mut input, &mut output, &mut errors);
-    Ok(output)
-}
-
 #[test]
 fn help_wants_memory(rt: HostRuntime) -> Result<(), Fail> {
-    let help = help(&rt)?;
+    let mut streams = Streams::new(rt.alloc(), LINES, 4000)?;
+    let _ = status_of(&rt, &["--help"], &mut streams);
     let call = Words {
         words: &["--help"],
         status: 0,
-        output: help.written(),
+        output: streams.output.written(),
         complaint: b"",
     };
     assert!(rt; is_refused(&rt, 1900, &call));
@@ -277,41 +258,52 @@ fn sessions_want_memory(rt: HostRuntime) {
     assert!(rt; holds_with(alloc, |hoard| is_a_session_refused(&rt, alloc, hoard)));
 }
 
-/// How serving one client ends with so many bytes left, at an office that was just opened, and
-/// what she is sent. A client whose line isn't read is cut off.
+/// How serving one client ends with so many bytes left, and how many passes come back.
+fn serve_at<N, H, R>(
+    rt: &R,
+    alloc: Global,
+    hoard: &mut Option<Hoard>,
+    bytes: usize,
+    seat: (&Office<N, H>, Vec<Pass<N>>),
+    door: &mut Wires,
+) -> Option<Result<usize, ServeFault>>
+where
+    N: OfficeName + Send + Sync,
+    H: Wait + Drop + Send,
+    R: Threads + Wait + Net + Sync,
+{
+    let (office, passes) = seat;
+    let is_left = match hoard {
+        Some(hoard) => hoard.leave(bytes),
+        None => true,
+    };
+    let served = serve(rt, alloc, office, door, passes, &OpenGate);
+    if let Some(hoard) = hoard {
+        hoard.give_back();
+    }
+    let back = served.map(|passes| passes.len());
+    is_left.then_some(back)
+}
+
+/// The same, at an office that was just opened.
 fn serve_with<N, H, R>(
     rt: &R,
     alloc: Global,
     hoard: &mut Option<Hoard>,
     bytes: usize,
     opened: Opened<H>,
-) -> Result<(Result<usize, ServeFault>, Option<Vec<u8>>), Fail>
+    door: &mut Wires,
+) -> Option<Result<usize, ServeFault>>
 where
     N: OfficeName + Send + Sync,
     H: Wait + Drop + Send,
     R: Threads + Wait + Net + Sync,
     requires { (opened.history ≡ N.history) × (opened.rules ≡ N.rules) }
 {
-    let (office, passes) = opened.split::<N>()?;
-    let (client, mut theirs) = wire_of(rt, b"ENTER A\n", false, &count(alloc)?)?;
-    let mut door = Wires::new(vec![in alloc; client]?, false);
-    if let Some(hoard) = hoard {
-        if !hoard.leave(bytes) {
-            return Err(Fail::new("bytes to leave"));
-        }
+    match opened.split::<N>() {
+        Ok((office, passes)) => serve_at(rt, alloc, hoard, bytes, (&office, passes), door),
+        Err(_) => None,
     }
-    let served = serve(rt, alloc, &office, &mut door, passes, &OpenGate);
-    if let Some(hoard) = hoard {
-        hoard.give_back();
-    }
-    drop(door);
-    let back = match served {
-        Ok(passes) => Ok(passes.len()),
-        Err(fault) => Err(fault),
-    };
-    let mut replies = Vec::new(alloc);
-    let is_read = theirs.read_to_end(&mut replies).is_ok();
-    Ok((back, if is_read { Some(replies) } else { None }))
 }
 
 /// The same, at an office that is opened for it.
@@ -320,22 +312,29 @@ fn serve_once<R: Threads + Wait + Net + Sync>(
     alloc: Global,
     hoard: &mut Option<Hoard>,
     bytes: usize,
-) -> Result<(Result<usize, ServeFault>, Option<Vec<u8>>), Fail> {
-    let opened = opened_office(rt, alloc, 1).ok_or("an office")?;
-    serve_with::<Brand, _, _>(rt, alloc, hoard, bytes, opened)
+    door: &mut Wires,
+) -> Option<Result<usize, ServeFault>> {
+    match opened_office(rt, alloc, 1) {
+        Some(opened) => serve_with::<Brand, _, _>(rt, alloc, hoard, bytes, opened, door),
+        None => None,
+    }
 }
 
-/// The fault by which serving ends with so many bytes left, where its client is sent nothing.
+/// The fault by which serving ends with so many bytes left, where its client is sent nothing. Her
+/// line isn't read where no thread is to be had, so that she is cut off.
 fn silent_fault<R: Threads + Wait + Net + Sync>(
     rt: &R,
     alloc: Global,
     hoard: &mut Option<Hoard>,
     bytes: usize,
 ) -> Result<Option<ServeFault>, Fail> {
-    let (back, replies) = serve_once(rt, alloc, hoard, bytes)?;
-    let is_silent = replies.is_none_or(|replies| replies.is_empty());
+    let (mut door, mut theirs) = door_of(rt, alloc, b"ENTER A\n", false, &count(alloc)?)?;
+    let back = serve_once(rt, alloc, hoard, bytes, &mut door);
+    drop(door);
+    let mut replies = Vec::new(alloc);
+    let _ = theirs.read_to_end(&mut replies);
     Ok(match back {
-        Err(fault) if is_silent => Some(fault),
+        Some(Err(fault)) if replies.is_empty() => Some(fault),
         _ => None,
     })
 }
@@ -359,9 +358,9 @@ fn is_serving_refused<R: Threads + Wait + Net + Sync>(
 
 /// Whether one client is served where memory is ample.
 fn is_served<R: Threads + Wait + Net + Sync>(rt: &R, alloc: Global) -> Result<bool, Fail> {
-    let (back, replies) = serve_once(rt, alloc, &mut None, 0)?;
-    let is_answered = replies.is_some_and(|text| text.as_slice() == b"OK 1 1 0.0\n".as_slice());
-    Ok(back == Ok(1) && is_answered)
+    let (mut door, mut theirs) = door_of(rt, alloc, b"ENTER A\n", false, &count(alloc)?)?;
+    let back = serve_once(rt, alloc, &mut None, 0, &mut door);
+    Ok(back == Some(Ok(1)) && was_sent(alloc, &mut theirs, b"OK 1 1 0.0\n"))
 }
 
 /// Where all memory is taken, no thread is to be had, so that no session begins whose memory could

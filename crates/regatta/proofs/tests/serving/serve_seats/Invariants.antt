@@ -1,5 +1,0 @@
-use Rattle.regatta.proofs.tests.serving.serve_seats.Given as goal
-
--- the office that was just opened
-abbrev pub ghosts-serve_at : goal.ghosts-serve_at
-ghosts-serve_at g a = record { history = a.opened.history; rules = a.opened.rules }
