@@ -75,14 +75,7 @@ where
 
 /// Whether serving these doors, at an office of so many seats in which nothing was entered, leaves
 /// this.
-fn leaves<R, D, G>(
-    rt: &R,
-    alloc: Global,
-    seats: u8,
-    doors: &mut [D],
-    gate: &G,
-    left: &Left,
-) -> bool
+fn leaves<R, D, G>(rt: &R, alloc: Global, seats: u8, doors: &mut [D], gate: &G, left: &Left) -> bool
 where
     R: Threads + Wait + Sync,
     D: Door,

@@ -302,8 +302,7 @@ fn corrected_times_in_a_session(rt: HostRuntime) -> Result<(), Fail> {
 }
 
 /// The journal of three boats.
-const THREE_BOATS: &[u8] =
-    b"1 1 SCORER ENTER A\n1 2 SCORER ENTER B\n1 3 SCORER ENTER C\n";
+const THREE_BOATS: &[u8] = b"1 1 SCORER ENTER A\n1 2 SCORER ENTER B\n1 3 SCORER ENTER C\n";
 
 /// The second reply can't be written: what was committed stays, and the next session on the pass
 /// goes on from there.

@@ -305,7 +305,12 @@ impl StartFiles {
     }
 
     /// Writes both.
-    fn write<R: Files + AllocGlobal>(&self, rt: &R, journal: &str, boats: &str) -> Result<(), Fail> {
+    fn write<R: Files + AllocGlobal>(
+        &self,
+        rt: &R,
+        journal: &str,
+        boats: &str,
+    ) -> Result<(), Fail> {
         fs::write(rt, self.journal.as_str(), journal)?;
         fs::write(rt, self.boats.as_str(), boats)?;
         Ok(())
@@ -679,12 +684,7 @@ fn start_files_are_read(rt: HostRuntime) -> Result<(), Fail> {
 }
 
 /// Whether a run from this journal file alone says this, and ends with status 1.
-fn refuses_file<R>(
-    rt: &R,
-    files: &StartFiles,
-    text: &[u8],
-    said: &str,
-) -> Result<bool, Fail>
+fn refuses_file<R>(rt: &R, files: &StartFiles, text: &[u8], said: &str) -> Result<bool, Fail>
 where
     R: Files + AllocGlobal + Threads + Wait + Net + Sync,
 {

@@ -2,12 +2,11 @@
 ghost use Rattle.std.specs.Prelude.{◌≡◌};
 
 use super::super::offices::{opened_office, two_seats};
-use super::super::sessions::place_of;
+use super::super::sessions::{has_journal, place_of};
 use super::*;
 use regatta_office::{
     Office, OfficeName, OpenFault, Opened, Pass, Receipt, ShowFault, answer_alone,
 };
-use regatta_tables::write_entries;
 use regatta_terms::{Command, Line, Refusal, Role};
 use std::marker::Brand;
 use std::sync::Wait;
@@ -152,18 +151,6 @@ fn entering_tells<N: OfficeName, H: Wait + Drop, R: Wait>(
     })
 }
 
-/// Whether the desk's one entry is that of seat 1, who entered A as scorer.
-fn is_entered<N: OfficeName, H: Wait + Drop, R: Wait>(
-    rt: &R,
-    alloc: Global,
-    office: &Office<N, H>,
-) -> bool {
-    let desk = office.desk(rt);
-    let mut text = Vec::new(alloc);
-    let is_written = write_entries(desk.board().entries(), &mut text).is_ok();
-    is_written && text.as_slice() == b"1 1 SCORER ENTER A\n".as_slice()
-}
-
 /// Whether seat 1 enters A, with each growth refused first.
 fn is_entering_refused<N: OfficeName, H: Wait + Drop, R: Wait>(
     rt: &R,
@@ -198,7 +185,7 @@ fn enter_at<N: OfficeName, H: Wait + Drop, R: Wait>(
     let is_refused = is_entering_refused(rt, hoard, &office, &mut first, &mut second);
     let steps = Steps::of_journals(16_384);
     let is_shown = hoard.refuses(SHOWN, steps, || shows(&mut second));
-    is_refused && is_shown && is_entered(rt, alloc, &office)
+    is_refused && is_shown && has_journal(rt, alloc, &office, b"1 1 SCORER ENTER A\n")
 }
 
 /// What showing one entry tells.

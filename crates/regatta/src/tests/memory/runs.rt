@@ -84,7 +84,12 @@ where
         return Told::Wanting;
     };
     let status = status_of(rt, call.words, &mut streams);
-    run_tells(call, status, streams.output.written(), streams.errors.written())
+    run_tells(
+        call,
+        status,
+        streams.output.written(),
+        streams.errors.written(),
+    )
 }
 
 /// Whether a tape is made and the lines are replayed, with each growth refused first.
