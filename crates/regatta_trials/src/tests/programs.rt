@@ -421,26 +421,33 @@ static SERVINGS: [Serving; 6] = [
     },
 ];
 
-/// Whether a run of `serve` from these files ends so.
-fn serves_to<R>(rt: &R, files: &StartFiles, serving: &Serving) -> Result<bool, Fail>
+/// Whether a run of `serve` at this socket, with this amount of a Scoring Penalty, from these files
+/// ends so.
+fn serves_to<R>(
+    rt: &R,
+    files: &StartFiles,
+    socket: &str,
+    scp: &str,
+    start: &Start,
+) -> Result<bool, Fail>
 where
     R: Files + AllocGlobal + Threads + Wait + Net + Sync,
 {
-    files.write(rt, serving.start.entries, serving.start.sails)?;
+    files.write(rt, start.entries, start.sails)?;
     let words = [
         "serve",
         "--socket",
-        serving.socket,
+        socket,
         "--sessions",
         "1",
         "--scp",
-        serving.scp,
+        scp,
         "--journal",
         files.journal.as_str(),
         "--entries",
         files.boats.as_str(),
     ];
-    ends(rt, &words, "ENTER A\n", &serving.start.ending)
+    ends(rt, &words, "ENTER A\n", &start.ending)
 }
 
 /// Rules, journal file, entry list, start and socket are looked at in this order. A socket without
@@ -449,8 +456,9 @@ where
 fn serving_says_why_it_stops_short(rt: HostRuntime) -> Result<(), Fail> {
     let files = StartFiles::new(&rt)?;
     for serving in &SERVINGS {
-        let said = serving.start.ending.said;
-        assert!(rt; serves_to(&rt, &files, serving)?, "at {said}");
+        let Serving { socket, scp, start } = serving;
+        let said = start.ending.said;
+        assert!(rt; serves_to(&rt, &files, socket, scp, start)?, "at {said}");
     }
     files.remove(&rt)
 }
