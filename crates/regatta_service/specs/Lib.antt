@@ -2,4 +2,5 @@ pub mod Doors
 pub mod Ends
 pub mod Faults
 pub mod Lines
+pub mod LinesTaken
 pub mod Pools

@@ -78,6 +78,7 @@ impl<N: OfficeName> Pool<N> {
     /// Lends the pass with the lowest seat, if there is one.
     pub(crate) fn take(&mut self) -> Option<Lent<N>>
         ensures none { result ≡ None → All (λ slot. slot ≡ None) self.old.slots.items }
+        ensures same { result ≡ None → self.new.slots.items ≡ self.old.slots.items }
         ensures lent { IfSome result (λ lent.
             (slice_get self.old.slots.items lent.slot ≡ Some (Some lent.pass))
             × IsLowest self.old.slots.items lent.slot lent.pass.seat) }
