@@ -8,8 +8,8 @@ first, and again whenever the office had gone and is back. QUIT, or the end of t
 
 A line that had no answer is never sent again by itself, since the office may have taken it. Who
 types is told so, and waits here for the office to come back; lines that are typed meanwhile are
-shown, and not sent. Lines of a file are only sent as far
-as they are answered: behind a line that was lost the next might come to stand in a wrong place.
+shown, and not sent. Lines of a file are only sent as far as they are answered: behind a line that
+was lost the next might come to stand in a wrong place.
 The status is 0 where every line was answered, and none of a file was refused; else 1.
 """
 import argparse

@@ -66,7 +66,7 @@ is_entered journal boat = list_any (same_sail boat) (entered journal)
 abbrev pub is_placed : RulesParts → Journal → ℕ → Sail → Bool
 is_placed rules journal race boat = stands_in same_sail boat (order rules journal race)
 
--- a code of the protest committee, DSQ or DNE: RRS A5.1 names those that need no hearing
+-- a code of the protest committee, DSQ or DNE: RRS A5.1 names the others
 abbrev pub is_protest_code : Option Code → Bool
 is_protest_code None = false
 is_protest_code (Some code) = is_jury_code code

@@ -94,6 +94,7 @@ with_changed [] new = []
 with_changed (old ∷ olds) [] = old ∷ olds
 with_changed (old ∷ olds) (new ∷ news) = unwrap_or new old ∷ with_changed olds news
 
+-- the lines once new ones have replaced some or all of them
 abbrev pub with_lines : List BoatScores → NewLines → List BoatScores
 with_lines old (lines.Changed new) = with_changed old new.items
 with_lines old (lines.All new) = new.items
@@ -153,11 +154,12 @@ abbrev pub FitLines : List BoatScores → Option Ranked → Type 0
 FitLines old None = Unit {0}
 FitLines old (Some ranked) = IsOfEach old ranked.lines
 
--- lines and ranks once new ones, if there are any, have replaced them
+-- the lines once new ones, if there are any, have replaced them
 abbrev pub lines_after : List BoatScores → Option Ranked → List BoatScores
 lines_after old None = old
 lines_after old (Some ranked) = with_lines old ranked.lines
 
+-- the ranks, likewise
 abbrev pub ranks_after : List Place → Option Ranked → List Place
 ranks_after old None = old
 ranks_after old (Some ranked) = ranked.ranks

@@ -52,7 +52,7 @@ column rules sheet = map (outcome_on rules sheet) (range_with_len 0 (boats sheet
 abbrev pub races : List Bool → List ℕ
 races counts = filter (λ race. slice_index_or counts (race - 1) false) (range_with_len 1 MAX_RACES)
 
--- the same for each race that counts, in the order of the races
+-- the column of each of these races, in their order
 abbrev pub columns : RulesParts → List Sheet → List ℕ → List (List Outcome)
 columns rules sheets races =
     map (λ race. column rules (slice_index_or sheets (race - 1) (empty_sheet 0))) races

@@ -22,6 +22,7 @@ times_of_three =
     ++ scorer (Finish 1 b) ∷ scorer (Time 1 b 1) ∷ scorer (Time 1 d 1) ∷ jury (Time 1 b 1)
     ∷ jury (Finish 1 b) ∷ []
 
+-- each of these lines is answered so
 pub times_of_three_replies :
     replies by_times [] times_of_three
     ≡ ok 1 1 false 0
@@ -70,6 +71,7 @@ pub finishes_refused : refused_from limits by_times [] (journal tie_for_first)
     ≡ Some (4, WrongSystem)
 finishes_refused = refl
 
+-- and so is one of corrected times, without handicap
 pub times_refused : refused_from limits default_rules [] (journal three_timed)
     ≡ Some (4, WrongSystem)
 times_refused = refl

@@ -16,6 +16,7 @@ use std::alloc::{AllocError, Global};
 pub struct Outcome {
     /// Her points before redress.
     pub plain: Tenths,
+    /// What she holds.
     pub held: Held,
     /// Whether she stands in the finishing order.
     pub placed: bool,

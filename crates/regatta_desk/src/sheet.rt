@@ -12,7 +12,9 @@ use std::alloc::{AllocError, Global};
 /// What a watcher is shown: a journal, and its standing (RRS Appendix A).
 #[derive(Drop)]
 pub struct Sheet {
+    /// The journal.
     pub journal: Journal,
+    /// Its standing.
     pub standing: Standing,
 }
 

@@ -66,11 +66,12 @@ with_seats app =
     (number_option (codes "clients") (codes "4") 1 MAX_SEATS))
     (number_option (codes "sessions") (codes "0") 0 MOST_SESSIONS)
 
--- the two subcommands
+-- the subcommand `replay`: the options of the series, of its start and of the final part
 abbrev pub replay : ValueParser → App
 replay forms =
     with_rule (with_start (with_rules (new_app (codes "replay")))) (form_option forms)
 
+-- `serve`, likewise, with those of the socket in place of the final part
 abbrev pub serve : App
 serve = with_seats (with_start (with_rules (new_app (codes "serve"))))
 
@@ -80,6 +81,7 @@ bare_program =
     let app = new_app (codes "regatta") in
     record app { top = record app.top { no_binary_name = true; subcommand_required = true } }
 
+-- the whole program: with its two subcommands
 unfoldable pub regatta : ValueParser → App
 regatta forms = with_subcommand (with_subcommand bare_program (replay forms).top) serve.top
 

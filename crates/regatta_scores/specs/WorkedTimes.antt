@@ -41,6 +41,7 @@ equal_times_share_their_places = refl
 
 -- ---- a boat struck, and timed again
 
+-- A is struck out
 abbrev pub struck : List (Role × Command)
 struck = three_timed ++ scorer (Strike 1 a) ∷ []
 
@@ -54,6 +55,7 @@ pub struck_boats_leave_the_order : standing by_times (journal struck)
     ∷ row a 3 false 40 (marked 40 abbreviation.Dnc ∷ []) ∷ [])
 struck_boats_leave_the_order = refl
 
+-- and is timed again
 abbrev pub timed_again : List (Role × Command)
 timed_again = struck ++ scorer (Time 1 a 3599) ∷ []
 

@@ -2,8 +2,8 @@
 
 use crate::sessions::End;
 
-/// Asked ahead of each line of a session, and told where its reply was written. The lines of a session count
-/// from 1, those that can't be read included; at the greatest `u64` the number stays.
+/// Asked ahead of each line of a session, and told where its reply was written. The lines of a
+/// session count from 1, those that can't be read included; at the greatest `u64` the number stays.
 pub trait Gate {
     /// Whether the line is answered. It may keep the session waiting; where it says no, the session
     /// ends as stopped.

@@ -1,6 +1,7 @@
 -- What a contract sees of a `Tape`, and what a read or a write makes of it.
 use Rattle.std.specs.Prelude.{ℕ, ◌+◌, ◌-◌, List, ◌++◌, length, drop, min}
 
+-- what a contract sees of a tape
 pub record TapeParts : Type 0 where
   -- the input that it hasn't given yet, and what it took
   pub rest : List ℕ

@@ -92,6 +92,10 @@ impl EntriesFault {
 /// The sails that an entry list names, as many as may be entered: those in the first column headed
 /// `Sail`, `SailNo` or `SailNumber`, in letters of either case. Spaces don't matter, and blank
 /// records are passed over. The records are those that `csv` reads by default, so any bytes do.
+///
+/// # Errors
+///
+/// The first fault of the list, or `NoMemory` where memory is wanting.
 pub fn read_entries(alloc: Global, text: &[u8]) -> Result<Sails, EntriesFault>
     ensures ok { IfOk result (λ sails. entries_of_text text.now ≡ Ok sails) }
     ensures few { IfOk result (λ sails. length sails ≤ MAX_BOATS) }

@@ -17,6 +17,10 @@ use regatta_terms::{RaceNo, points_word};
 use std::alloc::{AllocError, Global};
 
 /// Appends the standing as CSV: a header, and a record for each boat.
+///
+/// # Errors
+///
+/// Where memory is wanting. `out` then holds what it held; its room is never less.
 pub fn write_csv(alloc: Global, standing: &Standing, out: &mut Vec<u8>) -> Result<(), AllocError>
     ensures ok { OnOk result (out.new.items ≡ out.old.items ++ csv_text standing.now) }
     ensures err { OnErr result (out.new.items ≡ out.old.items) }

@@ -1,4 +1,4 @@
-//! Texts that are read: a journal that says its version in its first line, an old one without it,
+//! Texts that are read: a journal that says its version in its first line, an older one without it,
 //! and an entry list at its limit.
 
 use super::*;
@@ -8,10 +8,10 @@ use regatta_terms::{VersionLine, read_version};
 /// A journal of two seats.
 static SECOND: &[u8] = b"REGATTA 2\n1 1 SCORER ENTER A\n2 1 JURY REDRESS 1 A 7.5\n";
 
-/// The same in the old form.
+/// The same in an older journal's form.
 static OLD: &[u8] = b"1 1 SCORER ENTER A\n2 1 JURY REDRESS 1 A 7.5\n";
 
-/// The journal that a text reads as, written in both forms, of which the old one comes last.
+/// The journal that a text reads as, written in both forms; an older journal's comes last.
 fn written_again(alloc: Global, text: &[u8]) -> Result<Vec<u8>, Fail> {
     let journal = read_journal(alloc, text).ok().ok_or("a journal")?;
     let mut out = Vec::new(alloc);
