@@ -9,6 +9,7 @@ use Rattle.regatta_scores.specs.declared.boats.Scored.{Scored}
 use Rattle.regatta_scores.specs.Averages.{points}
 use Rattle.regatta_scores.specs.Exclusions as exclusion
 use Rattle.regatta_scores.specs.Ranking.{BoatScores, better, places}
+use Rattle.regatta_scores.specs.declared.ranking.TheConstants.{MAX_RANKED}
 
 -- ---- exclusions (A2.1, 90.3(b))
 
@@ -85,6 +86,9 @@ pub complete_tie_shares_a_rank :
     ≡ record { rank = 1; tied = true } ∷ record { rank = 1; tied = true }
     ∷ record { rank = 3; tied = false } ∷ []
 complete_tie_shares_a_rank = refl
+
+pub lines_ranked_at_most : MAX_RANKED ≡ 1000
+lines_ranked_at_most = refl
 
 pub nobody_has_no_rank : places [] ≡ []
 nobody_has_no_rank = refl

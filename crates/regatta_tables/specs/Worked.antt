@@ -16,12 +16,16 @@ use Rattle.regatta_scores.specs.declared.table.Row.{Row}
 use Rattle.regatta_scores.specs.declared.table.Standing.{Standing}
 use Rattle.regatta_tables.specs.ReplyTexts.{reply_text}
 use Rattle.regatta_tables.specs.TableTexts.{table_text}
+use Rattle.regatta_tables.specs.declared.replies.TheConstants.{REPLY_ROOM}
 
 -- texts, each with a line feed behind it
 abbrev pub lines : List (List ℕ) → List ℕ
 lines texts = flat_map (λ text. text ++ 10 ∷ []) texts
 
 -- ---- replies
+
+pub bytes_that_are_room_for_a_reply : REPLY_ROOM ≡ 64
+bytes_that_are_room_for_a_reply = refl
 
 abbrev pub done : ℕ → ℕ → Bool → ℕ → Reply
 done place rank tied net =

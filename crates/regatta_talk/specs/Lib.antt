@@ -1,2 +1,3 @@
 pub mod HeardLines
+pub mod Laws
 pub mod Replies

@@ -3,6 +3,7 @@
 #![tactic(auto)]
 
 mod cutter;
+pub mod laws;
 mod replies;
 mod room;
 
