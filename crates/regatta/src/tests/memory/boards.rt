@@ -15,35 +15,46 @@ struct Series<'a> {
 
 /// Every command by finishes, and who is where behind them: A is disqualified, cleared and struck
 /// out, goes ahead of B and has a penalty of one point, and C is given a score.
-const FINISHES: &[u8] = b"1 1 SCORER ENTER A\n1 2 SCORER ENTER B\n1 3 SCORER ENTER C\n\
+static FINISHES: &[u8] = b"1 1 SCORER ENTER A\n1 2 SCORER ENTER B\n1 3 SCORER ENTER C\n\
     1 4 SCORER FINISH 1 A\n1 5 SCORER TIE 1 B A\n1 6 SCORER FINISH 1 C\n1 7 SCORER SCORE 1\n\
     1 8 JURY MARK 1 A DSQ\n1 9 JURY CLEAR 1 A\n1 10 SCORER STRIKE 1 A\n\
     1 11 SCORER BEFORE 1 A B\n1 12 JURY PENALTY 1 A SCP\n1 13 JURY REDRESS 1 C 1.5\n\
     1 14 SCORER UNSCORE 1\n1 15 SCORER SCORE 1\n";
 
-const FINISHES_TABLE: &[u8] = b"TABLE 3 RACES 1\n1 C 1.5 1.5/RDG\n2= A 2.0 2.0/SCP\n\
+static FINISHES_TABLE: &[u8] = b"TABLE 3 RACES 1\n1 C 1.5 1.5/RDG\n2= A 2.0 2.0/SCP\n\
     2= B 2.0 2.0\n";
 
 /// A race by corrected times, of which two are equal (RRS A3, A7).
-const TIMES: &[u8] = b"1 1 SCORER ENTER A\n1 2 SCORER ENTER B\n1 3 SCORER ENTER C\n\
+static TIMES: &[u8] = b"1 1 SCORER ENTER A\n1 2 SCORER ENTER B\n1 3 SCORER ENTER C\n\
     1 4 SCORER TIME 1 A 3605\n1 5 SCORER TIME 1 B 3600\n1 6 SCORER TIME 1 C 3605\n\
     1 7 SCORER SCORE 1\n";
 
-const TIMES_TABLE: &[u8] = b"TABLE 3 RACES 1\n1 B 1.0 1.0\n2= A 2.5 2.5\n2= C 2.5 2.5\n";
+static TIMES_TABLE: &[u8] = b"TABLE 3 RACES 1\n1 B 1.0 1.0\n2= A 2.5 2.5\n2= C 2.5 2.5\n";
 
-const BY_FINISHES: Series<'static> = Series {
-    text: FINISHES,
-    least: &[
-        380, 415, 440, 11, 11, 65, 85, 95, 95, 95, 95, 95, 95, 80, 85,
-    ],
-    table: FINISHES_TABLE,
-};
+/// How often each entry of these journals is refused at least.
+static OF_FINISHES: [u32; 15] = [
+    380, 415, 440, 11, 11, 65, 85, 95, 95, 95, 95, 95, 95, 80, 85,
+];
 
-const BY_TIMES: Series<'static> = Series {
-    text: TIMES,
-    least: &[380, 415, 440, 11, 11, 11, 85],
-    table: TIMES_TABLE,
-};
+static OF_TIMES: [u32; 7] = [380, 415, 440, 11, 11, 11, 85];
+
+/// The series by finishes.
+fn by_finishes() -> Series<'static> {
+    Series {
+        text: FINISHES,
+        least: &OF_FINISHES,
+        table: FINISHES_TABLE,
+    }
+}
+
+/// The series by corrected times.
+fn by_times() -> Series<'static> {
+    Series {
+        text: TIMES,
+        least: &OF_TIMES,
+        table: TIMES_TABLE,
+    }
+}
 
 /// What opening a board tells.
 fn opens(alloc: Global) -> Told {
@@ -76,14 +87,16 @@ fn applies(board: &mut Board, entry: Entry) -> Told {
     }
 }
 
-/// Whether all these entries are prepared and appended, each with each growth refused first, so
-/// often at least.
+/// Whether this entry is prepared and appended, with each growth refused first, so often at least.
+fn takes(hoard: &mut Hoard, board: &mut Board, entry: Entry, least: u32) -> bool {
+    hoard.refuses(least, SMALL_STEPS, || prepares(board, entry))
+        && hoard.refuses(least, SMALL_STEPS, || applies(board, entry))
+}
+
+/// Whether all these entries are, one after another.
 fn takes_all(hoard: &mut Hoard, board: &mut Board, entries: &[Entry], least: &[u32]) -> bool {
     for (entry, least) in entries.iter().zip(least) {
-        if !hoard.refuses(*least, SMALL_STEPS, || prepares(board, *entry)) {
-            return false;
-        }
-        if !hoard.refuses(*least, SMALL_STEPS, || applies(board, *entry)) {
+        if !takes(hoard, board, *entry, *least) {
             return false;
         }
     }
@@ -152,8 +165,8 @@ fn rules_by_times() -> Rules {
 /// Whether all calls of a board are refused first, by finishes and by times.
 fn are_boards_refused(alloc: Global, hoard: &mut Hoard) -> bool {
     hoard.refuses(820, Steps::of_journals(8192), || opens(alloc))
-        && is_refused_throughout(alloc, hoard, default_rules(), BY_FINISHES)
-        && is_refused_throughout(alloc, hoard, rules_by_times(), BY_TIMES)
+        && is_refused_throughout(alloc, hoard, default_rules(), by_finishes())
+        && is_refused_throughout(alloc, hoard, rules_by_times(), by_times())
 }
 
 #[test]
@@ -180,16 +193,23 @@ fn commits_with_nothing(
     is_left && is_written && board.len() == 1
 }
 
-/// Whether the first entry of a journal is appended and answered so.
+/// Whether the first entry of a journal is appended on this board and answered so.
+fn is_committed_on(alloc: Global, hoard: &mut Hoard, board: &mut Board, entry: Entry) -> bool {
+    match Vec::with_capacity(alloc, 64) {
+        Ok(mut reply) => {
+            commits_with_nothing(hoard, board, entry, &mut reply)
+                && reply.as_slice() == b"OK 1 1 0.0\n".as_slice()
+        }
+        Err(_) => false,
+    }
+}
+
+/// Whether it is on a board that was just opened.
 fn is_first_committed(alloc: Global, hoard: &mut Hoard, entry: Entry) -> bool {
-    let Ok(mut board) = Board::open(alloc, default_rules()) else {
-        return false;
-    };
-    let Ok(mut reply) = Vec::with_capacity(alloc, 64) else {
-        return false;
-    };
-    commits_with_nothing(hoard, &mut board, entry, &mut reply)
-        && reply.as_slice() == b"OK 1 1 0.0\n".as_slice()
+    match Board::open(alloc, default_rules()) {
+        Ok(mut board) => is_committed_on(alloc, hoard, &mut board, entry),
+        Err(_) => false,
+    }
 }
 
 /// Nothing is wanting where a call takes no memory.

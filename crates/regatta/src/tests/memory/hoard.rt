@@ -218,27 +218,40 @@ impl Hoard {
     /// give the same memory twice, and ends the process where it has no more.
     pub(crate) fn new(alloc: Global) -> Result<Option<Hoard>, AllocError> {
         let depth = deepest(DEPTH, &[0; 512]);
-        let (mut rest, mut apart) = (Blocks::new(alloc)?, Blocks::new(alloc)?);
+        let mut hoard = Hoard::without_blocks(alloc)?;
+        let is_plain = hoard.take_all(depth)?;
+        Ok(if is_plain { Some(hoard) } else { None })
+    }
+
+    /// A hoard that has taken nothing.
+    fn without_blocks(alloc: Global) -> Result<Hoard, AllocError> {
+        let rest = Blocks::new(alloc)?;
+        let apart = Blocks::new(alloc)?;
         let region = Blocks::new(alloc)?;
-        apart.take_kept();
-        let left = pieces(alloc)?;
-        // This block lies above the region, so that the heap keeps the region when it is free. Its
-        // size makes the compiler keep the walk down the stack.
-        rest.hold(64 + usize::from(depth));
-        rest.fill_large(LARGEST, WIDE);
-        let _ = rest.held.pop();
-        if !rest.hold(WIDE) {
-            return Ok(None);
-        }
-        rest.fill_large(WIDE, LEAST_LARGE);
-        rest.fill_small();
-        drop(left);
-        Ok(Some(Hoard {
+        Ok(Hoard {
             rest,
             apart,
             region,
             refused: 0,
-        }))
+        })
+    }
+
+    /// Takes all memory but for the region. False at the heap of a sanitizer.
+    fn take_all(&mut self, depth: u8) -> Result<bool, AllocError> {
+        self.apart.take_kept();
+        let left = pieces(self.rest.alloc)?;
+        // This block lies above the region, so that the heap keeps the region when it is free. Its
+        // size makes the compiler keep the walk down the stack.
+        self.rest.hold(64 + usize::from(depth));
+        self.rest.fill_large(LARGEST, WIDE);
+        let _ = self.rest.held.pop();
+        let is_plain = self.rest.hold(WIDE);
+        if is_plain {
+            self.rest.fill_large(WIDE, LEAST_LARGE);
+            self.rest.fill_small();
+        }
+        drop(left);
+        Ok(is_plain)
     }
 
     /// Leaves so many bytes to the calls that come, until `give_back`. False where there aren't so

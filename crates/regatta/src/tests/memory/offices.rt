@@ -132,6 +132,15 @@ fn entries_seen<N: OfficeName, H: Wait + Drop, R: Wait>(
     Some((desk.board().len(), shown))
 }
 
+/// What seat 1 is told of A by her place, with its last number then, and how many entries are seen
+/// elsewhere.
+fn place_tells(place: Result<u32, Refusal>, last: u32, seen: (usize, usize)) -> Told {
+    if place == Err(Refusal::NoMemory) {
+        return wanting_if(last == 0 && seen == (0, 0));
+    }
+    ordinary_if(place == Ok(1) && last == 1 && seen == (1, 1))
+}
+
 /// What seat 1 is told of A, entered with so many bytes left. Behind a refusal the desk has no
 /// entry, the seat's last number is 0, and seat 2 is shown no entry.
 fn entering_tells<N: OfficeName, H: Wait + Drop, R: Wait>(
@@ -139,16 +148,15 @@ fn entering_tells<N: OfficeName, H: Wait + Drop, R: Wait>(
     hoard: &mut Hoard,
     bytes: usize,
     office: &Office<N, H>,
-    passes: (&mut Pass<N>, &mut Pass<N>),
-) -> Option<Told> {
-    let (first, second) = passes;
-    let place = enter_with(rt, hoard, bytes, office, first)?;
-    let seen = entries_seen(rt, office, second)?;
-    Some(match place {
-        Ok(place) => ordinary_if(place == 1 && first.last() == 1 && seen == (1, 1)),
-        Err(Refusal::NoMemory) => wanting_if(first.last() == 0 && seen == (0, 0)),
-        Err(_) => Told::Other,
-    })
+    first: &mut Pass<N>,
+    second: &mut Pass<N>,
+) -> Told {
+    let place = enter_with(rt, hoard, bytes, office, first);
+    let seen = entries_seen(rt, office, second);
+    match (place, seen) {
+        (Some(place), Some(seen)) => place_tells(place, first.last(), seen),
+        _ => Told::Other,
+    }
 }
 
 /// Whether seat 1 enters A, with each growth refused first.
@@ -161,8 +169,8 @@ fn is_entering_refused<N: OfficeName, H: Wait + Drop, R: Wait>(
 ) -> bool {
     for turn in 0..MOST_RUNS {
         let bytes = SMALL_STEPS.bytes(turn);
-        let told = entering_tells(rt, hoard, bytes, office, (&mut *first, &mut *second));
-        if let Some(passed) = hoard.verdict(told.unwrap_or(Told::Other), 400) {
+        let told = entering_tells(rt, hoard, bytes, office, first, second);
+        if let Some(passed) = hoard.verdict(told, 400) {
             return passed;
         }
     }
@@ -291,11 +299,13 @@ fn answers_at<N: OfficeName, H: Wait + Drop, R: Wait>(
     requires history { opened.history ≡ N.history }
     requires rules { opened.rules ≡ N.rules }
 {
-    let Some((office, mut first, mut second)) = two_seats::<N, H>(opened) else {
-        return false;
-    };
-    is_desk_refused(rt, alloc, hoard, &office, &mut first)
-        && is_pass_refused(alloc, hoard, &mut second)
+    match two_seats::<N, H>(opened) {
+        Some((office, mut first, mut second)) => {
+            let is_desk_refused = is_desk_refused(rt, alloc, hoard, &office, &mut first);
+            is_desk_refused & is_pass_refused(alloc, hoard, &mut second)
+        }
+        None => false,
+    }
 }
 
 /// The same, at an office that is opened for it.

@@ -145,17 +145,25 @@ fn the_program_wants_memory(rt: HostRuntime) -> Result<(), Fail> {
     Ok(())
 }
 
+/// Whether help is refused first that is written so.
+fn is_help_refused<R>(rt: &R, output: &[u8]) -> bool
+where
+    R: Files + AllocGlobal + Threads + Wait + Net + Sync,
+{
+    let call = Words {
+        words: &["--help"],
+        status: 0,
+        output,
+        complaint: b"",
+    };
+    is_refused(rt, 1900, &call)
+}
+
 #[test]
 fn help_wants_memory(rt: HostRuntime) -> Result<(), Fail> {
     let mut streams = Streams::new(rt.alloc(), LINES, 4000)?;
     let _ = status_of(&rt, &["--help"], &mut streams);
-    let call = Words {
-        words: &["--help"],
-        status: 0,
-        output: streams.output.written(),
-        complaint: b"",
-    };
-    assert!(rt; is_refused(&rt, 1900, &call));
+    assert!(rt; is_help_refused(&rt, streams.output.written()));
     Ok(())
 }
 

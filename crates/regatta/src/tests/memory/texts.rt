@@ -70,33 +70,59 @@ static SHEET: &[u8] = b"JOURNAL 8\n1 1 SCORER ENTER A\n1 2 SCORER ENTER B\n\
 /// What a journal begins with that is written.
 static VERSION_LINE: &[u8] = b"REGATTA 2\n";
 
-#[test]
-fn texts_want_memory(rt: HostRuntime) -> Result<(), Fail> {
-    let alloc = rt.alloc();
-    let journal = read_journal(alloc, DISQUALIFIED).ok().ok_or("a journal")?;
-    let standing = standing_of(alloc, &default_rules(), journal.as_slice());
-    let standing = standing.ok().ok_or("a lawful journal")?;
-    let series = Series {
-        alloc,
-        journal,
-        standing,
-    };
-    let file = joined(alloc, &[VERSION_LINE, DISQUALIFIED])?;
-    let csv = b"rank,sail,net,R1\n1,B,1.0,1.0\n2,C,2.0,2.0\n3,A,4.0,4.0/DSQ\n".as_slice();
+/// The series of these entries.
+fn disqualified(alloc: Global) -> Option<Series> {
+    let journal = read_journal(alloc, DISQUALIFIED).ok()?;
+    match standing_of(alloc, &default_rules(), journal.as_slice()) {
+        Ok(standing) => Some(Series {
+            alloc,
+            journal,
+            standing,
+        }),
+        Err(_) => None,
+    }
+}
+
+/// The results as CSV.
+static CSV: &[u8] = b"rank,sail,net,R1\n1,B,1.0,1.0\n2,C,2.0,2.0\n3,A,4.0,4.0/DSQ\n";
+
+/// Whether each of these texts is appended, with each growth refused first, so often at least.
+fn are_texts_refused(hoard: &mut Hoard, series: &Series, texts: &[(Text, &[u8], u32)]) -> bool {
+    for (what, wanted, least) in texts {
+        if !hoard.refuses(*least, SMALL_STEPS, || series.appends(*what, wanted)) {
+            return false;
+        }
+    }
+    true
+}
+
+/// Whether all texts of the series are.
+fn is_series_refused(hoard: &mut Hoard, series: &Series, file: &[u8]) -> bool {
     let texts = [
         (Text::Entry, b"1 1 SCORER ENTER A".as_slice(), 4),
-        (Text::Journal, &file, 75),
+        (Text::Journal, file, 75),
         (Text::Table, DISQUALIFIED_TABLE, 65),
-        (Text::Csv, csv, 40),
+        (Text::Csv, CSV, 40),
         (Text::Sheet, SHEET, 75),
         (Text::Reply, b"BYE\n".as_slice(), 4),
     ];
-    let Some(mut hoard) = Hoard::new(alloc)? else {
-        return Ok(());
+    are_texts_refused(hoard, series, &texts)
+}
+
+/// The same, with a hoard.
+fn is_refused_with(alloc: Global, series: &Series, file: &[u8]) -> bool {
+    holds_with(alloc, |hoard| is_series_refused(hoard, series, file))
+}
+
+#[test]
+fn texts_want_memory(rt: HostRuntime) -> Result<(), Fail> {
+    let alloc = rt.alloc();
+    let file = joined(alloc, &[VERSION_LINE, DISQUALIFIED])?;
+    let is_refused = match disqualified(alloc) {
+        Some(series) => is_refused_with(alloc, &series, &file),
+        None => false,
     };
-    for (what, wanted, least) in texts {
-        assert!(rt; hoard.refuses(least, SMALL_STEPS, || series.appends(what, wanted)));
-    }
+    assert!(rt; is_refused);
     Ok(())
 }
 
