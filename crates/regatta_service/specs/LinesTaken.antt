@@ -1,36 +1,59 @@
 -- How far the lines of a session have come.
-use Rattle.std.specs.Prelude.{◌≡◌, List, [], ◌∷◌, ◌++◌, ℕ, false, All}
+use Rattle.std.specs.Prelude.{◌≡◌, List, [], ◌∷◌, ◌++◌, ℕ, Option, false, All}
 use Rattle.regatta_terms.specs.Lines.{line_of}
+use Rattle.regatta_terms.specs.Rules.{RulesParts}
 use Rattle.regatta_terms.specs.declared.command.Role.{Role}
 use Rattle.regatta_talk.specs.HeardLines.{heard_lines}
-use Rattle.regatta_talk.specs.Replies.{role_after}
+use Rattle.regatta_desk.specs.Passes.{PassValue}
 use Rattle.regatta_desk.specs.Replies.{next_after}
 use Rattle.regatta_desk.specs.declared.answers.Next.{Next}
+use Rattle.regatta_service.specs.Lines.{Replied}
+
+-- where a session stands: the role of the lines to come, the pass, and what was written
+pub record Point : Type 0 where
+  pub role : Role
+  pub pass : PassValue
+  pub written : Option (List ℕ)
+
+-- one, by its parts
+abbrev pub point : Role → PassValue → Option (List ℕ) → Point
+point role pass written = record { role = role; pass = pass; written = written }
+
+-- a line that was answered
+abbrev pub IsReplied : RulesParts → List ℕ → Point → Point → Type 0
+IsReplied rules line before after =
+    Replied rules (line_of line) before.role after.role before.pass after.pass before.written
+    after.written
+
+-- lines that were answered one behind the other, each once and with just its reply
+abbrev pub AreReplied : RulesParts → List (List ℕ) → Point → Point → Type 0
+AreReplied rules [] before after = after ≡ before
+AreReplied rules (line ∷ lines) before after =
+    (between : Point) × IsReplied rules line before between
+    × AreReplied rules lines between after
 
 -- a line behind which its session goes on: all but QUIT
 abbrev pub GoesOn : List ℕ → Type 0
 GoesOn line = next_after (line_of line) ≡ Next.Go
 
--- the role of what comes behind these lines, the first of which is sent in this one: that of the
--- last ROLE among them
-abbrev pub role_behind : List (List ℕ) → Role → Role
-role_behind [] role = role
-role_behind (line ∷ lines) role = role_behind lines (role_after (line_of line) role)
-
--- the lines that ended in some bytes behind a line at hand, none of which is QUIT; behind them the
--- session goes on with the line that is then at hand, in the role that they leave
-pub record WentOn (line bytes : List ℕ) (role : Role) (later : List ℕ) (after : Role) : Type 0 where
+-- the lines that ended in some bytes behind a line at hand were answered, and none of them is QUIT;
+-- the session goes on with the line that is then at hand
+pub record WentOn (rules : RulesParts) (line bytes : List ℕ) (before : Point) (later : List ℕ)
+    (after : Point) : Type 0 where
   pub lines : List (List ℕ)
   pub going : All GoesOn lines
   pub cut : (rest : List ℕ) → heard_lines false line (bytes ++ rest)
       ≡ lines ++ heard_lines false later rest
-  pub role_set : after ≡ role_behind lines role
+  pub answered : AreReplied rules lines before after
 
--- the lines that ended in some bytes behind a line at hand, up to the first QUIT
-pub record CameToQuit (line bytes : List ℕ) : Type 0 where
-  pub lines : List (List ℕ)
-  pub going : All GoesOn lines
-  pub quit : List ℕ
-  pub is_quit : next_after (line_of quit) ≡ Next.End
-  pub behind : List (List ℕ)
-  pub cut : heard_lines false line bytes ≡ lines ++ quit ∷ behind
+-- of the lines that ended in some bytes behind a line at hand, those up to the first QUIT were
+-- answered, and none behind it
+pub record CameToQuit (rules : RulesParts) (line bytes : List ℕ) (before after : Point) : Type 0
+  where
+    pub lines : List (List ℕ)
+    pub going : All GoesOn lines
+    pub quit : List ℕ
+    pub is_quit : next_after (line_of quit) ≡ Next.End
+    pub behind : List (List ℕ)
+    pub cut : heard_lines false line bytes ≡ lines ++ quit ∷ behind
+    pub answered : AreReplied rules (lines ++ quit ∷ []) before after

@@ -9,7 +9,7 @@ ghost use Rattle.regatta_desk.specs.Replies.{is_for_desk, is_for_pass, next_afte
 ghost use Rattle.regatta_service.specs.Ends.{failures_in, failures_so_far};
 ghost use Rattle.regatta_service.specs.Lines.{Answers, CutOff, DeskAnswers, Replied};
 ghost use Rattle.regatta_service.specs.Lines.{is_replied};
-ghost use Rattle.regatta_service.specs.LinesTaken.{CameToQuit, WentOn};
+ghost use Rattle.regatta_service.specs.LinesTaken.{CameToQuit, WentOn, point};
 
 use crate::gate::Gate;
 use regatta_desk::{Next, Office, OfficeName, Pass, answer_alone};
@@ -198,11 +198,14 @@ impl<N: OfficeName, H: Wait + Drop, G: Gate> Talk<'_, N, H, G> {
         ensures failures { S.failures stream.new
             ≡ S.failures stream.old + failures_so_far self.new.ended }
 
-        // It goes on behind lines none of which is QUIT, in the role that they leave, with what is
-        // then heard of the line at hand; it ends as quit only at the first QUIT.
-        ensures goes_on { self.new.ended ≡ None → WentOn self.old.cutter piece.now self.old.role
-            self.new.cutter self.new.role }
-        ensures quit { self.new.ended ≡ Some End.Quit → CameToQuit self.old.cutter piece.now }
+        // Each line is answered once and in its turn, up to a QUIT. Where there is none, the session
+        // goes on with what is then heard of the line at hand.
+        ensures goes_on { self.new.ended ≡ None → WentOn N.rules self.old.cutter piece.now
+            (point self.old.role self.old.pass.now (S.contents stream.old)) self.new.cutter
+            (point self.new.role self.new.pass.now (S.contents stream.new)) }
+        ensures quit { self.new.ended ≡ Some End.Quit → CameToQuit N.rules self.old.cutter piece.now
+            (point self.old.role self.old.pass.now (S.contents stream.old))
+            (point self.new.role self.new.pass.now (S.contents stream.new)) }
 
         // No read is made here, so none ends the session.
         ensures unread { (self.new.ended ≢ Some End.Closed)

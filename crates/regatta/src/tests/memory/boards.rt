@@ -93,7 +93,7 @@ fn takes(hoard: &mut Hoard, board: &mut Board, entry: Entry, least: u32) -> bool
         && hoard.refuses(least, SMALL_STEPS, || applies(board, entry))
 }
 
-/// Whether all these entries are, one after another.
+/// Whether all these entries are prepared and appended so, one after another.
 fn takes_all(hoard: &mut Hoard, board: &mut Board, entries: &[Entry], least: &[u32]) -> bool {
     for (entry, least) in entries.iter().zip(least) {
         if !takes(hoard, board, *entry, *least) {
@@ -204,7 +204,7 @@ fn is_committed_on(alloc: Global, hoard: &mut Hoard, board: &mut Board, entry: E
     }
 }
 
-/// Whether it is on a board that was just opened.
+/// Whether the first entry is appended on a board that was just opened, and answered so.
 fn is_first_committed(alloc: Global, hoard: &mut Hoard, entry: Entry) -> bool {
     match Board::open(alloc, default_rules()) {
         Ok(mut board) => is_committed_on(alloc, hoard, &mut board, entry),

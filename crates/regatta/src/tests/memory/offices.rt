@@ -301,8 +301,9 @@ fn answers_at<N: OfficeName, H: Wait + Drop, R: Wait>(
 {
     match two_seats::<N, H>(opened) {
         Some((office, mut first, mut second)) => {
-            let is_desk_refused = is_desk_refused(rt, alloc, hoard, &office, &mut first);
-            is_desk_refused & is_pass_refused(alloc, hoard, &mut second)
+            let desk = is_desk_refused(rt, alloc, hoard, &office, &mut first);
+            let pass = is_pass_refused(alloc, hoard, &mut second);
+            desk & pass
         }
         None => false,
     }

@@ -145,7 +145,7 @@ fn the_program_wants_memory(rt: HostRuntime) -> Result<(), Fail> {
     Ok(())
 }
 
-/// Whether help is refused first that is written so.
+/// Whether the program writes this help, with each growth refused first.
 fn is_help_refused<R>(rt: &R, output: &[u8]) -> bool
 where
     R: Files + AllocGlobal + Threads + Wait + Net + Sync,

@@ -96,7 +96,7 @@ fn are_texts_refused(hoard: &mut Hoard, series: &Series, texts: &[(Text, &[u8], 
     true
 }
 
-/// Whether all texts of the series are.
+/// Whether all texts of the series are appended, each with each growth refused first.
 fn is_series_refused(hoard: &mut Hoard, series: &Series, file: &[u8]) -> bool {
     let texts = [
         (Text::Entry, b"1 1 SCORER ENTER A".as_slice(), 4),

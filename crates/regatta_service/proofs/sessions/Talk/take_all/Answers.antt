@@ -8,9 +8,8 @@ pub returns-then-is_some-clause-quit : goal.returns-then-is_some-clause-quit
 returns-then-is_some-clause-quit g c = λ quits.
     let piece = c.args.piece.now in
     let i = c.loop-byte.byte-index in
-    quit_taken c.args.self.now.cutter piece c.args.self.now.role c.loop-byte.self.cutter
-    c.loop-byte.self.role i (get_or piece i 0) (search rules) refl (search rules) (search rules)
-    c.loop-byte.invariant.went
+    quit_taken _ c.args.self.now.cutter piece _ c.loop-byte.self.cutter _ i (get_or piece i 0) _
+    (search rules) refl (search rules) (search rules) (search rules) c.loop-byte.invariant.went
 
 -- one byte more, which ends a line or doesn't
 pub loop-byte-preserved : goal.loop-byte-preserved
@@ -21,17 +20,15 @@ loop-byte-preserved g c =
       | then-take+else-is_some w ↦ record {
         well = search rules;
         goes = search rules;
-        went = line_taken c.args.self.now.cutter piece c.args.self.now.role
-            c.loop-byte.self.cutter c.loop-byte.self.role i (get_or piece i 0) _ _
-            (search rules) refl (search rules) (search rules) (search rules) (search rules)
-            c.loop-byte.invariant.went;
+        went = line_taken _ c.args.self.now.cutter piece _ c.loop-byte.self.cutter _ i
+            (get_or piece i 0) _ _ (search rules) refl (search rules) (search rules)
+            (search rules) (search rules) c.loop-byte.invariant.went;
       }
       | else-take w ↦ record {
         well = search rules;
         goes = search rules;
-        went = byte_taken c.args.self.now.cutter piece c.args.self.now.role
-            c.loop-byte.self.cutter c.loop-byte.self.role i (get_or piece i 0) _ _
-            (search rules) refl (search rules) (search rules) (search rules)
-            c.loop-byte.invariant.went;
+        went = byte_taken _ c.args.self.now.cutter piece _ c.loop-byte.self.cutter _ i
+            (get_or piece i 0) _ _ (search rules) refl (search rules) (search rules)
+            (search rules) c.loop-byte.invariant.went;
       }
     ]
