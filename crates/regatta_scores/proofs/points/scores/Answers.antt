@@ -35,5 +35,14 @@ loop-boat-preserved c =
       held = c.all_held-held.ensures i;
       seconds = c.args.sheet.now.seconds;
     }) boat) in
-    c.in_ok-push.ensures.items ∙ (λ i. c.loop-boat.invariant i ++ scored i ∷ [])
-    ∙ sym (map_range_more (race_score rules c.args.sheet.now) boat)
+    record {
+      scored = c.push_reserved.ensures.items
+          ∙ (λ i. c.loop-boat.invariant.scored i ++ scored i ∷ [])
+          ∙ sym (map_range_more (race_score rules c.args.sheet.now) boat);
+      long = omega (arith, c.push_reserved.ensures.len);
+      room = c.push_reserved.ensures.capacity ∙ c.loop-boat.invariant.room;
+    }
+
+pub push_reserved-requires : goal.push_reserved-requires
+push_reserved-requires c =
+    omega (arith, c.loop-boat.invariant.long, c.loop-boat.invariant.room, c.loop-boat-test.true)
