@@ -1,5 +1,5 @@
-use Rattle.std.proofs.Common.{◌∙◌, ◌++◌, ◌∷◌, [], sym, arith}
-use Rattle.std.proofs.lemmas.List.{map_more}
+use Rattle.std.proofs.Common.{◌∙◌, ◌++◌, ◌∷◌, [], ap, sym, arith, map}
+use Rattle.std.proofs.lemmas.List.{map_more, take_all}
 use Rattle.regatta_scores.specs.declared.boats.RaceScore.{RaceScore}
 use Rattle.regatta_scores.proofs.points.plain_points.Goals as goal
 
@@ -17,3 +17,9 @@ loop-score-preserved c =
 
 pub push_reserved-requires : goal.push_reserved-requires
 push_reserved-requires c = omega (arith, c.loop-score.invariant.long, c.loop-score.invariant.room)
+
+pub returns : goal.returns
+returns c =
+    c.loop-score.invariant.made
+    ∙ ap (map (λ (score : RaceScore). score.plain))
+    (take_all c.loop-score.score-index c.args.scores.now (omega arith))
