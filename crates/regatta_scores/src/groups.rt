@@ -1,6 +1,6 @@
 //! A finishing order as one list of boats, and where each group of it ends (RRS A3, A7).
 ghost use Rattle.std.specs.Prelude.{◌≡◌, ◌<◌, ◌++◌, ◌∷◌, [], length, nat_eq, slice_index_or};
-ghost use Rattle.std.specs.Prelude.{IsTrue, ◌↔◌, IfOk, OnOk};
+ghost use Rattle.std.specs.Prelude.{IsTrue, ◌↔◌, IfOk, OnOk, if◌then◌else◌};
 ghost use Rattle.regatta_scores.specs.Order.{stands_in};
 ghost use Rattle.regatta_scores.specs.Groups.{begin, cut, Rises};
 
@@ -94,6 +94,18 @@ impl Groups {
         self.boats.extend_from_slice(group)?;
         self.ends.push_reserved(self.boats.len());
         Ok(())
+    }
+
+    /// One more group, last, where it is wanted.
+    pub(crate) fn push_if(&mut self, group: &[u16], wanted: bool) -> Result<(), AllocError>
+        ensures { OnOk result (self.new ≡ self.old ++ (if wanted then group.now ∷ [] else [])) }
+    {
+        if wanted {
+            self.push(group)?;
+            Ok(())
+        } else {
+            Ok(())
+        }
     }
 
     /// A copy.

@@ -6,10 +6,8 @@ ghost use Rattle.regatta_scores.specs.Sheet.{boats, empty_sheet, time_of};
 ghost use Rattle.regatta_scores.specs.Order.{stands_in};
 ghost use Rattle.regatta_scores.specs.SheetFacts.{IsSheet, Allows};
 ghost use Rattle.regatta_scores.specs.Changes.{after};
-ghost use Rattle.regatta_scores.specs.declared.sheet.Change.TheVariants.{AddBoat, Last, Join};
-ghost use Rattle.regatta_scores.specs.declared.sheet.Change.TheVariants.{Ahead, Timed as Times};
-ghost use Rattle.regatta_scores.specs.declared.sheet.Change.TheVariants.{Out, Hold as Holds};
 
+use crate::copies::{with_changed, with_one_more};
 use crate::groups::Groups;
 use crate::{orders, timed};
 use regatta_terms::{Code, Redress, Seconds};
@@ -129,137 +127,62 @@ impl RaceSheet {
         requires { Allows self.now change }
         ensures { IfOk result (λ sheet. sheet ≡ after self.now change) }
     {
-        match change {
-            Change::AddBoat => self.with_boat(),
-            Change::Last { boat } => self.with_last(boat),
-            Change::Join { boat, other } => self.joined(boat, other),
-            Change::Ahead { boat, other } => self.with_ahead(boat, other),
-            Change::Timed { boat, seconds } => self.timed(boat, seconds),
-            Change::Out { boat } => self.without(boat),
-            Change::Hold { boat, held } => self.with_held(boat, held),
+        let alloc = *self.held.allocator();
+        let order = self.order_after(alloc, &change)?;
+        let held = self.held_after(alloc, &change)?;
+        let seconds = self.seconds_after(alloc, &change)?;
+        Ok(RaceSheet {
+            order,
+            held,
+            seconds,
+        })
+    }
+
+    /// The finishing order after the change.
+    fn order_after(&self, alloc: Global, change: &Change) -> Result<Groups, AllocError>
+        ensures { IfOk result (λ order. order ≡ (after self.now change.now).order) }
+    {
+        match *change {
+            Change::Last { boat } => orders::with_last(alloc, &self.order, boat),
+            Change::Join { boat, other } => orders::joined(alloc, &self.order, boat, other),
+            Change::Ahead { boat, other } => orders::with_ahead(alloc, &self.order, boat, other),
+            Change::Timed { boat, seconds } => {
+                timed::with_time(alloc, &self.order, &self.seconds, boat, seconds)
+            }
+            Change::Out { boat } => orders::without(alloc, &self.order, boat),
+            Change::AddBoat | Change::Hold { .. } => self.order.copy(alloc),
         }
     }
 
-    /// The sheet with one more boat.
-    fn with_boat(&self) -> Result<RaceSheet, AllocError>
-        requires { Allows self.now AddBoat }
-        ensures { IfOk result (λ sheet. sheet ≡ after self.now AddBoat) }
+    /// What each boat holds after the change.
+    fn held_after(&self, alloc: Global, change: &Change) -> Result<Vec<Held>, AllocError>
+        requires { Allows self.now change.now }
+        ensures { IfOk result (λ held. held.items ≡ (after self.now change.now).held) }
     {
-        let alloc = self.allocator();
-        let order = self.order.copy(alloc)?;
-        let mut held = Vec::from_slice(alloc, &self.held)?;
-        held.push(NOTHING_HELD)?;
-        let mut seconds = Vec::from_slice(alloc, &self.seconds)?;
-        seconds.push(None)?;
-        Ok(RaceSheet {
-            order,
-            held,
-            seconds,
-        })
+        match *change {
+            Change::AddBoat => with_one_more(alloc, &self.held, NOTHING_HELD),
+            Change::Hold { boat, held } => with_changed(alloc, &self.held, boat, held),
+            _ => Vec::from_slice(alloc, &self.held),
+        }
     }
 
-    /// The sheet with the boat in a group of her own, last.
-    fn with_last(&self, boat: u16) -> Result<RaceSheet, AllocError>
-        requires { Allows self.now (Last boat) }
-        ensures { IfOk result (λ sheet. sheet ≡ after self.now (Last boat)) }
+    /// The corrected time of each boat after the change.
+    fn seconds_after(
+        &self,
+        alloc: Global,
+        change: &Change,
+    ) -> Result<Vec<Option<Seconds>>, AllocError>
+        requires { Allows self.now change.now }
+        ensures { IfOk result (λ seconds. seconds.items ≡ (after self.now change.now).seconds) }
     {
-        let alloc = self.allocator();
-        let order = orders::with_last(alloc, &self.order, boat)?;
-        let held = Vec::from_slice(alloc, &self.held)?;
-        let seconds = Vec::from_slice(alloc, &self.seconds)?;
-        Ok(RaceSheet {
-            order,
-            held,
-            seconds,
-        })
-    }
-
-    /// The sheet with the boat in the group of the other.
-    fn joined(&self, boat: u16, other: u16) -> Result<RaceSheet, AllocError>
-        requires { Allows self.now (Join boat other) }
-        ensures { IfOk result (λ sheet. sheet ≡ after self.now (Join boat other)) }
-    {
-        let alloc = self.allocator();
-        let order = orders::joined(alloc, &self.order, boat, other)?;
-        let held = Vec::from_slice(alloc, &self.held)?;
-        let seconds = Vec::from_slice(alloc, &self.seconds)?;
-        Ok(RaceSheet {
-            order,
-            held,
-            seconds,
-        })
-    }
-
-    /// The sheet with the boat directly ahead of the other's group.
-    fn with_ahead(&self, boat: u16, other: u16) -> Result<RaceSheet, AllocError>
-        requires { Allows self.now (Ahead boat other) }
-        ensures { IfOk result (λ sheet. sheet ≡ after self.now (Ahead boat other)) }
-    {
-        let alloc = self.allocator();
-        let order = orders::with_ahead(alloc, &self.order, boat, other)?;
-        let held = Vec::from_slice(alloc, &self.held)?;
-        let seconds = Vec::from_slice(alloc, &self.seconds)?;
-        Ok(RaceSheet {
-            order,
-            held,
-            seconds,
-        })
-    }
-
-    /// The sheet with the boat at the place of her corrected time.
-    fn timed(&self, boat: u16, time: Seconds) -> Result<RaceSheet, AllocError>
-        requires { Allows self.now (Times boat time) }
-        ensures { IfOk result (λ sheet. sheet ≡ after self.now (Times boat time)) }
-    {
-        let alloc = self.allocator();
-        let order = timed::with_time(alloc, &self.order, &self.seconds, boat, time)?;
-        let held = Vec::from_slice(alloc, &self.held)?;
-        let mut seconds = Vec::from_slice(alloc, &self.seconds)?;
-        seconds[boat as usize] = Some(time);
-        Ok(RaceSheet {
-            order,
-            held,
-            seconds,
-        })
-    }
-
-    /// The sheet without the boat in the order.
-    fn without(&self, boat: u16) -> Result<RaceSheet, AllocError>
-        requires { Allows self.now (Out boat) }
-        ensures { IfOk result (λ sheet. sheet ≡ after self.now (Out boat)) }
-    {
-        let alloc = self.allocator();
-        let order = orders::without(alloc, &self.order, boat)?;
-        let held = Vec::from_slice(alloc, &self.held)?;
-        let mut seconds = Vec::from_slice(alloc, &self.seconds)?;
-        timed::take_away(&mut seconds, boat);
-        Ok(RaceSheet {
-            order,
-            held,
-            seconds,
-        })
-    }
-
-    /// The sheet on which the boat holds this.
-    fn with_held(&self, boat: u16, now: Held) -> Result<RaceSheet, AllocError>
-        requires { Allows self.now (Holds boat now) }
-        ensures { IfOk result (λ sheet. sheet ≡ after self.now (Holds boat now)) }
-    {
-        let alloc = self.allocator();
-        let order = self.order.copy(alloc)?;
-        let mut held = Vec::from_slice(alloc, &self.held)?;
-        held[boat as usize] = now;
-        let seconds = Vec::from_slice(alloc, &self.seconds)?;
-        Ok(RaceSheet {
-            order,
-            held,
-            seconds,
-        })
-    }
-
-    /// The allocator of the sheet's lists, which takes the memory of changed copies.
-    fn allocator(&self) -> Global {
-        *self.held.allocator()
+        match *change {
+            Change::AddBoat => with_one_more(alloc, &self.seconds, None),
+            Change::Timed { boat, seconds } => {
+                with_changed(alloc, &self.seconds, boat, Some(seconds))
+            }
+            Change::Out { boat } => with_changed(alloc, &self.seconds, boat, None),
+            _ => Vec::from_slice(alloc, &self.seconds),
+        }
     }
 
     /// The finishing order.

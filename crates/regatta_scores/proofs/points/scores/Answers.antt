@@ -1,4 +1,6 @@
 use Rattle.std.proofs.Common.{◌≡◌, ◌++◌, ◌∷◌, [], ap, ◌∙◌, sym, length, refl, None, arith}
+use Rattle.std.proofs.Common.{map}
+use Rattle.std.specs.List.{range_with_len}
 use Rattle.std.proofs.lemmas.List.{get_or_read_under}
 use Rattle.regatta_scores.specs.Sheet.{nothing_held}
 use Rattle.regatta_scores.specs.RacePoints.{race_score, dnf_by}
@@ -35,5 +37,21 @@ loop-boat-preserved c =
       held = c.all_held-held.ensures i;
       seconds = c.args.sheet.now.seconds;
     }) boat) in
-    c.in_ok-push.ensures.items ∙ (λ i. c.loop-boat.invariant i ++ scored i ∷ [])
-    ∙ sym (map_range_more (race_score rules c.args.sheet.now) boat)
+    record {
+      scored = c.push_reserved.ensures.items
+          ∙ (λ i. c.loop-boat.invariant.scored i ++ scored i ∷ [])
+          ∙ sym (map_range_more (race_score rules c.args.sheet.now) boat);
+      long = omega (arith, c.push_reserved.ensures.len);
+      room = c.push_reserved.ensures.capacity ∙ c.loop-boat.invariant.room;
+    }
+
+pub push_reserved-requires : goal.push_reserved-requires
+push_reserved-requires c =
+    omega (arith, c.loop-boat.invariant.long, c.loop-boat.invariant.room, c.loop-boat-test.true)
+
+pub returns : goal.returns
+returns c =
+    let many : c.loop-boat.boat ≡ length c.args.sheet.now.held =
+    omega (arith, ap length c.all_held-held.ensures) in
+    c.loop-boat.invariant.scored
+    ∙ ap (λ n. map (race_score c.args.rules.now c.args.sheet.now) (range_with_len 0 n)) many
