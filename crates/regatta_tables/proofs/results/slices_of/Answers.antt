@@ -1,4 +1,4 @@
-use Rattle.std.proofs.Common.{Bor, rules, ◌≡◌, ◌∙◌, ◌+◌, ◌<◌, ◌++◌, ◌∷◌, [], ℕ, List, length, get_or}
+use Rattle.std.proofs.Common.{rules, ◌≡◌, ◌∙◌, ◌+◌, ◌<◌, ◌++◌, ◌∷◌, [], ℕ, List, length, get_or}
 use Rattle.std.proofs.Common.{ap, sym, map, take}
 use Rattle.std.proofs.lemmas.List.{map-append, map_more}
 use Rattle.regatta_tables.proofs.results.slices_of.Goals as goal
