@@ -29,6 +29,10 @@ no_room pieces i d before text room cap old len below so_far start end grown ful
       length-append before (flat_map (λ piece. piece.now) (take i pieces)),
     )
 
+-- what has no room doesn't fit
+pub never_both : {X : Type 0} (room need : ℕ) → room < need → need ≤ room → X
+never_both room need full fits = absurd (omega arith)
+
 -- the next piece makes the text of one piece more
 pub pushed_piece : (pieces : List (Bor (List ℕ))) (i : ℕ) (d : Bor (List ℕ))
     (before text new : List ℕ) → i < length pieces
@@ -68,14 +72,23 @@ start_stays old more longer text a b first second is begins =
     sym (take-take a b text short) ∙ ap (take a) (begins ∙ is)
     ∙ ap (λ (n : ℕ). take n (old ++ more)) first ∙ take-append_seam old more
 
--- a space and the next word make the text of one word more
+-- the text of the next thing makes the text of one thing more
+pub text_more : {X : Type 0} (f : X → List ℕ) (xs : List X) (i : ℕ) (x : X)
+    (start text new : List ℕ) → i < length xs → x ≡ get_or xs i x
+    → text ≡ start ++ flat_map f (take i xs) → new ≡ text ++ f x
+    → new ≡ start ++ flat_map f (take (i + 1) xs)
+text_more f xs i x start text new below item so_far pushed =
+    pushed ∙ ap (λ (t : List ℕ). t ++ f x) so_far ∙ flat_map_more f start (take i xs) x
+    ∙ ap (λ y. start ++ flat_map f (take i xs ++ y ∷ [])) item
+    ∙ ap (λ ys. start ++ flat_map f ys) (sym (take_more xs i x below))
+
+-- the next word behind a space makes the text of one word more
 pub spaced_more : {X : Type 0} (f : X → List ℕ) (xs : List X) (i : ℕ) (x : X)
-    (start text gap new : List ℕ) → i < length xs → x ≡ get_or xs i x
-    → text ≡ start ++ spaced (map f (take i xs)) → gap ≡ text ++ 32 ∷ [] → new ≡ gap ++ f x
+    (start text new : List ℕ) → i < length xs → x ≡ get_or xs i x
+    → text ≡ start ++ spaced (map f (take i xs)) → new ≡ text ++ 32 ∷ f x
     → new ≡ start ++ spaced (map f (take (i + 1) xs))
-spaced_more f xs i x start text gap new below item so_far space word =
-    word ∙ ap (λ (t : List ℕ). t ++ f x) (space ∙ ap (λ (t : List ℕ). t ++ 32 ∷ []) so_far)
-    ∙ append_assoc (start ++ spaced (map f (take i xs))) (32 ∷ []) (f x)
+spaced_more f xs i x start text new below item so_far word =
+    word ∙ ap (λ (t : List ℕ). t ++ 32 ∷ f x) so_far
     ∙ flat_map_more (λ word. 32 ∷ word) start (map f (take i xs)) (f x)
     ∙ ap (λ (w : List ℕ). start ++ spaced (map f (take i xs) ++ w ∷ [])) (ap f item)
     ∙ ap (λ (ws : List (List ℕ)). start ++ spaced ws) (sym (map_more f xs i x below))

@@ -20,6 +20,7 @@ use Rattle.csv.specs.Records.{Row, field_at, fields_of}
 use Rattle.regatta_terms.specs.Words.{is_space}
 use Rattle.regatta_terms.specs.declared.sail.Sail.{Sail}
 use Rattle.regatta_tables.specs.declared.entries.EntriesFault.{EntriesFault}
+use Rattle.regatta_tables.specs.declared.entries.EntriesFault.TheVariants.{NoMemory}
 use Rattle.regatta_tables.specs.EntryLists.{Record, entries_under, fault_in, fault_of, first_fault}
 use Rattle.regatta_tables.specs.EntryLists.{is_blank, is_sail_heading, sail_in, sails_in}
 use Rattle.regatta_tables.specs.EntryLists.{unless_faulty}
@@ -140,6 +141,18 @@ faulty_row column rows i number row sails fault below here counts so_far all fau
     (first_fault column (take (i + 1) (map fields_of rows))
     (drop (i + 1) (map fields_of rows)))) (sym
     (fault_here column rows i number row sails below counts so_far) ∙ faulty))
+
+-- the same, where memory may have been wanting
+pub told_fault : (column : ℕ) (rows : List Row) (i number : ℕ) (row : Row) (sails : List Sail)
+    (fault : EntriesFault) → i < length rows → row ≡ get_or rows i row → number ≡ i + 2
+    → sails ≡ sails_in column (take i (map fields_of rows))
+    → first_fault column [] (map fields_of rows)
+    ≡ first_fault column (take i (map fields_of rows)) (drop i (map fields_of rows))
+    → (fault ≡ NoMemory) ⊎ (fault_in column number sails (fields_of row) ≡ Some fault)
+    → (fault ≡ NoMemory) ⊎ (entries_under (Some column) (map fields_of rows) ≡ Err fault)
+told_fault column rows i number row sails fault below here counts so_far all (inl full) = inl full
+told_fault column rows i number row sails fault below here counts so_far all (inr faulty) =
+    inr (faulty_row column rows i number row sails fault below here counts so_far all faulty)
 
 -- every row is without a fault
 pub all_sound : (column : ℕ) (rows : List Row) (i : ℕ) (sails : List Sail) → length rows ≤ i

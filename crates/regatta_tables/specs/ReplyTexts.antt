@@ -2,6 +2,7 @@
 use Rattle.std.specs.Prelude.{ℕ, List, [], ◌∷◌, Option, Some, None, codes, decimal}
 use Rattle.regatta_terms.specs.Entries.{role_text, points_text}
 use Rattle.regatta_terms.specs.Replies.{number_of_refusal, number_of_fault}
+use Rattle.regatta_terms.specs.declared.command.Role.{Role}
 use Rattle.regatta_terms.specs.declared.reply.Touched.{Touched}
 use Rattle.regatta_terms.specs.declared.reply.Answer.{Answer}
 use Rattle.regatta_terms.specs.declared.reply.Reply.{Reply}
@@ -31,12 +32,16 @@ ranked_words touched = codes "RANK" ∷ touched_words touched
 abbrev pub refused_words : ℕ → List (List ℕ)
 refused_words number = codes "NO" ∷ decimal number ∷ []
 
+-- ROLE, and the role that was set
+abbrev pub role_words : Role → List (List ℕ)
+role_words role = codes "ROLE" ∷ role_text role ∷ []
+
 -- the words of each reply
 abbrev pub reply_words : Reply → List (List ℕ)
 reply_words (Done answer) = answer_words answer
 reply_words (Refused refusal) = refused_words (number_of_refusal refusal)
 reply_words (Fault fault) = refused_words (number_of_fault fault)
-reply_words (RoleSet role) = codes "ROLE" ∷ role_text role ∷ []
+reply_words (RoleSet role) = role_words role
 reply_words (Ranked touched) = ranked_words touched
 reply_words Bye = codes "BYE" ∷ []
 reply_words Busy = codes "BUSY" ∷ []

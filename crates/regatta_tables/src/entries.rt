@@ -147,7 +147,6 @@ fn is_sail_heading(alloc: Global, field: &[u8]) -> Result<bool, AllocError>
 }
 
 /// The sails of the records behind the header, from the fields of that column.
-#[tactic(auto, using(crate::proofs::ListFacts::all_sound, crate::proofs::ListFacts::faulty_row))]
 fn read_sails(alloc: Global, column: usize, records: &[ByteRecord]) -> Result<Sails, EntriesFault>
     ensures ok { IfOk result (λ sails.
         entries_under (Some column) (map fields_of records.now) ≡ Ok sails) }
@@ -185,7 +184,26 @@ fn add_sail(
     let Ok(fields) = fields_in(alloc, boat) else {
         return Err(EntriesFault::NoMemory);
     };
-    if is_blank(&fields) {
+    add_named(alloc, column, row, &fields, sails)
+}
+
+/// The same, given the fields of the record.
+fn add_named(
+    alloc: Global,
+    column: usize,
+    row: usize,
+    fields: &[&[u8]],
+    sails: &mut Vec<Sail>,
+) -> Result<(), EntriesFault>
+    ensures sound { OnOk result (
+        fault_in column row sails.old.items (map (λ field. field.now) fields.now) ≡ None) }
+    ensures added { OnOk result (sails.new.items
+        ≡ sails.old.items ++ sails_in column (map (λ field. field.now) fields.now ∷ [])) }
+    ensures fault { IfErr result (λ fault. (fault ≡ EntriesFault.NoMemory)
+        ⊎ (fault_in column row sails.old.items (map (λ field. field.now) fields.now)
+        ≡ Some fault)) }
+{
+    if is_blank(fields) {
         return Ok(());
     }
     let Some(field) = fields.get(column) else {

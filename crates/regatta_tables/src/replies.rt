@@ -1,14 +1,14 @@
 //! Replies as text.
 
-ghost use Rattle.std.specs.Prelude.{◌≡◌, ◌≤◌, ◌++◌, ◌+◌, vec_len, vec_capacity, codes};
+ghost use Rattle.std.specs.Prelude.{◌≡◌, ◌≤◌, ◌++◌, ◌+◌, length, vec_len, vec_capacity};
 ghost use Rattle.std.specs.Prelude.{OnOk, OnErr, IsOk};
 ghost use Rattle.regatta_tables.specs.Lines.{line};
 ghost use Rattle.regatta_tables.specs.ReplyTexts.{reply_text, answer_words, ranked_words};
-ghost use Rattle.regatta_tables.specs.ReplyTexts.{refused_words};
+ghost use Rattle.regatta_tables.specs.ReplyTexts.{refused_words, role_words};
 
 use crate::pieces::{append, rank_word};
 use itoa::Buffer;
-use regatta_terms::{Answer, Reply, Touched, points_word};
+use regatta_terms::{Answer, Reply, Role, Touched, points_word};
 use std::alloc::AllocError;
 
 /// The bytes that a reply has at most, with its LF.
@@ -28,12 +28,37 @@ pub fn write_reply(reply: &Reply, out: &mut Vec<u8>) -> Result<(), AllocError>
         Reply::Done(answer) => write_answer(answer, out),
         Reply::Refused(refusal) => write_number(refusal.number(), out),
         Reply::Fault(fault) => write_number(fault.number(), out),
-        Reply::RoleSet(role) => append(out, &[b"ROLE ", role.text().as_bytes(), b"\n"]),
+        Reply::RoleSet(role) => write_role(*role, out),
         Reply::Ranked(touched) => write_ranked(touched, out),
-        Reply::Bye => append(out, &[b"BYE\n"]),
-        Reply::Busy => append(out, &[b"BUSY\n"]),
-        Reply::Closed => append(out, &[b"CLOSED\n"]),
+        Reply::Bye => write_text(b"BYE\n", out),
+        Reply::Busy => write_text(b"BUSY\n", out),
+        Reply::Closed => write_text(b"CLOSED\n", out),
     }
+}
+
+/// Appends a short text as it stands.
+fn write_text(text: &[u8], out: &mut Vec<u8>) -> Result<(), AllocError>
+    requires { length text.now ≤ REPLY_ROOM }
+    ensures ok { OnOk result (out.new.items ≡ out.old.items ++ text.now) }
+    ensures err { OnErr result (out.new.items ≡ out.old.items) }
+    ensures room { vec_capacity out.old ≤ vec_capacity out.new }
+    ensures fits { vec_len out.old + REPLY_ROOM ≤ vec_capacity out.old → IsOk result }
+    ensures stays { vec_len out.old + REPLY_ROOM ≤ vec_capacity out.old
+        → vec_capacity out.new ≡ vec_capacity out.old }
+{
+    append(out, &[text])
+}
+
+/// Appends the role that was set.
+fn write_role(role: Role, out: &mut Vec<u8>) -> Result<(), AllocError>
+    ensures ok { OnOk result (out.new.items ≡ out.old.items ++ line (role_words role)) }
+    ensures err { OnErr result (out.new.items ≡ out.old.items) }
+    ensures room { vec_capacity out.old ≤ vec_capacity out.new }
+    ensures fits { vec_len out.old + REPLY_ROOM ≤ vec_capacity out.old → IsOk result }
+    ensures stays { vec_len out.old + REPLY_ROOM ≤ vec_capacity out.old
+        → vec_capacity out.new ≡ vec_capacity out.old }
+{
+    append(out, &[b"ROLE ", role.text().as_bytes(), b"\n"])
 }
 
 /// Appends the answer to an accepted command.

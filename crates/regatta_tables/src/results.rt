@@ -41,15 +41,33 @@ fn results(alloc: Global, standing: &Standing) -> Result<Vec<u8>, Error>
     let mut writer = WriterBuilder::new()
         .flexible(true)
         .from_writer(Vec::new(alloc));
-    let Ok(header) = header_record(alloc, standing.races.as_slice()) else {
-        return Err(Error::out_of_memory());
-    };
-    write_record(alloc, &mut writer, header.as_slice())?;
-    write_rows(alloc, &mut writer, standing.rows.as_slice())?;
+    write_results(alloc, &mut writer, standing)?;
     match writer.into_inner() {
         Ok(text) => Ok(text),
         Err(error) => Err(error.into_error()),
     }
+}
+
+/// Writes the header, and a record for each boat.
+fn write_results(
+    alloc: Global,
+    writer: &mut Writer<Vec<u8>>,
+    standing: &Standing,
+) -> Result<(), Error>
+    requires fields { written.fields_written writer.old ≡ 0 }
+    requires wrote { written.has_written writer.old ≡ false }
+    requires setup { written.writer_setup writer.old ≡ any_lengths }
+    ensures text { OnOk result (Appends
+        (written.text_written (λ v. Some v.items) writer.old)
+        (written.text_written (λ v. Some v.items) writer.new)
+        (csv_text standing.now)) }
+{
+    let Ok(header) = header_record(alloc, standing.races.as_slice()) else {
+        return Err(Error::out_of_memory());
+    };
+    write_record(alloc, writer, header.as_slice())?;
+    write_rows(alloc, writer, standing.rows.as_slice())?;
+    Ok(())
 }
 
 /// Writes a record for each boat.
@@ -108,11 +126,20 @@ fn header_record(alloc: Global, races: &[RaceNo]) -> Result<Vec<Vec<u8>>, AllocE
         map (λ field. field.items) fields.items ≡ header_fields races.now) }
 {
     let mut record = Vec::new(alloc);
-    record.push(Vec::from_slice(alloc, b"rank")?)?;
-    record.push(Vec::from_slice(alloc, b"sail")?)?;
-    record.push(Vec::from_slice(alloc, b"net")?)?;
+    push_fields(alloc, &[b"rank", b"sail", b"net"], &mut record)?;
     push_race_fields(alloc, races, &mut record)?;
     Ok(record)
+}
+
+/// Appends a field for each text.
+fn push_fields(alloc: Global, texts: &[&[u8]], fields: &mut Vec<Vec<u8>>) -> Result<(), AllocError>
+    ensures { OnOk result (map (λ field. field.items) fields.new.items
+        ≡ map (λ field. field.items) fields.old.items ++ map (λ text. text.now) texts.now) }
+{
+    for text in texts {
+        fields.push(Vec::from_slice(alloc, text)?)?;
+    }
+    Ok(())
 }
 
 /// Appends the names of the races' columns.
@@ -146,10 +173,11 @@ fn row_record(alloc: Global, row: &Row) -> Result<Vec<Vec<u8>>, AllocError>
         map (λ field. field.items) fields.items ≡ row_words row.now) }
 {
     let (mut rank, mut net) = ([0; 6], [0; 11]);
+    let rank = rank_word(&mut rank, row.rank, row.tied);
+    let sail = row.sail.text().as_bytes();
+    let net = points_word(&mut net, row.net);
     let mut record = Vec::new(alloc);
-    record.push(Vec::from_slice(alloc, rank_word(&mut rank, row.rank, row.tied))?)?;
-    record.push(Vec::from_slice(alloc, row.sail.text().as_bytes())?)?;
-    record.push(Vec::from_slice(alloc, points_word(&mut net, row.net))?)?;
+    push_fields(alloc, &[rank, sail, net], &mut record)?;
     push_cell_fields(alloc, row.cells.as_slice(), &mut record)?;
     Ok(record)
 }

@@ -3,7 +3,8 @@ ghost use Rattle.std.specs.Prelude.{◌≡◌, ◌+◌, ◌≤◌, ◌++◌, fal
 ghost use Rattle.std.specs.Prelude.{vec_capacity};
 ghost use Rattle.regatta_tables.specs.ReplyTexts.{reply_text};
 ghost use Rattle.regatta_tables.specs.declared.replies.TheConstants.{REPLY_ROOM};
-ghost use Rattle.regatta_talk.specs.Replies.{asks_board, ranked as ranked_by, reply_apart};
+ghost use Rattle.regatta_talk.specs.Replies.{asks_board, ranked as ranked_by};
+ghost use Rattle.regatta_talk.specs.Replies.{reply_apart as apart};
 ghost use Rattle.regatta_talk.specs.Replies.{reply_of as reply_by, role_after};
 
 use crate::room::{make_room, write_fitting};
@@ -44,7 +45,7 @@ pub fn answer_apart(
     out: &mut Vec<u8>,
 ) -> Result<(), AllocError>
     requires { asks_board asked ≡ false }
-    ensures text { OnOk result (out.new.items ≡ out.old.items ++ reply_text (reply_apart asked)) }
+    ensures text { OnOk result (out.new.items ≡ out.old.items ++ reply_text (apart asked)) }
     ensures role { OnOk result (role.new ≡ role_after asked role.old) }
     ensures room { vec_capacity out.old ≤ vec_capacity out.new }
     ensures fits { vec_len out.old + REPLY_ROOM ≤ vec_capacity out.old → IsOk result }
@@ -54,7 +55,18 @@ pub fn answer_apart(
         × (vec_capacity out.new ≡ vec_capacity out.old)) }
 {
     make_room(out)?;
-    let reply = match asked {
+    let reply = reply_apart(role, asked);
+    write_fitting(&reply, out);
+    Ok(())
+}
+
+/// Does what a line that asks nothing of the board asks for, and makes its reply.
+fn reply_apart(role: &mut Role, asked: Result<Line, LineFault>) -> Reply
+    requires { asks_board asked ≡ false }
+    ensures reply { result ≡ apart asked }
+    ensures role { role.new ≡ role_after asked role.old }
+{
+    match asked {
         Ok(Line::SetRole(next)) => {
             *role = next;
             Reply::RoleSet(next)
@@ -62,7 +74,5 @@ pub fn answer_apart(
         Ok(Line::Quit) => Reply::Bye,
         Ok(Line::Do(_) | Line::Rank(_) | Line::Show) => unreachable!(),
         Err(fault) => Reply::Fault(fault),
-    };
-    write_fitting(&reply, out);
-    Ok(())
+    }
 }

@@ -1,10 +1,11 @@
-use Rattle.std.proofs.Common.{map, ◌∙◌, ◌+◌, ◌≤◌, List, length, subst, sym, refl}
+use Rattle.std.specs.Prelude.{Ok}
+use Rattle.std.proofs.Common.{map, ap, ◌∙◌, ◌+◌, ◌≤◌, List, length, subst, sym, refl}
 use Rattle.std.specs.List.{IsDistinct}
 use Rattle.csv.specs.Records.{fields_of}
 use Rattle.regatta_terms.specs.declared.sail.Sail.{Sail}
 use Rattle.regatta_scores.specs.Journal.{same_sail}
 use Rattle.regatta_terms.specs.declared.limits.TheConstants.{MAX_BOATS}
-use Rattle.regatta_tables.proofs.ListFacts.{all_sound, sound_more, sails_more}
+use Rattle.regatta_tables.proofs.ListFacts.{all_sound, sound_more, sails_more, told_fault}
 use Rattle.regatta_tables.proofs.ListLaws.{few_sails, sails_once}
 use Rattle.regatta_tables.proofs.entries.read_sails.Goals as goal
 
@@ -20,6 +21,19 @@ loop-number-preserved c =
           c.index-records-number.result c.loop-number.sails.items c.add_sail.new.sails.items
           c.loop-number-test.true c.index-records-number.is inv.so_far added;
     }
+
+pub returns-in-Err-clause-fault : goal.returns-in-Err-clause-fault
+returns-in-Err-clause-fault c =
+    let inv = c.loop-number.invariant in
+    told_fault c.args.column c.args.records.now c.loop-number.number (c.loop-number.number + 2)
+    c.index-records-number.result c.loop-number.sails.items c.in-Err.fault c.loop-number-test.true
+    c.index-records-number.is refl inv.so_far inv.sound c.in-Err.ensures.fault
+
+pub returns-clause-ok : goal.returns-clause-ok
+returns-clause-ok c =
+    all_sound c.args.column c.args.records.now c.loop-number.number c.loop-number.sails.items
+    c.loop-number-test.false c.loop-number.invariant.so_far c.loop-number.invariant.sound
+    ∙ ap Ok (sym c.new.ensures)
 
 pub returns-clause-few : goal.returns-clause-few
 returns-clause-few c =

@@ -1,6 +1,6 @@
 use Rattle.std.proofs.Common.{rules, arith, ◌<◌, ◌+◌, length, vec_len, vec_capacity}
 use Rattle.std.specs.List.{flat_map}
-use Rattle.regatta_tables.proofs.LineFacts.{no_room, pushed_piece, stays_more}
+use Rattle.regatta_tables.proofs.LineFacts.{never_both, no_room, pushed_piece, stays_more}
 use Rattle.regatta_tables.proofs.pieces.push_pieces.Goals as goal
 
 pub returns-in_err-push_piece-clause-full : goal.returns-in_err-push_piece-clause-full
@@ -19,7 +19,7 @@ returns-in_err-push_piece-clause-stays c =
     no_room _ _ _ _ _ _ _ _ _ c.loop-piece-test.true c.loop-piece.invariant.text
     c.args.out.now.ok.0 c.loop-piece.out.ok.0 c.loop-piece.invariant.room
     c.in_err-push_piece.ensures.full in
-    λ fits. absurd (omega (arith, full, fits))
+    λ fits. never_both _ _ full fits
 
 pub loop-piece-preserved : goal.loop-piece-preserved
 loop-piece-preserved c = record {

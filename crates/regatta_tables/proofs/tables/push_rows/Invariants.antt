@@ -1,13 +1,13 @@
 use Rattle.std.proofs.Common.{◌≡◌, ◌≤◌, ◌++◌, take, vec_capacity}
 use Rattle.std.specs.List.{flat_map}
 use Rattle.regatta_tables.specs.Lines.{line}
-use Rattle.regatta_tables.specs.TableTexts.{head_words, row_words}
-use Rattle.regatta_tables.proofs.tables.push_table.Given as goal
+use Rattle.regatta_tables.specs.TableTexts.{row_words}
+use Rattle.regatta_tables.proofs.tables.push_rows.Given as goal
 
 -- the rows so far stand in the text
 abbrev pub invariant-loop-row : goal.invariant-loop-row
 invariant-loop-row l = record {
-  text : l.out.items ≡ l.fn.out.items ++ (line (head_words l.fn.standing) ++ flat_map
-      (λ row. line (row_words row)) (take l.row-index l.fn.standing.rows));
+  text : l.out.items ≡ l.fn.out.items
+      ++ flat_map (λ row. line (row_words row)) (take l.row-index l.rows);
   room : vec_capacity l.fn.out ≤ vec_capacity l.out;
 }
