@@ -3,6 +3,7 @@
 
 use super::*;
 use regatta_board::{Board, ReplayFault, next_entry, standing_of};
+use regatta_scores::Standing;
 use regatta_tables::{Journal, read_journal, write_table};
 use regatta_terms::{Answer, Code, Command, RaceNo, Refusal, Role, Sail, Touched};
 
@@ -47,27 +48,49 @@ fn journal_of(alloc: Global, text: &[u8]) -> Result<Journal, Fail> {
     Ok(journal)
 }
 
+/// Whether two standings have one table.
+fn have_one_table(alloc: Global, one: &Standing, other: &Standing) -> Result<bool, Fail> {
+    let (mut first, mut second) = (Vec::new(alloc), Vec::new(alloc));
+    write_table(one, &mut first)?;
+    write_table(other, &mut second)?;
+    Ok(first.as_slice() == second.as_slice())
+}
+
 /// Whether the board's standing is that of its entries taken anew.
 fn is_of_its_entries(alloc: Global, board: &Board) -> Result<bool, Fail> {
     let anew = standing_of(alloc, board.rules(), board.entries());
-    let anew = anew.ok().ok_or("a lawful journal")?;
-    let (mut kept, mut made) = (Vec::new(alloc), Vec::new(alloc));
-    write_table(&board.standing()?, &mut kept)?;
-    write_table(&anew, &mut made)?;
-    Ok(kept.as_slice() == made.as_slice())
+    match (board.standing(), anew) {
+        (Ok(kept), Ok(made)) => have_one_table(alloc, &kept, &made),
+        _ => Ok(false),
+    }
+}
+
+/// Whether the board takes the entry, and its standing is that of its entries then.
+fn is_taken(alloc: Global, board: &mut Board, entry: Entry) -> Result<bool, Fail> {
+    if board.apply(entry).is_err() {
+        return Ok(false);
+    }
+    is_of_its_entries(alloc, board)
+}
+
+/// Whether the board takes these entries one by one, and its standing is that of its entries behind
+/// each of them.
+fn are_taken(alloc: Global, board: &mut Board, entries: &[Entry]) -> Result<bool, Fail> {
+    for entry in entries {
+        if !is_taken(alloc, board, *entry)? {
+            return Ok(false);
+        }
+    }
+    Ok(true)
 }
 
 /// Whether the standing is that of the entries behind each entry of this journal.
 fn is_so_throughout(alloc: Global, rules: Rules, text: &[u8]) -> Result<bool, Fail> {
     let journal = journal_of(alloc, text)?;
-    let mut board = Board::open(alloc, rules)?;
-    for entry in journal.as_slice() {
-        board.apply(*entry).ok().ok_or("an accepted entry")?;
-        if !is_of_its_entries(alloc, &board)? {
-            return Ok(false);
-        }
+    match Board::open(alloc, rules) {
+        Ok(mut board) => are_taken(alloc, &mut board, journal.as_slice()),
+        Err(_) => Ok(false),
     }
-    Ok(true)
 }
 
 #[test]
@@ -108,47 +131,67 @@ const LAST: Touched = Touched {
     net: 40,
 };
 
+/// Whether the board tells its rules and its length, the last numbers of two seats, and where the
+/// first boat is, but not where the other is, who isn't entered.
+fn tells_what_it_took(board: &Board, tied: Sail, unknown: Sail) -> bool {
+    (board.rank(tied), board.rank(unknown)) == (Some(TIED), None)
+        && *board.rules() == default_rules()
+        && (board.len(), board.last_of(1), board.last_of(2)) == (7, 7, 0)
+}
+
 #[test]
 fn a_board_tells_what_it_took(rt: HostRuntime) -> Result<(), Fail> {
+    let (tied, unknown) = (sail("A")?, sail("D")?);
     let board = board_of(rt.alloc(), TIED_FIRST)?;
-    let told = (board.rank(sail("A")?), board.rank(sail("D")?));
-    assert!(rt; told == (Some(TIED), None));
-    assert!(rt; *board.rules() == default_rules());
-    assert!(rt; (board.len(), board.last_of(1), board.last_of(2)) == (7, 7, 0));
+    assert!(rt; tells_what_it_took(&board, tied, unknown));
     Ok(())
 }
 
 /// The place of a prepared command, which holds this entry, and for which one race was scored at
 /// most.
 fn prepared(board: &Board, entry: Entry) -> Option<u32> {
-    let staged = board.prepare(entry).ok()?;
-    (*staged.entry() == entry && staged.rescored() <= 1).then_some(staged.place())
+    match board.prepare(entry) {
+        Ok(staged) => {
+            (*staged.entry() == entry && staged.rescored() <= 1).then_some(staged.place())
+        }
+        Err(_) => None,
+    }
 }
 
 /// Prepares an entry and commits it.
 fn committed(board: &mut Board, entry: Entry) -> Option<Answer> {
-    let staged = board.prepare(entry).ok()?;
-    Some(board.commit(staged))
+    match board.prepare(entry) {
+        Ok(staged) => Some(board.commit(staged)),
+        Err(_) => None,
+    }
+}
+
+/// Whether the entry is prepared and committed, and answered so.
+fn is_committed(board: &mut Board, entry: Entry, answer: Answer) -> bool {
+    prepared(board, entry) == Some(answer.place) && committed(board, entry) == Some(answer)
 }
 
 #[test]
 fn a_prepared_command_is_committed(rt: HostRuntime) -> Result<(), Fail> {
-    let mut board = board_of(rt.alloc(), TIED_FIRST)?;
     let race = RaceNo::new(1).ok_or("a race")?;
     let (sail, code) = (sail("A")?, Code::Dsq);
     let entry = next_entry(2, 0, Role::Jury, Command::Mark { race, sail, code });
-    assert!(rt; prepared(&board, entry) == Some(8));
     let touched = Some(LAST);
     let answer = Answer { place: 8, touched };
-    assert!(rt; committed(&mut board, entry) == Some(answer));
-    assert!(rt; board.rank(sail) == touched);
+    let mut board = board_of(rt.alloc(), TIED_FIRST)?;
+    assert!(rt; is_committed(&mut board, entry, answer) && board.rank(sail) == touched);
     Ok(())
+}
+
+/// Why the journal with this text has no standing.
+fn fault_of(alloc: Global, text: &[u8]) -> Result<Option<ReplayFault>, Fail> {
+    let journal = journal_of(alloc, text)?;
+    Ok(standing_of(alloc, &default_rules(), journal.as_slice()).err())
 }
 
 #[test]
 fn an_entry_that_is_refused_is_named(rt: HostRuntime) -> Result<(), Fail> {
-    let journal = journal_of(rt.alloc(), b"1 1 SCORER ENTER A\n1 1 SCORER ENTER B\n")?;
-    let fault = standing_of(rt.alloc(), &default_rules(), journal.as_slice()).err();
+    let fault = fault_of(rt.alloc(), b"1 1 SCORER ENTER A\n1 1 SCORER ENTER B\n")?;
     let refusal = Refusal::OldNumber { last: 1 };
     assert!(rt; fault == Some(ReplayFault::Refused { at: 2, refusal }));
     Ok(())

@@ -2,11 +2,28 @@ ghost use Rattle.std.specs.Prelude.{◌<◌};
 
 use super::*;
 
-/// What a run writes over these tapes, and how it ends.
-fn ended(alloc: Global, mut input: Tape, mut output: Tape) -> (Tape, Result<(), RunFault>) {
-    let rules = default_rules();
-    let ended = replay(alloc, &mut input, &mut output, &rules, &[], Form::Table);
-    (output, ended)
+/// How a run over these tapes ends. It has no contract, so that its callers are proved quickly.
+fn end_of(alloc: Global, input: &mut Tape, output: &mut Tape) -> Result<(), RunFault> {
+    replay(alloc, input, output, &default_rules(), &[], Form::Table)
+}
+
+/// Whether a run over this text, in pieces of so many bytes, ends so and writes this, where a read
+/// fails once so many bytes were given, and a write once so many were taken.
+fn says_within(
+    alloc: Global,
+    text: &[u8],
+    piece: usize,
+    limits: [usize; 2],
+    how: Result<(), RunFault>,
+    written: &[u8],
+) -> Result<bool, Fail>
+    requires { 0 < piece }
+{
+    let [gives, takes] = limits;
+    let mut input = failing(alloc, text, piece, gives, 0)?;
+    let mut output = taking(alloc, takes)?;
+    let found = end_of(alloc, &mut input, &mut output);
+    Ok(found == how && output.written() == written)
 }
 
 /// Whether a run over this text, in pieces of so many bytes, ends so and writes this.
@@ -19,30 +36,24 @@ pub(crate) fn says(
 ) -> Result<bool, Fail>
     requires { 0 < piece }
 {
-    let input = giving(alloc, text, piece)?;
-    let (output, found) = ended(alloc, input, taking(alloc, 1000)?);
-    Ok(found == how && output.written() == written)
+    says_within(alloc, text, piece, [4_000_000, 1000], how, written)
 }
 
 #[test]
 fn a_reader_breaks_off(rt: HostRuntime) -> Result<(), Fail> {
-    let text = b"ENTER A\nENTER B";
-    let broken = failing(rt.alloc(), text, 4, text.len(), 0)?;
-    let (output, result) = ended(rt.alloc(), broken, taking(rt.alloc(), 100)?);
-    assert_eq!(rt; result, Err(RunFault::Read));
-    assert_eq!(rt; output.written(), b"OK 1 1 0.0\n".as_slice());
+    let (alloc, text) = (rt.alloc(), b"ENTER A\nENTER B");
+    let broken = Err(RunFault::Read);
+    assert!(rt; says_within(alloc, text, 4, [text.len(), 100], broken, b"OK 1 1 0.0\n")?);
     let written = b"OK 1 1 0.0\nOK 2 1= 0.0\nTABLE 2 RACES\n1= A 0.0\n1= B 0.0\n";
-    assert!(rt; says(rt.alloc(), text, 4, Ok(()), written)?);
+    assert!(rt; says(alloc, text, 4, Ok(()), written)?);
     Ok(())
 }
 
 #[test]
 fn a_writer_is_full(rt: HostRuntime) -> Result<(), Fail> {
     let text = b"ENTER A\nENTER B\nFINISH 1 B\nFINISH 1 A\nSCORE 1\n";
-    let input = giving(rt.alloc(), text, 100)?;
-    let (output, result) = ended(rt.alloc(), input, taking(rt.alloc(), 10)?);
-    assert_eq!(rt; result, Err(RunFault::Write));
-    assert_eq!(rt; output.written(), b"OK 1 1 0.0".as_slice());
+    let full = Err(RunFault::Write);
+    assert!(rt; says_within(rt.alloc(), text, 100, [1000, 10], full, b"OK 1 1 0.0")?);
     Ok(())
 }
 
@@ -52,14 +63,24 @@ fn long_text(alloc: Global, line: &[u8], count: usize) -> Result<Vec<u8>, Fail> 
     joined(alloc, &[line, rest.as_slice()])
 }
 
+/// Whether a run over a line that enters a boat, and so many bytes behind it, ends so and writes
+/// this.
+fn says_of_long(
+    alloc: Global,
+    count: usize,
+    how: Result<(), RunFault>,
+    written: &[u8],
+) -> Result<bool, Fail> {
+    let text = long_text(alloc, b"ENTER A\n", count)?;
+    says(alloc, &text, 4096, how, written)
+}
+
 #[test]
 fn an_input_is_too_long(rt: HostRuntime) -> Result<(), Fail> {
-    let text = long_text(rt.alloc(), b"ENTER A\n", 1_048_569)?;
     let fault = Err(RunFault::InputTooLong);
-    assert!(rt; says(rt.alloc(), &text, 4096, fault, b"OK 1 1 0.0\n")?);
-    let within = &text[..text.len().saturating_sub(1)];
+    assert!(rt; says_of_long(rt.alloc(), 1_048_569, fault, b"OK 1 1 0.0\n")?);
     let written = b"OK 1 1 0.0\nNO 20\nTABLE 1 RACES\n1 A 0.0\n";
-    assert!(rt; says(rt.alloc(), within, 4096, Ok(()), written)?);
+    assert!(rt; says_of_long(rt.alloc(), 1_048_568, Ok(()), written)?);
     Ok(())
 }
 
@@ -69,27 +90,25 @@ fn long_first_line(alloc: Global, count: usize, lines: &[u8]) -> Result<Vec<u8>,
     joined(alloc, &[first.as_slice(), lines])
 }
 
+/// Whether a run over such a text ends so and writes this.
+fn says_behind_long(
+    alloc: Global,
+    count: usize,
+    lines: &[u8],
+    how: Result<(), RunFault>,
+    written: &[u8],
+) -> Result<bool, Fail> {
+    let text = long_first_line(alloc, count, lines)?;
+    says(alloc, &text, 4096, how, written)
+}
+
 #[test]
 fn quit_ends_within_the_limit(rt: HostRuntime) -> Result<(), Fail> {
-    let text = long_first_line(rt.alloc(), 1_048_570, b"\nQUIT\nENTER A\n")?;
-    assert!(rt;
-        says(
-            rt.alloc(),
-            &text,
-            4096,
-            Ok(()),
-            b"NO 20\nBYE\nTABLE 0 RACES\n"
-        )?
-    );
-    let text = long_first_line(rt.alloc(), 1_048_571, b"\nQUIT\n")?;
-    assert!(rt;
-        says(
-            rt.alloc(),
-            &text,
-            4096,
-            Err(RunFault::InputTooLong),
-            b"NO 20\n"
-        )?
-    );
+    let alloc = rt.alloc();
+    let lines = b"\nQUIT\nENTER A\n";
+    let written = b"NO 20\nBYE\nTABLE 0 RACES\n";
+    assert!(rt; says_behind_long(alloc, 1_048_570, lines, Ok(()), written)?);
+    let fault = Err(RunFault::InputTooLong);
+    assert!(rt; says_behind_long(alloc, 1_048_571, b"\nQUIT\n", fault, b"NO 20\n")?);
     Ok(())
 }

@@ -35,13 +35,16 @@ fn joined(alloc: Global, parts: &[&str]) -> Result<Vec<u8>, Fail> {
     Ok(text)
 }
 
+/// Whether a run over this text ends well and writes this.
+fn is_answered(alloc: Global, text: &[u8], written: &[u8]) -> Result<bool, Fail> {
+    let (output, ended) = replayed(alloc, text, &handicap_rules(), &[], Form::Table)?;
+    Ok(ended == Ok(()) && output.written() == written)
+}
+
 #[test]
 fn a_time_is_struck_and_given_anew(rt: HostRuntime) -> Result<(), Fail> {
-    let rules = handicap_rules();
     let text = joined(rt.alloc(), &[TIMES, MORE])?;
-    let (output, ended) = replayed(rt.alloc(), &text, &rules, &[], Form::Table)?;
     let written = joined(rt.alloc(), &[REPLIES, MORE_REPLIES, LAST_TABLE])?;
-    assert_eq!(rt; output.written(), written.as_slice());
-    assert_eq!(rt; ended, Ok(()));
+    assert!(rt; is_answered(rt.alloc(), &text, &written)?);
     Ok(())
 }

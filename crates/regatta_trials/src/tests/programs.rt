@@ -181,18 +181,24 @@ where
     refuses(rt, words, 2, said.as_str())
 }
 
+/// Words of rules that can't be, each with the number of their fault.
+static NO_RULES: [(&[&str], u8); 9] = [
+    (&["replay", "--scp", "0"], 1),
+    (&["replay", "--scp", "0", "--journal", "/no/such/file"], 1),
+    (&["replay", "--scp", "100"], 1),
+    (&["replay", "--exclude", "2,3,4,5,6"], 2),
+    (&["replay", "--exclude", "3,3"], 3),
+    (&["replay", "--exclude", "1"], 4),
+    (&["replay", "--exclude", "41"], 5),
+    (&["replay", "--exclude", ""], 6),
+    (&["replay", "--absent", "a54"], 6),
+];
+
 #[test]
 fn rules_are_refused_by_number(rt: HostRuntime) -> Result<(), Fail> {
-    assert!(rt; has_rules_fault(&rt, &["replay", "--scp", "0"], 1)?);
-    let words = ["replay", "--scp", "0", "--journal", "/no/such/file"];
-    assert!(rt; has_rules_fault(&rt, &words, 1)?);
-    assert!(rt; has_rules_fault(&rt, &["replay", "--scp", "100"], 1)?);
-    assert!(rt; has_rules_fault(&rt, &["replay", "--exclude", "2,3,4,5,6"], 2)?);
-    assert!(rt; has_rules_fault(&rt, &["replay", "--exclude", "3,3"], 3)?);
-    assert!(rt; has_rules_fault(&rt, &["replay", "--exclude", "1"], 4)?);
-    assert!(rt; has_rules_fault(&rt, &["replay", "--exclude", "41"], 5)?);
-    assert!(rt; has_rules_fault(&rt, &["replay", "--exclude", ""], 6)?);
-    assert!(rt; has_rules_fault(&rt, &["replay", "--absent", "a54"], 6)?);
+    for (words, number) in NO_RULES {
+        assert!(rt; has_rules_fault(&rt, words, number)?);
+    }
     Ok(())
 }
 
@@ -206,21 +212,28 @@ where
     Ok(status == 2 && streams.output.written().is_empty() && !streams.has_said(""))
 }
 
+/// Words in which something is wanting, or that the program doesn't take.
+static OTHER_WORDS: [&[&str]; 13] = [
+    &[],
+    &["serve"],
+    &["serve", "--socket", "s", "--clients", "0"],
+    &["serve", "--socket", "s", "--clients", "17"],
+    &["serve", "--socket", "s", "--sessions", "1000001"],
+    &["serve", "--socket", "s", "--print", "csv"],
+    &["replay", "--socket", "s"],
+    &["Replay"],
+    &["replay", "replay"],
+    &["replay", "--print", "pdf"],
+    &["replay", "--scp"],
+    &["replay", "--scp", "3", "--scp", "3"],
+    &["replay", "--speed"],
+];
+
 #[test]
 fn other_words_are_refused(rt: HostRuntime) -> Result<(), Fail> {
-    assert!(rt; are_refused(&rt, &[])?);
-    assert!(rt; are_refused(&rt, &["serve"])?);
-    assert!(rt; are_refused(&rt, &["serve", "--socket", "s", "--clients", "0"])?);
-    assert!(rt; are_refused(&rt, &["serve", "--socket", "s", "--clients", "17"])?);
-    assert!(rt; are_refused(&rt, &["serve", "--socket", "s", "--sessions", "1000001"])?);
-    assert!(rt; are_refused(&rt, &["serve", "--socket", "s", "--print", "csv"])?);
-    assert!(rt; are_refused(&rt, &["replay", "--socket", "s"])?);
-    assert!(rt; are_refused(&rt, &["Replay"])?);
-    assert!(rt; are_refused(&rt, &["replay", "replay"])?);
-    assert!(rt; are_refused(&rt, &["replay", "--print", "pdf"])?);
-    assert!(rt; are_refused(&rt, &["replay", "--scp"])?);
-    assert!(rt; are_refused(&rt, &["replay", "--scp", "3", "--scp", "3"])?);
-    assert!(rt; are_refused(&rt, &["replay", "--speed"])?);
+    for words in OTHER_WORDS {
+        assert!(rt; are_refused(&rt, words)?);
+    }
     Ok(())
 }
 
@@ -701,19 +714,34 @@ where
     refuses(rt, &["replay", "--journal", journal], 1, said)
 }
 
+/// Whether a start file of so many entries behind a version line is refused so.
+fn refuses_entries<R>(rt: &R, files: &StartFiles, count: u32, said: &str) -> Result<bool, Fail>
+where
+    R: Files + AllocGlobal + Threads + Wait + Net + Sync,
+{
+    let text = with_lines(rt.alloc(), b"REGATTA 2\n", b"1 1 SCORER ENTER A\n", count)?;
+    refuses_file(rt, files, &text, said)
+}
+
+/// Whether a start file of so many blank lines is refused so.
+fn refuses_blanks<R>(rt: &R, files: &StartFiles, count: usize, said: &str) -> Result<bool, Fail>
+where
+    R: Files + AllocGlobal + Threads + Wait + Net + Sync,
+{
+    let text = repeated(rt.alloc(), b'\n', count)?;
+    refuses_file(rt, files, &text, said)
+}
+
 /// Asserts that a start file of too many lines, and one of too many bytes, are refused as such.
 fn limits_hold<R>(rt: &R, files: &StartFiles) -> Result<(), Fail>
 where
     R: Files + AllocGlobal + Threads + Wait + Net + Abort + Sync,
 {
-    let text = with_lines(rt.alloc(), b"REGATTA 2\n", b"1 1 SCORER ENTER A\n", 8193)?;
-    let said = "regatta: journal fault 2 line 8194\n";
-    assert!(rt; refuses_file(rt, files, &text, said)?);
-    let long = repeated(rt.alloc(), b'\n', 1_048_577)?;
-    assert!(rt; refuses_file(rt, files, &long, "regatta: input too long\n")?);
-    let longest = &long[..long.len().saturating_sub(1)];
-    let said = "regatta: journal fault 1 line 1\n";
-    assert!(rt; refuses_file(rt, files, longest, said)?);
+    let too_many = "regatta: journal fault 2 line 8194\n";
+    assert!(rt; refuses_entries(rt, files, 8193, too_many)?);
+    assert!(rt; refuses_blanks(rt, files, 1_048_577, "regatta: input too long\n")?);
+    let blank = "regatta: journal fault 1 line 1\n";
+    assert!(rt; refuses_blanks(rt, files, 1_048_576, blank)?);
     Ok(())
 }
 

@@ -90,21 +90,40 @@ fn sail_all(board: &mut Board) -> Result<(), Fail> {
     disqualify(board, first)
 }
 
+/// Whether the board refuses a further command of the first seat so.
+fn refuses(board: &mut Board, command: Command, why: Refusal) -> bool {
+    let entry = next_entry(1, board.last_of(1), Role::Scorer, command);
+    board.apply(entry) == Err(why)
+}
+
+/// Whether all races count in the standing, and all boats are ranked.
+fn has_all(board: &Board) -> Result<bool, Fail> {
+    let standing = board.standing()?;
+    Ok(standing.races.as_slice().len() == 40 && standing.rows.as_slice().len() == 500)
+}
+
+/// Whether a season runs whole on this board: a boat more is refused, and a command more.
+fn is_sailed(board: &mut Board) -> Result<bool, Fail> {
+    enter_all(board)?;
+    let late = Command::Enter { sail: sail(500)? };
+    let is_full = refuses(board, late, Refusal::EntryFull);
+    sail_all(board)?;
+    let race = RaceNo::new(1).ok_or("the first race")?;
+    let has_all = board.len() == 8192 && has_all(board)?;
+    Ok(is_full && has_all && refuses(board, Command::Unscore { race }, Refusal::JournalFull))
+}
+
+/// The same, on a board that is opened for it.
+fn is_sailed_whole(alloc: Global, rules: Rules) -> Result<bool, Fail> {
+    match Board::open(alloc, rules) {
+        Ok(mut board) => is_sailed(&mut board),
+        Err(_) => Ok(false),
+    }
+}
+
 #[test]
 fn a_full_season_runs(rt: HostRuntime) -> Result<(), Fail> {
     let rules = Rules::new(Absent::A52, None, &[4, 8, 16, 30], false).map_err(|_| "rules")?;
-    let mut board = Board::open(rt.alloc(), rules)?;
-    enter_all(&mut board)?;
-    let entry = next_entry(1, 500, Role::Scorer, Command::Enter { sail: sail(500)? });
-    assert!(rt; board.apply(entry) == Err(Refusal::EntryFull));
-    sail_all(&mut board)?;
-    assert_eq!(rt; board.len(), 8192);
-    let standing = board.standing()?;
-    assert_eq!(rt; standing.races.as_slice().len(), 40);
-    assert_eq!(rt; standing.rows.as_slice().len(), 500);
-    let race = RaceNo::new(1).ok_or("the first race")?;
-    let entry = next_entry(1, board.last_of(1), Role::Scorer, Command::Unscore { race });
-    let full = matches!(board.apply(entry), Err(Refusal::JournalFull));
-    assert!(rt; full, "the journal is full");
+    assert!(rt; is_sailed_whole(rt.alloc(), rules)?);
     Ok(())
 }

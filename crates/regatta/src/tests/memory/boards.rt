@@ -2,8 +2,7 @@
 
 use super::*;
 use regatta_board::{Board, ReplayFault, standing_of};
-use regatta_tables::write_reply;
-use regatta_terms::{Refusal, Reply};
+use regatta_terms::Refusal;
 
 /// A journal's text, how often each of its entries is refused at least, and the table behind it.
 #[derive(Clone, Copy)]
@@ -117,44 +116,66 @@ fn replays(alloc: Global, rules: &Rules, entries: &[Entry], table: &[u8]) -> Tol
     }
 }
 
-/// Whether a board takes this journal, and gives its standing, all with each growth refused first.
+/// Whether the board takes these entries, and gives its standing, all with each growth refused
+/// first.
 fn is_taking_refused(
+    alloc: Global,
+    hoard: &mut Hoard,
+    board: &mut Board,
+    entries: &[Entry],
+    series: Series<'_>,
+) -> bool {
+    takes_all(hoard, board, entries, series.least)
+        && hoard.refuses(
+            20,
+            SMALL_STEPS,
+            || tells(stands(alloc, board, series.table)),
+        )
+}
+
+/// The same, with a board that is opened for it.
+fn is_board_refused(
     alloc: Global,
     hoard: &mut Hoard,
     rules: Rules,
     entries: &[Entry],
     series: Series<'_>,
 ) -> bool {
-    let Ok(mut board) = Board::open(alloc, rules) else {
-        return false;
-    };
-    takes_all(hoard, &mut board, entries, series.least)
+    match Board::open(alloc, rules) {
+        Ok(mut board) => is_taking_refused(alloc, hoard, &mut board, entries, series),
+        Err(_) => false,
+    }
+}
+
+/// Whether a board takes these entries, and the standing is made of the board and of the entries, all
+/// with each growth refused first.
+fn are_entries_refused(
+    alloc: Global,
+    hoard: &mut Hoard,
+    rules: Rules,
+    entries: &[Entry],
+    series: Series<'_>,
+) -> bool {
+    let steps = Steps::of_journals(16_384);
+    is_board_refused(alloc, hoard, rules, entries, series)
         && hoard.refuses(
-            20,
-            SMALL_STEPS,
-            || tells(stands(alloc, &board, series.table)),
+            1800,
+            steps,
+            || replays(alloc, &rules, entries, series.table),
         )
 }
 
-/// Whether a board takes this journal, and the standing is made of the board and of the journal, all
-/// with each growth refused first.
+/// The same, with the entries of the journal.
 fn is_refused_throughout(
     alloc: Global,
     hoard: &mut Hoard,
     rules: Rules,
     series: Series<'_>,
 ) -> bool {
-    let Ok(journal) = read_journal(alloc, series.text) else {
-        return false;
-    };
-    let entries = journal.as_slice();
-    let steps = Steps::of_journals(16_384);
-    is_taking_refused(alloc, hoard, rules, entries, series)
-        && hoard.refuses(
-            1800,
-            steps,
-            || replays(alloc, &rules, entries, series.table),
-        )
+    match read_journal(alloc, series.text) {
+        Ok(journal) => are_entries_refused(alloc, hoard, rules, journal.as_slice(), series),
+        Err(_) => false,
+    }
 }
 
 /// The rules of a series by corrected times.
@@ -173,50 +194,4 @@ fn are_boards_refused(alloc: Global, hoard: &mut Hoard) -> bool {
 fn boards_want_memory(rt: HostRuntime) {
     let alloc = rt.alloc();
     assert!(rt; holds_with(alloc, |hoard| are_boards_refused(alloc, hoard)));
-}
-
-/// Whether an entry that was prepared is appended, and the reply to it written where there is room
-/// for it, with no byte left.
-fn commits_with_nothing(
-    hoard: &mut Hoard,
-    board: &mut Board,
-    entry: Entry,
-    reply: &mut Vec<u8>,
-) -> bool {
-    let Ok(staged) = board.prepare(entry) else {
-        return false;
-    };
-    let is_left = hoard.leave(0);
-    let answer = board.commit(staged);
-    let is_written = write_reply(&Reply::Done(answer), reply).is_ok();
-    hoard.give_back();
-    is_left && is_written && board.len() == 1
-}
-
-/// Whether the first entry of a journal is appended on this board and answered so.
-fn is_committed_on(alloc: Global, hoard: &mut Hoard, board: &mut Board, entry: Entry) -> bool {
-    match Vec::with_capacity(alloc, 64) {
-        Ok(mut reply) => {
-            commits_with_nothing(hoard, board, entry, &mut reply)
-                && reply.as_slice() == b"OK 1 1 0.0\n".as_slice()
-        }
-        Err(_) => false,
-    }
-}
-
-/// Whether the first entry is appended on a board that was just opened, and answered so.
-fn is_first_committed(alloc: Global, hoard: &mut Hoard, entry: Entry) -> bool {
-    match Board::open(alloc, default_rules()) {
-        Ok(mut board) => is_committed_on(alloc, hoard, &mut board, entry),
-        Err(_) => false,
-    }
-}
-
-/// Nothing is wanting where a call takes no memory.
-#[test]
-fn commands_are_committed_without_memory(rt: HostRuntime) -> Result<(), Fail> {
-    let alloc = rt.alloc();
-    let entry = entry_of_a().ok_or("an entry")?;
-    assert!(rt; holds_with(alloc, |hoard| is_first_committed(alloc, hoard, entry)));
-    Ok(())
 }

@@ -177,6 +177,11 @@ fn is_entering_refused<N: OfficeName, H: Wait + Drop, R: Wait>(
     false
 }
 
+/// Whether one entry is shown to this pass, with each growth refused first.
+fn is_showing_refused<N: OfficeName>(hoard: &mut Hoard, pass: &mut Pass<N>) -> bool {
+    hoard.refuses(SHOWN, Steps::of_journals(16_384), || shows(pass))
+}
+
 /// Whether seat 1 enters A, and the other seat is shown her, with each growth refused first.
 fn enter_at<N: OfficeName, H: Wait + Drop, R: Wait>(
     rt: &R,
@@ -187,13 +192,14 @@ fn enter_at<N: OfficeName, H: Wait + Drop, R: Wait>(
     requires history { opened.history ≡ N.history }
     requires rules { opened.rules ≡ N.rules }
 {
-    let Some((office, mut first, mut second)) = two_seats::<N, H>(opened) else {
-        return false;
-    };
-    let is_refused = is_entering_refused(rt, hoard, &office, &mut first, &mut second);
-    let steps = Steps::of_journals(16_384);
-    let is_shown = hoard.refuses(SHOWN, steps, || shows(&mut second));
-    is_refused && is_shown && has_journal(rt, alloc, &office, b"1 1 SCORER ENTER A\n")
+    match two_seats::<N, H>(opened) {
+        Some((office, mut first, mut second)) => {
+            let is_refused = is_entering_refused(rt, hoard, &office, &mut first, &mut second);
+            let is_shown = is_showing_refused(hoard, &mut second);
+            is_refused & is_shown & has_journal(rt, alloc, &office, b"1 1 SCORER ENTER A\n")
+        }
+        None => false,
+    }
 }
 
 /// What showing one entry tells.

@@ -40,19 +40,22 @@ fn makes_tape(alloc: Global) -> Result<bool, AllocError> {
     Ok(tape.written().is_empty())
 }
 
-/// What a replay tells. Behind a refusal whole replies were written, and no final part.
-fn replays(alloc: Global) -> Told {
-    let Ok(mut input) = tape(alloc, LINES, 0) else {
-        return Told::Wanting;
-    };
-    let Ok(mut output) = tape(alloc, b"", 400) else {
-        return Told::Wanting;
-    };
-    let rules = default_rules();
-    match replay(alloc, &mut input, &mut output, &rules, &[], Form::Table) {
+/// What a replay over these tapes tells. Behind a refusal whole replies were written, and no final
+/// part.
+fn replays_over(alloc: Global, input: &mut Tape, output: &mut Tape) -> Told {
+    let ended = replay(alloc, input, output, &default_rules(), &[], Form::Table);
+    match ended {
         Ok(()) => ordinary_if(is_whole(output.written())),
         Err(RunFault::NoMemory) => wanting_if(are_first_replies(output.written())),
         Err(_) => Told::Other,
+    }
+}
+
+/// What a replay tells.
+fn replays(alloc: Global) -> Told {
+    match (tape(alloc, LINES, 0), tape(alloc, b"", 400)) {
+        (Ok(mut input), Ok(mut output)) => replays_over(alloc, &mut input, &mut output),
+        _ => Told::Wanting,
     }
 }
 
@@ -75,21 +78,29 @@ fn run_tells(call: &Words<'_>, status: u8, written: &[u8], said: &[u8]) -> Told 
     ordinary_if(status == call.status && written == call.output && said == call.complaint)
 }
 
-/// What the program tells.
-fn runs<R>(rt: &R, call: &Words<'_>) -> Told
+/// What the program tells over these streams.
+fn runs_over<R>(rt: &R, call: &Words<'_>, streams: &mut Streams) -> Told
 where
     R: Files + AllocGlobal + Threads + Wait + Net + Sync,
 {
-    let Ok(mut streams) = Streams::new(rt.alloc(), LINES, 4000) else {
-        return Told::Wanting;
-    };
-    let status = status_of(rt, call.words, &mut streams);
+    let status = status_of(rt, call.words, streams);
     run_tells(
         call,
         status,
         streams.output.written(),
         streams.errors.written(),
     )
+}
+
+/// What the program tells.
+fn runs<R>(rt: &R, call: &Words<'_>) -> Told
+where
+    R: Files + AllocGlobal + Threads + Wait + Net + Sync,
+{
+    match Streams::new(rt.alloc(), LINES, 4000) {
+        Ok(mut streams) => runs_over(rt, call, &mut streams),
+        Err(_) => Told::Wanting,
+    }
 }
 
 /// Whether a tape is made and the lines are replayed, with each growth refused first.
