@@ -3,6 +3,7 @@ use Rattle.std.proofs.lemmas.Grind.{common_steps}
 use Rattle.regatta_board.specs.Revisions.{revised}
 use Rattle.regatta_board.specs.Scoring.{Scoring, with_changed, with_columns}
 use Rattle.regatta_board.specs.Table.{Kept, races}
+use Rattle.regatta_board.proofs.Columns.{columns_few}
 use Rattle.regatta_board.proofs.ScoringFacts.{old_long, new_long, turned_even, turned_stays}
 use Rattle.regatta_board.proofs.ScoringFacts.{turned_all}
 use Rattle.regatta_board.proofs.scoring.remade_lines.Goals as goal
@@ -113,3 +114,9 @@ returns-clause-value c =
     c.requires.counts c.requires.turned c.deref-4.result.now ls
     c.deref-2.result.now rs c.deref-5.result.now found
     (with_changed c.deref-4.result.now c.in_ok-lines.lines.items) c.in_ok-lines.ensures.value
+
+pub changed_lines-requires-clause-few : goal.changed_lines-requires-clause-few
+changed_lines-requires-clause-few c =
+    columns_few _ c.deref-2.result.now c.deref-5.result.now
+    (c.deref-5.ensures.value ∙ c.in_ok-found.ensures)
+    (rw c.deref-2.ensures.value c.in_ok-races.ensures.few)
