@@ -1,4 +1,4 @@
-use Rattle.std.proofs.Common.{◌≡◌, ◌∙◌, ap, arith, length}
+use Rattle.std.proofs.Common.{◌∙◌, ap, arith, length}
 use Rattle.regatta_board.proofs.Columns.{scored, outcome_pushed, column_whole, column_long}
 use Rattle.regatta_board.proofs.column.made_column.Goals as goal
 
