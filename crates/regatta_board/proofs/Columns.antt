@@ -4,7 +4,6 @@ use Rattle.std.proofs.Common.{ap, ◌∙◌, sym, ◌≤◌, arith, length, leng
 use Rattle.std.specs.List.{range_with_len}
 use Rattle.std.proofs.lemmas.List.{length-map}
 use Rattle.std.proofs.lemmas.List.FromFn.{length-map-range_with_len, get_or-map-range_with_len}
-use Rattle.std.proofs.lemmas.List.FromFn.{map-range_with_len_more}
 use Rattle.std.proofs.lemmas.List.Elements.{filter-append}
 use Rattle.regatta_terms.specs.Rules.{RulesParts}
 use Rattle.regatta_terms.specs.declared.limits.TheConstants.{MAX_RACES}
@@ -14,6 +13,7 @@ use Rattle.regatta_scores.specs.RacePoints.{race_score, race_scores}
 use Rattle.regatta_scores.proofs.Ranges.{range_more}
 use Rattle.regatta_board.specs.declared.outcomes.Outcome.{Outcome}
 use Rattle.regatta_board.specs.Table.{column, outcome_on}
+use Rattle.regatta_board.proofs.Maps.{pushed_number}
 
 scores_long : (rules : RulesParts) (sheet : Sheet)
     → length (race_scores rules sheet) ≡ boats sheet
@@ -46,9 +46,7 @@ outcome_pushed rules sheet scores boat score outcome old new are h is made so_fa
       held = get_or sheet.held boat nothing_held;
       placed = s.placed;
     }) hers in
-    pushed ∙ ap (λ xs. xs ++ outcome ∷ []) so_far
-    ∙ ap (λ x. map (outcome_on rules sheet) (range_with_len 0 boat) ++ x ∷ []) same
-    ∙ sym (map-range_with_len_more (outcome_on rules sheet) 0 boat boat (omega arith))
+    pushed_number (outcome_on rules sheet) boat outcome old new same so_far pushed
 
 -- once what came of each boat is pushed, the column is whole
 pub column_whole : (rules : RulesParts) (sheet : Sheet) (scores : List RaceScore) (n : ℕ)
