@@ -2,35 +2,62 @@
 use Rattle.std.proofs.Common.{◌≡◌, ℕ, ◌+◌, ◌-◌, ◌<◌, Bool, false, true, cond, List, [], ◌∷◌, ◌++◌}
 use Rattle.std.proofs.Common.{ap, ◌∙◌, sym, ◌≤◌, arith, length, length-append, map, filter, get_or}
 use Rattle.std.specs.List.{range_with_len}
+use Rattle.std.proofs.lemmas.List.{length-map}
 use Rattle.std.proofs.lemmas.List.FromFn.{length-map-range_with_len, get_or-map-range_with_len}
-use Rattle.std.proofs.lemmas.List.FromFn.{map-range_with_len_more}
 use Rattle.std.proofs.lemmas.List.Elements.{filter-append}
 use Rattle.regatta_terms.specs.Rules.{RulesParts}
+use Rattle.regatta_terms.specs.declared.limits.TheConstants.{MAX_RACES}
 use Rattle.regatta_scores.specs.declared.boats.RaceScore.{RaceScore}
-use Rattle.regatta_scores.specs.Sheet.{Sheet, boats}
+use Rattle.regatta_scores.specs.Sheet.{Sheet, boats, nothing_held}
 use Rattle.regatta_scores.specs.RacePoints.{race_score, race_scores}
 use Rattle.regatta_scores.proofs.Ranges.{range_more}
-use Rattle.regatta_board.specs.Table.{outcome_on}
+use Rattle.regatta_board.specs.declared.outcomes.Outcome.{Outcome}
+use Rattle.regatta_board.specs.Table.{column, outcome_on}
+use Rattle.regatta_board.proofs.Maps.{pushed_number}
 
-pub scores_long : (rules : RulesParts) (sheet : Sheet)
+scores_long : (rules : RulesParts) (sheet : Sheet)
     → length (race_scores rules sheet) ≡ boats sheet
 scores_long rules sheet = length-map-range_with_len (race_score rules sheet) 0 (boats sheet)
 
-pub score_at : (rules : RulesParts) (sheet : Sheet) (boat : ℕ) (d : RaceScore) → boat < boats sheet
-    → get_or (race_scores rules sheet) boat d ≡ race_score rules sheet boat
-score_at rules sheet boat d h =
-    get_or-map-range_with_len (race_score rules sheet) 0 (boats sheet) boat boat d h (omega arith)
+-- who has a score is on the sheet
+pub scored : (rules : RulesParts) (sheet : Sheet) (scores : List RaceScore) (boat : ℕ)
+    → scores ≡ race_scores rules sheet → boat < length scores → boat < boats sheet
+scored rules sheet scores boat are h = omega (arith, ap length are, scores_long rules sheet)
 
-pub column_more : (rules : RulesParts) (sheet : Sheet) (n : ℕ)
-    → map (outcome_on rules sheet) (range_with_len 0 (n + 1))
-    ≡ map (outcome_on rules sheet) (range_with_len 0 n) ++ outcome_on rules sheet n ∷ []
-column_more rules sheet n = map-range_with_len_more (outcome_on rules sheet) 0 n n (omega arith)
+-- what came of one more boat
+pub outcome_pushed : (rules : RulesParts) (sheet : Sheet) (scores : List RaceScore) (boat : ℕ)
+    (score : RaceScore) (outcome : Outcome) (old new : List Outcome)
+    → scores ≡ race_scores rules sheet → boat < length scores → score ≡ get_or scores boat score
+    → outcome ≡ record {
+      plain = score.plain;
+      held = get_or sheet.held boat nothing_held;
+      placed = score.placed;
+    }
+    → old ≡ map (outcome_on rules sheet) (range_with_len 0 boat) → new ≡ old ++ outcome ∷ []
+    → new ≡ map (outcome_on rules sheet) (range_with_len 0 (boat + 1))
+outcome_pushed rules sheet scores boat score outcome old new are h is made so_far pushed =
+    let hers : score ≡ race_score rules sheet boat =
+    is ∙ ap (λ xs. get_or xs boat score) are
+    ∙ get_or-map-range_with_len (race_score rules sheet) 0 (boats sheet) boat boat score
+    (scored rules sheet scores boat are h) (omega arith) in
+    let same : outcome ≡ outcome_on rules sheet boat =
+    made ∙ ap (λ (s : RaceScore). record {
+      plain = s.plain;
+      held = get_or sheet.held boat nothing_held;
+      placed = s.placed;
+    }) hers in
+    pushed_number (outcome_on rules sheet) boat outcome old new same so_far pushed
 
-pub column_long : (rules : RulesParts) (sheet : Sheet)
-    → length (map (outcome_on rules sheet) (range_with_len 0 (boats sheet))) ≡ boats sheet
+-- once what came of each boat is pushed, the column is whole
+pub column_whole : (rules : RulesParts) (sheet : Sheet) (scores : List RaceScore) (n : ℕ)
+    (found : List Outcome) → scores ≡ race_scores rules sheet → n ≡ length scores
+    → found ≡ map (outcome_on rules sheet) (range_with_len 0 n) → found ≡ column rules sheet
+column_whole rules sheet scores n found are all is = is
+    ∙ ap (λ k. map (outcome_on rules sheet) (range_with_len 0 k))
+    (all ∙ ap length are ∙ scores_long rules sheet)
+
+pub column_long : (rules : RulesParts) (sheet : Sheet) → length (column rules sheet) ≡ boats sheet
 column_long rules sheet = length-map-range_with_len (outcome_on rules sheet) 0 (boats sheet)
-
-pub ruleset columns = (scores_long, score_at, column_more, column_long)
 
 races_step : (counts : List Bool) (i : ℕ)
     → filter (λ race. get_or counts (race - 1) false) (range_with_len 1 (i + 1))
@@ -57,6 +84,11 @@ one_long false xs r = omega (arith, length-append xs [])
 pub few_more : (b : Bool) (found new : List ℕ) (i r : ℕ) → new ≡ found ++ cond b (r ∷ []) []
     → length found ≤ i → length new ≤ i + 1
 few_more b found new i r e h = omega (arith, ap length e, one_long b found r)
+
+-- one column of each race: no more than races
+pub columns_few : (f : ℕ → List Outcome) (races : List ℕ) (found : List (List Outcome))
+    → found ≡ map f races → length races ≤ MAX_RACES → length found ≤ MAX_RACES
+columns_few f races found is few = omega (arith, ap length is, length-map races f)
 
 -- one more race is counted where it counts
 pub counted_more : (counts : List Bool) (i start old new : ℕ)

@@ -29,8 +29,6 @@ pub lines_long : (rules : RulesParts) (columns : List (List Outcome)) (n : ℕ)
 lines_long rules columns n =
     length-map-range_with_len (λ b. boat.line rules (outcomes columns b)) 0 n
 
-pub ruleset line_facts = (lines_more, lines_long)
-
 pub rank_at : (rules : RulesParts) (columns : List (List Outcome)) (n b : ℕ) (d : Place) → b < n
     → get_or (places (lines rules columns n)) b d
     ≡ place (lines rules columns n) (boat.line rules (outcomes columns b))
@@ -73,8 +71,6 @@ pub rows_none : (f : ℕ → Row) (n : ℕ) → sorted_rows (map f (drop n (rang
 rows_none f n =
     ap (λ k. sorted_rows (map f (drop k (range_with_len 0 n)))) (sym (length-range_with_len 0 n))
     ∙ ap (λ xs. sorted_rows (map f xs)) (drop_past (range_with_len 0 n))
-
-pub ruleset row_facts = (rows_step, rows_none)
 
 -- the line of one boat among all
 pub line_at : (rules : RulesParts) (columns : List (List Outcome)) (n b : ℕ) (d : BoatScores)

@@ -1,5 +1,9 @@
 -- Lists made by two functions.
-use Rattle.std.proofs.Common.{◌≡◌, List, [], ◌∷◌, refl, ap, map}
+use Rattle.std.proofs.Common.{◌≡◌, ℕ, ◌+◌, ◌<◌, ◌≤◌, List, [], ◌∷◌, ◌++◌, refl, ap, ◌∙◌, sym, arith}
+use Rattle.std.proofs.Common.{length, get_or, map, take}
+use Rattle.std.specs.List.{range_with_len}
+use Rattle.std.proofs.lemmas.List.{map_more, take_all}
+use Rattle.std.proofs.lemmas.List.FromFn.{map-range_with_len_more}
 
 -- by one after the other
 pub map_map : {X Y Z : Type 0} (f : Y → Z) (g : X → Y) (xs : List X)
@@ -12,3 +16,22 @@ pub map_same : {X Y : Type 0} (f g : X → Y) → ((x : X) → f x ≡ g x) → 
     → map f xs ≡ map g xs
 map_same f g same [] = refl
 map_same f g same (x ∷ xs) = λ i. same x i ∷ map_same f g same xs i
+
+-- a list that a loop fills: what is made of one item more
+pub pushed_more : {X Y : Type 0} (f : X → Y) (xs : List X) (i : ℕ) (x : X) (y : Y)
+    (old new : List Y) → i < length xs → x ≡ get_or xs i x → y ≡ f x → old ≡ map f (take i xs)
+    → new ≡ old ++ y ∷ [] → new ≡ map f (take (i + 1) xs)
+pushed_more f xs i x y old new within is made so_far pushed = pushed
+    ∙ (λ j. so_far j ++ (made ∙ ap f is) j ∷ []) ∙ sym (map_more f xs i x within)
+
+-- of all of them
+pub pushed_all : {X Y : Type 0} (f : X → Y) (xs : List X) (i : ℕ) (found : List Y) → length xs ≤ i
+    → found ≡ map f (take i xs) → found ≡ map f xs
+pushed_all f xs i found all is = is ∙ ap (map f) (take_all i xs all)
+
+-- of one number more
+pub pushed_number : {Y : Type 0} (f : ℕ → Y) (n : ℕ) (y : Y) (old new : List Y) → y ≡ f n
+    → old ≡ map f (range_with_len 0 n) → new ≡ old ++ y ∷ []
+    → new ≡ map f (range_with_len 0 (n + 1))
+pushed_number f n y old new made so_far pushed = pushed ∙ (λ j. so_far j ++ made j ∷ [])
+    ∙ sym (map-range_with_len_more f 0 n n (omega arith))

@@ -1,12 +1,12 @@
 -- What the board keeps of the scores, after one more command.
-use Rattle.std.proofs.Common.{◌≡◌, ◌≢◌, ℕ, ◌+◌, ◌-◌, ◌<◌, Bool, true, false, List, [], ◌∷◌, ◌++◌}
-use Rattle.std.proofs.Common.{refl, ap, ◌∙◌, sym, arith, length, map, get_or, nat_eq, cond}
+use Rattle.std.proofs.Common.{◌≡◌, ◌≢◌, ℕ, ◌+◌, ◌-◌, ◌<◌, ◌≤◌, Bool, true, false, List, [], ◌∷◌, ◌++◌}
+use Rattle.std.proofs.Common.{refl, ap, ◌∙◌, sym, arith, length, map, get_or, nat_eq, nat_lt, cond}
 use Rattle.std.specs.List.{range_with_len}
 use Rattle.std.proofs.Math.ListN.{set}
 use Rattle.std.proofs.lemmas.List.{get_or-set_other, get_or-set_same, get_or_push}
-use Rattle.std.proofs.lemmas.List.{get_or_append_left}
+use Rattle.std.proofs.lemmas.List.{get_or_append_left, get_or_past}
 use Rattle.std.proofs.lemmas.Bool.{eqb-false}
-use borrow.Author.Tests.{eqb-true}
+use borrow.Author.Tests.{eqb-true, ltb-true, ltb-false}
 use Rattle.regatta_terms.specs.Rules.{RulesParts}
 use Rattle.regatta_terms.specs.declared.limits.TheConstants.{MAX_RACES}
 use Rattle.regatta_scores.specs.Sheet.{Sheet, empty_sheet}
@@ -97,3 +97,18 @@ columns_pushed rules kept i found new next e long are is k h =
   where
     below : (k i n : ℕ) → k < i + 1 → k ≢ i → n ≡ i → k < n
     below k i n h apart e = omega (arith, h, apart, e)
+
+-- and once they are pushed of all races, each is what it should be
+pub columns_all : (rules : RulesParts) (kept : Kept) (found : List (List Outcome))
+    → length kept.counts ≡ MAX_RACES → length found ≡ MAX_RACES
+    → ((k : ℕ) → k < MAX_RACES → get_or found k [] ≡ column_at rules kept k)
+    → AreColumns rules kept found
+columns_all rules kept found counts long are k = by (nat_lt k MAX_RACES) refl
+  where
+    by : (b : Bool) → nat_lt k MAX_RACES ≡ b → get_or found k [] ≡ column_at rules kept k
+    by true e = are k (ltb-true k MAX_RACES e)
+    by false e =
+        let past : MAX_RACES ≤ k = ltb-false k MAX_RACES e in
+        get_or_past found k [] (omega (arith, long, past))
+        ∙ sym (uncounted_at rules kept k (get_or_past kept.counts k false
+        (omega (arith, counts, past))))

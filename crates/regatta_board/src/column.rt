@@ -76,7 +76,6 @@ fn outcome(sheet: &RaceSheet, score: RaceScore, boat: u16) -> Outcome
 }
 
 /// What came of each boat in a race.
-#[tactic(auto, using(crate::proofs::Columns::columns))]
 pub(crate) fn made_column(
     alloc: Global,
     sheet: &RaceSheet,

@@ -99,7 +99,6 @@ fn cell(outcome: &Outcome, points: Tenths, dropped: bool) -> Cell
 }
 
 /// Her cells.
-#[tactic(auto, using(crate::proofs::Zipped::cells_more))]
 fn cells(
     alloc: Global,
     outcomes: &[Outcome],

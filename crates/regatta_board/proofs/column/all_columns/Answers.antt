@@ -1,6 +1,7 @@
-use Rattle.std.proofs.Common.{arith}
+use Rattle.std.proofs.Common.{◌≡◌, ℕ, ◌<◌, arith}
+use Rattle.regatta_terms.specs.declared.limits.TheConstants.{MAX_RACES}
 use Rattle.regatta_board.proofs.Columns.{counted_more}
-use Rattle.regatta_board.proofs.Scored.{columns_pushed}
+use Rattle.regatta_board.proofs.Scored.{columns_pushed, columns_all}
 use Rattle.regatta_board.proofs.column.all_columns.Goals as goal
 
 pub loop-i-preserved : goal.loop-i-preserved
@@ -13,3 +14,10 @@ loop-i-preserved c = record {
       c.in_ok-column_if_scored.ensures.counted;
   few = grind (arith);
 }
+
+pub returns-clause-value : goal.returns-clause-value
+returns-clause-value c =
+    let all : ◌≡◌ {A = ℕ} c.loop-i.i MAX_RACES = omega arith in
+    columns_all c.args.rules.now c.args.draft.now c.loop-i.columns.items c.requires.kept.counts
+    (omega (arith, c.loop-i.invariant.long))
+    (λ (k : ℕ) (h : k < MAX_RACES). c.loop-i.invariant.are k (omega (arith, h)))

@@ -1,13 +1,20 @@
-use Rattle.std.proofs.Common.{◌≡◌, refl, arith, length}
+use Rattle.std.proofs.Common.{◌≡◌, refl, arith, length, subst}
 use Rattle.regatta_board.proofs.LedgerLemmas.{new_sheet_few}
-use Rattle.regatta_board.specs.Scoring.{most_remade}
-use Rattle.regatta_board.specs.Table.{races}
+use Rattle.regatta_board.specs.Scoring.{AreColumns, most_remade}
+use Rattle.regatta_board.specs.Table.{Kept, races}
 use Rattle.regatta_board.proofs.column.new_columns.Goals as goal
 
 pub one_column-requires-clause-few : goal.one_column-requires-clause-few
 one_column-requires-clause-few c =
     new_sheet_few c.args.kept.now c.args.revision.now c.in-Sheet.race c.in-Sheet.sheet c.in-Sheet.is
     c.requires.next c.get.ensures.range
+
+pub returns-in_ok-columns-in-Enter-clause-value : goal.returns-in_ok-columns-in-Enter-clause-value
+returns-in_ok-columns-in-Enter-clause-value c = λ old long are. (
+  c.in_ok-columns-in-Enter.ensures.long,
+  subst (λ (k : Kept). AreColumns c.args.rules.now k c.in_ok-columns-in-Enter.columns.items)
+      c.new.ensures c.in_ok-columns-in-Enter.ensures.value,
+)
 
 pub returns-in_ok-columns-in-Enter-clause-counted :
     goal.returns-in_ok-columns-in-Enter-clause-counted

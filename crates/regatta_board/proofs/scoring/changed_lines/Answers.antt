@@ -1,9 +1,10 @@
 use Rattle.std.proofs.Common.{◌≡◌, ◌+◌, ◌<◌, ◌∷◌, ◌++◌, [], ◌∙◌, ap, arith, sym, length, get_or}
 use Rattle.std.proofs.Common.{length-append, take}
 use Rattle.std.specs.Option.{unwrap_or}
+use Rattle.std.proofs.lemmas.List.{take_all}
 use Rattle.regatta_board.specs.Outcomes.{line}
 use Rattle.regatta_board.specs.Scoring.{with_changed}
-use Rattle.regatta_board.specs.Table.{no_line, outcomes}
+use Rattle.regatta_board.specs.Table.{no_line, outcomes, lines}
 use Rattle.regatta_board.proofs.Lines.{lines_more}
 use Rattle.regatta_board.proofs.NewLines.{changed_more, new_or_old}
 use Rattle.regatta_board.proofs.scoring.changed_lines.Goals as goal
@@ -34,3 +35,11 @@ loop-boat-preserved c =
           ∙ (λ i. c.loop-boat.invariant.value i ++ hers i ∷ [])
           ∙ sym (lines_more rules c.args.columns.now b);
     }
+
+pub returns-clause-value : goal.returns-clause-value
+returns-clause-value c =
+    let n = c.loop-boat.boat in
+    let all : n ≡ length c.args.lines.now = omega arith in
+    ap (λ xs. with_changed xs c.loop-boat.made.items)
+    (sym (take_all n c.args.lines.now c.loop-boat-test.false))
+    ∙ c.loop-boat.invariant.value ∙ ap (lines c.args.rules.now c.args.columns.now) all

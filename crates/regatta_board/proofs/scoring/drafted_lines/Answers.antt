@@ -1,6 +1,7 @@
 use Rattle.std.proofs.Common.{◌≡◌, ◌∙◌, length}
 use Rattle.regatta_board.specs.Scoring.{with_columns}
 use Rattle.regatta_board.specs.Table.{columns, lines, races}
+use Rattle.regatta_board.proofs.Columns.{columns_few}
 use Rattle.regatta_board.proofs.ScoringFacts.{found_columns, found_even}
 use Rattle.regatta_board.proofs.scoring.drafted_lines.Goals as goal
 
@@ -22,3 +23,9 @@ returns c =
     (c.deref-2.ensures.value ∙ c.in_ok-found.ensures) in
     let n : c.len.result ≡ length c.args.draft.now.sails = cc (c.len.ensures, c.boats.ensures) in
     c.in_ok-lines.ensures ∙ (λ i. lines c.args.rules.now (found i) (n i))
+
+pub all_lines-requires-clause-few : goal.all_lines-requires-clause-few
+all_lines-requires-clause-few c =
+    columns_few _ c.deref.result.now c.deref-2.result.now
+    (c.deref-2.ensures.value ∙ c.in_ok-found.ensures)
+    (rw c.deref.ensures.value c.in_ok-races.ensures.few)

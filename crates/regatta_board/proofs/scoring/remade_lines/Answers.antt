@@ -3,9 +3,18 @@ use Rattle.std.proofs.lemmas.Grind.{common_steps}
 use Rattle.regatta_board.specs.Revisions.{revised}
 use Rattle.regatta_board.specs.Scoring.{Scoring, with_changed, with_columns}
 use Rattle.regatta_board.specs.Table.{Kept, races}
+use Rattle.regatta_board.proofs.Columns.{columns_few}
 use Rattle.regatta_board.proofs.ScoringFacts.{old_long, new_long, turned_even, turned_stays}
 use Rattle.regatta_board.proofs.ScoringFacts.{turned_all}
 use Rattle.regatta_board.proofs.scoring.remade_lines.Goals as goal
+
+-- the column that the race had
+was : (c : goal.After-deref-5)
+    → c.index-old.result.now ≡ get_or c.args.scoring.now.columns (c.args.race - 1) []
+was c =
+    let cols : c.deref.result.now ≡ c.args.scoring.now.columns =
+    c.deref.ensures.value ∙ ap (λ (s : Scoring). s.columns) c.scoring.view_is in
+    grind (arith, common_steps)
 
 pub changed_lines-requires-clause-even : goal.changed_lines-requires-clause-even
 changed_lines-requires-clause-even c =
@@ -30,15 +39,11 @@ changed_lines-requires-clause-even c =
 pub changed_lines-requires-clause-old : goal.changed_lines-requires-clause-old
 changed_lines-requires-clause-old c =
     let a = c.args in
-    let cols : c.deref.result.now ≡ a.scoring.now.columns =
-    c.deref.ensures.value ∙ ap (λ (s : Scoring). s.columns) c.scoring.view_is in
     let ls : c.deref-4.result.now ≡ a.scoring.now.lines =
     c.deref-4.ensures.value ∙ ap (λ (s : Scoring). s.lines) c.scoring.view_is in
-    let was : c.index-old.result.now ≡ get_or a.scoring.now.columns (a.race - 1) [] =
-    grind (arith, common_steps) in
     old_long a.rules.now a.kept.now c.requires.kept a.revision.now c.requires.next
     a.scoring.now c.requires.scoring a.columns.now c.requires.new a.race c.get.ensures.range
-    c.requires.counts c.requires.turned c.deref-4.result.now ls c.index-old.result.now was
+    c.requires.counts c.requires.turned c.deref-4.result.now ls c.index-old.result.now (was c)
 
 pub changed_lines-requires-clause-new : goal.changed_lines-requires-clause-new
 changed_lines-requires-clause-new c =
@@ -72,8 +77,6 @@ changed_lines-requires-clause-stays c =
     c.deref-2.result.now = c.deref-5.ensures.value ∙ c.in_ok-found.ensures
     ∙ (λ i. map (λ race. get_or (with_columns (cols i) a.columns.now) (race - 1) [])
     c.deref-2.result.now) in
-    let was : c.index-old.result.now ≡ get_or a.scoring.now.columns (a.race - 1) [] =
-    grind (arith, common_steps) in
     let cols-3 : c.deref-3.result.now ≡ a.scoring.now.columns =
     c.deref-3.ensures.value ∙ ap (λ (s : Scoring). s.columns) c.scoring.view_is in
     let hers : c.current-new.result
@@ -84,7 +87,7 @@ changed_lines-requires-clause-stays c =
     a.scoring.now c.requires.scoring a.columns.now c.requires.new a.race c.get.ensures.range
     c.requires.counts c.requires.turned c.deref-4.result.now ls
     c.deref-2.result.now rs c.deref-5.result.now found c.current-new.result
-    c.index-old.result.now hers was
+    c.index-old.result.now hers (was c)
 
 pub returns-clause-each : goal.returns-clause-each
 returns-clause-each c =
@@ -113,3 +116,9 @@ returns-clause-value c =
     c.requires.counts c.requires.turned c.deref-4.result.now ls
     c.deref-2.result.now rs c.deref-5.result.now found
     (with_changed c.deref-4.result.now c.in_ok-lines.lines.items) c.in_ok-lines.ensures.value
+
+pub changed_lines-requires-clause-few : goal.changed_lines-requires-clause-few
+changed_lines-requires-clause-few c =
+    columns_few _ c.deref-2.result.now c.deref-5.result.now
+    (c.deref-5.ensures.value ∙ c.in_ok-found.ensures)
+    (rw c.deref-2.ensures.value c.in_ok-races.ensures.few)

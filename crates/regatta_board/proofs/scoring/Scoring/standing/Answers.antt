@@ -3,6 +3,7 @@ use Rattle.std.proofs.lemmas.List.{length-map}
 use Rattle.regatta_scores.specs.Ranking.{BoatScores, place}
 use Rattle.regatta_board.specs.Scoring.{Scoring, lines_by}
 use Rattle.regatta_board.specs.Table.{Kept, columns, races, rows_by}
+use Rattle.regatta_board.proofs.Columns.{columns_few}
 use Rattle.regatta_board.proofs.Lines.{rows_are}
 use Rattle.regatta_board.proofs.ScoringFacts.{found_columns, found_even, lines_by_long, all_long}
 use Rattle.regatta_board.proofs.scoring.Scoring.standing.Goals as goal
@@ -127,3 +128,9 @@ returns c rules is =
     ∙ rows_are rules c.args.kept.now.sails all c.args.self.now.lines c.args.self.now.ranks
     is.lines is.ranks in
     λ i. record { races = races_are i; rows = rows_made i }
+
+pub sorted_rows-requires-clause-few : goal.sorted_rows-requires-clause-few
+sorted_rows-requires-clause-few c =
+    columns_few _ c.deref-2.result.now c.deref-3.result.now
+    (c.deref-3.ensures.value ∙ c.in_ok-found.ensures)
+    (rw c.deref-2.ensures.value c.in_ok-races.ensures.few)
