@@ -7,7 +7,7 @@ ghost use Rattle.regatta_watch.specs.Views.{Sees};
 ghost use Rattle.regatta_desk.specs.Offices.{IsOpenFault, AreSeated, seated};
 
 use crate::desk::Desk;
-use crate::opening::{OpenFault, board_of, history_and_copies, watchers};
+use crate::opening::{OpenFault, board_of, watched};
 use crate::pass::{Pass, Seen};
 use regatta_board::Board;
 use regatta_terms::{Entry, MAX_SEATS, Rules};
@@ -111,13 +111,7 @@ fn opened_with<R: Wait + Drop>(
     ensures seats { IfOk result (λ o. o.seats ≡ seats) }
     ensures fault { IfErr result (λ f. (f ≡ OpenFault.NoReader) ⊎ (f ≡ OpenFault.NoMemory)) }
 {
-    let Ok((history, first, second)) = history_and_copies(alloc, &board, seats) else {
-        return Err(OpenFault::NoMemory);
-    };
-    let Ok(mut publisher) = Publisher::open(alloc, rt, first, second, usize::from(seats)) else {
-        return Err(OpenFault::NoMemory);
-    };
-    let watchers = watchers(alloc, &mut publisher, seats)?;
+    let (history, publisher, watchers) = watched(rt, alloc, &board, seats)?;
     Ok(Opened {
         alloc,
         board,

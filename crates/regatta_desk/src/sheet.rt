@@ -27,5 +27,8 @@ pub(crate) fn standing_of_lawful(
     requires { is_lawful limits rules.now entries.now ≡ true }
     ensures { IfOk result (λ s. s ≡ standing rules.now entries.now) }
 {
-    standing_of(alloc, rules, entries).map_err(|_| AllocError)
+    let Ok(standing) = standing_of(alloc, rules, entries) else {
+        return Err(AllocError);
+    };
+    Ok(standing)
 }
