@@ -4,7 +4,7 @@ use Rattle.regatta_office.proofs.Streams.{any_stop, given_cut, given_stop, take_
 use Rattle.regatta_office.proofs.Streams.{talked_long, within_quit}
 use Rattle.regatta_office.specs.Coming.{Stops}
 use Rattle.regatta_office.specs.Scribes.{point}
-use Rattle.regatta_office.proofs.Results.{memory_is, write_is}
+use Rattle.regatta_office.proofs.Results.{long_is_no_write, memory_is, read_is_no_write, write_is}
 use Rattle.regatta_office.proofs.run.turn.Goals as goal
 
 pub returns-in-Ok-true-clause-talked : goal.returns-in-Ok-true-clause-talked
@@ -75,3 +75,28 @@ returns-in-Err-take_all-clause-stopped g c = λ is.
     (c.in-Err-take_all.ensures.stopped (ap Err
     (memory_is c.in-Err-take_all.fault c.scribe_fault-in-Err-take_all.result
     c.scribe_fault-in-Err-take_all.ensures is)))
+
+-- a write that failed or wants memory is told as no other fault
+pub returns-in-Err-clause-read : goal.returns-in-Err-clause-read
+returns-in-Err-clause-read g c = λ is. read_is_no_write c.in-Err.fault c.scribe_fault.result _
+    c.scribe_fault.ensures is
+
+pub returns-in-Err-clause-stays : goal.returns-in-Err-clause-stays
+returns-in-Err-clause-stays g c = λ is. read_is_no_write c.in-Err.fault c.scribe_fault.result _
+    c.scribe_fault.ensures is
+
+pub returns-in-Err-clause-long : goal.returns-in-Err-clause-long
+returns-in-Err-clause-long g c = λ is. long_is_no_write c.in-Err.fault c.scribe_fault.result _
+    c.scribe_fault.ensures is
+
+pub returns-in-Err-take_all-clause-read : goal.returns-in-Err-take_all-clause-read
+returns-in-Err-take_all-clause-read g c = λ is. read_is_no_write c.in-Err-take_all.fault
+    c.scribe_fault-in-Err-take_all.result _ c.scribe_fault-in-Err-take_all.ensures is
+
+pub returns-in-Err-take_all-clause-stays : goal.returns-in-Err-take_all-clause-stays
+returns-in-Err-take_all-clause-stays g c = λ is. read_is_no_write c.in-Err-take_all.fault
+    c.scribe_fault-in-Err-take_all.result _ c.scribe_fault-in-Err-take_all.ensures is
+
+pub returns-in-Err-take_all-clause-long : goal.returns-in-Err-take_all-clause-long
+returns-in-Err-take_all-clause-long g c = λ is. long_is_no_write c.in-Err-take_all.fault
+    c.scribe_fault-in-Err-take_all.result _ c.scribe_fault-in-Err-take_all.ensures is
