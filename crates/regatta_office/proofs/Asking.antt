@@ -1,16 +1,14 @@
 -- What words ask for, by what `clap` says of them.
 use Rattle.std.specs.Prelude.{◌⊎◌, ◌||◌, Box}
 use Rattle.std.proofs.Common.{◌≡◌, Bool, true, false, List, Option, Some, None}
-use Rattle.std.proofs.Common.{Result, Ok, Err, IfOk, IfSome, codes, inl, inr, option_map, refl, sym, ap}
+use Rattle.std.proofs.Common.{Ok, Err, IfSome, codes, inl, inr, option_map, refl, sym, ap}
 use Rattle.std.proofs.Common.{◌∙◌, subst}
 use Rattle.std.specs.Box.{box_value}
 use Rattle.clap.specs.Words.{App, FailsBy, HasMatchesOf, IsAmong, Row, Rule, Text, fault_of}
-use Rattle.clap.specs.Words.{app_of, with_rule}
+use Rattle.clap.specs.Words.{with_rule}
 use Rattle.clap.specs.Words.{first_value, is_simple, kind_of, rows_of, subcommand_of}
 use Rattle.clap.specs.Words.{subcommand_rows_of, is_simple_and_free}
 use Rattle.clap.specs.Simple.{subcommand_rows}
-use Rattle.clap.specs.declared.builder.command.Command.{Command}
-use Rattle.clap.specs.declared.builder.command.Command.TheViews.{out-Command}
 use Rattle.clap.specs.declared.builder.value_parser.ValueParser.{ValueParser}
 use Rattle.clap.specs.declared.error.Error.{Error}
 use Rattle.clap.specs.declared.error.kind.ErrorKind.{ErrorKind}
@@ -24,10 +22,13 @@ use Rattle.clap.proofs.WalkLemmas.{first_value-rows}
 use Rattle.regatta_office.specs.Asked.{ReplayAsked, ServingAsked}
 use Rattle.regatta_office.specs.declared.options.Asked.{Asked}
 use Rattle.regatta_office.specs.declared.options.Asked.TheVariants.{Replay, Serve}
-use Rattle.regatta_office.specs.Commands.{IsCommand}
-use Rattle.regatta_office.specs.Words.{AskHelp, AskRun, TakesForms, asked_by, asked_of, regatta}
-use Rattle.regatta_office.specs.Words.{replay_with, serving_with, with_rules, with_seats}
-use Rattle.regatta_office.specs.Words.{with_start}
+use Rattle.regatta_office.specs.Words.{AskHelp, AskRun, asked_by, asked_of, regatta, replay_with}
+use Rattle.regatta_office.specs.Words.{serving_with, with_rules, with_seats, with_start}
+
+-- what the program understands, with one more option
+pub with_one_more : (new old app : App) (rule known : Rule) → new ≡ with_rule old rule
+    → old ≡ app → rule ≡ known → new ≡ with_rule app known
+with_one_more new old app rule known is before same = is ∙ (λ i. with_rule (before i) (same i))
 
 -- no argument of the command is global, with one more that isn't
 pub stays_local : (new old global : Bool) → new ≡ (old || global) → global ≡ false → new ≡ old
@@ -36,30 +37,6 @@ stays_local new old global is local = is ∙ ap (λ (b : Bool). old || b) local 
     or_false : (b : Bool) → (b || false) ≡ b
     or_false true = refl
     or_false false = refl
-
--- what is known of a command, if it was made, is known of the one that was
-pub made_is : {X E : Type 0} (made : Result X E) (x : X) (P : X → Type 0) → made ≡ Ok x
-    → IfOk made P → P x
-made_is {X = X} {E = E} made x P was is = subst (λ (r : Result X E). IfOk r P) was is
-
--- a command with one more option
-pub with_one_more : {E : Type 0} (made : Result Command E) (old new : Command) (app : App)
-    (rule known : Rule) (global : Bool) → made ≡ Ok old → IfOk made (IsCommand app)
-    → app_of new ≡ with_rule (app_of old) rule → rule ≡ known
-    → (out-Command new).has_globals ≡ ((out-Command old).has_globals || global) → global ≡ false
-    → IsCommand (with_rule app known) new
-with_one_more made old new app rule known global was is shape same globals local =
-    let before : IsCommand app old = made_is made old (IsCommand app) was is in record {
-      understands = shape ∙ (λ i. with_rule (before.understands i) (same i));
-      local = stays_local _ _ _ globals local ∙ before.local;
-    }
-
--- the program was made, if there was memory for it
-pub understood : {E : Type 0} (made : Result Command E) (forms : ValueParser) → TakesForms forms
-    → IfOk made (λ c. app_of c ≡ regatta forms)
-    → IfOk made (λ c. (f : ValueParser) × TakesForms f × (app_of c ≡ regatta f))
-understood (Ok c) forms takes is = (forms, takes, is)
-understood (Err e) forms takes is = tt
 
 -- the subcommand that was met, by its name and its rows
 pub subcommand_is : {Z : Type 0} (met : Option (Box SubCommand Z)) (name : Text) (rows : List Row)

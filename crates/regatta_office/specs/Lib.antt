@@ -1,6 +1,5 @@
 pub mod Asked
 pub mod Coming
-pub mod Commands
 pub mod Complaints
 pub mod Faults
 pub mod Runs

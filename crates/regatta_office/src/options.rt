@@ -1,10 +1,10 @@
 //! The options of the program.
 ghost use Rattle.std.specs.Prelude.{◌≡◌, false, true, map, IfOk, IfErr, IfSome};
 ghost use Rattle.std.specs.Option.{option_copied};
-ghost use Rattle.clap.specs.Words.{App, Rule, app_of, first_value, found_of, kind_of, rule_of};
-ghost use Rattle.clap.specs.Words.{subcommand_rows_of, with_rule, with_subcommand};
+ghost use Rattle.clap.specs.Words.{app_of, first_value, found_of, kind_of, rule_of};
+ghost use Rattle.clap.specs.Words.{subcommand_rows_of};
+ghost use Rattle.clap.specs.declared.builder.command.Command.TheViews.{out-Command};
 ghost use Rattle.clap.specs.declared.builder.value_parser.ValueParser.{ValueParser};
-ghost use Rattle.regatta_office.specs.Commands.{IsCommand};
 ghost use Rattle.regatta_office.specs.Words.{AskHelp, AskRun, TakesForms, asked_by, number_by};
 ghost use Rattle.regatta_office.specs.Words.{flag as flag_of, is_given as is_given_by};
 ghost use Rattle.regatta_office.specs.Words.{form_by, form_option as form_option_of};
@@ -222,104 +222,81 @@ fn number_option<'a>(
     option_or(alloc, name, "NUMBER", default, help).value_parser(ValueParser::unsigned(least, most))
 }
 
-/// A command, if there was memory for it.
-type Made<'a> = Result<Command<'a>, AllocError>;
-
-/// Adds an option to a command.
-fn and_option<'a>(command: Made<'a>, option: Arg<'a>) -> Made<'a>
-    requires { option.global ≡ false }
-    ensures { (app : App) (rule : Rule) → IfOk command.entry (IsCommand app)
-        → rule_of option.entry ≡ rule → IfOk result (IsCommand (with_rule app rule)) }
-{
-    let command = command?;
-    let command = command.arg(option)?;
-    Ok(command)
-}
-
-/// Adds a subcommand to a command.
-fn and_subcommand<'a>(command: Made<'a>, subcommand: Made<'a>) -> Made<'a>
-    ensures { (app sub : App) → IfOk command.entry (λ c. app_of c ≡ app)
-        → IfOk subcommand.entry (IsCommand sub)
-        → IfOk result (λ c. app_of c ≡ with_subcommand app sub.top) }
-{
-    let command = command?;
-    let subcommand = subcommand?;
-    let command = command.subcommand(subcommand)?;
-    Ok(command)
-}
-
 /// Adds the options of the series rules.
-fn with_rules<'a>(alloc: Global, command: Made<'a>) -> Made<'a>
-    ensures { (app : App) → IfOk command.entry (IsCommand app)
-        → IfOk result (IsCommand (with_rules_of app)) }
+fn with_rules<'a>(alloc: Global, command: Command<'a>) -> Result<Command<'a>, AllocError>
+    ensures app { IfOk result (λ c. app_of c ≡ with_rules_of (app_of command.entry)) }
+    ensures local { IfOk result (λ c. (out-Command c).has_globals
+        ≡ (out-Command command.entry).has_globals) }
 {
     let absent = option_or(alloc, "absent", "RULE", "a52", ABSENT);
     let scp = option(alloc, "scp", "POINTS", SCP);
     let exclude = option_or(alloc, "exclude", "RACES", "2", EXCLUDE);
     let handicap = flag(alloc, "handicap", HANDICAP);
-    let command = and_option(command, absent);
-    let command = and_option(command, scp);
-    let command = and_option(command, exclude);
-    and_option(command, handicap)
+    let command = command.arg(absent)?.arg(scp)?.arg(exclude)?.arg(handicap)?;
+    Ok(command)
 }
 
 /// Adds the options of the start files.
-fn with_start<'a>(alloc: Global, command: Made<'a>) -> Made<'a>
-    ensures { (app : App) → IfOk command.entry (IsCommand app)
-        → IfOk result (IsCommand (with_start_of app)) }
+fn with_start<'a>(alloc: Global, command: Command<'a>) -> Result<Command<'a>, AllocError>
+    ensures app { IfOk result (λ c. app_of c ≡ with_start_of (app_of command.entry)) }
+    ensures local { IfOk result (λ c. (out-Command c).has_globals
+        ≡ (out-Command command.entry).has_globals) }
 {
     let journal = option(alloc, "journal", "FILE", JOURNAL);
     let entries = option(alloc, "entries", "FILE", ENTRIES);
-    let command = and_option(command, journal);
-    and_option(command, entries)
+    let command = command.arg(journal)?.arg(entries)?;
+    Ok(command)
 }
 
 /// `replay` with its options.
-fn replay<'a>(alloc: Global) -> Made<'a>
-    ensures { (forms : ValueParser) × TakesForms forms
-        × IfOk result (IsCommand (replay_of forms)) }
+fn replay<'a>(alloc: Global) -> Result<Command<'a>, AllocError>
+    ensures app { IfOk result (λ c. (forms : ValueParser) × TakesForms forms
+        × (app_of c ≡ replay_of forms)) }
+    ensures local { IfOk result (λ c. (out-Command c).has_globals ≡ false) }
 {
-    let bare = Command::new(alloc, "replay").about(REPLAY);
-    let command = with_rules(alloc, Ok(bare));
-    let command = with_start(alloc, command);
-    and_option(command, form_option(alloc))
+    let command = Command::new(alloc, "replay").about(REPLAY);
+    let command = with_start(alloc, with_rules(alloc, command)?)?;
+    let command = command.arg(form_option(alloc))?;
+    Ok(command)
 }
 
 /// Adds the options of the socket and its clients.
-fn with_seats<'a>(alloc: Global, command: Made<'a>) -> Made<'a>
-    ensures { (app : App) → IfOk command.entry (IsCommand app)
-        → IfOk result (IsCommand (with_seats_of app)) }
+fn with_seats<'a>(alloc: Global, command: Command<'a>) -> Result<Command<'a>, AllocError>
+    ensures app { IfOk result (λ c. app_of c ≡ with_seats_of (app_of command.entry)) }
+    ensures local { IfOk result (λ c. (out-Command c).has_globals
+        ≡ (out-Command command.entry).has_globals) }
 {
     let socket = option(alloc, "socket", "PATH", SOCKET).required(true);
     let clients = number_option(alloc, "clients", "4", 1, u64::from(MAX_SEATS), CLIENTS);
     let sessions = number_option(alloc, "sessions", "0", 0, MOST_SESSIONS, SESSIONS);
-    let command = and_option(command, socket);
-    let command = and_option(command, clients);
-    and_option(command, sessions)
+    let command = command.arg(socket)?.arg(clients)?.arg(sessions)?;
+    Ok(command)
 }
 
 /// `serve` with its options.
-fn serve<'a>(alloc: Global) -> Made<'a>
-    ensures { IfOk result (IsCommand serve_of) }
+fn serve<'a>(alloc: Global) -> Result<Command<'a>, AllocError>
+    ensures app { IfOk result (λ c. app_of c ≡ serve_of) }
+    ensures local { IfOk result (λ c. (out-Command c).has_globals ≡ false) }
 {
-    let bare = Command::new(alloc, "serve").about(SERVE);
-    let command = with_rules(alloc, Ok(bare));
-    let command = with_start(alloc, command);
-    with_seats(alloc, command)
+    let command = Command::new(alloc, "serve").about(SERVE);
+    let command = with_start(alloc, with_rules(alloc, command)?)?;
+    let command = with_seats(alloc, command)?;
+    Ok(command)
 }
 
 /// All that the program understands.
-fn regatta<'a>(alloc: Global) -> Made<'a>
+fn regatta<'a>(alloc: Global) -> Result<Command<'a>, AllocError>
     ensures { IfOk result (λ c. (forms : ValueParser) × TakesForms forms
         × (app_of c ≡ regatta_of forms)) }
 {
-    let bare = Command::new(alloc, "regatta")
+    let command = Command::new(alloc, "regatta")
         .about(ABOUT)
         .no_binary_name(true)
         .subcommand_required(true)
         .bin_name("regatta")?;
-    let command = and_subcommand(Ok(bare), replay(alloc));
-    and_subcommand(command, serve(alloc))
+    let command = command.subcommand(replay(alloc)?)?;
+    let command = command.subcommand(serve(alloc)?)?;
+    Ok(command)
 }
 
 /// The form of that word.

@@ -1,12 +1,10 @@
-use Rattle.std.proofs.Common.{codes, rules}
-use Rattle.clap.specs.Words.{new_app}
-use Rattle.regatta_office.specs.Commands.{IsCommand}
+use Rattle.std.proofs.Common.{◌≡◌, ap, codes, rules, ◌∙◌}
+use Rattle.clap.specs.Words.{app_of, new_app}
+use Rattle.regatta_office.specs.Words.{with_rules, with_seats, with_start}
 use Rattle.regatta_office.proofs.options.serve.Goals as goal
 
-pub returns : goal.returns
-returns c =
-    let bare : IsCommand (new_app (codes "serve")) c.about-bare.result = record {
-      understands = search rules;
-      local = search rules;
-    } in
-    c.with_seats.ensures _ (c.with_start-command.ensures _ (c.with_rules-command.ensures _ bare))
+pub returns-clause-app : goal.returns-clause-app
+returns-clause-app c =
+    let bare : app_of c.about-command.result ≡ new_app (codes "serve") = search rules in
+    c.in_ok-command-2.ensures.app ∙ ap with_seats (c.in_ok-command.ensures.app
+    ∙ ap with_start (c.in_ok-with_rules.ensures.app ∙ ap with_rules bare))
