@@ -71,11 +71,21 @@ pub(crate) fn one_seat<N: OfficeName, H: Wait + Drop>(
     Some((office, pass))
 }
 
-/// The entries of a sheet, as text.
-fn journal_of(alloc: Global, sheet: &Sheet) -> Option<Vec<u8>> {
+/// Whether a boat is entered.
+fn enters<N: OfficeName, H: Wait + Drop, R: Wait>(
+    rt: &R,
+    office: &Office<N, H>,
+    pass: &mut Pass<N>,
+    sail: &[u8],
+) -> bool {
+    entered(rt, office, pass, sail).is_some()
+}
+
+/// Whether the entries of a sheet are this text.
+fn has_entries(alloc: Global, sheet: &Sheet, journal: &[u8]) -> bool {
     let mut text = Vec::new(alloc);
-    write_entries(sheet.journal.as_slice(), &mut text).ok()?;
-    Some(text)
+    let is_written = write_entries(sheet.journal.as_slice(), &mut text).is_ok();
+    is_written && text.as_slice() == journal
 }
 
 /// A standing, as text.
@@ -85,17 +95,12 @@ fn table_of(alloc: Global, standing: &Standing) -> Option<Vec<u8>> {
     Some(text)
 }
 
-/// Asserts that the pass is shown this journal.
-fn is_shown<N: OfficeName, R: Abort>(
-    rt: &R,
-    alloc: Global,
-    pass: &mut Pass<N>,
-    journal: &[u8],
-) -> Option<()> {
-    let sheet = pass.show().ok()?;
-    let text = journal_of(alloc, &sheet)?;
-    assert_eq!(rt; text.as_slice(), journal);
-    Some(())
+/// Whether the pass is shown this journal.
+fn is_shown<N: OfficeName>(alloc: Global, pass: &mut Pass<N>, journal: &[u8]) -> bool {
+    match pass.show() {
+        Ok(sheet) => has_entries(alloc, &sheet, journal),
+        Err(_) => false,
+    }
 }
 
 #[test]
@@ -120,17 +125,19 @@ fn offices_open_by_their_seats_and_start(rt: HostRuntime) -> Result<(), Fail> {
 #[test]
 fn watchers_see_what_they_were_not_told(rt: HostRuntime) -> Result<(), Fail> {
     let opened = opened_office(&rt, rt.alloc(), 2).ok_or("an office")?;
-    Ok(watch_untold::<Brand, _, _>(&rt, rt.alloc(), opened).ok_or("two seats")?)
+    assert!(rt; watches_untold::<Brand, _, _>(&rt, rt.alloc(), opened));
+    Ok(())
 }
 
 #[test]
 fn seats_show_and_tell(rt: HostRuntime) -> Result<(), Fail> {
     let opened = opened_office(&rt, rt.alloc(), 2).ok_or("an office")?;
-    show_beside_a_guard::<Brand, _, _>(&rt, rt.alloc(), opened).ok_or("two seats")?;
+    assert!(rt; shows_beside_a_guard::<Brand, _, _>(&rt, rt.alloc(), opened));
     let opened = opened_office(&rt, rt.alloc(), 2).ok_or("an office")?;
-    tell::<Brand, _, _>(&rt, rt.alloc(), opened).ok_or("two seats")?;
+    assert!(rt; tells::<Brand, _, _>(&rt, rt.alloc(), opened));
     let opened = opened_office(&rt, rt.alloc(), 1).ok_or("an office")?;
-    Ok(talk::<Brand, _, _>(&rt, rt.alloc(), opened).ok_or("a seat")?)
+    assert!(rt; talks::<Brand, _, _>(&rt, rt.alloc(), opened));
+    Ok(())
 }
 
 #[test]
@@ -151,61 +158,83 @@ static ONE: &[u8] = b"1 1 SCORER ENTER A\n";
 
 static TWO: &[u8] = b"1 1 SCORER ENTER A\n1 2 SCORER ENTER B\n";
 
-/// Seat 1 runs two commands, and seat 2, which learns nothing, sees each.
-fn watch_untold<N: OfficeName, H: Wait + Drop, R: Wait + Abort>(
+/// Whether seat 1 runs two commands, and seat 2, which learns nothing, sees each.
+fn watches_untold<N: OfficeName, H: Wait + Drop, R: Wait>(
     rt: &R,
     alloc: Global,
     opened: Opened<H>,
-) -> Option<()>
+) -> bool
     requires history { opened.history ≡ N.history }
     requires rules { opened.rules ≡ N.rules }
 {
-    let (office, mut first, mut second) = two_seats::<N, H>(opened)?;
-    enter_untold(rt, alloc, &office, &mut first, &mut second)
+    match two_seats::<N, H>(opened) {
+        Some((office, mut first, mut second)) => {
+            watches_at(rt, alloc, &office, &mut first, &mut second)
+        }
+        None => false,
+    }
 }
 
-fn enter_untold<N: OfficeName, H: Wait + Drop, R: Wait + Abort>(
+fn watches_at<N: OfficeName, H: Wait + Drop, R: Wait>(
     rt: &R,
     alloc: Global,
     office: &Office<N, H>,
     first: &mut Pass<N>,
     second: &mut Pass<N>,
-) -> Option<()> {
-    let _ = entered(rt, office, first, b"A")?;
-    is_shown(rt, alloc, second, ONE)?;
-    let _ = entered(rt, office, first, b"B")?;
-    is_shown(rt, alloc, second, TWO)
+) -> bool {
+    enters(rt, office, first, b"A")
+        && is_shown(alloc, second, ONE)
+        && enters(rt, office, first, b"B")
+        && is_shown(alloc, second, TWO)
 }
 
-/// Both seats show while the desk is held, seat 2 once it has learnt what seat 1 ran, and the desk
-/// confirms what they have seen.
-fn show_beside_a_guard<N: OfficeName, H: Wait + Drop, R: Wait + Abort>(
+/// Whether both seats show while the desk is held, seat 2 once it has learnt what seat 1 ran, and the
+/// desk confirms what they have seen.
+fn shows_beside_a_guard<N: OfficeName, H: Wait + Drop, R: Wait>(
     rt: &R,
     alloc: Global,
     opened: Opened<H>,
-) -> Option<()>
+) -> bool
     requires history { opened.history ≡ N.history }
     requires rules { opened.rules ≡ N.rules }
 {
-    let (office, mut first, mut second) = two_seats::<N, H>(opened)?;
-    let receipt = entered(rt, &office, &mut first, b"A")?;
-    let mut desk = office.desk(rt);
-    let shown = show_both(rt, alloc, &mut first, &mut second, receipt);
-    assert!(rt; desk.confirm(&mut first) && desk.confirm(&mut second));
-    shown
+    match two_seats::<N, H>(opened) {
+        Some((office, mut first, mut second)) => {
+            let receipt = entered(rt, &office, &mut first, b"A");
+            shows_at(rt, alloc, &office, &mut first, &mut second, receipt)
+        }
+        None => false,
+    }
 }
 
-/// Asserts that both passes are shown the first entry, the second once it has learnt the receipt.
-fn show_both<N: OfficeName, R: Abort>(
+fn shows_at<N: OfficeName, H: Wait + Drop, R: Wait>(
     rt: &R,
+    alloc: Global,
+    office: &Office<N, H>,
+    first: &mut Pass<N>,
+    second: &mut Pass<N>,
+    receipt: Option<Receipt<N>>,
+) -> bool {
+    let mut desk = office.desk(rt);
+    let are_shown = show_both(alloc, first, second, receipt);
+    let are_confirmed = desk.confirm(first) & desk.confirm(second);
+    are_shown & are_confirmed
+}
+
+/// Whether both passes are shown the first entry, the second once it has learnt the receipt.
+fn show_both<N: OfficeName>(
     alloc: Global,
     first: &mut Pass<N>,
     second: &mut Pass<N>,
-    receipt: Receipt<N>,
-) -> Option<()> {
-    second.learn(receipt);
-    is_shown(rt, alloc, first, ONE)?;
-    is_shown(rt, alloc, second, ONE)
+    receipt: Option<Receipt<N>>,
+) -> bool {
+    match receipt {
+        Some(receipt) => {
+            second.learn(receipt);
+            is_shown(alloc, first, ONE) && is_shown(alloc, second, ONE)
+        }
+        None => false,
+    }
 }
 
 /// Each seat enters a boat, and learns the other's receipt.
@@ -220,61 +249,71 @@ fn learn_each_other<N: OfficeName, H: Wait + Drop, R: Wait>(
     Some(())
 }
 
-/// Asserts that the pass is shown this journal with this table.
-fn is_shown_with<N: OfficeName, R: Abort>(
-    rt: &R,
+/// Whether a standing's table is this text.
+fn has_table(alloc: Global, standing: &Standing, table: &[u8]) -> bool {
+    let mut text = Vec::new(alloc);
+    let is_written = write_table(standing, &mut text).is_ok();
+    is_written && text.as_slice() == table
+}
+
+/// Whether a sheet has this journal with this table.
+fn has_both(alloc: Global, sheet: &Sheet, journal: &[u8], table: &[u8]) -> bool {
+    has_entries(alloc, sheet, journal) && has_table(alloc, &sheet.standing, table)
+}
+
+/// Whether the pass is shown this journal with this table.
+fn is_shown_with<N: OfficeName>(
     alloc: Global,
     pass: &mut Pass<N>,
     journal: &[u8],
     table: &[u8],
-) -> Option<()> {
-    let sheet = pass.show().ok()?;
-    let text = journal_of(alloc, &sheet)?;
-    assert_eq!(rt; text.as_slice(), journal);
-    let text = table_of(alloc, &sheet.standing)?;
-    assert_eq!(rt; text.as_slice(), table);
-    Some(())
+) -> bool {
+    match pass.show() {
+        Ok(sheet) => has_both(alloc, &sheet, journal, table),
+        Err(_) => false,
+    }
 }
 
-/// Asserts that nothing is shown, and that SHOW is answered so.
-fn is_closed<N: OfficeName, R: Abort>(rt: &R, alloc: Global, pass: &mut Pass<N>) -> Option<()> {
-    assert_eq!(rt; pass.show().err(), Some(ShowFault::Closed));
+/// Whether SHOW is answered `CLOSED`.
+fn answers_closed<N: OfficeName>(alloc: Global, pass: &mut Pass<N>) -> bool {
     let mut role = Role::Scorer;
     let mut out = Vec::new(alloc);
-    let next = answer_alone(pass, &mut role, Ok(Line::Show), &mut out).ok()?;
-    assert_eq!(rt; next, Next::Go);
-    assert_eq!(rt; out.as_slice(), b"CLOSED\n".as_slice());
-    Some(())
+    let next = answer_alone(pass, &mut role, Ok(Line::Show), &mut out);
+    next == Ok(Next::Go) && out.as_slice() == b"CLOSED\n".as_slice()
 }
 
-/// Asserts that the first seat is shown what both ran.
-fn learn_and_show<N: OfficeName, H: Wait + Drop, R: Wait + Abort>(
+/// Whether nothing is shown, and SHOW is answered so.
+fn is_closed<N: OfficeName>(alloc: Global, pass: &mut Pass<N>) -> bool {
+    pass.show().err() == Some(ShowFault::Closed) && answers_closed(alloc, pass)
+}
+
+/// Whether the first seat is shown what both ran.
+fn learns_and_shows<N: OfficeName, H: Wait + Drop, R: Wait>(
     rt: &R,
     alloc: Global,
     office: &Office<N, H>,
     first: &mut Pass<N>,
     second: &mut Pass<N>,
-) -> Option<()> {
-    learn_each_other(rt, office, first, second)?;
+) -> bool {
     let journal = b"1 1 SCORER ENTER A\n2 1 SCORER ENTER B\n";
     let table = b"TABLE 2 RACES\n1= A 0.0\n1= B 0.0\n";
-    is_shown_with(rt, alloc, first, journal, table)
+    learn_each_other(rt, office, first, second).is_some()
+        && is_shown_with(alloc, first, journal, table)
 }
 
-/// Seat 1 is shown what both ran. Once the office is gone nothing is shown.
-fn tell<N: OfficeName, H: Wait + Drop, R: Wait + Abort>(
-    rt: &R,
-    alloc: Global,
-    opened: Opened<H>,
-) -> Option<()>
+/// Whether seat 1 is shown what both ran, and nothing once the office is gone.
+fn tells<N: OfficeName, H: Wait + Drop, R: Wait>(rt: &R, alloc: Global, opened: Opened<H>) -> bool
     requires history { opened.history ≡ N.history }
     requires rules { opened.rules ≡ N.rules }
 {
-    let (office, mut first, mut second) = two_seats::<N, H>(opened)?;
-    let shown = learn_and_show(rt, alloc, &office, &mut first, &mut second);
-    drop(office);
-    assert!(rt; shown.is_some());
-    is_closed(rt, alloc, &mut first)
+    match two_seats::<N, H>(opened) {
+        Some((office, mut first, mut second)) => {
+            let is_told = learns_and_shows(rt, alloc, &office, &mut first, &mut second);
+            drop(office);
+            is_told & is_closed(alloc, &mut first)
+        }
+        None => false,
+    }
 }
 
 /// Answers a command by the desk, under the lock.
@@ -333,46 +372,69 @@ fn last_lines<N: OfficeName, H: Wait + Drop, R: Wait>(
 static REPLIES: &str = "JOURNAL 0\nTABLE 0 RACES\nEND\nOK 1 1 0.0\nRANK 1 0.0\nROLE JURY\nNO 21\n\
     NO 4\nBYE\n";
 
-/// The lines of a session, and then commands on the same pass.
-fn talk<N: OfficeName, H: Wait + Drop, R: Wait + Abort>(
-    rt: &R,
-    alloc: Global,
-    opened: Opened<H>,
-) -> Option<()>
+/// Whether the lines of a session are answered, and then commands on the same pass.
+fn talks<N: OfficeName, H: Wait + Drop, R: Wait>(rt: &R, alloc: Global, opened: Opened<H>) -> bool
     requires history { opened.history ≡ N.history }
     requires rules { opened.rules ≡ N.rules }
 {
-    let (office, mut pass) = one_seat::<N, H>(opened)?;
-    talk_at(rt, alloc, &office, &mut pass)
+    match one_seat::<N, H>(opened) {
+        Some((office, mut pass)) => {
+            has_lines_answered(rt, alloc, &office, &mut pass)
+                & runs_again(rt, alloc, &office, &mut pass)
+        }
+        None => false,
+    }
 }
 
-fn talk_at<N: OfficeName, H: Wait + Drop, R: Wait + Abort>(
+/// Whether the lines of a session are answered, up to its end.
+fn has_lines_answered<N: OfficeName, H: Wait + Drop, R: Wait>(
     rt: &R,
     alloc: Global,
     office: &Office<N, H>,
     pass: &mut Pass<N>,
-) -> Option<()> {
+) -> bool {
     let mut role = Role::Scorer;
     let mut out = Vec::new(alloc);
-    first_lines(rt, office, pass, &mut role, &mut out)?;
-    let next = last_lines(rt, office, pass, &mut role, &mut out)?;
-    assert_eq!(rt; next, Next::End);
-    assert_eq!(rt; out.as_slice(), REPLIES.as_bytes());
-    run_again(rt, alloc, office, pass)
+    let are_first = first_lines(rt, office, pass, &mut role, &mut out).is_some();
+    let next = last_lines(rt, office, pass, &mut role, &mut out);
+    are_first & (next == Some(Next::End)) & (out.as_slice() == REPLIES.as_bytes())
 }
 
-/// One command is refused, and another runs with the next number.
-fn run_again<N: OfficeName, H: Wait + Drop, R: Wait + Abort>(
+/// Whether a command that ran is refused, and another runs with the next number.
+fn runs_again<N: OfficeName, H: Wait + Drop, R: Wait>(
     rt: &R,
     alloc: Global,
     office: &Office<N, H>,
     pass: &mut Pass<N>,
-) -> Option<()> {
-    let again = answered(rt, office, pass, enter(b"A")?);
-    assert_eq!(rt; again.err(), Some(Refusal::AlreadyEntered));
-    let second = entered(rt, office, pass, b"B")?;
-    assert_eq!(rt; (second.place(), pass.last(), pass.seat()), (2, 2, 1));
-    is_shown(rt, alloc, pass, TWO)
+) -> bool {
+    is_refused_again(rt, office, pass)
+        && is_second(rt, office, pass)
+        && (pass.last(), pass.seat()) == (2, 1)
+        && is_shown(alloc, pass, TWO)
+}
+
+/// Whether A can't be entered a second time.
+fn is_refused_again<N: OfficeName, H: Wait + Drop, R: Wait>(
+    rt: &R,
+    office: &Office<N, H>,
+    pass: &mut Pass<N>,
+) -> bool {
+    match enter(b"A") {
+        Some(again) => { answered(rt, office, pass, again).err() == Some(Refusal::AlreadyEntered) }
+        None => false,
+    }
+}
+
+/// Whether B is the second entry.
+fn is_second<N: OfficeName, H: Wait + Drop, R: Wait>(
+    rt: &R,
+    office: &Office<N, H>,
+    pass: &mut Pass<N>,
+) -> bool {
+    match entered(rt, office, pass, b"B") {
+        Some(receipt) => receipt.place() == 2,
+        None => false,
+    }
 }
 
 /// Enters ten boats, whose sails begin with a letter of the seat, and gives the last number.

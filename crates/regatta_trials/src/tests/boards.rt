@@ -134,9 +134,12 @@ const LAST: Touched = Touched {
 /// Whether the board tells its rules and its length, the last numbers of two seats, and where the
 /// first boat is, but not where the other is, who isn't entered.
 fn tells_what_it_took(board: &Board, tied: Sail, unknown: Sail) -> bool {
-    (board.rank(tied), board.rank(unknown)) == (Some(TIED), None)
+    board.rank(tied) == Some(TIED)
+        && board.rank(unknown).is_none()
         && *board.rules() == default_rules()
-        && (board.len(), board.last_of(1), board.last_of(2)) == (7, 7, 0)
+        && board.len() == 7
+        && board.last_of(1) == 7
+        && board.last_of(2) == 0
 }
 
 #[test]
@@ -152,7 +155,8 @@ fn a_board_tells_what_it_took(rt: HostRuntime) -> Result<(), Fail> {
 fn prepared(board: &Board, entry: Entry) -> Option<u32> {
     match board.prepare(entry) {
         Ok(staged) => {
-            (*staged.entry() == entry && staged.rescored() <= 1).then_some(staged.place())
+            let (found, rescored, place) = (*staged.entry(), staged.rescored(), staged.place());
+            (found == entry && rescored <= 1).then_some(place)
         }
         Err(_) => None,
     }
