@@ -43,9 +43,9 @@ fn tells(answer: Result<bool, AllocError>) -> Told {
     }
 }
 
-/// The command that enters A.
-fn enter_a() -> Option<Command> {
-    let sail = Sail::read(b"A")?;
+/// The command that enters this boat.
+fn enter(sail: &[u8]) -> Option<Command> {
+    let sail = Sail::read(sail)?;
     Some(Command::Enter { sail })
 }
 

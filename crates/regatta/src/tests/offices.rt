@@ -175,6 +175,7 @@ fn watches_untold<N: OfficeName, H: Wait + Drop, R: Wait>(
     }
 }
 
+/// Whether seat 2 is shown A and then B, each once seat 1 has entered her, and is told of neither.
 fn watches_at<N: OfficeName, H: Wait + Drop, R: Wait>(
     rt: &R,
     alloc: Global,
@@ -207,6 +208,7 @@ fn shows_beside_a_guard<N: OfficeName, H: Wait + Drop, R: Wait>(
     }
 }
 
+/// The same, behind the command of this receipt: the desk is held until both have shown.
 fn shows_at<N: OfficeName, H: Wait + Drop, R: Wait>(
     rt: &R,
     alloc: Global,

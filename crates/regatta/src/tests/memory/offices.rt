@@ -108,7 +108,7 @@ fn enter_with<N: OfficeName, H: Wait + Drop, R: Wait>(
     office: &Office<N, H>,
     pass: &mut Pass<N>,
 ) -> Option<Result<u32, Refusal>> {
-    let command = enter_a()?;
+    let command = enter(b"A")?;
     let is_left = hoard.leave(bytes);
     let place = place_of(rt, office, pass, command);
     hoard.give_back();
@@ -182,8 +182,12 @@ fn is_showing_refused<N: OfficeName>(hoard: &mut Hoard, pass: &mut Pass<N>) -> b
     hoard.refuses(SHOWN, Steps::of_journals(16_384), || shows(pass))
 }
 
-/// Whether seat 1 enters A, and the other seat is shown her, with each growth refused first.
-fn enter_at<N: OfficeName, H: Wait + Drop, R: Wait>(
+/// What the journal of an office has behind its calls.
+static JOURNAL: &[u8] = b"1 1 SCORER ENTER A\n1 2 SCORER ENTER B\n";
+
+/// Whether seat 1 enters A, the other seat is shown her, and both are answered lines, with each
+/// growth refused first.
+fn calls_at<N: OfficeName, H: Wait + Drop, R: Wait>(
     rt: &R,
     alloc: Global,
     hoard: &mut Hoard,
@@ -194,9 +198,11 @@ fn enter_at<N: OfficeName, H: Wait + Drop, R: Wait>(
 {
     match two_seats::<N, H>(opened) {
         Some((office, mut first, mut second)) => {
-            let is_refused = is_entering_refused(rt, hoard, &office, &mut first, &mut second);
+            let is_entered = is_entering_refused(rt, hoard, &office, &mut first, &mut second);
             let is_shown = is_showing_refused(hoard, &mut second);
-            is_refused & is_shown & has_journal(rt, alloc, &office, b"1 1 SCORER ENTER A\n")
+            let is_desk = is_desk_refused(rt, alloc, hoard, &office, &mut first);
+            let is_pass = is_pass_refused(alloc, hoard, &mut second);
+            is_entered & is_shown & is_desk & is_pass & has_journal(rt, alloc, &office, JOURNAL)
         }
         None => false,
     }
@@ -210,22 +216,6 @@ fn shows<N: OfficeName>(pass: &mut Pass<N>) -> Told {
     }
 }
 
-/// The same, at an office that is opened for it.
-fn is_a_command_refused<R: Wait>(rt: &R, alloc: Global, hoard: &mut Hoard) -> bool {
-    match opened_office(rt, alloc, 2) {
-        Some(opened) => enter_at::<Brand, _, _>(rt, alloc, hoard, opened),
-        None => false,
-    }
-}
-
-/// Behind each refusal the desk has no entry, the seat has sent none, and the other seat is shown
-/// none.
-#[test]
-fn a_command_wants_memory(rt: HostRuntime) {
-    let alloc = rt.alloc();
-    assert!(rt; holds_with(alloc, |hoard| is_a_command_refused(&rt, alloc, hoard)));
-}
-
 /// What an answer tells: it is wanting where there is no room for a reply, or where it is `NO 1`.
 fn replied(is_answered: bool, out: &[u8], wanted: &[u8]) -> Told {
     if !is_answered {
@@ -237,7 +227,8 @@ fn replied(is_answered: bool, out: &[u8], wanted: &[u8]) -> Told {
     ordinary_if(out == wanted)
 }
 
-/// What the desk's answer to a command tells. Behind a refusal the seat has sent no entry.
+/// What the desk's answer to the second command of its seat tells. Behind a refusal the seat has sent
+/// the first alone.
 fn desk_answers<N: OfficeName, H: Wait + Drop, R: Wait>(
     rt: &R,
     office: &Office<N, H>,
@@ -248,15 +239,16 @@ fn desk_answers<N: OfficeName, H: Wait + Drop, R: Wait>(
     out.clear();
     let mut desk = office.desk(rt);
     let answer = desk.answer(rt, pass, Role::Scorer, Line::Do(command), out);
-    let found = replied(answer.is_ok(), out, b"OK 1 1 0.0\n");
-    if found == Told::Wanting && pass.last() != 0 {
+    let found = replied(answer.is_ok(), out, b"OK 2 1= 0.0\n");
+    if found == Told::Wanting && pass.last() != 1 {
         return Told::Other;
     }
     found
 }
 
 /// What SHOW is answered.
-static SHEET: &[u8] = b"JOURNAL 1\n1 1 SCORER ENTER A\nTABLE 1 RACES\n1 A 0.0\nEND\n";
+static SHEET: &[u8] = b"JOURNAL 2\n1 1 SCORER ENTER A\n1 2 SCORER ENTER B\nTABLE 2 RACES\n\
+    1= A 0.0\n1= B 0.0\nEND\n";
 
 /// What the answer of a pass alone to SHOW tells.
 fn pass_answers<N: OfficeName>(pass: &mut Pass<N>, out: &mut Vec<u8>) -> Told {
@@ -266,7 +258,7 @@ fn pass_answers<N: OfficeName>(pass: &mut Pass<N>, out: &mut Vec<u8>) -> Told {
     replied(answer.is_ok(), out, SHEET)
 }
 
-/// Whether the desk answers a command, with each growth refused first.
+/// Whether the desk answers the command that enters B, with each growth refused first.
 fn is_desk_refused<N: OfficeName, H: Wait + Drop, R: Wait>(
     rt: &R,
     alloc: Global,
@@ -274,7 +266,7 @@ fn is_desk_refused<N: OfficeName, H: Wait + Drop, R: Wait>(
     office: &Office<N, H>,
     pass: &mut Pass<N>,
 ) -> bool {
-    let Some(command) = enter_a() else {
+    let Some(command) = enter(b"B") else {
         return false;
     };
     let mut reply = Vec::new(alloc);
@@ -295,36 +287,18 @@ fn is_pass_refused<N: OfficeName>(alloc: Global, hoard: &mut Hoard, pass: &mut P
     )
 }
 
-/// Whether lines are answered, with each growth refused first.
-fn answers_at<N: OfficeName, H: Wait + Drop, R: Wait>(
-    rt: &R,
-    alloc: Global,
-    hoard: &mut Hoard,
-    opened: Opened<H>,
-) -> bool
-    requires history { opened.history ≡ N.history }
-    requires rules { opened.rules ≡ N.rules }
-{
-    match two_seats::<N, H>(opened) {
-        Some((office, mut first, mut second)) => {
-            let desk = is_desk_refused(rt, alloc, hoard, &office, &mut first);
-            let pass = is_pass_refused(alloc, hoard, &mut second);
-            desk & pass
-        }
-        None => false,
-    }
-}
-
-/// The same, at an office that is opened for it.
-fn are_answers_refused<R: Wait>(rt: &R, alloc: Global, hoard: &mut Hoard) -> bool {
+/// Whether all calls of an office that is opened for them are made, with each growth refused first.
+fn are_calls_refused<R: Wait>(rt: &R, alloc: Global, hoard: &mut Hoard) -> bool {
     match opened_office(rt, alloc, 2) {
-        Some(opened) => answers_at::<Brand, _, _>(rt, alloc, hoard, opened),
+        Some(opened) => calls_at::<Brand, _, _>(rt, alloc, hoard, opened),
         None => false,
     }
 }
 
+/// Behind each refusal of the first command the desk has no entry, the seat has sent none, and the
+/// other seat is shown none.
 #[test]
-fn answers_want_memory(rt: HostRuntime) {
+fn an_office_wants_memory(rt: HostRuntime) {
     let alloc = rt.alloc();
-    assert!(rt; holds_with(alloc, |hoard| are_answers_refused(&rt, alloc, hoard)));
+    assert!(rt; holds_with(alloc, |hoard| are_calls_refused(&rt, alloc, hoard)));
 }

@@ -156,28 +156,6 @@ fn the_program_wants_memory(rt: HostRuntime) -> Result<(), Fail> {
     Ok(())
 }
 
-/// Whether the program writes this help, with each growth refused first.
-fn is_help_refused<R>(rt: &R, output: &[u8]) -> bool
-where
-    R: Files + AllocGlobal + Threads + Wait + Net + Sync,
-{
-    let call = Words {
-        words: &["--help"],
-        status: 0,
-        output,
-        complaint: b"",
-    };
-    is_refused(rt, 1900, &call)
-}
-
-#[test]
-fn help_wants_memory(rt: HostRuntime) -> Result<(), Fail> {
-    let mut streams = Streams::new(rt.alloc(), LINES, 4000)?;
-    let _ = status_of(&rt, &["--help"], &mut streams);
-    assert!(rt; is_help_refused(&rt, streams.output.written()));
-    Ok(())
-}
-
 /// The words of serving are read, and an office is opened and split, ahead of the socket.
 #[test]
 fn a_program_that_serves_wants_memory(rt: HostRuntime) {

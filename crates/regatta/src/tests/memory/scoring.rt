@@ -216,18 +216,48 @@ fn are_ranks_of(alloc: Global) -> Result<bool, AllocError> {
     Ok(are_places(places.as_slice()))
 }
 
-/// Whether a sheet is made, and a race scored, with each growth refused first.
-fn are_races_refused(alloc: Global, hoard: &mut Hoard) -> bool {
-    let Ok(first) = one_finished(alloc) else {
-        return false;
-    };
-    hoard.refuses(4, SMALL_STEPS, || tells(makes_sheet(alloc)))
-        && hoard.refuses(
-            4,
-            SMALL_STEPS,
-            || tells(are_points(alloc, &first, [10, 40, 40])),
-        )
-        && hoard.refuses(4, SMALL_STEPS, || tells(are_scores(alloc, &first)))
+/// The calls that score a race or a series.
+#[derive(Clone, Copy)]
+enum Call {
+    Sheet,
+    Points,
+    Scores,
+    Averages,
+    Excluded,
+    Ranks,
+    RanksOf,
+}
+
+/// Whether the call answers what is due, of a race in which the first of three boats has finished.
+fn is_due(alloc: Global, sheet: &RaceSheet, call: Call) -> Result<bool, AllocError> {
+    match call {
+        Call::Sheet => makes_sheet(alloc),
+        Call::Points => are_points(alloc, sheet, [10, 40, 40]),
+        Call::Scores => are_scores(alloc, sheet),
+        Call::Averages => are_averages(alloc),
+        Call::Excluded => is_excluded(alloc),
+        Call::Ranks => are_ranks(alloc),
+        Call::RanksOf => are_ranks_of(alloc),
+    }
+}
+
+/// Whether each of these calls is made, with each growth refused first, so often at least.
+fn are_calls_refused(alloc: Global, hoard: &mut Hoard, sheet: &RaceSheet) -> bool {
+    let calls = [
+        (Call::Sheet, 4),
+        (Call::Points, 4),
+        (Call::Scores, 4),
+        (Call::Averages, 2),
+        (Call::Excluded, 1),
+        (Call::Ranks, 7),
+        (Call::RanksOf, 5),
+    ];
+    for (call, least) in &calls {
+        if !hoard.refuses(*least, SMALL_STEPS, || tells(is_due(alloc, sheet, *call))) {
+            return false;
+        }
+    }
+    true
 }
 
 /// Whether each change of a sheet is made, with each growth refused first.
@@ -238,27 +268,18 @@ fn are_changes_refused(alloc: Global, hoard: &mut Hoard) -> bool {
         && is_out_or_held(alloc, hoard)
 }
 
-#[test]
-fn races_want_memory(rt: HostRuntime) {
-    let alloc = rt.alloc();
-    assert!(rt;
-        holds_with(
-            alloc,
-            |hoard| are_races_refused(alloc, hoard) && are_changes_refused(alloc, hoard)
-        )
-    );
-}
-
-/// Whether the steps of a series are made, with each growth refused first.
-fn are_series_refused(alloc: Global, hoard: &mut Hoard) -> bool {
-    hoard.refuses(2, SMALL_STEPS, || tells(are_averages(alloc)))
-        && hoard.refuses(1, SMALL_STEPS, || tells(is_excluded(alloc)))
-        && hoard.refuses(7, SMALL_STEPS, || tells(are_ranks(alloc)))
-        && hoard.refuses(5, SMALL_STEPS, || tells(are_ranks_of(alloc)))
+/// Whether all calls of scoring are made, with each growth refused first.
+fn is_scoring_refused(alloc: Global, hoard: &mut Hoard) -> bool {
+    match one_finished(alloc) {
+        Ok(first) => {
+            are_calls_refused(alloc, hoard, &first) && are_changes_refused(alloc, hoard)
+        }
+        Err(_) => false,
+    }
 }
 
 #[test]
-fn series_want_memory(rt: HostRuntime) {
+fn scoring_wants_memory(rt: HostRuntime) {
     let alloc = rt.alloc();
-    assert!(rt; holds_with(alloc, |hoard| are_series_refused(alloc, hoard)));
+    assert!(rt; holds_with(alloc, |hoard| is_scoring_refused(alloc, hoard)));
 }

@@ -96,36 +96,6 @@ fn are_texts_refused(hoard: &mut Hoard, series: &Series, texts: &[(Text, &[u8], 
     true
 }
 
-/// Whether all texts of the series are appended, each with each growth refused first.
-fn is_series_refused(hoard: &mut Hoard, series: &Series, file: &[u8]) -> bool {
-    let texts = [
-        (Text::Entry, b"1 1 SCORER ENTER A".as_slice(), 4),
-        (Text::Journal, file, 75),
-        (Text::Table, DISQUALIFIED_TABLE, 65),
-        (Text::Csv, CSV, 40),
-        (Text::Sheet, SHEET, 75),
-        (Text::Reply, b"BYE\n".as_slice(), 4),
-    ];
-    are_texts_refused(hoard, series, &texts)
-}
-
-/// The same, with a hoard.
-fn is_refused_with(alloc: Global, series: &Series, file: &[u8]) -> bool {
-    holds_with(alloc, |hoard| is_series_refused(hoard, series, file))
-}
-
-#[test]
-fn texts_want_memory(rt: HostRuntime) -> Result<(), Fail> {
-    let alloc = rt.alloc();
-    let file = joined(alloc, &[VERSION_LINE, DISQUALIFIED])?;
-    let is_refused = match disqualified(alloc) {
-        Some(series) => is_refused_with(alloc, &series, &file),
-        None => false,
-    };
-    assert!(rt; is_refused);
-    Ok(())
-}
-
 /// What reading a journal tells.
 fn reads_journal(alloc: Global) -> Told {
     match read_journal(alloc, DISQUALIFIED) {
@@ -176,8 +146,35 @@ fn is_a_start_refused(alloc: Global, hoard: &mut Hoard) -> bool {
     }
 }
 
+/// Whether all texts of the series are appended, each with each growth refused first.
+fn is_series_refused(hoard: &mut Hoard, series: &Series, file: &[u8]) -> bool {
+    let texts = [
+        (Text::Entry, b"1 1 SCORER ENTER A".as_slice(), 4),
+        (Text::Journal, file, 75),
+        (Text::Table, DISQUALIFIED_TABLE, 65),
+        (Text::Csv, CSV, 40),
+        (Text::Sheet, SHEET, 75),
+        (Text::Reply, b"BYE\n".as_slice(), 4),
+    ];
+    are_texts_refused(hoard, series, &texts)
+}
+
+/// Whether all texts are appended, and texts are read, with each growth refused first.
+fn are_refused_with(alloc: Global, series: &Series, file: &[u8]) -> bool {
+    holds_with(
+        alloc,
+        |hoard| is_series_refused(hoard, series, file) & are_reads_refused(alloc, hoard),
+    )
+}
+
 #[test]
-fn texts_that_are_read_want_memory(rt: HostRuntime) {
+fn texts_want_memory(rt: HostRuntime) -> Result<(), Fail> {
     let alloc = rt.alloc();
-    assert!(rt; holds_with(alloc, |hoard| are_reads_refused(alloc, hoard)));
+    let file = joined(alloc, &[VERSION_LINE, DISQUALIFIED])?;
+    let is_refused = match disqualified(alloc) {
+        Some(series) => are_refused_with(alloc, &series, &file),
+        None => false,
+    };
+    assert!(rt; is_refused);
+    Ok(())
 }
