@@ -1,12 +1,11 @@
 //! Each growth refused in turn: calls that take memory, on a short input, with more and more bytes
-//! left to them until they meet no refusal. How often a call is refused at least before that is a
-//! little less than `bench/growths.py` counted.
+//! left to them until they meet no refusal. A call is a line of a list, with how often it is refused
+//! at least before that: a little less than `bench/growths.py` counted.
 
 use super::*;
-use hoard::{Hoard, MOST_RUNS, SMALL_STEPS, Steps, Told, holds_with};
+use hoard::{Caller, Hoard, MOST_RUNS, SMALL_STEPS, Steps, Told, are_refused};
 use regatta_scores::Standing;
 use regatta_tables::{Journal, read_journal, write_table};
-use regatta_terms::{Command, Sail, read_entry};
 use std::alloc::AllocError;
 
 mod boards;
@@ -43,16 +42,9 @@ fn tells(answer: Result<bool, AllocError>) -> Told {
     }
 }
 
-/// The command that enters this boat.
-fn enter(sail: &[u8]) -> Option<Command> {
-    let sail = Sail::read(sail)?;
-    Some(Command::Enter { sail })
-}
-
-/// The entry by which seat 1 enters A as scorer.
-fn entry_of_a() -> Option<Entry> {
-    read_entry(b"1 1 SCORER ENTER A").ok()
-}
+/// What a text begins with that a call appends to: as long as the least block that the heap gives,
+/// so that whatever is appended asks for more.
+const BEFORE: &[u8] = b"what stood there before.";
 
 /// Whether a standing's table is this text.
 fn is_table(alloc: Global, standing: &Standing, wanted: &[u8]) -> Result<bool, AllocError> {

@@ -14,7 +14,7 @@ use std::sync::Wait;
 use std::thread::{Threads, map_vec};
 
 /// The command that enters a boat.
-fn enter(sail: &[u8]) -> Option<Command> {
+pub(crate) fn enter(sail: &[u8]) -> Option<Command> {
     let sail = Sail::read(sail)?;
     Some(Command::Enter { sail })
 }
@@ -96,7 +96,7 @@ fn table_of(alloc: Global, standing: &Standing) -> Option<Vec<u8>> {
 }
 
 /// Whether the pass is shown this journal.
-fn is_shown<N: OfficeName>(alloc: Global, pass: &mut Pass<N>, journal: &[u8]) -> bool {
+pub(crate) fn is_shown<N: OfficeName>(alloc: Global, pass: &mut Pass<N>, journal: &[u8]) -> bool {
     match pass.show() {
         Ok(sheet) => has_entries(alloc, &sheet, journal),
         Err(_) => false,

@@ -17,9 +17,9 @@ use std::{fs, thread};
 
 /// What serving is to leave: how many passes come back, and the journal.
 #[derive(Drop)]
-struct Left {
-    back: Result<usize, ServeFault>,
-    journal: &'static [u8],
+pub(crate) struct Left {
+    pub(crate) back: Result<usize, ServeFault>,
+    pub(crate) journal: &'static [u8],
 }
 
 /// Serves one door after another, each with the passes that came back.
@@ -75,7 +75,14 @@ where
 
 /// Whether serving these doors, at an office of so many seats in which nothing was entered, leaves
 /// this.
-fn leaves<R, D, G>(rt: &R, alloc: Global, seats: u8, doors: &mut [D], gate: &G, left: &Left) -> bool
+pub(crate) fn leaves<R, D, G>(
+    rt: &R,
+    alloc: Global,
+    seats: u8,
+    doors: &mut [D],
+    gate: &G,
+    left: &Left,
+) -> bool
 where
     R: Threads + Wait + Sync,
     D: Door,

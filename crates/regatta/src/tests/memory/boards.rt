@@ -4,12 +4,25 @@ use super::*;
 use regatta_board::{Board, ReplayFault, standing_of};
 use regatta_terms::Refusal;
 
-/// A journal's text, how often each of its entries is refused at least, and the table behind it.
+/// The calls of a board and of its journal.
 #[derive(Clone, Copy)]
-struct Series<'a> {
-    text: &'a [u8],
-    least: &'a [u32],
-    table: &'a [u8],
+enum Call {
+    Open,
+    /// The next entry of the journal is prepared.
+    Prepare,
+    /// It is appended.
+    Apply,
+    Standing,
+    StandingOf,
+}
+
+/// A journal's text, the calls of a board that takes its entries, how often each is refused at least,
+/// and the table behind the last entry.
+#[derive(Clone, Copy)]
+struct Series {
+    text: &'static [u8],
+    calls: &'static [(Call, u32)],
+    table: &'static [u8],
 }
 
 /// Every command by finishes, and who is where behind them: A is disqualified, cleared and struck
@@ -30,34 +43,83 @@ static TIMES: &[u8] = b"1 1 SCORER ENTER A\n1 2 SCORER ENTER B\n1 3 SCORER ENTER
 
 static TIMES_TABLE: &[u8] = b"TABLE 3 RACES 1\n1 B 1.0 1.0\n2= A 2.5 2.5\n2= C 2.5 2.5\n";
 
-/// How often each entry of these journals is refused at least.
-static OF_FINISHES: [u32; 15] = [
-    380, 415, 440, 11, 11, 65, 85, 95, 95, 95, 95, 95, 95, 80, 85,
+static FINISHES_CALLS: [(Call, u32); 33] = [
+    (Call::Open, 820),
+    (Call::Prepare, 380),
+    (Call::Apply, 380),
+    (Call::Prepare, 415),
+    (Call::Apply, 415),
+    (Call::Prepare, 440),
+    (Call::Apply, 440),
+    (Call::Prepare, 11),
+    (Call::Apply, 11),
+    (Call::Prepare, 11),
+    (Call::Apply, 11),
+    (Call::Prepare, 65),
+    (Call::Apply, 65),
+    (Call::Prepare, 85),
+    (Call::Apply, 85),
+    (Call::Prepare, 95),
+    (Call::Apply, 95),
+    (Call::Prepare, 95),
+    (Call::Apply, 95),
+    (Call::Prepare, 95),
+    (Call::Apply, 95),
+    (Call::Prepare, 95),
+    (Call::Apply, 95),
+    (Call::Prepare, 95),
+    (Call::Apply, 95),
+    (Call::Prepare, 95),
+    (Call::Apply, 95),
+    (Call::Prepare, 80),
+    (Call::Apply, 80),
+    (Call::Prepare, 85),
+    (Call::Apply, 85),
+    (Call::Standing, 20),
+    (Call::StandingOf, 1800),
 ];
 
-static OF_TIMES: [u32; 7] = [380, 415, 440, 11, 11, 11, 85];
+static TIMES_CALLS: [(Call, u32); 17] = [
+    (Call::Open, 820),
+    (Call::Prepare, 380),
+    (Call::Apply, 380),
+    (Call::Prepare, 415),
+    (Call::Apply, 415),
+    (Call::Prepare, 440),
+    (Call::Apply, 440),
+    (Call::Prepare, 11),
+    (Call::Apply, 11),
+    (Call::Prepare, 11),
+    (Call::Apply, 11),
+    (Call::Prepare, 11),
+    (Call::Apply, 11),
+    (Call::Prepare, 85),
+    (Call::Apply, 85),
+    (Call::Standing, 20),
+    (Call::StandingOf, 1800),
+];
 
 /// The series by finishes.
-fn by_finishes() -> Series<'static> {
+fn by_finishes() -> Series {
     Series {
         text: FINISHES,
-        least: &OF_FINISHES,
+        calls: &FINISHES_CALLS,
         table: FINISHES_TABLE,
     }
 }
 
 /// The series by corrected times.
-fn by_times() -> Series<'static> {
+fn by_times() -> Series {
     Series {
         text: TIMES,
-        least: &OF_TIMES,
+        calls: &TIMES_CALLS,
         table: TIMES_TABLE,
     }
 }
 
 /// What opening a board tells.
-fn opens(alloc: Global) -> Told {
-    match Board::open(alloc, default_rules()) {
+fn opens(alloc: Global, rules: Rules) -> Told {
+    match Board::open(alloc, rules) {
         Ok(board) => ordinary_if(board.len() == 0),
         Err(_) => Told::Wanting,
     }
@@ -70,36 +132,26 @@ fn prepared(board: &Board, entry: Entry) -> Result<(Entry, u32), Refusal> {
 }
 
 /// What preparing the entry tells.
-fn prepares(board: &Board, entry: Entry) -> Told {
-    match prepared(board, entry) {
-        Ok((found, place)) => ordinary_if(found == entry && place as usize == board.len() + 1),
+fn prepares(board: &Board, entry: Option<&Entry>) -> Told {
+    let Some(entry) = entry else {
+        return Told::Other;
+    };
+    match prepared(board, *entry) {
+        Ok((found, place)) => ordinary_if(found == *entry && place as usize == board.len() + 1),
         Err(why) => wanting_if(why == Refusal::NoMemory),
     }
 }
 
 /// What appending the entry tells. Behind a refusal the journal has no more entries.
-fn applies(board: &mut Board, entry: Entry) -> Told {
+fn applies(board: &mut Board, entry: Option<&Entry>) -> Told {
+    let Some(entry) = entry else {
+        return Told::Other;
+    };
     let before = board.len();
-    match board.apply(entry) {
+    match board.apply(*entry) {
         Ok(answer) => ordinary_if(board.len() == before + 1 && answer.place as usize == before + 1),
         Err(why) => wanting_if(why == Refusal::NoMemory && board.len() == before),
     }
-}
-
-/// Whether this entry is prepared and appended, with each growth refused first, so often at least.
-fn takes(hoard: &mut Hoard, board: &mut Board, entry: Entry, least: u32) -> bool {
-    hoard.refuses(least, SMALL_STEPS, || prepares(board, entry))
-        && hoard.refuses(least, SMALL_STEPS, || applies(board, entry))
-}
-
-/// Whether all these entries are prepared and appended so, one after another.
-fn takes_all(hoard: &mut Hoard, board: &mut Board, entries: &[Entry], least: &[u32]) -> bool {
-    for (entry, least) in entries.iter().zip(least) {
-        if !takes(hoard, board, *entry, *least) {
-            return false;
-        }
-    }
-    true
 }
 
 /// Whether the board's standing has this table.
@@ -116,82 +168,65 @@ fn replays(alloc: Global, rules: &Rules, entries: &[Entry], table: &[u8]) -> Tol
     }
 }
 
-/// Whether the board takes these entries, and gives its standing, all with each growth refused
-/// first.
-fn is_taking_refused(
+/// A board, and what it has once all entries of a journal were appended.
+#[derive(Drop)]
+struct Clerk<'a> {
     alloc: Global,
-    hoard: &mut Hoard,
-    board: &mut Board,
-    entries: &[Entry],
-    series: Series<'_>,
-) -> bool {
-    takes_all(hoard, board, entries, series.least)
-        && hoard.refuses(
-            20,
-            SMALL_STEPS,
-            || tells(stands(alloc, board, series.table)),
-        )
+    rules: Rules,
+    entries: &'a [Entry],
+    table: &'static [u8],
+    board: &'a mut Board,
 }
 
-/// The same, with a board that is opened for it.
-fn is_board_refused(
-    alloc: Global,
-    hoard: &mut Hoard,
-    rules: Rules,
-    entries: &[Entry],
-    series: Series<'_>,
-) -> bool {
-    match Board::open(alloc, rules) {
-        Ok(mut board) => is_taking_refused(alloc, hoard, &mut board, entries, series),
-        Err(_) => false,
+impl Caller<Call> for Clerk<'_> {
+    fn told(&mut self, call: &Call, hoard: &mut Hoard, bytes: usize) -> Told {
+        let next = self.entries.get(self.board.len());
+        hoard.leave(bytes);
+        let told = match call {
+            Call::Open => opens(self.alloc, self.rules),
+            Call::Prepare => prepares(self.board, next),
+            Call::Apply => applies(self.board, next),
+            Call::Standing => tells(stands(self.alloc, self.board, self.table)),
+            Call::StandingOf => replays(self.alloc, &self.rules, self.entries, self.table),
+        };
+        hoard.give_back();
+        told
     }
 }
 
-/// Whether a board takes these entries, and the standing is made of the board and of the entries, all
-/// with each growth refused first.
-fn are_entries_refused(
+/// Whether all calls with these entries are refused first.
+fn are_calls_refused(
     alloc: Global,
-    hoard: &mut Hoard,
     rules: Rules,
     entries: &[Entry],
-    series: Series<'_>,
-) -> bool {
-    let steps = Steps::of_journals(16_384);
-    is_board_refused(alloc, hoard, rules, entries, series)
-        && hoard.refuses(
-            1800,
-            steps,
-            || replays(alloc, &rules, entries, series.table),
-        )
+    series: Series,
+) -> Result<bool, AllocError> {
+    let mut board = Board::open(alloc, rules)?;
+    let mut clerk = Clerk {
+        alloc,
+        rules,
+        entries,
+        table: series.table,
+        board: &mut board,
+    };
+    Ok(are_refused(alloc, &mut clerk, series.calls, Steps::of_journals(16_384)))
 }
 
-/// The same, with the entries of the journal.
-fn is_refused_throughout(
-    alloc: Global,
-    hoard: &mut Hoard,
-    rules: Rules,
-    series: Series<'_>,
-) -> bool {
+/// Whether all calls with the journal's entries are refused first.
+fn is_refused(alloc: Global, rules: Rules, series: Series) -> bool {
     match read_journal(alloc, series.text) {
-        Ok(journal) => are_entries_refused(alloc, hoard, rules, journal.as_slice(), series),
+        Ok(journal) => are_calls_refused(alloc, rules, journal.as_slice(), series) == Ok(true),
         Err(_) => false,
     }
-}
-
-/// The rules of a series by corrected times.
-fn rules_by_times() -> Rules {
-    Rules::new(Absent::A52, None, &[2], true).unwrap()
-}
-
-/// Whether all calls of a board are refused first, by finishes and by times.
-fn are_boards_refused(alloc: Global, hoard: &mut Hoard) -> bool {
-    hoard.refuses(820, Steps::of_journals(8192), || opens(alloc))
-        && is_refused_throughout(alloc, hoard, default_rules(), by_finishes())
-        && is_refused_throughout(alloc, hoard, rules_by_times(), by_times())
 }
 
 #[test]
-fn boards_want_memory(rt: HostRuntime) {
-    let alloc = rt.alloc();
-    assert!(rt; holds_with(alloc, |hoard| are_boards_refused(alloc, hoard)));
+fn a_board_wants_memory(rt: HostRuntime) {
+    assert!(rt; is_refused(rt.alloc(), default_rules(), by_finishes()));
+}
+
+#[test]
+fn a_board_by_times_wants_memory(rt: HostRuntime) {
+    let rules = Rules::new(Absent::A52, None, &[2], true).unwrap();
+    assert!(rt; is_refused(rt.alloc(), rules, by_times()));
 }

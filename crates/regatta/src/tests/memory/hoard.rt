@@ -9,7 +9,7 @@ use std::alloc::{AllocError, Global};
 use std::mem::size_of;
 
 /// What a call answered.
-#[derive(Clone, Copy, Debug, PartialEq, Eq)]
+#[derive(Clone, Copy)]
 pub(crate) enum Told {
     /// Want of memory, and all that is to stand stands.
     Wanting,
@@ -17,6 +17,14 @@ pub(crate) enum Told {
     Ordinary,
     /// Anything else.
     Other,
+}
+
+/// What makes calls that take memory. `C` names one of them.
+pub(crate) trait Caller<C> {
+    /// Makes the call, and tells what it answered. Only while the call runs does the hoard leave it
+    /// so many bytes: what the call is made of is made before `leave`, and what stands behind it is
+    /// looked at after `give_back`.
+    fn told(&mut self, call: &C, hoard: &mut Hoard, bytes: usize) -> Told;
 }
 
 /// Blocks that no other call gets.
@@ -37,6 +45,7 @@ pub(crate) struct Hoard {
     apart: Blocks,
     region: Blocks,
     refused: u32,
+    has_left: bool,
 }
 
 /// More blocks than are ever held.
@@ -180,6 +189,16 @@ impl Blocks {
         }
     }
 
+    /// Whether the last block that was taken can be had again once it was given back. It can where
+    /// there was none but the first.
+    fn gives_again(&mut self) -> bool {
+        if self.held.len() < 2 {
+            return true;
+        }
+        let _ = self.held.pop();
+        self.hold(WIDE)
+    }
+
     /// Takes the bits that are left.
     fn fill_small(&mut self) {
         let mut size = MOST_UNITS * UNIT - 8;
@@ -233,6 +252,7 @@ impl Hoard {
             apart,
             region,
             refused: 0,
+            has_left: true,
         })
     }
 
@@ -244,8 +264,7 @@ impl Hoard {
         // size makes the compiler keep the walk down the stack.
         self.rest.hold(64 + usize::from(depth));
         self.rest.fill_large(LARGEST, WIDE);
-        let _ = self.rest.held.pop();
-        let is_plain = self.rest.hold(WIDE);
+        let is_plain = self.rest.gives_again();
         if is_plain {
             self.rest.fill_large(WIDE, LEAST_LARGE);
             self.rest.fill_small();
@@ -254,9 +273,9 @@ impl Hoard {
         Ok(is_plain)
     }
 
-    /// Leaves so many bytes to the calls that come, until `give_back`. False where there aren't so
-    /// many.
-    pub(crate) fn leave(&mut self, bytes: usize) -> bool {
+    /// Leaves so many bytes to the calls that come, until `give_back`. `has_left` says where there
+    /// weren't so many.
+    pub(crate) fn leave(&mut self, bytes: usize) {
         // what the heap keeps apart from now on are blocks of `apart`, and none of the region
         self.region.take_kept();
         self.apart.held.clear();
@@ -271,7 +290,12 @@ impl Hoard {
         self.apart.take_kept();
         self.region.fill_small();
         drop(spare);
-        is_there && self.region.hold(BEGIN)
+        self.has_left = self.region.hold(BEGIN) && is_there && self.has_left;
+    }
+
+    /// Whether each run was left as much as it was to have.
+    pub(crate) fn has_left(&self) -> bool {
+        self.has_left
     }
 
     /// Makes the region free again.
@@ -280,55 +304,69 @@ impl Hoard {
     }
 
     /// Takes in what a run told. None where the call is to be made again, with more bytes; else the
-    /// runs are at their end: whether the call answered as it does with ample memory, and before
-    /// that was refused at least so often.
+    /// runs are at their end: whether the call answered as it does with ample memory, was refused
+    /// before that at least so often, and was left its bytes each time.
     pub(crate) fn verdict(&mut self, told: Told, least: u32) -> Option<bool> {
         match told {
-            Told::Wanting => {
+            Told::Wanting if self.has_left => {
                 self.refused = self.refused.saturating_add(1);
                 None
             }
-            Told::Ordinary => {
+            Told::Ordinary if self.has_left => {
                 let is_due = least <= self.refused;
                 self.refused = 0;
                 self.region.hold(END);
                 self.give_back();
                 Some(is_due)
             }
-            Told::Other => Some(false),
+            _ => Some(false),
         }
     }
 
     /// Makes the call with more and more bytes left to it, until it answers as it does with ample
     /// memory: whether it was refused before that at least so often, and answered nothing else.
-    pub(crate) fn refuses<F: FnMut() -> Told>(
+    fn refuses<C, M: Caller<C>>(
         &mut self,
+        caller: &mut M,
+        call: &C,
         least: u32,
         steps: Steps,
-        mut call: F,
-    ) -> bool
-        requires { F.IsAlwaysCallable call }
-    {
+    ) -> bool {
         for run in 0..MOST_RUNS {
-            if !self.leave(steps.bytes(run)) {
-                return false;
-            }
-            let told = call();
-            self.give_back();
+            let told = caller.told(call, self, steps.bytes(run));
             if let Some(passed) = self.verdict(told, least) {
                 return passed;
             }
         }
         false
     }
+
+    /// Whether each of these calls is refused first, so often at least, one after another.
+    fn refuses_each<C, M: Caller<C>>(
+        &mut self,
+        caller: &mut M,
+        calls: &[(C, u32)],
+        steps: Steps,
+    ) -> bool {
+        for (call, least) in calls {
+            if !self.refuses(caller, call, *least, steps) {
+                return false;
+            }
+        }
+        true
+    }
 }
 
-/// Whether this holds with a hoard, or the heap is one that has none.
-pub(crate) fn holds_with<F: FnMut(&mut Hoard) -> bool>(alloc: Global, mut test: F) -> bool
-    requires { F.IsAlwaysCallable test }
-{
+/// Whether each of these calls is made, with each growth refused first, and was refused so often at
+/// least. True, with no call made, at a heap that has no hoard.
+pub(crate) fn are_refused<C, M: Caller<C>>(
+    alloc: Global,
+    caller: &mut M,
+    calls: &[(C, u32)],
+    steps: Steps,
+) -> bool {
     match Hoard::new(alloc) {
-        Ok(Some(mut hoard)) => test(&mut hoard),
+        Ok(Some(mut hoard)) => hoard.refuses_each(caller, calls, steps),
         Ok(None) => true,
         Err(_) => false,
     }

@@ -1,51 +1,31 @@
 //! The calls of an office.
 ghost use Rattle.std.specs.Prelude.{◌≡◌};
 
-use super::super::offices::{opened_office, two_seats};
+use super::super::offices::{enter, is_shown, one_seat, opened_office, two_seats};
 use super::super::sessions::{has_journal, place_of};
 use super::*;
 use regatta_office::{
-    Office, OfficeName, OpenFault, Opened, Pass, Receipt, ShowFault, answer_alone,
+    End, Office, OfficeName, OpenFault, OpenGate, Opened, Pass, ShowFault, answer_alone, session,
 };
-use regatta_terms::{Command, Line, Refusal, Role};
+use regatta_terms::{Command, Line, Refusal, Role, read_entry};
 use std::marker::Brand;
 use std::sync::Wait;
 
-/// How often a SHOW of one entry is refused at least.
-const SHOWN: u32 = 1500;
-
-/// Why an office of two seats isn't opened.
-fn open_fault<R: Wait + Drop>(
-    rt: R,
+/// An office of two seats, with these entries to begin from.
+fn opened_from<'a, R: Wait>(
+    rt: &'a R,
     alloc: Global,
-    rules: &Rules,
     start: &[Entry],
-) -> Option<OpenFault> {
-    Office::open(rt, alloc, rules, 2, start).err()
+) -> Result<Opened<&'a R>, OpenFault> {
+    Office::open(rt, alloc, &default_rules(), 2, start)
 }
 
-/// What opening an office of two seats tells.
-fn opens<R: Wait + Drop>(rt: R, alloc: Global, rules: &Rules, start: &[Entry]) -> Told {
-    match open_fault(rt, alloc, rules, start) {
+/// What opening an office tells.
+fn opens<R: Wait>(rt: &R, alloc: Global, start: &[Entry]) -> Told {
+    match opened_from(rt, alloc, start).err() {
         None => Told::Ordinary,
         Some(why) => wanting_if(why == OpenFault::NoMemory || why == OpenFault::NoReader),
     }
-}
-
-/// Whether an office with one entry to begin from is opened, with each growth refused first.
-fn is_opening_refused<R: Wait>(rt: &R, alloc: Global, hoard: &mut Hoard) -> bool {
-    let Some(entry) = entry_of_a() else {
-        return false;
-    };
-    let rules = default_rules();
-    let steps = Steps::of_journals(16_384);
-    hoard.refuses(3500, steps, || opens(rt, alloc, &rules, &[entry]))
-}
-
-#[test]
-fn opening_wants_memory(rt: HostRuntime) {
-    let alloc = rt.alloc();
-    assert!(rt; holds_with(alloc, |hoard| is_opening_refused(&rt, alloc, hoard)));
 }
 
 /// How many passes an office is split into.
@@ -57,248 +37,357 @@ fn passes_made<N: OfficeName, H: Wait + Drop>(opened: Opened<H>) -> Option<usize
     Some(passes.len())
 }
 
-/// What splitting an office tells with so many bytes left.
-fn split_with<N: OfficeName, H: Wait + Drop>(
-    hoard: &mut Hoard,
-    bytes: usize,
-    opened: Opened<H>,
-) -> Told
-    requires history { opened.history ≡ N.history }
-    requires rules { opened.rules ≡ N.rules }
-{
-    let is_left = hoard.leave(bytes);
-    let made = passes_made::<N, H>(opened);
+/// What splitting an office that was just opened tells with so many bytes left.
+fn splits<R: Wait>(rt: &R, alloc: Global, hoard: &mut Hoard, bytes: usize) -> Told {
+    let Some(opened) = opened_office(rt, alloc, 2) else {
+        return Told::Other;
+    };
+    hoard.leave(bytes);
+    let made = passes_made::<Brand, _>(opened);
     hoard.give_back();
     match made {
-        Some(passes) => ordinary_if(is_left && passes == 2),
-        None => wanting_if(is_left),
+        Some(passes) => ordinary_if(passes == 2),
+        None => Told::Wanting,
     }
 }
 
-/// What splitting an office that was just opened tells with so many bytes left.
-fn splits<R: Wait>(rt: &R, alloc: Global, hoard: &mut Hoard, bytes: usize) -> Told {
-    match opened_office(rt, alloc, 2) {
-        Some(opened) => split_with::<Brand, _>(hoard, bytes, opened),
+/// What a client is sent where no memory is wanting.
+static TALK: &[u8] = b"OK 1 1 0.0\nJOURNAL 1\n1 1 SCORER ENTER A\nTABLE 1 RACES\n1 A 0.0\nEND\n\
+    BYE\n";
+
+/// What she is sent where there was no memory for the first line alone.
+static NOBODY_ENTERED: &[u8] = b"NO 1\nJOURNAL 0\nTABLE 0 RACES\nEND\nBYE\n";
+
+/// What the end of a session tells, with what was written and the last number of the seat: it is
+/// refused where memory was wanting for a reply, or where a line was answered so.
+fn session_tells(end: End, written: &[u8], last: u32) -> Told {
+    if end == End::NoMemory {
+        return wanting_if(written.is_empty() && last == 0);
+    }
+    if end != End::Quit {
+        return Told::Other;
+    }
+    if written == TALK {
+        return ordinary_if(last == 1);
+    }
+    wanting_if(match last {
+        0 => written == NOBODY_ENTERED || written == b"NO 1\nNO 1\nBYE\n".as_slice(),
+        _ => last == 1 && written == b"OK 1 1 0.0\nNO 1\nBYE\n".as_slice(),
+    })
+}
+
+/// What a session at the one seat of an office tells with so many bytes left.
+fn session_with<N: OfficeName, H: Wait + Drop, R: Wait>(
+    rt: &R,
+    alloc: Global,
+    hoard: &mut Hoard,
+    bytes: usize,
+    opened: Opened<H>,
+    tape: &mut Tape,
+) -> Told
+    requires { (opened.history ≡ N.history) × (opened.rules ≡ N.rules) }
+{
+    match one_seat::<N, H>(opened) {
+        Some((office, mut pass)) => {
+            hoard.leave(bytes);
+            let end = session(rt, alloc, tape, &office, &mut pass, &OpenGate);
+            hoard.give_back();
+            session_tells(end, tape.written(), pass.last())
+        }
         None => Told::Other,
     }
 }
 
-/// Whether an office is split, with each growth refused first.
-fn is_splitting_refused<R: Wait>(rt: &R, alloc: Global, hoard: &mut Hoard) -> bool {
-    for turn in 0..MOST_RUNS {
-        let told = splits(rt, alloc, hoard, SMALL_STEPS.bytes(turn));
-        if let Some(passed) = hoard.verdict(told, 25) {
-            return passed;
+/// The same, at an office that is opened for it.
+fn session_at<R: Wait>(rt: &R, alloc: Global, hoard: &mut Hoard, bytes: usize) -> Told {
+    let Ok(mut tape) = Tape::new(alloc, b"ENTER A\nSHOW\nQUIT\n", 100, 1000, 1000) else {
+        return Told::Other;
+    };
+    match opened_office(rt, alloc, 1) {
+        Some(opened) => session_with::<Brand, _, _>(rt, alloc, hoard, bytes, opened, &mut tape),
+        None => Told::Other,
+    }
+}
+
+/// The calls that open an office, or are made at one that was just opened.
+#[derive(Clone, Copy)]
+enum OfficeCall {
+    Open,
+    Split,
+    Session,
+}
+
+/// Offices that are opened, from these entries or from none.
+#[derive(Drop)]
+struct Offices<'a, R: AllocGlobal + Wait> {
+    rt: &'a R,
+    start: &'a [Entry],
+}
+
+impl<R: AllocGlobal + Wait> Caller<OfficeCall> for Offices<'_, R> {
+    fn told(&mut self, call: &OfficeCall, hoard: &mut Hoard, bytes: usize) -> Told {
+        let alloc = self.rt.alloc();
+        match call {
+            OfficeCall::Open => {
+                hoard.leave(bytes);
+                let told = opens(self.rt, alloc, self.start);
+                hoard.give_back();
+                told
+            }
+            OfficeCall::Split => splits(self.rt, alloc, hoard, bytes),
+            OfficeCall::Session => session_at(self.rt, alloc, hoard, bytes),
         }
     }
-    false
+}
+
+/// The entry by which seat 1 enters A as scorer.
+fn entry_of_a() -> Result<Entry, Fail> {
+    Ok(read_entry(b"1 1 SCORER ENTER A").ok().ok_or("an entry")?)
 }
 
 #[test]
-fn splitting_wants_memory(rt: HostRuntime) {
-    let alloc = rt.alloc();
-    assert!(rt; holds_with(alloc, |hoard| is_splitting_refused(&rt, alloc, hoard)));
+fn offices_and_sessions_want_memory(rt: HostRuntime) -> Result<(), Fail> {
+    let start = [entry_of_a()?];
+    let mut offices = Offices {
+        rt: &rt,
+        start: &start,
+    };
+    let calls = [
+        (OfficeCall::Open, 3500),
+        (OfficeCall::Split, 25),
+        (OfficeCall::Session, 1900),
+    ];
+    assert!(rt; are_refused(rt.alloc(), &mut offices, &calls, Steps::of_journals(16_384)));
+    Ok(())
 }
 
-/// The place of A in the journal, entered through the lock with so many bytes left.
-fn enter_with<N: OfficeName, H: Wait + Drop, R: Wait>(
-    rt: &R,
-    hoard: &mut Hoard,
-    bytes: usize,
-    office: &Office<N, H>,
-    pass: &mut Pass<N>,
-) -> Option<Result<u32, Refusal>> {
-    let command = enter(b"A")?;
-    let is_left = hoard.leave(bytes);
-    let place = place_of(rt, office, pass, command);
-    hoard.give_back();
-    is_left.then_some(place)
-}
-
-/// How many entries are shown to this pass.
-fn shown<N: OfficeName>(pass: &mut Pass<N>) -> Result<usize, ShowFault> {
-    let sheet = pass.show()?;
-    Ok(sheet.journal.as_slice().len())
-}
-
-/// How many entries the desk has, and are shown to this pass.
-fn entries_seen<N: OfficeName, H: Wait + Drop, R: Wait>(
-    rt: &R,
-    office: &Office<N, H>,
-    pass: &mut Pass<N>,
-) -> Option<(usize, usize)> {
-    let shown = shown(pass).ok()?;
-    let desk = office.desk(rt);
-    Some((desk.board().len(), shown))
-}
-
-/// What seat 1 is told of A by her place, with its last number then, and how many entries are seen
-/// elsewhere.
-fn place_tells(place: Result<u32, Refusal>, last: u32, seen: (usize, usize)) -> Told {
-    if place == Err(Refusal::NoMemory) {
-        return wanting_if(last == 0 && seen == (0, 0));
-    }
-    ordinary_if(place == Ok(1) && last == 1 && seen == (1, 1))
-}
-
-/// What seat 1 is told of A, entered with so many bytes left. Behind a refusal the desk has no
-/// entry, the seat's last number is 0, and seat 2 is shown no entry.
-fn entering_tells<N: OfficeName, H: Wait + Drop, R: Wait>(
-    rt: &R,
-    hoard: &mut Hoard,
-    bytes: usize,
-    office: &Office<N, H>,
-    first: &mut Pass<N>,
-    second: &mut Pass<N>,
-) -> Told {
-    let place = enter_with(rt, hoard, bytes, office, first);
-    let seen = entries_seen(rt, office, second);
-    match (place, seen) {
-        (Some(place), Some(seen)) => place_tells(place, first.last(), seen),
-        _ => Told::Other,
+/// The sail of the boat that is entered behind so many.
+fn next_sail(entered: u32) -> &'static [u8] {
+    match entered {
+        0 => b"A",
+        1 => b"B",
+        _ => b"C",
     }
 }
 
-/// Whether seat 1 enters A, with each growth refused first.
-fn is_entering_refused<N: OfficeName, H: Wait + Drop, R: Wait>(
-    rt: &R,
-    hoard: &mut Hoard,
-    office: &Office<N, H>,
-    first: &mut Pass<N>,
-    second: &mut Pass<N>,
-) -> bool {
-    for turn in 0..MOST_RUNS {
-        let bytes = SMALL_STEPS.bytes(turn);
-        let told = entering_tells(rt, hoard, bytes, office, first, second);
-        if let Some(passed) = hoard.verdict(told, 400) {
-            return passed;
-        }
-    }
-    false
-}
-
-/// Whether one entry is shown to this pass, with each growth refused first.
-fn is_showing_refused<N: OfficeName>(hoard: &mut Hoard, pass: &mut Pass<N>) -> bool {
-    hoard.refuses(SHOWN, Steps::of_journals(16_384), || shows(pass))
-}
-
-/// What the journal of an office has behind its calls.
-static JOURNAL: &[u8] = b"1 1 SCORER ENTER A\n1 2 SCORER ENTER B\n";
-
-/// Whether seat 1 enters A, the other seat is shown her, and both are answered lines, with each
-/// growth refused first.
-fn calls_at<N: OfficeName, H: Wait + Drop, R: Wait>(
-    rt: &R,
-    alloc: Global,
-    hoard: &mut Hoard,
-    opened: Opened<H>,
-) -> bool
-    requires history { opened.history ≡ N.history }
-    requires rules { opened.rules ≡ N.rules }
-{
-    match two_seats::<N, H>(opened) {
-        Some((office, mut first, mut second)) => {
-            let is_entered = is_entering_refused(rt, hoard, &office, &mut first, &mut second);
-            let is_shown = is_showing_refused(hoard, &mut second);
-            let is_desk = is_desk_refused(rt, alloc, hoard, &office, &mut first);
-            let is_pass = is_pass_refused(alloc, hoard, &mut second);
-            is_entered & is_shown & is_desk & is_pass & has_journal(rt, alloc, &office, JOURNAL)
-        }
-        None => false,
+/// The entries by which seat 1 has entered so many boats.
+fn journal_of(entered: u32) -> &'static [u8] {
+    match entered {
+        0 => b"",
+        1 => b"1 1 SCORER ENTER A\n",
+        2 => b"1 1 SCORER ENTER A\n1 2 SCORER ENTER B\n",
+        _ => b"1 1 SCORER ENTER A\n1 2 SCORER ENTER B\n1 3 SCORER ENTER C\n",
     }
 }
 
-/// What showing one entry tells.
-fn shows<N: OfficeName>(pass: &mut Pass<N>) -> Told {
-    match shown(pass) {
-        Ok(count) => ordinary_if(count == 1),
-        Err(why) => wanting_if(why == ShowFault::NoMemory),
-    }
-}
-
-/// What an answer tells: it is wanting where there is no room for a reply, or where it is `NO 1`.
-fn replied(is_answered: bool, out: &[u8], wanted: &[u8]) -> Told {
-    if !is_answered {
-        return wanting_if(out.is_empty());
-    }
-    if out == b"NO 1\n".as_slice() {
-        return Told::Wanting;
-    }
-    ordinary_if(out == wanted)
-}
-
-/// What the desk's answer to the second command of its seat tells. Behind a refusal the seat has sent
-/// the first alone.
-fn desk_answers<N: OfficeName, H: Wait + Drop, R: Wait>(
+/// What the desk's answer to a command tells, by its place.
+fn desk_runs<N: OfficeName, H: Wait + Drop, R: Wait>(
     rt: &R,
     office: &Office<N, H>,
     pass: &mut Pass<N>,
     command: Command,
-    out: &mut Vec<u8>,
 ) -> Told {
-    out.clear();
-    let mut desk = office.desk(rt);
-    let answer = desk.answer(rt, pass, Role::Scorer, Line::Do(command), out);
-    let found = replied(answer.is_ok(), out, b"OK 2 1= 0.0\n");
-    if found == Told::Wanting && pass.last() != 1 {
-        return Told::Other;
+    match place_of(rt, office, pass, command) {
+        Ok(place) => ordinary_if(place == pass.last()),
+        Err(why) => wanting_if(why == Refusal::NoMemory),
     }
-    found
+}
+
+/// What a reply tells: memory is wanting where there is no room for it, or where it is `NO 1`. It
+/// stands behind what was there, and there is no less room than there was.
+fn replied(is_answered: bool, out: &Vec<u8>, room: usize, wanted: &[u8]) -> Told {
+    let refusal: &[u8] = if is_answered { b"NO 1\n" } else { b"" };
+    match out.strip_prefix(BEFORE) {
+        Some(reply) if is_answered && reply == wanted => Told::Ordinary,
+        Some(reply) => wanting_if(reply == refusal && room <= out.capacity()),
+        None => Told::Other,
+    }
+}
+
+/// What the desk's answer to the line of a command tells, which enters a second boat.
+fn desk_answers<N: OfficeName, H: Wait + Drop, R: Wait>(
+    rt: &R,
+    alloc: Global,
+    office: &Office<N, H>,
+    pass: &mut Pass<N>,
+    command: Command,
+) -> Told {
+    let Ok(mut out) = Vec::from_slice(alloc, BEFORE) else {
+        return Told::Wanting;
+    };
+    let room = out.capacity();
+    let mut desk = office.desk(rt);
+    let answer = desk.answer(rt, pass, Role::Scorer, Line::Do(command), &mut out);
+    replied(answer.is_ok(), &out, room, b"OK 2 1= 0.0\n")
+}
+
+/// What showing one entry tells.
+fn shows<N: OfficeName>(pass: &mut Pass<N>) -> Told {
+    match pass.show() {
+        Ok(sheet) => ordinary_if(sheet.journal.as_slice().len() == 1),
+        Err(why) => wanting_if(why == ShowFault::NoMemory),
+    }
 }
 
 /// What SHOW is answered.
-static SHEET: &[u8] = b"JOURNAL 2\n1 1 SCORER ENTER A\n1 2 SCORER ENTER B\nTABLE 2 RACES\n\
-    1= A 0.0\n1= B 0.0\nEND\n";
+static SHEET: &[u8] = b"JOURNAL 1\n1 1 SCORER ENTER A\nTABLE 1 RACES\n1 A 0.0\nEND\n";
 
-/// What the answer of a pass alone to SHOW tells.
-fn pass_answers<N: OfficeName>(pass: &mut Pass<N>, out: &mut Vec<u8>) -> Told {
-    out.clear();
+/// What the answer of a pass alone to a scorer tells, who asks to be the jury, or else for SHOW.
+fn pass_answers<N: OfficeName>(alloc: Global, pass: &mut Pass<N>, is_role: bool) -> Told {
+    let Ok(mut out) = Vec::from_slice(alloc, BEFORE) else {
+        return Told::Wanting;
+    };
+    let room = out.capacity();
+    let (line, wanted, becomes): (Line, &[u8], Role) = if is_role {
+        (Line::SetRole(Role::Jury), b"ROLE JURY\n", Role::Jury)
+    } else {
+        (Line::Show, SHEET, Role::Scorer)
+    };
     let mut role = Role::Scorer;
-    let answer = answer_alone(pass, &mut role, Ok(Line::Show), out);
-    replied(answer.is_ok(), out, SHEET)
+    let answer = answer_alone(pass, &mut role, Ok(line), &mut out);
+    match replied(answer.is_ok(), &out, room, wanted) {
+        Told::Ordinary => ordinary_if(role == becomes),
+        Told::Wanting => wanting_if(role == Role::Scorer),
+        Told::Other => Told::Other,
+    }
 }
 
-/// Whether the desk answers the command that enters B, with each growth refused first.
-fn is_desk_refused<N: OfficeName, H: Wait + Drop, R: Wait>(
+/// The calls of an office's seats.
+#[derive(Clone, Copy)]
+enum SeatCall {
+    /// Seat 1 enters the next boat.
+    Run,
+    /// Seat 1 is answered the line that enters the second boat.
+    Answer,
+    /// Seat 2 is shown one entry.
+    Show,
+    /// Seat 2 is answered SHOW.
+    AnswerShow,
+    /// Seat 2 is answered that it becomes the jury.
+    AnswerRole,
+}
+
+/// An office of two seats, of which the first has entered so many boats.
+#[derive(Drop)]
+struct Seats<'a, N: OfficeName, H: Wait + Drop, R: Wait> {
+    rt: &'a R,
+    alloc: Global,
+    office: Office<N, H>,
+    first: Pass<N>,
+    second: Pass<N>,
+    entered: u32,
+}
+
+impl<N: OfficeName, H: Wait + Drop, R: Wait> Seats<'_, N, H, R> {
+    /// Whether so many boats stand in the journal, seat 1 knows that it has sent them, and seat 2 is
+    /// shown them.
+    fn has_entered(&mut self) -> bool {
+        let journal = journal_of(self.entered);
+        self.first.last() == self.entered
+            && has_journal(self.rt, self.alloc, &self.office, journal)
+            && is_shown(self.alloc, &mut self.second, journal)
+    }
+
+    /// What seat 1 is told of the next boat, entered with so many bytes left. Behind a refusal she
+    /// stands nowhere.
+    fn enters(&mut self, call: SeatCall, hoard: &mut Hoard, bytes: usize) -> Told {
+        let Some(command) = enter(next_sail(self.entered)) else {
+            return Told::Other;
+        };
+        hoard.leave(bytes);
+        let told = match call {
+            SeatCall::Run => desk_runs(self.rt, &self.office, &mut self.first, command),
+            SeatCall::Answer => {
+                desk_answers(self.rt, self.alloc, &self.office, &mut self.first, command)
+            }
+            _ => Told::Other,
+        };
+        hoard.give_back();
+        if let Told::Ordinary = told {
+            self.entered = self.entered.saturating_add(1);
+        }
+        if self.has_entered() {
+            told
+        } else {
+            Told::Other
+        }
+    }
+}
+
+impl<N: OfficeName, H: Wait + Drop, R: Wait> Caller<SeatCall> for Seats<'_, N, H, R> {
+    fn told(&mut self, call: &SeatCall, hoard: &mut Hoard, bytes: usize) -> Told {
+        if let SeatCall::Run | SeatCall::Answer = call {
+            return self.enters(*call, hoard, bytes);
+        }
+        hoard.leave(bytes);
+        let told = match call {
+            SeatCall::Show => shows(&mut self.second),
+            SeatCall::AnswerShow => pass_answers(self.alloc, &mut self.second, false),
+            SeatCall::AnswerRole => pass_answers(self.alloc, &mut self.second, true),
+            _ => Told::Other,
+        };
+        hoard.give_back();
+        told
+    }
+}
+
+/// Whether these calls of the seats are made, with each growth refused first, where seat 1 has
+/// entered so many boats.
+fn are_refused_at<N: OfficeName, H: Wait + Drop, R: Wait>(
     rt: &R,
     alloc: Global,
-    hoard: &mut Hoard,
-    office: &Office<N, H>,
-    pass: &mut Pass<N>,
-) -> bool {
-    let Some(command) = enter(b"B") else {
-        return false;
-    };
-    let mut reply = Vec::new(alloc);
-    hoard.refuses(
-        400,
-        SMALL_STEPS,
-        || desk_answers(rt, office, pass, command, &mut reply),
-    )
-}
-
-/// Whether a pass answers SHOW, with each growth refused first.
-fn is_pass_refused<N: OfficeName>(alloc: Global, hoard: &mut Hoard, pass: &mut Pass<N>) -> bool {
-    let mut sheet = Vec::new(alloc);
-    hoard.refuses(
-        SHOWN,
-        Steps::of_journals(16_384),
-        || pass_answers(pass, &mut sheet),
-    )
-}
-
-/// Whether all calls of an office that is opened for them are made, with each growth refused first.
-fn are_calls_refused<R: Wait>(rt: &R, alloc: Global, hoard: &mut Hoard) -> bool {
-    match opened_office(rt, alloc, 2) {
-        Some(opened) => calls_at::<Brand, _, _>(rt, alloc, hoard, opened),
+    opened: Opened<H>,
+    entered: u32,
+    calls: &[(SeatCall, u32)],
+) -> bool
+    requires { (opened.history ≡ N.history) × (opened.rules ≡ N.rules) }
+{
+    match two_seats::<N, H>(opened) {
+        Some((office, first, second)) => {
+            let mut seats = Seats {
+                rt,
+                alloc,
+                office,
+                first,
+                second,
+                entered,
+            };
+            are_refused(alloc, &mut seats, calls, Steps::of_journals(16_384))
+        }
         None => false,
+    }
+}
+
+/// The same, at an office that is opened for it with the entries of these boats.
+fn are_seats_refused<R: Wait>(
+    rt: &R,
+    alloc: Global,
+    start: &[Entry],
+    entered: u32,
+    calls: &[(SeatCall, u32)],
+) -> bool {
+    match opened_from(rt, alloc, start) {
+        Ok(opened) => are_refused_at::<Brand, _, _>(rt, alloc, opened, entered, calls),
+        Err(_) => false,
     }
 }
 
 /// Behind each refusal of the first command the desk has no entry, the seat has sent none, and the
 /// other seat is shown none.
 #[test]
-fn an_office_wants_memory(rt: HostRuntime) {
-    let alloc = rt.alloc();
-    assert!(rt; holds_with(alloc, |hoard| are_calls_refused(&rt, alloc, hoard)));
+fn entering_wants_memory(rt: HostRuntime) {
+    assert!(rt; are_seats_refused(&rt, rt.alloc(), &[], 0, &[(SeatCall::Run, 400)]));
+}
+
+#[test]
+fn seats_want_memory(rt: HostRuntime) -> Result<(), Fail> {
+    let calls = [
+        (SeatCall::AnswerShow, 1500),
+        (SeatCall::AnswerRole, 1),
+        (SeatCall::Show, 1500),
+        (SeatCall::Answer, 400),
+        (SeatCall::Run, 400),
+    ];
+    assert!(rt; are_seats_refused(&rt, rt.alloc(), &[entry_of_a()?], 1, &calls));
+    Ok(())
 }

@@ -1,13 +1,11 @@
-//! Tapes, replays, sessions, serving and the program.
+//! Tapes, replays, serving and the program.
 ghost use Rattle.std.specs.Prelude.{◌≡◌};
 
-use super::super::offices::{one_seat, opened_office};
+use super::super::offices::opened_office;
+use super::super::serving::{Left, leaves};
 use super::super::wires::{Wires, count, door_of, was_sent};
 use super::*;
-use regatta_office::{
-    End, Form, Office, OfficeName, OpenGate, Opened, Pass, RunFault, ServeFault, replay, serve,
-    session,
-};
+use regatta_office::{Form, OfficeName, OpenGate, Opened, RunFault, ServeFault, replay, serve};
 use std::fs::Files;
 use std::io::Read;
 use std::marker::Brand;
@@ -59,27 +57,32 @@ fn replays(alloc: Global) -> Told {
     }
 }
 
-/// What the program is called with, and how it ends: its status, what it writes, and what it says on
-/// standard error.
+/// What the program is called with, and how it ends: its status, whether it writes all replies and
+/// the table, and what it says on standard error.
 #[derive(Clone, Copy)]
-struct Words<'a> {
-    words: &'a [&'a str],
+struct Words {
+    words: &'static [&'static str],
     status: u8,
-    output: &'a [u8],
-    complaint: &'a [u8],
+    writes: bool,
+    says: &'static [u8],
 }
 
 /// What a run of the program tells, by its status, what it wrote, and what it said. Behind a refusal
 /// whole replies were written, and nothing else.
-fn run_tells(call: &Words<'_>, status: u8, written: &[u8], said: &[u8]) -> Told {
+fn run_tells(call: &Words, status: u8, written: &[u8], said: &[u8]) -> Told {
     if status == 3 && said == b"regatta: no memory\n".as_slice() {
         return wanting_if(are_first_replies(written));
     }
-    ordinary_if(status == call.status && written == call.output && said == call.complaint)
+    let is_written = if call.writes {
+        is_whole(written)
+    } else {
+        written.is_empty()
+    };
+    ordinary_if(is_written && status == call.status && said == call.says)
 }
 
 /// What the program tells over these streams.
-fn runs_over<R>(rt: &R, call: &Words<'_>, streams: &mut Streams) -> Told
+fn runs_over<R>(rt: &R, call: &Words, streams: &mut Streams) -> Told
 where
     R: Files + AllocGlobal + Threads + Wait + Net + Sync,
 {
@@ -93,7 +96,7 @@ where
 }
 
 /// What the program tells.
-fn runs<R>(rt: &R, call: &Words<'_>) -> Told
+fn runs<R>(rt: &R, call: &Words) -> Told
 where
     R: Files + AllocGlobal + Threads + Wait + Net + Sync,
 {
@@ -103,199 +106,118 @@ where
     }
 }
 
-/// Whether a tape is made and the lines are replayed, with each growth refused first.
-fn are_replays_refused(alloc: Global, hoard: &mut Hoard) -> bool {
-    hoard.refuses(11, SMALL_STEPS, || tells(makes_tape(alloc)))
-        && hoard.refuses(1800, Steps::of_journals(16_384), || replays(alloc))
+/// The calls over memory.
+#[derive(Clone, Copy)]
+enum Call {
+    Tape,
+    Replay,
+}
+
+/// Tapes, and series that are run over them.
+#[derive(Drop)]
+struct Tapes {
+    alloc: Global,
+}
+
+impl Caller<Call> for Tapes {
+    fn told(&mut self, call: &Call, hoard: &mut Hoard, bytes: usize) -> Told {
+        hoard.leave(bytes);
+        let told = match call {
+            Call::Tape => tells(makes_tape(self.alloc)),
+            Call::Replay => replays(self.alloc),
+        };
+        hoard.give_back();
+        told
+    }
 }
 
 #[test]
 fn replays_want_memory(rt: HostRuntime) {
     let alloc = rt.alloc();
-    assert!(rt; holds_with(alloc, |hoard| are_replays_refused(alloc, hoard)));
+    let calls = [(Call::Tape, 11), (Call::Replay, 1800)];
+    assert!(rt;
+        are_refused(
+            alloc,
+            &mut Tapes { alloc },
+            &calls,
+            Steps::of_journals(16_384)
+        )
+    );
 }
 
-/// A path at which no socket can be made.
-const NOWHERE: &str = "/no/such/folder/race.sock";
-
-/// Whether a run of the program is refused at least so often before it meets no refusal.
-fn are_runs_refused<R>(rt: &R, hoard: &mut Hoard, least: u32, call: &Words<'_>) -> bool
+/// Whether a run of the program is refused first, so often at least.
+fn is_run_refused<R>(rt: &R, hoard: &mut Hoard, call: &Words, least: u32) -> bool
 where
     R: Files + AllocGlobal + Threads + Wait + Net + Sync,
 {
     let steps = Steps::of_journals(32_768);
     for turn in 0..MOST_RUNS {
-        let is_left = hoard.leave(steps.bytes(turn));
+        hoard.leave(steps.bytes(turn));
         let told = runs(rt, call);
         hoard.give_back();
         if let Some(passed) = hoard.verdict(told, least) {
-            return is_left && passed;
-        }
-    }
-    false
-}
-
-/// The same, with a hoard.
-fn is_refused<R>(rt: &R, least: u32, call: &Words<'_>) -> bool
-where
-    R: Files + AllocGlobal + Threads + Wait + Net + Sync,
-{
-    holds_with(rt.alloc(), |hoard| are_runs_refused(rt, hoard, least, call))
-}
-
-#[test]
-fn the_program_wants_memory(rt: HostRuntime) -> Result<(), Fail> {
-    let output = joined(rt.alloc(), &[REPLIES, TABLE])?;
-    let call = Words {
-        words: &["replay"],
-        status: 0,
-        output: &output,
-        complaint: b"",
-    };
-    assert!(rt; is_refused(&rt, 3700, &call));
-    Ok(())
-}
-
-/// The words of serving are read, and an office is opened and split, ahead of the socket.
-#[test]
-fn a_program_that_serves_wants_memory(rt: HostRuntime) {
-    let call = Words {
-        words: &["serve", "--socket", NOWHERE, "--clients", "2"],
-        status: 3,
-        output: b"",
-        complaint: b"regatta: device fault\n",
-    };
-    assert!(rt; is_refused(&rt, 7900, &call));
-}
-
-/// What a session tells with so many bytes left.
-fn session_told<N: OfficeName, H: Wait + Drop, R: Wait>(
-    rt: &R,
-    alloc: Global,
-    hoard: &mut Hoard,
-    bytes: usize,
-    seat: (&Office<N, H>, &mut Pass<N>),
-    tape: &mut Tape,
-) -> Told {
-    let (office, pass) = seat;
-    let is_left = hoard.leave(bytes);
-    let end = session(rt, alloc, tape, office, pass, &OpenGate);
-    hoard.give_back();
-    if !is_left {
-        return Told::Other;
-    }
-    session_tells(end, tape.written(), pass.last())
-}
-
-/// The same, at an office that was just opened.
-fn session_with<N: OfficeName, H: Wait + Drop, R: Wait>(
-    rt: &R,
-    alloc: Global,
-    hoard: &mut Hoard,
-    bytes: usize,
-    opened: Opened<H>,
-    tape: &mut Tape,
-) -> Told
-    requires { (opened.history ≡ N.history) × (opened.rules ≡ N.rules) }
-{
-    match one_seat::<N, H>(opened) {
-        Some((office, mut pass)) => {
-            session_told(rt, alloc, hoard, bytes, (&office, &mut pass), tape)
-        }
-        None => Told::Other,
-    }
-}
-
-/// What a client is sent where no memory is wanting.
-static TALK: &[u8] = b"OK 1 1 0.0\nJOURNAL 1\n1 1 SCORER ENTER A\nTABLE 1 RACES\n1 A 0.0\nEND\n\
-    BYE\n";
-
-/// What she is sent where there was no memory for the first line alone.
-static NOBODY_ENTERED: &[u8] = b"NO 1\nJOURNAL 0\nTABLE 0 RACES\nEND\nBYE\n";
-
-/// What the end of a session tells, with what was written and the last number of the seat: it is
-/// refused where memory was wanting for a reply, or where a line was answered so.
-fn session_tells(end: End, written: &[u8], last: u32) -> Told {
-    if end == End::NoMemory {
-        return wanting_if(written.is_empty() && last == 0);
-    }
-    if end != End::Quit {
-        return Told::Other;
-    }
-    if written == TALK {
-        return ordinary_if(last == 1);
-    }
-    wanting_if(match last {
-        0 => written == NOBODY_ENTERED || written == b"NO 1\nNO 1\nBYE\n".as_slice(),
-        _ => last == 1 && written == b"OK 1 1 0.0\nNO 1\nBYE\n".as_slice(),
-    })
-}
-
-/// What a session tells with so many bytes left, at an office that is opened for it.
-fn session_at<R: Wait>(rt: &R, alloc: Global, hoard: &mut Hoard, bytes: usize) -> Told {
-    let Ok(mut tape) = Tape::new(alloc, b"ENTER A\nSHOW\nQUIT\n", 100, 1000, 1000) else {
-        return Told::Other;
-    };
-    match opened_office(rt, alloc, 1) {
-        Some(opened) => session_with::<Brand, _, _>(rt, alloc, hoard, bytes, opened, &mut tape),
-        None => Told::Other,
-    }
-}
-
-/// Whether a session is held, with each growth refused first.
-fn is_a_session_refused<R: Wait>(rt: &R, alloc: Global, hoard: &mut Hoard) -> bool {
-    let steps = Steps::of_journals(16_384);
-    for turn in 0..MOST_RUNS {
-        let told = session_at(rt, alloc, hoard, steps.bytes(turn));
-        if let Some(passed) = hoard.verdict(told, 1900) {
             return passed;
         }
     }
     false
 }
 
-#[test]
-fn sessions_want_memory(rt: HostRuntime) {
-    let alloc = rt.alloc();
-    assert!(rt; holds_with(alloc, |hoard| is_a_session_refused(&rt, alloc, hoard)));
+/// Whether these runs of the program are refused first, so often at least. They go by no `Caller`,
+/// since no proof knows of a runtime behind one that threads may share it.
+fn are_runs_refused<R>(rt: &R, hoard: &mut Hoard, calls: &[(Words, u32)]) -> bool
+where
+    R: Files + AllocGlobal + Threads + Wait + Net + Sync,
+{
+    for (call, least) in calls {
+        if !is_run_refused(rt, hoard, call, *least) {
+            return false;
+        }
+    }
+    true
 }
 
-/// How serving one client ends with so many bytes left, and how many passes come back.
+/// The same, with a hoard of its own, or at a heap that has none.
+fn is_program_refused<R>(rt: &R, calls: &[(Words, u32)]) -> bool
+where
+    R: Files + AllocGlobal + Threads + Wait + Net + Sync,
+{
+    match Hoard::new(rt.alloc()) {
+        Ok(Some(mut hoard)) => are_runs_refused(rt, &mut hoard, calls),
+        Ok(None) => true,
+        Err(_) => false,
+    }
+}
+
+/// A path at which no socket can be made.
+const NOWHERE: &str = "/no/such/folder/race.sock";
+
+#[test]
+fn the_program_wants_memory(rt: HostRuntime) {
+    let replay_words = Words {
+        words: &["replay"],
+        status: 0,
+        writes: true,
+        says: b"",
+    };
+    // the words are read, and an office is opened and split, ahead of the socket
+    let serve_words = Words {
+        words: &["serve", "--socket", NOWHERE, "--clients", "2"],
+        status: 3,
+        writes: false,
+        says: b"regatta: device fault\n",
+    };
+    assert!(rt; is_program_refused(&rt, &[(replay_words, 3700), (serve_words, 7900)]));
+}
+
+/// The fault by which serving one client ends with so many bytes left.
 fn serve_at<N, H, R>(
     rt: &R,
     alloc: Global,
-    hoard: &mut Option<Hoard>,
-    bytes: usize,
-    seat: (&Office<N, H>, Vec<Pass<N>>),
-    door: &mut Wires,
-) -> Option<Result<usize, ServeFault>>
-where
-    N: OfficeName + Send + Sync,
-    H: Wait + Drop + Send,
-    R: Threads + Wait + Net + Sync,
-{
-    let (office, passes) = seat;
-    let is_left = match hoard {
-        Some(hoard) => hoard.leave(bytes),
-        None => true,
-    };
-    let served = serve(rt, alloc, office, door, passes, &OpenGate);
-    if let Some(hoard) = hoard {
-        hoard.give_back();
-    }
-    let back = served.map(|passes| passes.len());
-    is_left.then_some(back)
-}
-
-/// The same, at an office that was just opened.
-fn serve_with<N, H, R>(
-    rt: &R,
-    alloc: Global,
-    hoard: &mut Option<Hoard>,
+    hoard: &mut Hoard,
     bytes: usize,
     opened: Opened<H>,
     door: &mut Wires,
-) -> Option<Result<usize, ServeFault>>
+) -> Option<ServeFault>
 where
     N: OfficeName + Send + Sync,
     H: Wait + Drop + Send,
@@ -303,7 +225,12 @@ where
     requires { (opened.history ≡ N.history) × (opened.rules ≡ N.rules) }
 {
     match opened.split::<N>() {
-        Ok((office, passes)) => serve_at(rt, alloc, hoard, bytes, (&office, passes), door),
+        Ok((office, passes)) => {
+            hoard.leave(bytes);
+            let served = serve(rt, alloc, &office, door, passes, &OpenGate);
+            hoard.give_back();
+            served.err()
+        }
         Err(_) => None,
     }
 }
@@ -312,12 +239,12 @@ where
 fn serve_once<R: Threads + Wait + Net + Sync>(
     rt: &R,
     alloc: Global,
-    hoard: &mut Option<Hoard>,
+    hoard: &mut Hoard,
     bytes: usize,
     door: &mut Wires,
-) -> Option<Result<usize, ServeFault>> {
+) -> Option<ServeFault> {
     match opened_office(rt, alloc, 1) {
-        Some(opened) => serve_with::<Brand, _, _>(rt, alloc, hoard, bytes, opened, door),
+        Some(opened) => serve_at::<Brand, _, _>(rt, alloc, hoard, bytes, opened, door),
         None => None,
     }
 }
@@ -327,17 +254,16 @@ fn serve_once<R: Threads + Wait + Net + Sync>(
 fn silent_fault<R: Threads + Wait + Net + Sync>(
     rt: &R,
     alloc: Global,
-    hoard: &mut Option<Hoard>,
+    hoard: &mut Hoard,
     bytes: usize,
 ) -> Result<Option<ServeFault>, Fail> {
     let (mut door, mut theirs) = door_of(rt, alloc, b"ENTER A\n", false, &count(alloc)?)?;
-    let back = serve_once(rt, alloc, hoard, bytes, &mut door);
+    let fault = serve_once(rt, alloc, hoard, bytes, &mut door);
     drop(door);
-    let mut replies = Vec::new(alloc);
-    let _ = theirs.read_to_end(&mut replies);
-    Ok(match back {
-        Some(Err(fault)) if replies.is_empty() => Some(fault),
-        _ => None,
+    Ok(if was_sent(alloc, &mut theirs, b"") {
+        fault
+    } else {
+        None
     })
 }
 
@@ -345,7 +271,7 @@ fn silent_fault<R: Threads + Wait + Net + Sync>(
 fn is_serving_refused<R: Threads + Wait + Net + Sync>(
     rt: &R,
     alloc: Global,
-    hoard: &mut Option<Hoard>,
+    hoard: &mut Hoard,
 ) -> Result<bool, Fail> {
     let (mut memory, mut threads) = (0u32, 0u32);
     for turn in 0..512 {
@@ -355,14 +281,15 @@ fn is_serving_refused<R: Threads + Wait + Net + Sync>(
             _ => return Ok(false),
         }
     }
-    Ok(3 < memory && 100 < threads)
+    Ok(hoard.has_left() && 3 < memory && 100 < threads)
 }
 
-/// Whether one client is served where memory is ample.
-fn is_served<R: Threads + Wait + Net + Sync>(rt: &R, alloc: Global) -> Result<bool, Fail> {
-    let (mut door, mut theirs) = door_of(rt, alloc, b"ENTER A\n", false, &count(alloc)?)?;
-    let back = serve_once(rt, alloc, &mut None, 0, &mut door);
-    Ok(back == Some(Ok(1)) && was_sent(alloc, &mut theirs, b"OK 1 1 0.0\n"))
+/// The same, with a hoard of its own, or at a heap that has none.
+fn is_refused<R: Threads + Wait + Net + Sync>(rt: &R, alloc: Global) -> Result<bool, Fail> {
+    match Hoard::new(alloc)? {
+        Some(mut hoard) => is_serving_refused(rt, alloc, &mut hoard),
+        None => Ok(true),
+    }
 }
 
 /// Where all memory is taken, no thread is to be had, so that no session begins whose memory could
@@ -370,11 +297,13 @@ fn is_served<R: Threads + Wait + Net + Sync>(rt: &R, alloc: Global) -> Result<bo
 #[test]
 fn serving_wants_memory(rt: HostRuntime) -> Result<(), Fail> {
     let alloc = rt.alloc();
-    let mut hoard = Hoard::new(alloc)?;
-    if hoard.is_some() {
-        assert!(rt; is_serving_refused(&rt, alloc, &mut hoard)?);
-    }
-    drop(hoard);
-    assert!(rt; is_served(&rt, alloc)?);
+    assert!(rt; is_refused(&rt, alloc)?);
+    let (door, mut end) = door_of(&rt, alloc, b"ENTER A\n", false, &count(alloc)?)?;
+    let left = Left {
+        back: Ok(1),
+        journal: b"1 1 SCORER ENTER A\n",
+    };
+    assert!(rt; leaves(&rt, alloc, 1, &mut [door], &OpenGate, &left));
+    assert!(rt; was_sent(alloc, &mut end, b"OK 1 1 0.0\n"));
     Ok(())
 }

@@ -17,6 +17,35 @@ fn tenths(points: u32) -> Tenths {
     Tenths::new(points).unwrap_or(Tenths::new(10).unwrap())
 }
 
+/// The calls that score a race or a series, and the changes of a race's sheet.
+#[derive(Clone, Copy)]
+enum Call {
+    Sheet,
+    Points,
+    Scores,
+    Averages,
+    Excluded,
+    Ranks,
+    RanksOf,
+    AddBoat,
+    Last,
+    Timed,
+    Join,
+    Ahead,
+    Out,
+    Hold,
+}
+
+/// Whether these are so many tenths each.
+fn are_tenths(points: &[Tenths], wanted: &[u32]) -> bool {
+    for (found, due) in points.iter().zip(wanted) {
+        if *found != tenths(*due) {
+            return false;
+        }
+    }
+    points.len() == wanted.len()
+}
+
 /// What making a sheet of three boats tells.
 fn makes_sheet(alloc: Global) -> Result<bool, AllocError> {
     let sheet = RaceSheet::new(alloc, 3)?;
@@ -25,11 +54,10 @@ fn makes_sheet(alloc: Global) -> Result<bool, AllocError> {
 
 /// Whether these are the points of the sheet's boats, under the default rules. Behind a refusal no
 /// race is counted as scored.
-fn are_points(alloc: Global, sheet: &RaceSheet, wanted: [u32; 3]) -> Result<bool, AllocError> {
-    let wanted = wanted.map(tenths);
+fn are_points(alloc: Global, sheet: &RaceSheet, wanted: &[u32]) -> Result<bool, AllocError> {
     let mut work = Work::new();
     match race_points(alloc, sheet, &default_rules(), &mut work) {
-        Ok(points) => Ok(points.as_slice() == wanted.as_slice() && work.count() == 1),
+        Ok(points) => Ok(are_tenths(points.as_slice(), wanted) && work.count() == 1),
         Err(_) if work.count() != 0 => Ok(false),
         Err(why) => Err(why),
     }
@@ -49,25 +77,16 @@ fn are_scores(alloc: Global, sheet: &RaceSheet) -> Result<bool, AllocError> {
     }
 }
 
-/// The sheet behind a change, with so many bytes left. None where there aren't so many.
-fn changed_with(
-    hoard: &mut Hoard,
-    bytes: usize,
-    sheet: &RaceSheet,
-    change: Change,
-) -> Option<Result<RaceSheet, AllocError>>
-    requires { Allows sheet.now change }
+/// The first of three boats has finished.
+fn one_finished(alloc: Global) -> Result<RaceSheet, AllocError>
+    ensures { IfOk result (λ sheet. sheet ≡ after (empty_sheet 3) (Last 0)) }
 {
-    if !hoard.leave(bytes) {
-        return None;
-    }
-    let changed = sheet.after(change);
-    hoard.give_back();
-    Some(changed)
+    let blank = RaceSheet::new(alloc, 3)?;
+    blank.after(Change::Last { boat: 0 })
 }
 
 /// Whether these are the points of the sheet's boats, and there is memory to tell.
-fn has_points(alloc: Global, sheet: &RaceSheet, wanted: [u32; 3]) -> bool {
+fn has_points(alloc: Global, sheet: &RaceSheet, wanted: &[u32]) -> bool {
     match are_points(alloc, sheet, wanted) {
         Ok(is_due) => is_due,
         Err(_) => false,
@@ -80,112 +99,97 @@ fn changes(
     hoard: &mut Hoard,
     bytes: usize,
     sheet: &RaceSheet,
-    change: &Change,
-    wanted: [u32; 3],
+    change: Change,
+    wanted: &[u32],
 ) -> Told
-    requires { Allows sheet.now change.now }
+    requires { Allows sheet.now change }
 {
-    match changed_with(hoard, bytes, sheet, *change) {
-        Some(Ok(next)) => ordinary_if(has_points(alloc, &next, wanted)),
-        Some(Err(_)) => Told::Wanting,
-        None => Told::Other,
+    hoard.leave(bytes);
+    let changed = sheet.after(change);
+    hoard.give_back();
+    match changed {
+        Ok(next) => ordinary_if(has_points(alloc, &next, wanted)),
+        Err(_) => Told::Wanting,
     }
 }
 
-/// Whether a change is made, with each growth refused first, and the boats then have these points.
-fn is_changed(
+/// What a change of a sheet of three boats tells, in which nobody has finished: one more is added,
+/// or one finishes, by her place or by her corrected time (RRS A3).
+fn changes_blank(
     alloc: Global,
     hoard: &mut Hoard,
-    sheet: &RaceSheet,
-    change: &Change,
-    wanted: [u32; 3],
-) -> bool
-    requires { Allows sheet.now change.now }
+    bytes: usize,
+    blank: &RaceSheet,
+    call: Call,
+) -> Told
+    requires { blank.now ≡ empty_sheet 3 }
 {
-    for turn in 0..MOST_RUNS {
-        let told = changes(alloc, hoard, SMALL_STEPS.bytes(turn), sheet, change, wanted);
-        if let Some(passed) = hoard.verdict(told, 4) {
-            return passed;
-        }
-    }
-    false
-}
-
-/// The first of three boats has finished.
-fn one_finished(alloc: Global) -> Result<RaceSheet, AllocError>
-    ensures { IfOk result (λ sheet. sheet ≡ after (empty_sheet 3) (Last 0)) }
-{
-    let blank = RaceSheet::new(alloc, 3)?;
-    blank.after(Change::Last { boat: 0 })
-}
-
-/// Whether a boat is added.
-fn is_added(alloc: Global, hoard: &mut Hoard) -> bool {
-    match RaceSheet::new(alloc, 2) {
-        Ok(two) => is_changed(alloc, hoard, &two, &Change::AddBoat, [40, 40, 40]),
-        Err(_) => false,
-    }
-}
-
-/// Whether a boat finishes, and is placed by her corrected time (RRS A3).
-fn is_placed(alloc: Global, hoard: &mut Hoard) -> bool {
     let seconds = Seconds::new(3600).unwrap();
-    let (last, timed) = (Change::Last { boat: 0 }, Change::Timed { boat: 0, seconds });
-    match RaceSheet::new(alloc, 3) {
-        Ok(three) => {
-            is_changed(alloc, hoard, &three, &last, [10, 40, 40])
-                && is_changed(alloc, hoard, &three, &timed, [10, 40, 40])
-        }
-        Err(_) => false,
-    }
+    let (change, wanted): (Change, &[u32]) = match call {
+        Call::AddBoat => (Change::AddBoat, &[50, 50, 50, 50]),
+        Call::Last => (Change::Last { boat: 0 }, &[10, 40, 40]),
+        Call::Timed => (Change::Timed { boat: 0, seconds }, &[10, 40, 40]),
+        _ => return Told::Other,
+    };
+    changes(alloc, hoard, bytes, blank, change, wanted)
 }
 
-/// Whether, behind one who finished, a boat ties with her or goes ahead of her (RRS A7).
-fn is_joined(alloc: Global, hoard: &mut Hoard) -> bool {
-    let joined = Change::Join { boat: 1, other: 0 };
-    let ahead = Change::Ahead { boat: 1, other: 0 };
-    match one_finished(alloc) {
-        Ok(first) => {
-            is_changed(alloc, hoard, &first, &joined, [15, 15, 40])
-                && is_changed(alloc, hoard, &first, &ahead, [20, 10, 40])
-        }
-        Err(_) => false,
-    }
-}
-
-/// Whether the one who finished goes out of the order, or has a penalty (RRS 44.3(c)).
-fn is_out_or_held(alloc: Global, hoard: &mut Hoard) -> bool {
+/// What a change tells behind the first of three boats, who has finished: a boat ties with her or
+/// goes ahead of her (RRS A7), or she goes out of the order, or has a penalty (RRS 44.3(c)).
+fn changes_first(
+    alloc: Global,
+    hoard: &mut Hoard,
+    bytes: usize,
+    first: &RaceSheet,
+    call: Call,
+) -> Told
+    requires { first.now ≡ after (empty_sheet 3) (Last 0) }
+{
     let held = Held {
         scp: 1,
         ..NOTHING_HELD
     };
-    let hold = Change::Hold { boat: 0, held };
-    match one_finished(alloc) {
-        Ok(first) => {
-            is_changed(alloc, hoard, &first, &Change::Out { boat: 0 }, [40, 40, 40])
-                && is_changed(alloc, hoard, &first, &hold, [20, 40, 40])
-        }
-        Err(_) => false,
+    let (change, wanted): (Change, &[u32]) = match call {
+        Call::Join => (Change::Join { boat: 1, other: 0 }, &[15, 15, 40]),
+        Call::Ahead => (Change::Ahead { boat: 1, other: 0 }, &[20, 10, 40]),
+        Call::Out => (Change::Out { boat: 0 }, &[40, 40, 40]),
+        Call::Hold => (Change::Hold { boat: 0, held }, &[20, 40, 40]),
+        _ => return Told::Other,
+    };
+    changes(alloc, hoard, bytes, first, change, wanted)
+}
+
+/// A score of so many tenths, with this redress.
+fn item(points: u32, redress: Option<Redress>) -> RowItem {
+    RowItem {
+        plain: tenths(points),
+        redress,
     }
 }
 
 /// A score that is handed in, one without redress, and the average of both (RRS A9).
 fn are_averages(alloc: Global) -> Result<bool, AllocError> {
     let award = Award::new(75).unwrap();
-    let item = |plain, redress| RowItem { plain, redress };
     let row = [
-        item(tenths(50), Some(Redress::Points(award))),
-        item(tenths(20), None),
-        item(tenths(50), Some(Redress::AllRaces)),
+        item(50, Some(Redress::Points(award))),
+        item(20, None),
+        item(50, Some(Redress::AllRaces)),
     ];
     let found = averages(alloc, &row)?;
     Ok(found.as_slice() == [tenths(75), tenths(20), tenths(48)].as_slice())
 }
 
+/// A score of so many tenths that may be excluded.
+fn scored(points: u32) -> Scored {
+    Scored {
+        points: tenths(points),
+        dne: false,
+    }
+}
+
 /// The first of two equal worst scores is excluded (RRS A2.1).
 fn is_excluded(alloc: Global) -> Result<bool, AllocError> {
-    let score = |points| Scored { points, dne: false };
-    let scores = [score(tenths(40)), score(tenths(20)), score(tenths(40))];
+    let scores = [scored(40), scored(20), scored(40)];
     let flags = excluded(alloc, &scores, &default_rules())?;
     Ok(flags.as_slice() == [true, false, false].as_slice())
 }
@@ -216,33 +220,65 @@ fn are_ranks_of(alloc: Global) -> Result<bool, AllocError> {
     Ok(are_places(places.as_slice()))
 }
 
-/// The calls that score a race or a series.
-#[derive(Clone, Copy)]
-enum Call {
-    Sheet,
-    Points,
-    Scores,
-    Averages,
-    Excluded,
-    Ranks,
-    RanksOf,
-}
-
-/// Whether the call answers what is due, of a race in which the first of three boats has finished.
-fn is_due(alloc: Global, sheet: &RaceSheet, call: Call) -> Result<bool, AllocError> {
+/// Whether a call that changes no sheet answers what is due, of a race in which the first of three
+/// boats has finished.
+fn answers(alloc: Global, first: &RaceSheet, call: Call) -> Result<bool, AllocError> {
     match call {
-        Call::Sheet => makes_sheet(alloc),
-        Call::Points => are_points(alloc, sheet, [10, 40, 40]),
-        Call::Scores => are_scores(alloc, sheet),
+        Call::Points => are_points(alloc, first, &[10, 40, 40]),
+        Call::Scores => are_scores(alloc, first),
         Call::Averages => are_averages(alloc),
         Call::Excluded => is_excluded(alloc),
         Call::Ranks => are_ranks(alloc),
         Call::RanksOf => are_ranks_of(alloc),
+        Call::Sheet => makes_sheet(alloc),
+        _ => Ok(false),
     }
 }
 
-/// Whether each of these calls is made, with each growth refused first, so often at least.
-fn are_calls_refused(alloc: Global, hoard: &mut Hoard, sheet: &RaceSheet) -> bool {
+/// What a call tells of a race in which the first of three boats has finished.
+fn told_of_first(
+    alloc: Global,
+    hoard: &mut Hoard,
+    bytes: usize,
+    first: &RaceSheet,
+    call: Call,
+) -> Told
+    requires { first.now ≡ after (empty_sheet 3) (Last 0) }
+{
+    if let Call::Join | Call::Ahead | Call::Out | Call::Hold = call {
+        return changes_first(alloc, hoard, bytes, first, call);
+    }
+    hoard.leave(bytes);
+    let answer = answers(alloc, first, call);
+    hoard.give_back();
+    tells(answer)
+}
+
+/// Races of three boats, and series of two races.
+#[derive(Drop)]
+struct Races {
+    alloc: Global,
+}
+
+impl Caller<Call> for Races {
+    fn told(&mut self, call: &Call, hoard: &mut Hoard, bytes: usize) -> Told {
+        let alloc = self.alloc;
+        match call {
+            Call::AddBoat | Call::Last | Call::Timed => match RaceSheet::new(alloc, 3) {
+                Ok(blank) => changes_blank(alloc, hoard, bytes, &blank, *call),
+                Err(_) => Told::Other,
+            },
+            _ => match one_finished(alloc) {
+                Ok(first) => told_of_first(alloc, hoard, bytes, &first, *call),
+                Err(_) => Told::Other,
+            },
+        }
+    }
+}
+
+#[test]
+fn scoring_wants_memory(rt: HostRuntime) {
+    let alloc = rt.alloc();
     let calls = [
         (Call::Sheet, 4),
         (Call::Points, 4),
@@ -251,35 +287,13 @@ fn are_calls_refused(alloc: Global, hoard: &mut Hoard, sheet: &RaceSheet) -> boo
         (Call::Excluded, 1),
         (Call::Ranks, 7),
         (Call::RanksOf, 5),
+        (Call::AddBoat, 4),
+        (Call::Last, 4),
+        (Call::Timed, 4),
+        (Call::Join, 4),
+        (Call::Ahead, 4),
+        (Call::Out, 4),
+        (Call::Hold, 4),
     ];
-    for (call, least) in &calls {
-        if !hoard.refuses(*least, SMALL_STEPS, || tells(is_due(alloc, sheet, *call))) {
-            return false;
-        }
-    }
-    true
-}
-
-/// Whether each change of a sheet is made, with each growth refused first.
-fn are_changes_refused(alloc: Global, hoard: &mut Hoard) -> bool {
-    is_added(alloc, hoard)
-        && is_placed(alloc, hoard)
-        && is_joined(alloc, hoard)
-        && is_out_or_held(alloc, hoard)
-}
-
-/// Whether all calls of scoring are made, with each growth refused first.
-fn is_scoring_refused(alloc: Global, hoard: &mut Hoard) -> bool {
-    match one_finished(alloc) {
-        Ok(first) => {
-            are_calls_refused(alloc, hoard, &first) && are_changes_refused(alloc, hoard)
-        }
-        Err(_) => false,
-    }
-}
-
-#[test]
-fn scoring_wants_memory(rt: HostRuntime) {
-    let alloc = rt.alloc();
-    assert!(rt; holds_with(alloc, |hoard| is_scoring_refused(alloc, hoard)));
+    assert!(rt; are_refused(alloc, &mut Races { alloc }, &calls, SMALL_STEPS));
 }

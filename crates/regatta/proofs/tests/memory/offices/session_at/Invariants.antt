@@ -1,4 +1,4 @@
-use Rattle.regatta.proofs.tests.memory.runs.session_at.Given as goal
+use Rattle.regatta.proofs.tests.memory.offices.session_at.Given as goal
 
 -- the office that was just opened
 abbrev pub ghosts-session_with : goal.ghosts-session_with
