@@ -44,7 +44,7 @@ static TIMES: &[u8] = b"1 1 SCORER ENTER A\n1 2 SCORER ENTER B\n1 3 SCORER ENTER
 static TIMES_TABLE: &[u8] = b"TABLE 3 RACES 1\n1 B 1.0 1.0\n2= A 2.5 2.5\n2= C 2.5 2.5\n";
 
 static FINISHES_CALLS: [(Call, u32); 33] = [
-    (Call::Open, 820),
+    (Call::Open, 1340),
     (Call::Prepare, 380),
     (Call::Apply, 380),
     (Call::Prepare, 415),
@@ -76,11 +76,11 @@ static FINISHES_CALLS: [(Call, u32); 33] = [
     (Call::Prepare, 85),
     (Call::Apply, 85),
     (Call::Standing, 20),
-    (Call::StandingOf, 1800),
+    (Call::StandingOf, 1850),
 ];
 
 static TIMES_CALLS: [(Call, u32); 17] = [
-    (Call::Open, 820),
+    (Call::Open, 1340),
     (Call::Prepare, 380),
     (Call::Apply, 380),
     (Call::Prepare, 415),
@@ -96,7 +96,7 @@ static TIMES_CALLS: [(Call, u32); 17] = [
     (Call::Prepare, 85),
     (Call::Apply, 85),
     (Call::Standing, 20),
-    (Call::StandingOf, 1800),
+    (Call::StandingOf, 1850),
 ];
 
 /// The series by finishes.

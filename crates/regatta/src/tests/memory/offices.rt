@@ -153,9 +153,9 @@ fn offices_and_sessions_want_memory(rt: HostRuntime) -> Result<(), Fail> {
         start: &start,
     };
     let calls = [
-        (OfficeCall::Open, 3500),
+        (OfficeCall::Open, 3600),
         (OfficeCall::Split, 25),
-        (OfficeCall::Session, 1900),
+        (OfficeCall::Session, 1950),
     ];
     assert!(rt; are_refused(rt.alloc(), &mut offices, &calls, Steps::of_journals(16_384)));
     Ok(())
@@ -382,11 +382,11 @@ fn entering_wants_memory(rt: HostRuntime) {
 #[test]
 fn seats_want_memory(rt: HostRuntime) -> Result<(), Fail> {
     let calls = [
-        (SeatCall::AnswerShow, 1500),
-        (SeatCall::AnswerRole, 1),
-        (SeatCall::Show, 1500),
-        (SeatCall::Answer, 400),
-        (SeatCall::Run, 400),
+        (SeatCall::AnswerShow, 1580),
+        (SeatCall::AnswerRole, 5),
+        (SeatCall::Show, 1575),
+        (SeatCall::Answer, 440),
+        (SeatCall::Run, 440),
     ];
     assert!(rt; are_seats_refused(&rt, rt.alloc(), &[entry_of_a()?], 1, &calls));
     Ok(())

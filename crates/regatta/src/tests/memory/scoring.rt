@@ -287,7 +287,7 @@ fn scoring_wants_memory(rt: HostRuntime) {
         (Call::Excluded, 1),
         (Call::Ranks, 7),
         (Call::RanksOf, 5),
-        (Call::AddBoat, 4),
+        (Call::AddBoat, 65),
         (Call::Last, 4),
         (Call::Timed, 4),
         (Call::Join, 4),
