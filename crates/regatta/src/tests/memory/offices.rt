@@ -207,18 +207,15 @@ fn replied(is_answered: bool, out: &Vec<u8>, room: usize, wanted: &[u8]) -> Told
 /// What the desk's answer to the line of a command tells, which enters a second boat.
 fn desk_answers<N: OfficeName, H: Wait + Drop, R: Wait>(
     rt: &R,
-    alloc: Global,
     office: &Office<N, H>,
     pass: &mut Pass<N>,
     command: Command,
+    out: &mut Vec<u8>,
 ) -> Told {
-    let Ok(mut out) = Vec::from_slice(alloc, BEFORE) else {
-        return Told::Wanting;
-    };
     let room = out.capacity();
     let mut desk = office.desk(rt);
-    let answer = desk.answer(rt, pass, Role::Scorer, Line::Do(command), &mut out);
-    replied(answer.is_ok(), &out, room, b"OK 2 1= 0.0\n")
+    let answer = desk.answer(rt, pass, Role::Scorer, Line::Do(command), out);
+    replied(answer.is_ok(), out, room, b"OK 2 1= 0.0\n")
 }
 
 /// What showing one entry tells.
@@ -233,19 +230,16 @@ fn shows<N: OfficeName>(pass: &mut Pass<N>) -> Told {
 static SHEET: &[u8] = b"JOURNAL 1\n1 1 SCORER ENTER A\nTABLE 1 RACES\n1 A 0.0\nEND\n";
 
 /// What the answer of a pass alone to a scorer tells, who asks to be the jury, or else for SHOW.
-fn pass_answers<N: OfficeName>(alloc: Global, pass: &mut Pass<N>, is_role: bool) -> Told {
-    let Ok(mut out) = Vec::from_slice(alloc, BEFORE) else {
-        return Told::Wanting;
-    };
-    let room = out.capacity();
+fn pass_answers<N: OfficeName>(pass: &mut Pass<N>, is_role: bool, out: &mut Vec<u8>) -> Told {
     let (line, wanted, becomes): (Line, &[u8], Role) = if is_role {
         (Line::SetRole(Role::Jury), b"ROLE JURY\n", Role::Jury)
     } else {
         (Line::Show, SHEET, Role::Scorer)
     };
+    let room = out.capacity();
     let mut role = Role::Scorer;
-    let answer = answer_alone(pass, &mut role, Ok(line), &mut out);
-    match replied(answer.is_ok(), &out, room, wanted) {
+    let answer = answer_alone(pass, &mut role, Ok(line), out);
+    match replied(answer.is_ok(), out, room, wanted) {
         Told::Ordinary => ordinary_if(role == becomes),
         Told::Wanting => wanting_if(role == Role::Scorer),
         Told::Other => Told::Other,
@@ -290,7 +284,13 @@ impl<N: OfficeName, H: Wait + Drop, R: Wait> Seats<'_, N, H, R> {
 
     /// What seat 1 is told of the next boat, entered with so many bytes left. Behind a refusal she
     /// stands nowhere.
-    fn enters(&mut self, call: SeatCall, hoard: &mut Hoard, bytes: usize) -> Told {
+    fn enters(
+        &mut self,
+        call: SeatCall,
+        hoard: &mut Hoard,
+        bytes: usize,
+        out: &mut Vec<u8>,
+    ) -> Told {
         let Some(command) = enter(next_sail(self.entered)) else {
             return Told::Other;
         };
@@ -298,7 +298,7 @@ impl<N: OfficeName, H: Wait + Drop, R: Wait> Seats<'_, N, H, R> {
         let told = match call {
             SeatCall::Run => desk_runs(self.rt, &self.office, &mut self.first, command),
             SeatCall::Answer => {
-                desk_answers(self.rt, self.alloc, &self.office, &mut self.first, command)
+                desk_answers(self.rt, &self.office, &mut self.first, command, out)
             }
             _ => Told::Other,
         };
@@ -312,22 +312,36 @@ impl<N: OfficeName, H: Wait + Drop, R: Wait> Seats<'_, N, H, R> {
             Told::Other
         }
     }
-}
 
-impl<N: OfficeName, H: Wait + Drop, R: Wait> Caller<SeatCall> for Seats<'_, N, H, R> {
-    fn told(&mut self, call: &SeatCall, hoard: &mut Hoard, bytes: usize) -> Told {
-        if let SeatCall::Run | SeatCall::Answer = call {
-            return self.enters(*call, hoard, bytes);
-        }
+    /// What seat 2 is told with so many bytes left.
+    fn looks(
+        &mut self,
+        call: SeatCall,
+        hoard: &mut Hoard,
+        bytes: usize,
+        out: &mut Vec<u8>,
+    ) -> Told {
         hoard.leave(bytes);
         let told = match call {
             SeatCall::Show => shows(&mut self.second),
-            SeatCall::AnswerShow => pass_answers(self.alloc, &mut self.second, false),
-            SeatCall::AnswerRole => pass_answers(self.alloc, &mut self.second, true),
+            SeatCall::AnswerShow => pass_answers(&mut self.second, false, out),
+            SeatCall::AnswerRole => pass_answers(&mut self.second, true, out),
             _ => Told::Other,
         };
         hoard.give_back();
         told
+    }
+}
+
+impl<N: OfficeName, H: Wait + Drop, R: Wait> Caller<SeatCall> for Seats<'_, N, H, R> {
+    fn told(&mut self, call: &SeatCall, hoard: &mut Hoard, bytes: usize) -> Told {
+        let Ok(mut out) = Vec::from_slice(self.alloc, BEFORE) else {
+            return Told::Other;
+        };
+        match call {
+            SeatCall::Run | SeatCall::Answer => self.enters(*call, hoard, bytes, &mut out),
+            _ => self.looks(*call, hoard, bytes, &mut out),
+        }
     }
 }
 

@@ -38,10 +38,18 @@ fn makes_tape(alloc: Global) -> Result<bool, AllocError> {
     Ok(tape.written().is_empty())
 }
 
-/// What a replay over these tapes tells. Behind a refusal whole replies were written, and no final
-/// part.
-fn replays_over(alloc: Global, input: &mut Tape, output: &mut Tape) -> Told {
+/// What a replay over these tapes tells with so many bytes left. Behind a refusal whole replies were
+/// written, and no final part.
+fn replays_over(
+    alloc: Global,
+    hoard: &mut Hoard,
+    bytes: usize,
+    input: &mut Tape,
+    output: &mut Tape,
+) -> Told {
+    hoard.leave(bytes);
     let ended = replay(alloc, input, output, &default_rules(), &[], Form::Table);
+    hoard.give_back();
     match ended {
         Ok(()) => ordinary_if(is_whole(output.written())),
         Err(RunFault::NoMemory) => wanting_if(are_first_replies(output.written())),
@@ -49,11 +57,13 @@ fn replays_over(alloc: Global, input: &mut Tape, output: &mut Tape) -> Told {
     }
 }
 
-/// What a replay tells.
-fn replays(alloc: Global) -> Told {
+/// What a replay tells with so many bytes left.
+fn replays(alloc: Global, hoard: &mut Hoard, bytes: usize) -> Told {
     match (tape(alloc, LINES, 0), tape(alloc, b"", 400)) {
-        (Ok(mut input), Ok(mut output)) => replays_over(alloc, &mut input, &mut output),
-        _ => Told::Wanting,
+        (Ok(mut input), Ok(mut output)) => {
+            replays_over(alloc, hoard, bytes, &mut input, &mut output)
+        }
+        _ => Told::Other,
     }
 }
 
@@ -81,12 +91,20 @@ fn run_tells(call: &Words, status: u8, written: &[u8], said: &[u8]) -> Told {
     ordinary_if(is_written && status == call.status && said == call.says)
 }
 
-/// What the program tells over these streams.
-fn runs_over<R>(rt: &R, call: &Words, streams: &mut Streams) -> Told
+/// What the program tells over these streams with so many bytes left.
+fn runs_over<R>(
+    rt: &R,
+    hoard: &mut Hoard,
+    bytes: usize,
+    call: &Words,
+    streams: &mut Streams,
+) -> Told
 where
     R: Files + AllocGlobal + Threads + Wait + Net + Sync,
 {
+    hoard.leave(bytes);
     let status = status_of(rt, call.words, streams);
+    hoard.give_back();
     run_tells(
         call,
         status,
@@ -95,14 +113,14 @@ where
     )
 }
 
-/// What the program tells.
-fn runs<R>(rt: &R, call: &Words) -> Told
+/// What the program tells with so many bytes left.
+fn runs<R>(rt: &R, hoard: &mut Hoard, bytes: usize, call: &Words) -> Told
 where
     R: Files + AllocGlobal + Threads + Wait + Net + Sync,
 {
     match Streams::new(rt.alloc(), LINES, 4000) {
-        Ok(mut streams) => runs_over(rt, call, &mut streams),
-        Err(_) => Told::Wanting,
+        Ok(mut streams) => runs_over(rt, hoard, bytes, call, &mut streams),
+        Err(_) => Told::Other,
     }
 }
 
@@ -121,20 +139,22 @@ struct Tapes {
 
 impl Caller<Call> for Tapes {
     fn told(&mut self, call: &Call, hoard: &mut Hoard, bytes: usize) -> Told {
-        hoard.leave(bytes);
-        let told = match call {
-            Call::Tape => tells(makes_tape(self.alloc)),
-            Call::Replay => replays(self.alloc),
-        };
-        hoard.give_back();
-        told
+        match call {
+            Call::Tape => {
+                hoard.leave(bytes);
+                let is_made = makes_tape(self.alloc);
+                hoard.give_back();
+                tells(is_made)
+            }
+            Call::Replay => replays(self.alloc, hoard, bytes),
+        }
     }
 }
 
 #[test]
 fn replays_want_memory(rt: HostRuntime) {
     let alloc = rt.alloc();
-    let calls = [(Call::Tape, 11), (Call::Replay, 1850)];
+    let calls = [(Call::Tape, 11), (Call::Replay, 1825)];
     assert!(rt;
         are_refused(
             alloc,
@@ -152,9 +172,7 @@ where
 {
     let steps = Steps::of_journals(32_768);
     for turn in 0..MOST_RUNS {
-        hoard.leave(steps.bytes(turn));
-        let told = runs(rt, call);
-        hoard.give_back();
+        let told = runs(rt, hoard, steps.bytes(turn), call);
         if let Some(passed) = hoard.verdict(told, least) {
             return passed;
         }
@@ -206,7 +224,7 @@ fn the_program_wants_memory(rt: HostRuntime) {
         writes: false,
         says: b"regatta: device fault\n",
     };
-    assert!(rt; is_program_refused(&rt, &[(replay_words, 3800), (serve_words, 8000)]));
+    assert!(rt; is_program_refused(&rt, &[(replay_words, 3520), (serve_words, 7700)]));
 }
 
 /// The fault by which serving one client ends with so many bytes left.
