@@ -8,8 +8,9 @@ test of `tests::memory` is run with a library that counts requests preloaded (gr
 file, built with the machine's C compiler). For each call that the test refuses, in its order, it tells
 how many requests for memory the call makes where none is refused, how many runs were refused, how many
 of the requests were met as the first refused, how many others the call had memory for anyway, and the
-number and size of each that was passed over. The script ends with status 1 where a test fails, or a
-run was refused a request and answered as with ample memory.
+number and size of each that was passed over. The script ends with status 1 where a test fails, where
+one refused no call (the test of serving, which has a loop of its own, aside), or where a run was refused
+a request and answered as with ample memory.
 """
 import os
 import subprocess
@@ -25,17 +26,22 @@ def main():
     program = os.path.abspath(sys.argv[1])
     listed = subprocess.run([program, "--list"], capture_output=True, text=True, check=True).stdout
     names = [line.split(": ")[0] for line in listed.splitlines() if "::memory::" in line]
-    failed = 0
+    failed = calls = 0
     with tempfile.TemporaryDirectory() as folder:
         env = {"LD_PRELOAD": compiled(folder, "growths.c", "-shared", "-fPIC")}
         for name in names:
             run = subprocess.run([program, name], env=env, capture_output=True, text=True, timeout=600)
             print(f"{name}: {'passed' if run.returncode == 0 else 'FAILED'}")
             failed += run.returncode != 0
-            for line in run.stderr.splitlines():
-                if line.startswith("growths: "):
-                    print("    " + line.removeprefix("growths: "))
-                    failed += "answered behind a refusal" in line
+            told = [line for line in run.stderr.splitlines() if line.startswith("growths: ")]
+            for line in told:
+                print("    " + line.removeprefix("growths: "))
+                failed += "answered behind a refusal" in line
+            if not told and not name.endswith("::serving_wants_memory"):
+                print("    refused no call: FAILED")
+                failed += 1
+            calls += len(told)
+    print(f"{calls} calls, {len(names)} tests, {failed} failed")
     return 1 if failed else 0
 
 

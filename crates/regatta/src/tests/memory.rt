@@ -1,6 +1,7 @@
 //! Each growth refused in turn: calls that take memory, on a short input, with more and more bytes
 //! left to them until they meet no refusal. A call is a line of a list, with how often it is refused
-//! at least before that: a little less than `bench/growths.py` counted.
+//! at least before that: a little less than `bench/growths.py` counted. Only serving has no line,
+//! since it is refused its thread as well.
 
 use super::*;
 use hoard::{Caller, Hoard, MOST_RUNS, SMALL_STEPS, Steps, Told, are_refused};
@@ -45,10 +46,3 @@ fn tells(answer: Result<bool, AllocError>) -> Told {
 /// What a text begins with that a call appends to: as long as the least block that the heap gives,
 /// so that whatever is appended asks for more.
 const BEFORE: &[u8] = b"what stood there before.";
-
-/// Whether a standing's table is this text.
-fn is_table(alloc: Global, standing: &Standing, wanted: &[u8]) -> Result<bool, AllocError> {
-    let mut text = Vec::new(alloc);
-    write_table(standing, &mut text)?;
-    Ok(text.as_slice() == wanted)
-}

@@ -12,7 +12,9 @@ enum Call {
     Prepare,
     /// It is appended.
     Apply,
+    /// The standing of the board behind the last entry.
     Standing,
+    /// The standing of all entries.
     StandingOf,
 }
 
@@ -45,6 +47,7 @@ static TIMES_TABLE: &[u8] = b"TABLE 3 RACES 1\n1 B 1.0 1.0\n2= A 2.5 2.5\n2= C 2
 
 static FINISHES_CALLS: [(Call, u32); 33] = [
     (Call::Open, 1340),
+    (Call::StandingOf, 1850),
     (Call::Prepare, 380),
     (Call::Apply, 380),
     (Call::Prepare, 415),
@@ -76,11 +79,11 @@ static FINISHES_CALLS: [(Call, u32); 33] = [
     (Call::Prepare, 85),
     (Call::Apply, 85),
     (Call::Standing, 20),
-    (Call::StandingOf, 1850),
 ];
 
 static TIMES_CALLS: [(Call, u32); 17] = [
     (Call::Open, 1340),
+    (Call::StandingOf, 1850),
     (Call::Prepare, 380),
     (Call::Apply, 380),
     (Call::Prepare, 415),
@@ -96,7 +99,6 @@ static TIMES_CALLS: [(Call, u32); 17] = [
     (Call::Prepare, 85),
     (Call::Apply, 85),
     (Call::Standing, 20),
-    (Call::StandingOf, 1850),
 ];
 
 /// The series by finishes.
@@ -154,16 +156,38 @@ fn applies(board: &mut Board, entry: Option<&Entry>) -> Told {
     }
 }
 
-/// Whether the board's standing has this table.
-fn stands(alloc: Global, board: &Board, table: &[u8]) -> Result<bool, AllocError> {
-    let standing = board.standing()?;
-    is_table(alloc, &standing, table)
+/// Whether a standing's table is this text, and there is memory to tell.
+fn is_table(alloc: Global, standing: &Standing, wanted: &[u8]) -> bool {
+    let mut text = Vec::new(alloc);
+    let is_written = write_table(standing, &mut text).is_ok();
+    is_written && text.as_slice() == wanted
 }
 
-/// What the standing of entries tells.
-fn replays(alloc: Global, rules: &Rules, entries: &[Entry], table: &[u8]) -> Told {
-    match standing_of(alloc, rules, entries) {
-        Ok(standing) => tells(is_table(alloc, &standing, table)),
+/// What the board's standing, made with so many bytes left, tells by its table.
+fn stands(alloc: Global, hoard: &mut Hoard, bytes: usize, board: &Board, table: &[u8]) -> Told {
+    hoard.leave(bytes);
+    let standing = board.standing();
+    hoard.give_back();
+    match standing {
+        Ok(standing) => ordinary_if(is_table(alloc, &standing, table)),
+        Err(_) => Told::Wanting,
+    }
+}
+
+/// What the standing of entries, made with so many bytes left, tells by its table.
+fn replays(
+    alloc: Global,
+    hoard: &mut Hoard,
+    bytes: usize,
+    rules: &Rules,
+    entries: &[Entry],
+    table: &[u8],
+) -> Told {
+    hoard.leave(bytes);
+    let standing = standing_of(alloc, rules, entries);
+    hoard.give_back();
+    match standing {
+        Ok(standing) => ordinary_if(is_table(alloc, &standing, table)),
         Err(why) => wanting_if(why == ReplayFault::NoMemory),
     }
 }
@@ -178,19 +202,32 @@ struct Clerk<'a> {
     board: &'a mut Board,
 }
 
-impl Caller<Call> for Clerk<'_> {
-    fn told(&mut self, call: &Call, hoard: &mut Hoard, bytes: usize) -> Told {
+impl Clerk<'_> {
+    /// What a call that makes no standing tells with so many bytes left.
+    fn takes(&mut self, call: &Call, hoard: &mut Hoard, bytes: usize) -> Told {
         let next = self.entries.get(self.board.len());
         hoard.leave(bytes);
         let told = match call {
             Call::Open => opens(self.alloc, self.rules),
             Call::Prepare => prepares(self.board, next),
             Call::Apply => applies(self.board, next),
-            Call::Standing => tells(stands(self.alloc, self.board, self.table)),
-            Call::StandingOf => replays(self.alloc, &self.rules, self.entries, self.table),
+            Call::Standing | Call::StandingOf => Told::Other,
         };
         hoard.give_back();
         told
+    }
+}
+
+impl Caller<Call> for Clerk<'_> {
+    fn told(&mut self, call: &Call, hoard: &mut Hoard, bytes: usize) -> Told {
+        let alloc = self.alloc;
+        match call {
+            Call::Standing => stands(alloc, hoard, bytes, self.board, self.table),
+            Call::StandingOf => {
+                replays(alloc, hoard, bytes, &self.rules, self.entries, self.table)
+            }
+            Call::Open | Call::Prepare | Call::Apply => self.takes(call, hoard, bytes),
+        }
     }
 }
 

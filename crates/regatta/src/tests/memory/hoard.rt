@@ -22,8 +22,8 @@ pub(crate) enum Told {
 /// What makes calls that take memory. `C` names one of them.
 pub(crate) trait Caller<C> {
     /// Makes the call, and tells what it answered. Only while the call runs does the hoard leave it
-    /// so many bytes: what the call is made of is made before `leave`, and what stands behind it is
-    /// looked at after `give_back`.
+    /// so many bytes: whatever else takes memory is done before `leave` or after `give_back`, so that
+    /// its want of memory isn't taken for the call's.
     fn told(&mut self, call: &C, hoard: &mut Hoard, bytes: usize) -> Told;
 }
 
@@ -118,7 +118,7 @@ pub(crate) const SMALL_STEPS: Steps = Steps {
 };
 
 impl Steps {
-    /// The steps of a call that asks for such rooms, and of all else for less than so many bytes.
+    /// The steps of calls that may ask for such rooms, and of all else for less than so many bytes.
     pub(crate) fn of_journals(bytes: usize) -> Steps {
         Steps {
             runs: bytes / UNIT,

@@ -92,7 +92,9 @@ fn session_with<N: OfficeName, H: Wait + Drop, R: Wait>(
             hoard.leave(bytes);
             let end = session(rt, alloc, tape, &office, &mut pass, &OpenGate);
             hoard.give_back();
-            session_tells(end, tape.written(), pass.last())
+            let told = session_tells(end, tape.written(), pass.last());
+            let is_kept = has_journal(rt, alloc, &office, journal_of(pass.last()));
+            if is_kept { told } else { Told::Other }
         }
         None => Told::Other,
     }
@@ -238,10 +240,11 @@ fn pass_answers<N: OfficeName>(pass: &mut Pass<N>, is_role: bool, out: &mut Vec<
     };
     let room = out.capacity();
     let mut role = Role::Scorer;
-    let answer = answer_alone(pass, &mut role, Ok(line), out);
-    match replied(answer.is_ok(), out, room, wanted) {
+    let is_answered = answer_alone(pass, &mut role, Ok(line), out).is_ok();
+    match replied(is_answered, out, room, wanted) {
         Told::Ordinary => ordinary_if(role == becomes),
-        Told::Wanting => wanting_if(role == Role::Scorer),
+        // a role is refused only where there is no room for the reply
+        Told::Wanting => wanting_if(role == Role::Scorer && !(is_role && is_answered)),
         Told::Other => Told::Other,
     }
 }
@@ -282,65 +285,38 @@ impl<N: OfficeName, H: Wait + Drop, R: Wait> Seats<'_, N, H, R> {
             && is_shown(self.alloc, &mut self.second, journal)
     }
 
-    /// What seat 1 is told of the next boat, entered with so many bytes left. Behind a refusal she
-    /// stands nowhere.
-    fn enters(
-        &mut self,
-        call: SeatCall,
-        hoard: &mut Hoard,
-        bytes: usize,
-        out: &mut Vec<u8>,
-    ) -> Told {
-        let Some(command) = enter(next_sail(self.entered)) else {
-            return Told::Other;
-        };
-        hoard.leave(bytes);
-        let told = match call {
+    /// What a call tells, with a command to enter the next boat, and what a reply is appended to.
+    fn answers(&mut self, call: &SeatCall, command: Command, out: &mut Vec<u8>) -> Told {
+        match call {
             SeatCall::Run => desk_runs(self.rt, &self.office, &mut self.first, command),
             SeatCall::Answer => {
                 desk_answers(self.rt, &self.office, &mut self.first, command, out)
             }
-            _ => Told::Other,
+            SeatCall::Show => shows(&mut self.second),
+            SeatCall::AnswerShow => pass_answers(&mut self.second, false, out),
+            SeatCall::AnswerRole => pass_answers(&mut self.second, true, out),
+        }
+    }
+}
+
+impl<N: OfficeName, H: Wait + Drop, R: Wait> Caller<SeatCall> for Seats<'_, N, H, R> {
+    fn told(&mut self, call: &SeatCall, hoard: &mut Hoard, bytes: usize) -> Told {
+        let Some(command) = enter(next_sail(self.entered)) else {
+            return Told::Other;
         };
+        let Ok(mut out) = Vec::from_slice(self.alloc, BEFORE) else {
+            return Told::Other;
+        };
+        hoard.leave(bytes);
+        let told = self.answers(call, command, &mut out);
         hoard.give_back();
-        if let Told::Ordinary = told {
+        if let (SeatCall::Run | SeatCall::Answer, Told::Ordinary) = (call, told) {
             self.entered = self.entered.saturating_add(1);
         }
         if self.has_entered() {
             told
         } else {
             Told::Other
-        }
-    }
-
-    /// What seat 2 is told with so many bytes left.
-    fn looks(
-        &mut self,
-        call: SeatCall,
-        hoard: &mut Hoard,
-        bytes: usize,
-        out: &mut Vec<u8>,
-    ) -> Told {
-        hoard.leave(bytes);
-        let told = match call {
-            SeatCall::Show => shows(&mut self.second),
-            SeatCall::AnswerShow => pass_answers(&mut self.second, false, out),
-            SeatCall::AnswerRole => pass_answers(&mut self.second, true, out),
-            _ => Told::Other,
-        };
-        hoard.give_back();
-        told
-    }
-}
-
-impl<N: OfficeName, H: Wait + Drop, R: Wait> Caller<SeatCall> for Seats<'_, N, H, R> {
-    fn told(&mut self, call: &SeatCall, hoard: &mut Hoard, bytes: usize) -> Told {
-        let Ok(mut out) = Vec::from_slice(self.alloc, BEFORE) else {
-            return Told::Other;
-        };
-        match call {
-            SeatCall::Run | SeatCall::Answer => self.enters(*call, hoard, bytes, &mut out),
-            _ => self.looks(*call, hoard, bytes, &mut out),
         }
     }
 }
@@ -372,7 +348,7 @@ fn are_refused_at<N: OfficeName, H: Wait + Drop, R: Wait>(
     }
 }
 
-/// The same, at an office that is opened for it with the entries of these boats.
+/// The same, at an office that is opened for it from these entries, which are of so many boats.
 fn are_seats_refused<R: Wait>(
     rt: &R,
     alloc: Global,

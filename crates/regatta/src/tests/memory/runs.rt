@@ -180,8 +180,8 @@ where
     false
 }
 
-/// Whether these runs of the program are refused first, so often at least. They go by no `Caller`,
-/// since no proof knows of a runtime behind one that threads may share it.
+/// Whether these runs of the program are refused first, so often at least. They go by no `Caller`:
+/// behind a trait no proof knows that threads may share the runtime.
 fn are_runs_refused<R>(rt: &R, hoard: &mut Hoard, calls: &[(Words, u32)]) -> bool
 where
     R: Files + AllocGlobal + Threads + Wait + Net + Sync,

@@ -7,7 +7,7 @@ ghost use Rattle.regatta_scores.specs.declared.sheet.Change.TheVariants.{Last};
 
 use super::*;
 use regatta_scores::{
-    BoatLine, Change, Held, NOTHING_HELD, Place, RaceSheet, RowItem, Scored, Work, averages,
+    BoatLine, Change, Held, NOTHING_HELD, Places, RaceSheet, RowItem, Scored, Work, averages,
     excluded, race_points, race_scores, ranks, ranks_of,
 };
 use regatta_terms::{Award, Redress, Seconds, Tenths};
@@ -25,6 +25,7 @@ enum Call {
     Scores,
     Averages,
     Excluded,
+    Line,
     Ranks,
     RanksOf,
     AddBoat,
@@ -199,25 +200,42 @@ fn line(alloc: Global, points: u32) -> Result<BoatLine, AllocError> {
     BoatLine::new(alloc, &[tenths(points), tenths(points)], &[false, false])
 }
 
-/// Whether the first two places are shared, and the third boat is third, as behind two lines with
-/// the same points and one with more (RRS A8).
-fn are_places(places: &[Place]) -> bool {
-    match places {
-        [one, two, three] => one.tied && two.rank == 1 && three.rank == 3,
-        _ => false,
+/// Whether such a line has their sum.
+fn is_line(alloc: Global) -> Result<bool, AllocError> {
+    let line = line(alloc, 15)?;
+    Ok(line.net() == 30)
+}
+
+/// Three lines, of which two have the same points, and the third has more.
+fn three_lines(alloc: Global) -> Result<[BoatLine; 3], AllocError> {
+    Ok([line(alloc, 15)?, line(alloc, 15)?, line(alloc, 30)?])
+}
+
+/// What the ranks behind three such lines tell: the first two places are shared, and the third boat
+/// is third (RRS A8).
+fn places_tell(ranked: Result<Places, AllocError>) -> Told {
+    match ranked {
+        Ok(places) => ordinary_if(match places.as_slice() {
+            [one, two, three] => one.tied && two.rank == 1 && three.rank == 3,
+            _ => false,
+        }),
+        Err(_) => Told::Wanting,
     }
 }
 
-fn are_ranks(alloc: Global) -> Result<bool, AllocError> {
-    let lines = [line(alloc, 15)?, line(alloc, 15)?, line(alloc, 30)?];
-    let places = ranks(alloc, &lines)?;
-    Ok(are_places(places.as_slice()))
-}
-
-fn are_ranks_of(alloc: Global) -> Result<bool, AllocError> {
-    let (one, two, three) = (line(alloc, 15)?, line(alloc, 15)?, line(alloc, 30)?);
-    let places = ranks_of(alloc, &[&one, &two, &three])?;
-    Ok(are_places(places.as_slice()))
+/// What the ranks of lines tell with so many bytes left, or those of references to them.
+fn ranks_tell(alloc: Global, hoard: &mut Hoard, bytes: usize, of: bool) -> Told {
+    let Ok(lines) = three_lines(alloc) else {
+        return Told::Other;
+    };
+    hoard.leave(bytes);
+    let ranked = if of {
+        ranks_of(alloc, &[&lines[0], &lines[1], &lines[2]])
+    } else {
+        ranks(alloc, &lines)
+    };
+    hoard.give_back();
+    places_tell(ranked)
 }
 
 /// Whether a call that changes no sheet answers what is due, of a race in which the first of three
@@ -228,8 +246,7 @@ fn answers(alloc: Global, first: &RaceSheet, call: Call) -> Result<bool, AllocEr
         Call::Scores => are_scores(alloc, first),
         Call::Averages => are_averages(alloc),
         Call::Excluded => is_excluded(alloc),
-        Call::Ranks => are_ranks(alloc),
-        Call::RanksOf => are_ranks_of(alloc),
+        Call::Line => is_line(alloc),
         Call::Sheet => makes_sheet(alloc),
         _ => Ok(false),
     }
@@ -268,6 +285,8 @@ impl Caller<Call> for Races {
                 Ok(blank) => changes_blank(alloc, hoard, bytes, &blank, *call),
                 Err(_) => Told::Other,
             },
+            Call::Ranks => ranks_tell(alloc, hoard, bytes, false),
+            Call::RanksOf => ranks_tell(alloc, hoard, bytes, true),
             _ => match one_finished(alloc) {
                 Ok(first) => told_of_first(alloc, hoard, bytes, &first, *call),
                 Err(_) => Told::Other,
@@ -285,6 +304,7 @@ fn scoring_wants_memory(rt: HostRuntime) {
         (Call::Scores, 4),
         (Call::Averages, 2),
         (Call::Excluded, 1),
+        (Call::Line, 0),
         (Call::Ranks, 7),
         (Call::RanksOf, 5),
         (Call::AddBoat, 65),

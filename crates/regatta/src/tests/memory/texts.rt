@@ -41,9 +41,12 @@ enum Call<'a> {
     Start,
 }
 
-/// What reading a journal tells.
-fn reads_journal(alloc: Global) -> Told {
-    match read_journal(alloc, DISQUALIFIED) {
+/// What reading a journal tells with so many bytes left.
+fn reads_journal(alloc: Global, hoard: &mut Hoard, bytes: usize) -> Told {
+    hoard.leave(bytes);
+    let read = read_journal(alloc, DISQUALIFIED);
+    hoard.give_back();
+    match read {
         Ok(journal) => ordinary_if(journal.as_slice().len() == 8),
         Err(why) => wanting_if(why == JournalFault::NoMemory),
     }
@@ -60,21 +63,35 @@ fn are_sails(sails: &[Sail]) -> bool {
     }
 }
 
-/// What reading an entry list tells.
-fn reads_list(alloc: Global) -> Told {
-    match read_entries(alloc, LIST) {
+/// What reading an entry list tells with so many bytes left.
+fn reads_list(alloc: Global, hoard: &mut Hoard, bytes: usize) -> Told {
+    hoard.leave(bytes);
+    let read = read_entries(alloc, LIST);
+    hoard.give_back();
+    match read {
         Ok(sails) => ordinary_if(are_sails(sails.as_slice())),
         Err(why) => wanting_if(why == EntriesFault::NoMemory),
     }
 }
 
-/// Whether the entries that a series starts with are those of two sails.
-fn starts(alloc: Global, sails: &[Sail]) -> Result<bool, AllocError> {
-    let start = start_of(alloc, &[], sails)?;
+/// Whether these are the entries of the list's two sails, and there is memory to tell.
+fn are_entered(alloc: Global, entries: &[Entry]) -> bool {
     let mut text = Vec::new(alloc);
-    write_journal(start.as_slice(), &mut text)?;
+    let is_written = write_journal(entries, &mut text).is_ok();
     let wanted = b"REGATTA 2\n1 1 SCORER ENTER GBR12\n1 2 SCORER ENTER NED7\n";
-    Ok(text.as_slice() == wanted.as_slice())
+    is_written && text.as_slice() == wanted.as_slice()
+}
+
+/// What the entries that a series starts with, made of the list's sails with so many bytes left,
+/// tell.
+fn starts(alloc: Global, hoard: &mut Hoard, bytes: usize, sails: &[Sail]) -> Told {
+    hoard.leave(bytes);
+    let start = start_of(alloc, &[], sails);
+    hoard.give_back();
+    match start {
+        Ok(start) => ordinary_if(are_entered(alloc, start.as_slice())),
+        Err(_) => Told::Wanting,
+    }
 }
 
 /// What the texts are made of.
@@ -103,13 +120,17 @@ impl Texts {
         }
     }
 
-    /// What appending the text tells. Behind a refusal there is what was there, and no less room.
-    fn appends(&self, what: Text, wanted: &[u8]) -> Told {
+    /// What appending the text tells with so many bytes left. Behind a refusal there is what was
+    /// there, and no less room.
+    fn appends(&self, hoard: &mut Hoard, bytes: usize, what: Text, wanted: &[u8]) -> Told {
         let Ok(mut text) = Vec::from_slice(self.alloc, BEFORE) else {
-            return Told::Wanting;
+            return Told::Other;
         };
         let room = text.capacity();
-        match self.write(what, &mut text) {
+        hoard.leave(bytes);
+        let written = self.write(what, &mut text);
+        hoard.give_back();
+        match written {
             Ok(()) => ordinary_if(text.strip_prefix(BEFORE) == Some(wanted)),
             Err(_) => wanting_if(text.as_slice() == BEFORE && room <= text.capacity()),
         }
@@ -118,15 +139,12 @@ impl Texts {
 
 impl Caller<Call<'_>> for Texts {
     fn told(&mut self, call: &Call<'_>, hoard: &mut Hoard, bytes: usize) -> Told {
-        hoard.leave(bytes);
-        let told = match call {
-            Call::Write(what, wanted) => self.appends(*what, wanted),
-            Call::ReadJournal => reads_journal(self.alloc),
-            Call::ReadEntries => reads_list(self.alloc),
-            Call::Start => tells(starts(self.alloc, self.sails.as_slice())),
-        };
-        hoard.give_back();
-        told
+        match call {
+            Call::Write(what, wanted) => self.appends(hoard, bytes, *what, wanted),
+            Call::ReadJournal => reads_journal(self.alloc, hoard, bytes),
+            Call::ReadEntries => reads_list(self.alloc, hoard, bytes),
+            Call::Start => starts(self.alloc, hoard, bytes, self.sails.as_slice()),
+        }
     }
 }
 
@@ -150,13 +168,13 @@ fn are_texts_refused(alloc: Global, file: &[u8]) -> bool {
     let calls = [
         (Call::Write(Text::Entry, b"1 1 SCORER ENTER A"), 4),
         (Call::Write(Text::Journal, file), 75),
-        (Call::Write(Text::Table, DISQUALIFIED_TABLE), 65),
+        (Call::Write(Text::Table, DISQUALIFIED_TABLE), 6),
         (Call::Write(Text::Csv, CSV), 40),
         (Call::Write(Text::Sheet, SHEET), 75),
         (Call::Write(Text::Reply, b"BYE\n"), 4),
         (Call::ReadJournal, 35),
         (Call::ReadEntries, 55),
-        (Call::Start, 80),
+        (Call::Start, 18),
     ];
     match texts_of(alloc) {
         Some(mut texts) => are_refused(alloc, &mut texts, &calls, SMALL_STEPS),
