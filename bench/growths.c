@@ -18,6 +18,10 @@
 
 #define RUN_BEGINS 2047
 #define CALL_ENDS 2045
+/* A hoard asks for blocks of this size while it fills its region, and no call does. Where a run is left
+ * no byte, the block that keeps room for it meanwhile has the size of RUN_BEGINS, too: what is asked for
+ * behind that one is the hoard's, and no run. */
+#define FILLS 0x2000000
 #define MOST 200000
 
 extern void *__libc_malloc(size_t size);
@@ -29,7 +33,7 @@ struct block {
 };
 
 static void *begin_of_run;
-static int is_running;
+static int is_running, is_filling;
 static long requests, first_refused, refused_runs, given_back;
 static unsigned char is_met[MOST], is_had[MOST];
 static size_t sizes[MOST];
@@ -48,6 +52,7 @@ static void give(struct block block) {
 static void count(void *begin, size_t size, struct block before) {
     if (requests + 1 >= MOST)
         return;
+    is_filling |= size == FILLS;
     sizes[++requests] = size;
     is_had[requests] = begin && before.begin && size <= (size_t)(before.end - before.begin);
     if (!begin) {
@@ -63,7 +68,7 @@ static void count(void *begin, size_t size, struct block before) {
 
 static void end_run(void) {
     is_running = 0;
-    if (first_refused) {
+    if (first_refused && !is_filling) {
         is_met[first_refused] = 1;
         refused_runs++;
     }
@@ -96,7 +101,7 @@ void *malloc(size_t size) {
     } else if (size == RUN_BEGINS && block) {
         begin_of_run = block;
         is_running = 1;
-        requests = first_refused = given_back = 0;
+        is_filling = requests = first_refused = given_back = 0;
     } else if (size == CALL_ENDS) {
         end_call();
     }

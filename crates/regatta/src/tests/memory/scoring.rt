@@ -224,12 +224,12 @@ fn places_tell(ranked: Result<Places, AllocError>) -> Told {
 }
 
 /// What the ranks of lines tell with so many bytes left, or those of references to them.
-fn ranks_tell(alloc: Global, hoard: &mut Hoard, bytes: usize, of: bool) -> Told {
+fn ranks_tell(alloc: Global, hoard: &mut Hoard, bytes: usize, are_references: bool) -> Told {
     let Ok(lines) = three_lines(alloc) else {
         return Told::Other;
     };
     hoard.leave(bytes);
-    let ranked = if of {
+    let ranked = if are_references {
         ranks_of(alloc, &[&lines[0], &lines[1], &lines[2]])
     } else {
         ranks(alloc, &lines)
