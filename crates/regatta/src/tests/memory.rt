@@ -1,10 +1,10 @@
 //! Each growth refused in turn: calls that take memory, on a short input, with more and more bytes
 //! left to them until they meet no refusal. A call is a line of a list, with how often it is refused
-//! at least before that: a little less than `bench/growths.py` counted. Only serving has no line,
+//! at least before that: no more often than `bench/growths.py` counted. Only serving has no line,
 //! since it is refused its thread as well.
 
 use super::*;
-use hoard::{Caller, Hoard, MOST_RUNS, SMALL_STEPS, Steps, Told, are_refused};
+use hoard::{Caller, FINE_RUNS, Hoard, MOST_RUNS, Told, are_refused, bytes_left};
 use regatta_scores::Standing;
 use regatta_tables::{Journal, read_journal, write_table};
 use std::alloc::AllocError;
@@ -16,15 +16,6 @@ mod runs;
 mod scoring;
 mod texts;
 
-/// A and B tie for first, and C is third. Then A is disqualified (RRS A6.1, A7).
-static DISQUALIFIED: &[u8] = b"1 1 SCORER ENTER A\n1 2 SCORER ENTER B\n1 3 SCORER ENTER C\n\
-    1 4 SCORER FINISH 1 A\n1 5 SCORER TIE 1 B A\n1 6 SCORER FINISH 1 C\n1 7 SCORER SCORE 1\n\
-    1 8 JURY MARK 1 A DSQ\n";
-
-/// The table behind these entries.
-static DISQUALIFIED_TABLE: &[u8] = b"TABLE 3 RACES 1\n1 B 1.0 1.0\n2 C 2.0 2.0\n\
-    3 A 4.0 4.0/DSQ\n";
-
 /// What a call tells that didn't answer as wanting memory.
 fn ordinary_if(is_due: bool) -> Told {
     if is_due { Told::Ordinary } else { Told::Other }
@@ -33,6 +24,12 @@ fn ordinary_if(is_due: bool) -> Told {
 /// What a call tells that answered as wanting memory.
 fn wanting_if(stands: bool) -> Told {
     if stands { Told::Wanting } else { Told::Other }
+}
+
+/// What a call told, where all is behind it as it is to be. Whoever holds much calls this rather than
+/// branch, since each branch is proved to give all of it back.
+fn told_if(is_due: bool, told: Told) -> Told {
+    if is_due { told } else { Told::Other }
 }
 
 /// What a call tells that has no other error than want of memory.

@@ -5,7 +5,7 @@ use regatta_board::{Board, ReplayFault, standing_of};
 use regatta_terms::Refusal;
 
 /// The calls of a board and of its journal.
-#[derive(Clone, Copy)]
+#[derive(Drop)]
 enum Call {
     Open,
     /// The next entry of the journal is prepared.
@@ -16,15 +16,6 @@ enum Call {
     Standing,
     /// The standing of all entries.
     StandingOf,
-}
-
-/// A journal's text, the calls of a board that takes its entries, how often each is refused at least,
-/// and the table behind the last entry.
-#[derive(Clone, Copy)]
-struct Series {
-    text: &'static [u8],
-    calls: &'static [(Call, u32)],
-    table: &'static [u8],
 }
 
 /// Every command by finishes, and who is where behind them: A is disqualified, cleared and struck
@@ -101,24 +92,6 @@ static TIMES_CALLS: [(Call, u32); 17] = [
     (Call::Standing, 20),
 ];
 
-/// The series by finishes.
-fn by_finishes() -> Series {
-    Series {
-        text: FINISHES,
-        calls: &FINISHES_CALLS,
-        table: FINISHES_TABLE,
-    }
-}
-
-/// The series by corrected times.
-fn by_times() -> Series {
-    Series {
-        text: TIMES,
-        calls: &TIMES_CALLS,
-        table: TIMES_TABLE,
-    }
-}
-
 /// What opening a board tells.
 fn opens(alloc: Global, rules: Rules) -> Told {
     match Board::open(alloc, rules) {
@@ -134,61 +107,19 @@ fn prepared(board: &Board, entry: Entry) -> Result<(Entry, u32), Refusal> {
 }
 
 /// What preparing the entry tells.
-fn prepares(board: &Board, entry: Option<&Entry>) -> Told {
-    let Some(entry) = entry else {
-        return Told::Other;
-    };
-    match prepared(board, *entry) {
-        Ok((found, place)) => ordinary_if(found == *entry && place as usize == board.len() + 1),
+fn prepares(board: &Board, entry: Entry) -> Told {
+    match prepared(board, entry) {
+        Ok((found, place)) => ordinary_if(found == entry && place as usize == board.len() + 1),
         Err(why) => wanting_if(why == Refusal::NoMemory),
     }
 }
 
 /// What appending the entry tells. Behind a refusal the journal has no more entries.
-fn applies(board: &mut Board, entry: Option<&Entry>) -> Told {
-    let Some(entry) = entry else {
-        return Told::Other;
-    };
+fn applies(board: &mut Board, entry: Entry) -> Told {
     let before = board.len();
-    match board.apply(*entry) {
+    match board.apply(entry) {
         Ok(answer) => ordinary_if(board.len() == before + 1 && answer.place as usize == before + 1),
         Err(why) => wanting_if(why == Refusal::NoMemory && board.len() == before),
-    }
-}
-
-/// Whether a standing's table is this text, and there is memory to tell.
-fn is_table(alloc: Global, standing: &Standing, wanted: &[u8]) -> bool {
-    let mut text = Vec::new(alloc);
-    let is_written = write_table(standing, &mut text).is_ok();
-    is_written && text.as_slice() == wanted
-}
-
-/// What the board's standing, made with so many bytes left, tells by its table.
-fn stands(alloc: Global, hoard: &mut Hoard, bytes: usize, board: &Board, table: &[u8]) -> Told {
-    hoard.leave(bytes);
-    let standing = board.standing();
-    hoard.give_back();
-    match standing {
-        Ok(standing) => ordinary_if(is_table(alloc, &standing, table)),
-        Err(_) => Told::Wanting,
-    }
-}
-
-/// What the standing of entries, made with so many bytes left, tells by its table.
-fn replays(
-    alloc: Global,
-    hoard: &mut Hoard,
-    bytes: usize,
-    rules: &Rules,
-    entries: &[Entry],
-    table: &[u8],
-) -> Told {
-    hoard.leave(bytes);
-    let standing = standing_of(alloc, rules, entries);
-    hoard.give_back();
-    match standing {
-        Ok(standing) => ordinary_if(is_table(alloc, &standing, table)),
-        Err(why) => wanting_if(why == ReplayFault::NoMemory),
     }
 }
 
@@ -203,67 +134,101 @@ struct Clerk<'a> {
 }
 
 impl Clerk<'_> {
-    /// What a call that makes no standing tells with so many bytes left.
-    fn takes(&mut self, call: &Call, hoard: &mut Hoard, bytes: usize) -> Told {
-        let next = self.entries.get(self.board.len());
+    /// What a call tells that makes no standing.
+    fn takes(&mut self, call: &Call) -> Told {
+        match (call, self.entries.get(self.board.len())) {
+            (Call::Open, _) => opens(self.alloc, self.rules),
+            (Call::Prepare, Some(next)) => prepares(self.board, *next),
+            (Call::Apply, Some(next)) => applies(self.board, *next),
+            _ => Told::Other,
+        }
+    }
+
+    /// The standing of the board, whose one error is want of memory, or of the journal's entries.
+    fn standing(&self, call: &Call) -> Result<Standing, ReplayFault> {
+        match call {
+            Call::StandingOf => standing_of(self.alloc, &self.rules, self.entries),
+            _ => self.board.standing().or(Err(ReplayFault::NoMemory)),
+        }
+    }
+
+    /// Whether a standing has the table that is due, and there is memory to tell.
+    fn has_table(&self, standing: &Standing) -> bool {
+        let mut text = Vec::new(self.alloc);
+        let is_written = write_table(standing, &mut text).is_ok();
+        is_written && text.as_slice() == self.table
+    }
+
+    /// What a standing that is made with so many bytes left tells by its table.
+    fn stands(&self, call: &Call, hoard: &mut Hoard, bytes: usize) -> Told {
         hoard.leave(bytes);
-        let told = match call {
-            Call::Open => opens(self.alloc, self.rules),
-            Call::Prepare => prepares(self.board, next),
-            Call::Apply => applies(self.board, next),
-            Call::Standing | Call::StandingOf => Told::Other,
-        };
+        let standing = self.standing(call);
         hoard.give_back();
-        told
+        match standing {
+            Ok(standing) => ordinary_if(self.has_table(&standing)),
+            Err(why) => wanting_if(why == ReplayFault::NoMemory),
+        }
     }
 }
 
 impl Caller<Call> for Clerk<'_> {
     fn told(&mut self, call: &Call, hoard: &mut Hoard, bytes: usize) -> Told {
-        let alloc = self.alloc;
-        match call {
-            Call::Standing => stands(alloc, hoard, bytes, self.board, self.table),
-            Call::StandingOf => {
-                replays(alloc, hoard, bytes, &self.rules, self.entries, self.table)
-            }
-            Call::Open | Call::Prepare | Call::Apply => self.takes(call, hoard, bytes),
+        if let Call::Standing | Call::StandingOf = call {
+            return self.stands(call, hoard, bytes);
         }
+        hoard.leave(bytes);
+        let told = self.takes(call);
+        hoard.give_back();
+        told
     }
 }
 
-/// Whether all calls with these entries are refused first.
+/// Whether all calls with these entries are refused first, so often at least, and the table behind
+/// them is this one.
 fn are_calls_refused(
     alloc: Global,
     rules: Rules,
     entries: &[Entry],
-    series: Series,
-) -> Result<bool, AllocError> {
-    let mut board = Board::open(alloc, rules)?;
-    let mut clerk = Clerk {
-        alloc,
-        rules,
-        entries,
-        table: series.table,
-        board: &mut board,
-    };
-    Ok(are_refused(alloc, &mut clerk, series.calls, Steps::of_journals(16_384)))
+    calls: &[(Call, u32)],
+    table: &'static [u8],
+) -> bool {
+    match Board::open(alloc, rules) {
+        Ok(mut board) => {
+            let mut clerk = Clerk {
+                alloc,
+                rules,
+                entries,
+                table,
+                board: &mut board,
+            };
+            are_refused(alloc, &mut clerk, calls)
+        }
+        Err(_) => false,
+    }
 }
 
-/// Whether all calls with the journal's entries are refused first.
-fn is_refused(alloc: Global, rules: Rules, series: Series) -> bool {
-    match read_journal(alloc, series.text) {
-        Ok(journal) => are_calls_refused(alloc, rules, journal.as_slice(), series) == Ok(true),
+/// The same, with the entries of a journal.
+fn is_refused(
+    alloc: Global,
+    rules: Rules,
+    text: &[u8],
+    calls: &[(Call, u32)],
+    table: &'static [u8],
+) -> bool {
+    match read_journal(alloc, text) {
+        Ok(journal) => are_calls_refused(alloc, rules, journal.as_slice(), calls, table),
         Err(_) => false,
     }
 }
 
 #[test]
 fn a_board_wants_memory(rt: HostRuntime) {
-    assert!(rt; is_refused(rt.alloc(), default_rules(), by_finishes()));
+    let rules = default_rules();
+    assert!(rt; is_refused(rt.alloc(), rules, FINISHES, &FINISHES_CALLS, FINISHES_TABLE));
 }
 
 #[test]
 fn a_board_by_times_wants_memory(rt: HostRuntime) {
     let rules = Rules::new(Absent::A52, None, &[2], true).unwrap();
-    assert!(rt; is_refused(rt.alloc(), rules, by_times()));
+    assert!(rt; is_refused(rt.alloc(), rules, TIMES, &TIMES_CALLS, TIMES_TABLE));
 }

@@ -99,39 +99,20 @@ const DEPTH: usize = 4096;
 /// More runs than any call is made of.
 pub(crate) const MOST_RUNS: usize = 100_000;
 
-/// How many bytes are left to the runs of a call: more by a unit each time, so that no growth that
-/// asks for more than the call has freed is passed over.
+/// How many runs go through the bytes by units, before these jump by a room: 16 KiB, more than any
+/// call asks for besides its rooms. One that asks for more needs more such runs, as the program does.
+pub(crate) const FINE_RUNS: usize = 1024;
+
+/// How many bytes are left to this run of a call, counted from 0: more by a unit each time, so that no
+/// growth that asks for more than the call has freed is passed over.
 ///
 /// Some calls ask for rooms for all entries that there may be. At any moment such a call has some of
-/// these rooms, and fewer bytes besides than these runs go through; so behind them the bytes jump by
+/// these rooms, and fewer bytes besides than so many runs go through; so behind them the bytes jump by
 /// a room.
-#[derive(Clone, Copy)]
-pub(crate) struct Steps {
-    runs: usize,
-    jump: usize,
-}
-
-/// The steps of a call that asks for no room for all entries.
-pub(crate) const SMALL_STEPS: Steps = Steps {
-    runs: 1024,
-    jump: 1024 * UNIT,
-};
-
-impl Steps {
-    /// The steps of calls that may ask for such rooms, and of all else for less than so many bytes.
-    pub(crate) fn of_journals(bytes: usize) -> Steps {
-        Steps {
-            runs: bytes / UNIT,
-            jump: MAX_ENTRIES * size_of::<Entry>() + UNIT,
-        }
-    }
-
-    /// How many bytes are left to this run, counted from 0.
-    pub(crate) fn bytes(self, run: usize) -> usize {
-        let runs = self.runs.max(1);
-        let jumped = (run / runs).saturating_mul(self.jump);
-        jumped.saturating_add((run % runs).saturating_mul(UNIT))
-    }
+pub(crate) fn bytes_left(run: usize, fine_runs: usize) -> usize {
+    let runs = fine_runs.max(1);
+    let jumped = (run / runs).saturating_mul(MAX_ENTRIES * size_of::<Entry>() + UNIT);
+    jumped.saturating_add((run % runs).saturating_mul(UNIT))
 }
 
 impl Blocks {
@@ -151,9 +132,9 @@ impl Blocks {
         }
     }
 
-    /// Takes all blocks of this size.
-    fn fill(&mut self, size: usize) {
-        for _ in 0..BLOCKS {
+    /// Takes so many blocks of this size, or all that there are.
+    fn fill(&mut self, size: usize, most: usize) {
+        for _ in 0..most {
             if !self.hold(size) {
                 break;
             }
@@ -168,15 +149,8 @@ impl Blocks {
             if size < least {
                 break;
             }
-            self.fill(size);
+            self.fill(size, BLOCKS);
             size /= 2;
-        }
-    }
-
-    /// Takes as many blocks of this size as the heap keeps apart, and first those that it keeps.
-    fn take_kept_of(&mut self, size: usize) {
-        for _ in 0..KEPT_OF_EACH {
-            self.hold(size);
         }
     }
 
@@ -184,7 +158,7 @@ impl Blocks {
     fn take_kept(&mut self) {
         let mut size = KEPT_LEAST;
         for _ in 0..KEPT_SIZES {
-            self.take_kept_of(size);
+            self.fill(size, KEPT_OF_EACH);
             size = size.saturating_add(UNIT);
         }
     }
@@ -203,7 +177,7 @@ impl Blocks {
     fn fill_small(&mut self) {
         let mut size = MOST_UNITS * UNIT - 8;
         for _ in 0..MOST_UNITS {
-            self.fill(size);
+            self.fill(size, BLOCKS);
             size = size.saturating_sub(UNIT);
         }
     }
@@ -223,43 +197,26 @@ fn deepest(depth: usize, above: &Depth) -> u8 {
     deepest(depth - 1, &block)
 }
 
-/// The pieces of a region.
-fn pieces(alloc: Global) -> Result<Vec<Vec<u8>>, AllocError> {
-    let mut all = Vec::with_capacity(alloc, PIECES)?;
-    for _ in 0..PIECES {
-        all.push(Vec::with_capacity(alloc, PIECE)?)?;
-    }
-    Ok(all)
-}
-
 impl Hoard {
     /// Takes all memory but for a region of the heap. None at the heap of a sanitizer, which doesn't
     /// give the same memory twice, and ends the process where it has no more.
     pub(crate) fn new(alloc: Global) -> Result<Option<Hoard>, AllocError> {
         let depth = deepest(DEPTH, &[0; 512]);
-        let mut hoard = Hoard::without_blocks(alloc)?;
-        let is_plain = hoard.take_all(depth)?;
+        let mut hoard = Hoard {
+            rest: Blocks::new(alloc)?,
+            apart: Blocks::new(alloc)?,
+            region: Blocks::new(alloc)?,
+            refused: 0,
+            has_left: true,
+        };
+        let is_plain = hoard.take_all(depth);
         Ok(if is_plain { Some(hoard) } else { None })
     }
 
-    /// A hoard that has taken nothing.
-    fn without_blocks(alloc: Global) -> Result<Hoard, AllocError> {
-        let rest = Blocks::new(alloc)?;
-        let apart = Blocks::new(alloc)?;
-        let region = Blocks::new(alloc)?;
-        Ok(Hoard {
-            rest,
-            apart,
-            region,
-            refused: 0,
-            has_left: true,
-        })
-    }
-
     /// Takes all memory but for the region. False at the heap of a sanitizer.
-    fn take_all(&mut self, depth: u8) -> Result<bool, AllocError> {
+    fn take_all(&mut self, depth: u8) -> bool {
         self.apart.take_kept();
-        let left = pieces(self.rest.alloc)?;
+        self.region.fill(PIECE, PIECES);
         // This block lies above the region, so that the heap keeps the region when it is free. Its
         // size makes the compiler keep the walk down the stack.
         self.rest.hold(64 + usize::from(depth));
@@ -269,8 +226,8 @@ impl Hoard {
             self.rest.fill_large(WIDE, LEAST_LARGE);
             self.rest.fill_small();
         }
-        drop(left);
-        Ok(is_plain)
+        self.give_back();
+        is_plain
     }
 
     /// Leaves so many bytes to the calls that come, until `give_back`. `has_left` says where there
@@ -325,15 +282,9 @@ impl Hoard {
 
     /// Makes the call with more and more bytes left to it, until it answers as it does with ample
     /// memory: whether it was refused before that at least so often, and answered nothing else.
-    fn refuses<C, M: Caller<C>>(
-        &mut self,
-        caller: &mut M,
-        call: &C,
-        least: u32,
-        steps: Steps,
-    ) -> bool {
+    fn refuses<C, M: Caller<C>>(&mut self, caller: &mut M, call: &C, least: u32) -> bool {
         for run in 0..MOST_RUNS {
-            let told = caller.told(call, self, steps.bytes(run));
+            let told = caller.told(call, self, bytes_left(run, FINE_RUNS));
             if let Some(passed) = self.verdict(told, least) {
                 return passed;
             }
@@ -342,14 +293,9 @@ impl Hoard {
     }
 
     /// Whether each of these calls is refused first, so often at least, one after another.
-    fn refuses_each<C, M: Caller<C>>(
-        &mut self,
-        caller: &mut M,
-        calls: &[(C, u32)],
-        steps: Steps,
-    ) -> bool {
+    fn refuses_each<C, M: Caller<C>>(&mut self, caller: &mut M, calls: &[(C, u32)]) -> bool {
         for (call, least) in calls {
-            if !self.refuses(caller, call, *least, steps) {
+            if !self.refuses(caller, call, *least) {
                 return false;
             }
         }
@@ -363,10 +309,9 @@ pub(crate) fn are_refused<C, M: Caller<C>>(
     alloc: Global,
     caller: &mut M,
     calls: &[(C, u32)],
-    steps: Steps,
 ) -> bool {
     match Hoard::new(alloc) {
-        Ok(Some(mut hoard)) => hoard.refuses_each(caller, calls, steps),
+        Ok(Some(mut hoard)) => hoard.refuses_each(caller, calls),
         Ok(None) => true,
         Err(_) => false,
     }

@@ -3,6 +3,7 @@ ghost use Rattle.std.specs.Prelude.{◌≡◌};
 
 use super::super::offices::{enter, is_shown, one_seat, opened_office, two_seats};
 use super::super::sessions::{has_journal, place_of};
+use super::runs::replays;
 use super::*;
 use regatta_office::{
     End, Office, OfficeName, OpenFault, OpenGate, Opened, Pass, ShowFault, answer_alone, session,
@@ -11,18 +12,15 @@ use regatta_terms::{Command, Line, Refusal, Role, read_entry};
 use std::marker::Brand;
 use std::sync::Wait;
 
-/// An office of two seats, with these entries to begin from.
-fn opened_from<'a, R: Wait>(
-    rt: &'a R,
-    alloc: Global,
-    start: &[Entry],
-) -> Result<Opened<&'a R>, OpenFault> {
-    Office::open(rt, alloc, &default_rules(), 2, start)
+/// An office of two seats, of which the first has entered A.
+fn opened_with_a<R: Wait>(rt: &R, alloc: Global) -> Result<Opened<&R>, OpenFault> {
+    let start = read_entry(b"1 1 SCORER ENTER A").ok();
+    Office::open(rt, alloc, &default_rules(), 2, start.as_slice())
 }
 
-/// What opening an office tells.
-fn opens<R: Wait>(rt: &R, alloc: Global, start: &[Entry]) -> Told {
-    match opened_from(rt, alloc, start).err() {
+/// What opening such an office tells.
+fn opens<R: Wait>(rt: &R, alloc: Global) -> Told {
+    match opened_with_a(rt, alloc).err() {
         None => Told::Ordinary,
         Some(why) => wanting_if(why == OpenFault::NoMemory || why == OpenFault::NoReader),
     }
@@ -93,8 +91,10 @@ fn session_with<N: OfficeName, H: Wait + Drop, R: Wait>(
             let end = session(rt, alloc, tape, &office, &mut pass, &OpenGate);
             hoard.give_back();
             let told = session_tells(end, tape.written(), pass.last());
-            let is_kept = has_journal(rt, alloc, &office, journal_of(pass.last()));
-            if is_kept { told } else { Told::Other }
+            told_if(
+                has_journal(rt, alloc, &office, journal_of(pass.last())),
+                told,
+            )
         }
         None => Told::Other,
     }
@@ -111,19 +111,20 @@ fn session_at<R: Wait>(rt: &R, alloc: Global, hoard: &mut Hoard, bytes: usize) -
     }
 }
 
-/// The calls that open an office, or are made at one that was just opened.
-#[derive(Clone, Copy)]
+/// The calls that open an office, or are made at one that was just opened. A replay stands here since
+/// it asks for rooms like theirs, and one test fewer is one hoard fewer.
+#[derive(Drop)]
 enum OfficeCall {
     Open,
     Split,
     Session,
+    Replay,
 }
 
-/// Offices that are opened, from these entries or from none.
+/// Offices that are opened, and replays.
 #[derive(Drop)]
 struct Offices<'a, R: AllocGlobal + Wait> {
     rt: &'a R,
-    start: &'a [Entry],
 }
 
 impl<R: AllocGlobal + Wait> Caller<OfficeCall> for Offices<'_, R> {
@@ -132,35 +133,27 @@ impl<R: AllocGlobal + Wait> Caller<OfficeCall> for Offices<'_, R> {
         match call {
             OfficeCall::Open => {
                 hoard.leave(bytes);
-                let told = opens(self.rt, alloc, self.start);
+                let told = opens(self.rt, alloc);
                 hoard.give_back();
                 told
             }
             OfficeCall::Split => splits(self.rt, alloc, hoard, bytes),
             OfficeCall::Session => session_at(self.rt, alloc, hoard, bytes),
+            OfficeCall::Replay => replays(alloc, hoard, bytes),
         }
     }
 }
 
-/// The entry by which seat 1 enters A as scorer.
-fn entry_of_a() -> Result<Entry, Fail> {
-    Ok(read_entry(b"1 1 SCORER ENTER A").ok().ok_or("an entry")?)
-}
+static OFFICE_CALLS: [(OfficeCall, u32); 4] = [
+    (OfficeCall::Open, 3600),
+    (OfficeCall::Split, 25),
+    (OfficeCall::Session, 1950),
+    (OfficeCall::Replay, 1825),
+];
 
 #[test]
-fn offices_and_sessions_want_memory(rt: HostRuntime) -> Result<(), Fail> {
-    let start = [entry_of_a()?];
-    let mut offices = Offices {
-        rt: &rt,
-        start: &start,
-    };
-    let calls = [
-        (OfficeCall::Open, 3600),
-        (OfficeCall::Split, 25),
-        (OfficeCall::Session, 1950),
-    ];
-    assert!(rt; are_refused(rt.alloc(), &mut offices, &calls, Steps::of_journals(16_384)));
-    Ok(())
+fn offices_sessions_and_replays_want_memory(rt: HostRuntime) {
+    assert!(rt; are_refused(rt.alloc(), &mut Offices { rt: &rt }, &OFFICE_CALLS));
 }
 
 /// The sail of the boat that is entered behind so many.
@@ -250,7 +243,7 @@ fn pass_answers<N: OfficeName>(pass: &mut Pass<N>, is_role: bool, out: &mut Vec<
 }
 
 /// The calls of an office's seats.
-#[derive(Clone, Copy)]
+#[derive(Drop)]
 enum SeatCall {
     /// Seat 1 enters the next boat.
     Run,
@@ -276,6 +269,13 @@ struct Seats<'a, N: OfficeName, H: Wait + Drop, R: Wait> {
 }
 
 impl<N: OfficeName, H: Wait + Drop, R: Wait> Seats<'_, N, H, R> {
+    /// Counts one boat more, where the call has entered her.
+    fn count(&mut self, call: &SeatCall, told: Told) {
+        if let (SeatCall::Run | SeatCall::Answer, Told::Ordinary) = (call, told) {
+            self.entered = self.entered.saturating_add(1);
+        }
+    }
+
     /// Whether so many boats stand in the journal, seat 1 knows that it has sent them, and seat 2 is
     /// shown them.
     fn has_entered(&mut self) -> bool {
@@ -310,14 +310,8 @@ impl<N: OfficeName, H: Wait + Drop, R: Wait> Caller<SeatCall> for Seats<'_, N, H
         hoard.leave(bytes);
         let told = self.answers(call, command, &mut out);
         hoard.give_back();
-        if let (SeatCall::Run | SeatCall::Answer, Told::Ordinary) = (call, told) {
-            self.entered = self.entered.saturating_add(1);
-        }
-        if self.has_entered() {
-            told
-        } else {
-            Told::Other
-        }
+        self.count(call, told);
+        told_if(self.has_entered(), told)
     }
 }
 
@@ -342,23 +336,23 @@ fn are_refused_at<N: OfficeName, H: Wait + Drop, R: Wait>(
                 second,
                 entered,
             };
-            are_refused(alloc, &mut seats, calls, Steps::of_journals(16_384))
+            are_refused(alloc, &mut seats, calls)
         }
         None => false,
     }
 }
 
-/// The same, at an office that is opened for it from these entries, which are of so many boats.
+/// The same, at an office that was opened for it.
 fn are_seats_refused<R: Wait>(
     rt: &R,
     alloc: Global,
-    start: &[Entry],
+    opened: Option<Opened<&R>>,
     entered: u32,
     calls: &[(SeatCall, u32)],
 ) -> bool {
-    match opened_from(rt, alloc, start) {
-        Ok(opened) => are_refused_at::<Brand, _, _>(rt, alloc, opened, entered, calls),
-        Err(_) => false,
+    match opened {
+        Some(opened) => are_refused_at::<Brand, _, _>(rt, alloc, opened, entered, calls),
+        None => false,
     }
 }
 
@@ -366,18 +360,22 @@ fn are_seats_refused<R: Wait>(
 /// other seat is shown none.
 #[test]
 fn entering_wants_memory(rt: HostRuntime) {
-    assert!(rt; are_seats_refused(&rt, rt.alloc(), &[], 0, &[(SeatCall::Run, 400)]));
+    let alloc = rt.alloc();
+    let opened = opened_office(&rt, alloc, 2);
+    assert!(rt; are_seats_refused(&rt, alloc, opened, 0, &[(SeatCall::Run, 400)]));
 }
 
+static SEAT_CALLS: [(SeatCall, u32); 5] = [
+    (SeatCall::AnswerShow, 1580),
+    (SeatCall::AnswerRole, 5),
+    (SeatCall::Show, 1575),
+    (SeatCall::Answer, 440),
+    (SeatCall::Run, 440),
+];
+
 #[test]
-fn seats_want_memory(rt: HostRuntime) -> Result<(), Fail> {
-    let calls = [
-        (SeatCall::AnswerShow, 1580),
-        (SeatCall::AnswerRole, 5),
-        (SeatCall::Show, 1575),
-        (SeatCall::Answer, 440),
-        (SeatCall::Run, 440),
-    ];
-    assert!(rt; are_seats_refused(&rt, rt.alloc(), &[entry_of_a()?], 1, &calls));
-    Ok(())
+fn seats_want_memory(rt: HostRuntime) {
+    let alloc = rt.alloc();
+    let opened = opened_with_a(&rt, alloc).ok();
+    assert!(rt; are_seats_refused(&rt, alloc, opened, 1, &SEAT_CALLS));
 }

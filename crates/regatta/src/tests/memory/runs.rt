@@ -1,4 +1,4 @@
-//! Tapes, replays, serving and the program.
+//! Replays, the program and serving.
 ghost use Rattle.std.specs.Prelude.{◌≡◌};
 
 use super::super::offices::opened_office;
@@ -32,12 +32,6 @@ fn is_whole(written: &[u8]) -> bool {
         && written.len() == REPLIES.len() + TABLE.len()
 }
 
-/// Whether a tape is made, with nothing on it.
-fn makes_tape(alloc: Global) -> Result<bool, AllocError> {
-    let tape = tape(alloc, LINES, 100)?;
-    Ok(tape.written().is_empty())
-}
-
 /// What a replay over these tapes tells with so many bytes left. Behind a refusal whole replies were
 /// written, and no final part.
 fn replays_over(
@@ -57,8 +51,8 @@ fn replays_over(
     }
 }
 
-/// What a replay tells with so many bytes left.
-fn replays(alloc: Global, hoard: &mut Hoard, bytes: usize) -> Told {
+/// The same, over tapes that are made for it.
+pub(super) fn replays(alloc: Global, hoard: &mut Hoard, bytes: usize) -> Told {
     match (tape(alloc, LINES, 0), tape(alloc, b"", 400)) {
         (Ok(mut input), Ok(mut output)) => {
             replays_over(alloc, hoard, bytes, &mut input, &mut output)
@@ -69,7 +63,7 @@ fn replays(alloc: Global, hoard: &mut Hoard, bytes: usize) -> Told {
 
 /// What the program is called with, and how it ends: its status, whether it writes all replies and
 /// the table, and what it says on standard error.
-#[derive(Clone, Copy)]
+#[derive(Drop)]
 struct Words {
     words: &'static [&'static str],
     status: u8,
@@ -91,19 +85,16 @@ fn run_tells(call: &Words, status: u8, written: &[u8], said: &[u8]) -> Told {
     ordinary_if(is_written && status == call.status && said == call.says)
 }
 
-/// What the program tells over these streams with so many bytes left.
-fn runs_over<R>(
-    rt: &R,
-    hoard: &mut Hoard,
-    bytes: usize,
-    call: &Words,
-    streams: &mut Streams,
-) -> Told
+/// What the program tells with so many bytes left.
+fn runs<R>(rt: &R, hoard: &mut Hoard, bytes: usize, call: &Words) -> Told
 where
     R: Files + AllocGlobal + Threads + Wait + Net + Sync,
 {
+    let Ok(mut streams) = Streams::new(rt.alloc(), LINES, 4000) else {
+        return Told::Other;
+    };
     hoard.leave(bytes);
-    let status = status_of(rt, call.words, streams);
+    let status = status_of(rt, call.words, &mut streams);
     hoard.give_back();
     run_tells(
         call,
@@ -113,66 +104,18 @@ where
     )
 }
 
-/// What the program tells with so many bytes left.
-fn runs<R>(rt: &R, hoard: &mut Hoard, bytes: usize, call: &Words) -> Told
-where
-    R: Files + AllocGlobal + Threads + Wait + Net + Sync,
-{
-    match Streams::new(rt.alloc(), LINES, 4000) {
-        Ok(mut streams) => runs_over(rt, hoard, bytes, call, &mut streams),
-        Err(_) => Told::Other,
-    }
-}
+/// How many runs of the program go through the bytes by units, before these jump by a room: 32 KiB,
+/// since its words and streams take some as well.
+const PROGRAM_FINE_RUNS: usize = 2048;
 
-/// The calls over memory.
-#[derive(Clone, Copy)]
-enum Call {
-    Tape,
-    Replay,
-}
-
-/// Tapes, and series that are run over them.
-#[derive(Drop)]
-struct Tapes {
-    alloc: Global,
-}
-
-impl Caller<Call> for Tapes {
-    fn told(&mut self, call: &Call, hoard: &mut Hoard, bytes: usize) -> Told {
-        match call {
-            Call::Tape => {
-                hoard.leave(bytes);
-                let is_made = makes_tape(self.alloc);
-                hoard.give_back();
-                tells(is_made)
-            }
-            Call::Replay => replays(self.alloc, hoard, bytes),
-        }
-    }
-}
-
-#[test]
-fn replays_want_memory(rt: HostRuntime) {
-    let alloc = rt.alloc();
-    let calls = [(Call::Tape, 11), (Call::Replay, 1825)];
-    assert!(rt;
-        are_refused(
-            alloc,
-            &mut Tapes { alloc },
-            &calls,
-            Steps::of_journals(16_384)
-        )
-    );
-}
-
-/// Whether a run of the program is refused first, so often at least.
+/// Whether a run of the program is refused first, so often at least. It goes by no `Caller`: behind a
+/// trait no proof knows that threads may share the runtime.
 fn is_run_refused<R>(rt: &R, hoard: &mut Hoard, call: &Words, least: u32) -> bool
 where
     R: Files + AllocGlobal + Threads + Wait + Net + Sync,
 {
-    let steps = Steps::of_journals(32_768);
-    for turn in 0..MOST_RUNS {
-        let told = runs(rt, hoard, steps.bytes(turn), call);
+    for run in 0..MOST_RUNS {
+        let told = runs(rt, hoard, bytes_left(run, PROGRAM_FINE_RUNS), call);
         if let Some(passed) = hoard.verdict(told, least) {
             return passed;
         }
@@ -180,27 +123,20 @@ where
     false
 }
 
-/// Whether these runs of the program are refused first, so often at least. They go by no `Caller`:
-/// behind a trait no proof knows that threads may share the runtime.
-fn are_runs_refused<R>(rt: &R, hoard: &mut Hoard, calls: &[(Words, u32)]) -> bool
-where
-    R: Files + AllocGlobal + Threads + Wait + Net + Sync,
-{
-    for (call, least) in calls {
-        if !is_run_refused(rt, hoard, call, *least) {
-            return false;
-        }
-    }
-    true
-}
-
-/// The same, with a hoard of its own, or at a heap that has none.
-fn is_program_refused<R>(rt: &R, calls: &[(Words, u32)]) -> bool
+/// Whether these runs of the program are refused first, so often at least. True, with no run made, at
+/// a heap that has no hoard.
+fn are_runs_refused<R>(rt: &R, calls: &[(Words, u32)]) -> bool
 where
     R: Files + AllocGlobal + Threads + Wait + Net + Sync,
 {
     match Hoard::new(rt.alloc()) {
-        Ok(Some(mut hoard)) => are_runs_refused(rt, &mut hoard, calls),
+        Ok(Some(mut hoard)) => {
+            let mut passed = true;
+            for (call, least) in calls {
+                passed = is_run_refused(rt, &mut hoard, call, *least) && passed;
+            }
+            passed
+        }
         Ok(None) => true,
         Err(_) => false,
     }
@@ -209,22 +145,31 @@ where
 /// A path at which no socket can be made.
 const NOWHERE: &str = "/no/such/folder/race.sock";
 
+/// A replay, and what serves: it reads its words, and opens and splits an office, ahead of its socket.
+static RUNS: [(Words, u32); 2] = [
+    (
+        Words {
+            words: &["replay"],
+            status: 0,
+            writes: true,
+            says: b"",
+        },
+        3520,
+    ),
+    (
+        Words {
+            words: &["serve", "--socket", NOWHERE, "--clients", "2"],
+            status: 3,
+            writes: false,
+            says: b"regatta: device fault\n",
+        },
+        7700,
+    ),
+];
+
 #[test]
 fn the_program_wants_memory(rt: HostRuntime) {
-    let replay_words = Words {
-        words: &["replay"],
-        status: 0,
-        writes: true,
-        says: b"",
-    };
-    // the words are read, and an office is opened and split, ahead of the socket
-    let serve_words = Words {
-        words: &["serve", "--socket", NOWHERE, "--clients", "2"],
-        status: 3,
-        writes: false,
-        says: b"regatta: device fault\n",
-    };
-    assert!(rt; is_program_refused(&rt, &[(replay_words, 3520), (serve_words, 7700)]));
+    assert!(rt; are_runs_refused(&rt, &RUNS));
 }
 
 /// The fault by which serving one client ends with so many bytes left.
@@ -291,7 +236,7 @@ fn is_serving_refused<R: Threads + Wait + Net + Sync>(
 ) -> Result<bool, Fail> {
     let (mut memory, mut threads) = (0u32, 0u32);
     for turn in 0..512 {
-        match silent_fault(rt, alloc, hoard, SMALL_STEPS.bytes(turn))? {
+        match silent_fault(rt, alloc, hoard, bytes_left(turn, FINE_RUNS))? {
             Some(ServeFault::NoMemory) => memory = memory.saturating_add(1),
             Some(ServeFault::Thread) => threads = threads.saturating_add(1),
             _ => return Ok(false),

@@ -1,5 +1,5 @@
 //! The calls of scoring.
-ghost use Rattle.std.specs.Prelude.{◌≡◌, IfOk};
+ghost use Rattle.std.specs.Prelude.{◌≡◌};
 ghost use Rattle.regatta_scores.specs.Changes.{after};
 ghost use Rattle.regatta_scores.specs.Sheet.{empty_sheet};
 ghost use Rattle.regatta_scores.specs.SheetFacts.{Allows};
@@ -18,7 +18,7 @@ fn tenths(points: u32) -> Tenths {
 }
 
 /// The calls that score a race or a series, and the changes of a race's sheet.
-#[derive(Clone, Copy)]
+#[derive(Drop)]
 enum Call {
     Sheet,
     Points,
@@ -47,12 +47,6 @@ fn are_tenths(points: &[Tenths], wanted: &[u32]) -> bool {
     points.len() == wanted.len()
 }
 
-/// What making a sheet of three boats tells.
-fn makes_sheet(alloc: Global) -> Result<bool, AllocError> {
-    let sheet = RaceSheet::new(alloc, 3)?;
-    Ok(sheet.is_empty() && !sheet.placed(2))
-}
-
 /// Whether these are the points of the sheet's boats, under the default rules. Behind a refusal no
 /// race is counted as scored.
 fn are_points(alloc: Global, sheet: &RaceSheet, wanted: &[u32]) -> Result<bool, AllocError> {
@@ -78,106 +72,24 @@ fn are_scores(alloc: Global, sheet: &RaceSheet) -> Result<bool, AllocError> {
     }
 }
 
-/// The first of three boats has finished.
-fn one_finished(alloc: Global) -> Result<RaceSheet, AllocError>
-    ensures { IfOk result (λ sheet. sheet ≡ after (empty_sheet 3) (Last 0)) }
-{
-    let blank = RaceSheet::new(alloc, 3)?;
-    blank.after(Change::Last { boat: 0 })
-}
-
-/// Whether these are the points of the sheet's boats, and there is memory to tell.
-fn has_points(alloc: Global, sheet: &RaceSheet, wanted: &[u32]) -> bool {
-    match are_points(alloc, sheet, wanted) {
-        Ok(is_due) => is_due,
-        Err(_) => false,
-    }
-}
-
-/// What a change tells with so many bytes left: the boats then have these points.
-fn changes(
-    alloc: Global,
-    hoard: &mut Hoard,
-    bytes: usize,
-    sheet: &RaceSheet,
-    change: Change,
-    wanted: &[u32],
-) -> Told
-    requires { Allows sheet.now change }
-{
-    hoard.leave(bytes);
-    let changed = sheet.after(change);
-    hoard.give_back();
-    match changed {
-        Ok(next) => ordinary_if(has_points(alloc, &next, wanted)),
-        Err(_) => Told::Wanting,
-    }
-}
-
-/// What a change of a sheet of three boats tells, in which nobody has finished: one more is added,
-/// or one finishes, by her place or by her corrected time (RRS A3).
-fn changes_blank(
-    alloc: Global,
-    hoard: &mut Hoard,
-    bytes: usize,
-    blank: &RaceSheet,
-    call: Call,
-) -> Told
-    requires { blank.now ≡ empty_sheet 3 }
-{
-    let seconds = Seconds::new(3600).unwrap();
-    let (change, wanted): (Change, &[u32]) = match call {
-        Call::AddBoat => (Change::AddBoat, &[50, 50, 50, 50]),
-        Call::Last => (Change::Last { boat: 0 }, &[10, 40, 40]),
-        Call::Timed => (Change::Timed { boat: 0, seconds }, &[10, 40, 40]),
-        _ => return Told::Other,
-    };
-    changes(alloc, hoard, bytes, blank, change, wanted)
-}
-
-/// What a change tells behind the first of three boats, who has finished: a boat ties with her or
-/// goes ahead of her (RRS A7), or she goes out of the order, or has a penalty (RRS 44.3(c)).
-fn changes_first(
-    alloc: Global,
-    hoard: &mut Hoard,
-    bytes: usize,
-    first: &RaceSheet,
-    call: Call,
-) -> Told
-    requires { first.now ≡ after (empty_sheet 3) (Last 0) }
-{
-    let held = Held {
-        scp: 1,
-        ..NOTHING_HELD
-    };
-    let (change, wanted): (Change, &[u32]) = match call {
-        Call::Join => (Change::Join { boat: 1, other: 0 }, &[15, 15, 40]),
-        Call::Ahead => (Change::Ahead { boat: 1, other: 0 }, &[20, 10, 40]),
-        Call::Out => (Change::Out { boat: 0 }, &[40, 40, 40]),
-        Call::Hold => (Change::Hold { boat: 0, held }, &[20, 40, 40]),
-        _ => return Told::Other,
-    };
-    changes(alloc, hoard, bytes, first, change, wanted)
-}
-
-/// A score of so many tenths, with this redress.
-fn item(points: u32, redress: Option<Redress>) -> RowItem {
-    RowItem {
-        plain: tenths(points),
-        redress,
-    }
-}
-
 /// A score that is handed in, one without redress, and the average of both (RRS A9).
 fn are_averages(alloc: Global) -> Result<bool, AllocError> {
     let award = Award::new(75).unwrap();
     let row = [
-        item(50, Some(Redress::Points(award))),
-        item(20, None),
-        item(50, Some(Redress::AllRaces)),
+        RowItem {
+            plain: tenths(50),
+            redress: Some(Redress::Points(award)),
+        },
+        RowItem {
+            plain: tenths(20),
+            redress: None,
+        },
+        RowItem {
+            plain: tenths(50),
+            redress: Some(Redress::AllRaces),
+        },
     ];
-    let found = averages(alloc, &row)?;
-    Ok(found.as_slice() == [tenths(75), tenths(20), tenths(48)].as_slice())
+    Ok(are_tenths(averages(alloc, &row)?.as_slice(), &[75, 20, 48]))
 }
 
 /// A score of so many tenths that may be excluded.
@@ -200,75 +112,51 @@ fn line(alloc: Global, points: u32) -> Result<BoatLine, AllocError> {
     BoatLine::new(alloc, &[tenths(points), tenths(points)], &[false, false])
 }
 
-/// Whether such a line has their sum.
-fn is_line(alloc: Global) -> Result<bool, AllocError> {
-    let line = line(alloc, 15)?;
-    Ok(line.net() == 30)
-}
-
-/// Three lines, of which two have the same points, and the third has more.
+/// Three lines, of which two have the same points, and the third has more. They take no memory.
 fn three_lines(alloc: Global) -> Result<[BoatLine; 3], AllocError> {
     Ok([line(alloc, 15)?, line(alloc, 15)?, line(alloc, 30)?])
 }
 
-/// What the ranks behind three such lines tell: the first two places are shared, and the third boat
+/// Whether these are the ranks of such lines: the first two boats share their places, and the third
 /// is third (RRS A8).
-fn places_tell(ranked: Result<Places, AllocError>) -> Told {
-    match ranked {
-        Ok(places) => ordinary_if(match places.as_slice() {
-            [one, two, three] => one.tied && two.rank == 1 && three.rank == 3,
-            _ => false,
-        }),
-        Err(_) => Told::Wanting,
+fn are_ranks(places: &Places) -> bool {
+    match places.as_slice() {
+        [one, two, three] => one.tied && two.rank == 1 && three.rank == 3,
+        _ => false,
     }
 }
 
-/// What the ranks of lines tell with so many bytes left, or those of references to them.
-fn ranks_tell(alloc: Global, hoard: &mut Hoard, bytes: usize, are_references: bool) -> Told {
-    let Ok(lines) = three_lines(alloc) else {
-        return Told::Other;
-    };
-    hoard.leave(bytes);
-    let ranked = if are_references {
-        ranks_of(alloc, &[&lines[0], &lines[1], &lines[2]])
-    } else {
-        ranks(alloc, &lines)
-    };
-    hoard.give_back();
-    places_tell(ranked)
+/// Whether the ranks of three lines are due.
+fn are_ranked(alloc: Global) -> Result<bool, AllocError> {
+    let places = ranks(alloc, &three_lines(alloc)?)?;
+    Ok(are_ranks(&places))
 }
 
-/// Whether a call that changes no sheet answers what is due, of a race in which the first of three
-/// boats has finished.
-fn answers(alloc: Global, first: &RaceSheet, call: Call) -> Result<bool, AllocError> {
-    match call {
-        Call::Points => are_points(alloc, first, &[10, 40, 40]),
-        Call::Scores => are_scores(alloc, first),
-        Call::Averages => are_averages(alloc),
-        Call::Excluded => is_excluded(alloc),
-        Call::Line => is_line(alloc),
-        Call::Sheet => makes_sheet(alloc),
-        _ => Ok(false),
-    }
+/// Whether the ranks of references to three lines are due.
+fn are_references_ranked(alloc: Global) -> Result<bool, AllocError> {
+    let [one, two, three] = &three_lines(alloc)?;
+    let places = ranks_of(alloc, &[one, two, three])?;
+    Ok(are_ranks(&places))
 }
 
-/// What a call tells of a race in which the first of three boats has finished.
-fn told_of_first(
+/// What a change tells with so many bytes left: the boats then have these points.
+fn change_tells(
     alloc: Global,
     hoard: &mut Hoard,
     bytes: usize,
-    first: &RaceSheet,
-    call: Call,
+    sheet: &RaceSheet,
+    change: Change,
+    wanted: &[u32],
 ) -> Told
-    requires { first.now ≡ after (empty_sheet 3) (Last 0) }
+    requires { Allows sheet.now change }
 {
-    if let Call::Join | Call::Ahead | Call::Out | Call::Hold = call {
-        return changes_first(alloc, hoard, bytes, first, call);
-    }
     hoard.leave(bytes);
-    let answer = answers(alloc, first, call);
+    let changed = sheet.after(change);
     hoard.give_back();
-    tells(answer)
+    match changed {
+        Ok(next) => ordinary_if(are_points(alloc, &next, wanted) == Ok(true)),
+        Err(_) => Told::Wanting,
+    }
 }
 
 /// Races of three boats, and series of two races.
@@ -277,43 +165,122 @@ struct Races {
     alloc: Global,
 }
 
-impl Caller<Call> for Races {
-    fn told(&mut self, call: &Call, hoard: &mut Hoard, bytes: usize) -> Told {
+impl Races {
+    /// What a change of a race tells, in which nobody has finished, or the first boat has. One more
+    /// boat is added, or one finishes, by her place or by her corrected time (RRS A3). Or a boat ties
+    /// with the first or goes ahead of her (RRS A7), or she goes out of the order, or has a penalty
+    /// (RRS 44.3(c)).
+    fn changes(
+        &self,
+        call: &Call,
+        hoard: &mut Hoard,
+        bytes: usize,
+        blank: &RaceSheet,
+        first: &RaceSheet,
+    ) -> Told
+        requires blank { blank.now ≡ empty_sheet 3 }
+        requires first { first.now ≡ after (empty_sheet 3) (Last 0) }
+    {
+        let seconds = Seconds::new(3600).unwrap();
+        let held = Held {
+            scp: 1,
+            ..NOTHING_HELD
+        };
+        let (sheet, change, wanted): (&RaceSheet, Change, &[u32]) = match call {
+            Call::AddBoat => (blank, Change::AddBoat, &[50, 50, 50, 50]),
+            Call::Last => (blank, Change::Last { boat: 0 }, &[10, 40, 40]),
+            Call::Timed => (blank, Change::Timed { boat: 0, seconds }, &[10, 40, 40]),
+            Call::Join => (first, Change::Join { boat: 1, other: 0 }, &[15, 15, 40]),
+            Call::Ahead => (first, Change::Ahead { boat: 1, other: 0 }, &[20, 10, 40]),
+            Call::Out => (first, Change::Out { boat: 0 }, &[40, 40, 40]),
+            Call::Hold => (first, Change::Hold { boat: 0, held }, &[20, 40, 40]),
+            _ => return Told::Other,
+        };
+        change_tells(self.alloc, hoard, bytes, sheet, change, wanted)
+    }
+
+    /// Whether a call that changes no sheet answers what is due, of a race in which the first of
+    /// three boats has finished, or of a series.
+    fn answers(&self, call: &Call, first: &RaceSheet) -> Result<bool, AllocError> {
         let alloc = self.alloc;
         match call {
-            Call::AddBoat | Call::Last | Call::Timed => match RaceSheet::new(alloc, 3) {
-                Ok(blank) => changes_blank(alloc, hoard, bytes, &blank, *call),
-                Err(_) => Told::Other,
-            },
-            Call::Ranks => ranks_tell(alloc, hoard, bytes, false),
-            Call::RanksOf => ranks_tell(alloc, hoard, bytes, true),
-            _ => match one_finished(alloc) {
-                Ok(first) => told_of_first(alloc, hoard, bytes, &first, *call),
-                Err(_) => Told::Other,
-            },
+            Call::Points => are_points(alloc, first, &[10, 40, 40]),
+            Call::Scores => are_scores(alloc, first),
+            Call::Averages => are_averages(alloc),
+            Call::Excluded => is_excluded(alloc),
+            Call::Line => Ok(line(alloc, 15)?.net() == 30),
+            Call::Ranks => are_ranked(alloc),
+            Call::RanksOf => are_references_ranked(alloc),
+            Call::Sheet => {
+                let sheet = RaceSheet::new(alloc, 3)?;
+                Ok(sheet.is_empty() && !sheet.placed(2))
+            }
+            _ => Ok(false),
+        }
+    }
+
+    /// What a call tells with so many bytes left.
+    fn told_with(
+        &self,
+        call: &Call,
+        hoard: &mut Hoard,
+        bytes: usize,
+        blank: &RaceSheet,
+        first: &RaceSheet,
+    ) -> Told
+        requires blank { blank.now ≡ empty_sheet 3 }
+        requires first { first.now ≡ after (empty_sheet 3) (Last 0) }
+    {
+        match call {
+            Call::AddBoat
+            | Call::Last
+            | Call::Timed
+            | Call::Join
+            | Call::Ahead
+            | Call::Out
+            | Call::Hold => self.changes(call, hoard, bytes, blank, first),
+            _ => {
+                hoard.leave(bytes);
+                let answer = self.answers(call, first);
+                hoard.give_back();
+                tells(answer)
+            }
         }
     }
 }
 
+impl Caller<Call> for Races {
+    fn told(&mut self, call: &Call, hoard: &mut Hoard, bytes: usize) -> Told {
+        let Ok(blank) = RaceSheet::new(self.alloc, 3) else {
+            return Told::Other;
+        };
+        match blank.after(Change::Last { boat: 0 }) {
+            Ok(first) => self.told_with(call, hoard, bytes, &blank, &first),
+            Err(_) => Told::Other,
+        }
+    }
+}
+
+static CALLS: [(Call, u32); 15] = [
+    (Call::Sheet, 5),
+    (Call::Points, 4),
+    (Call::Scores, 4),
+    (Call::Averages, 2),
+    (Call::Excluded, 1),
+    (Call::Line, 0),
+    (Call::Ranks, 7),
+    (Call::RanksOf, 5),
+    (Call::AddBoat, 70),
+    (Call::Last, 10),
+    (Call::Timed, 10),
+    (Call::Join, 10),
+    (Call::Ahead, 10),
+    (Call::Out, 5),
+    (Call::Hold, 9),
+];
+
 #[test]
 fn scoring_wants_memory(rt: HostRuntime) {
     let alloc = rt.alloc();
-    let calls = [
-        (Call::Sheet, 4),
-        (Call::Points, 4),
-        (Call::Scores, 4),
-        (Call::Averages, 2),
-        (Call::Excluded, 1),
-        (Call::Line, 0),
-        (Call::Ranks, 7),
-        (Call::RanksOf, 5),
-        (Call::AddBoat, 65),
-        (Call::Last, 4),
-        (Call::Timed, 4),
-        (Call::Join, 4),
-        (Call::Ahead, 4),
-        (Call::Out, 4),
-        (Call::Hold, 4),
-    ];
-    assert!(rt; are_refused(alloc, &mut Races { alloc }, &calls, SMALL_STEPS));
+    assert!(rt; are_refused(alloc, &mut Races { alloc }, &CALLS));
 }

@@ -1,4 +1,4 @@
-//! The calls that write and read texts.
+//! The calls that write and read texts, and that make a tape.
 
 use super::*;
 use regatta_board::standing_of;
@@ -7,22 +7,30 @@ use regatta_tables::{
     EntriesFault, JournalFault, Sails, read_entries, write_csv, write_journal, write_reply,
     write_sheet,
 };
-use regatta_terms::{Reply, Sail, write_entry};
+use regatta_terms::{Reply, Sail, read_entry, write_entry};
+
+/// A journal: A and B tie for first, and C is third. Then A is disqualified (RRS A6.1, A7).
+const FILE: &[u8] = b"REGATTA 2\n1 1 SCORER ENTER A\n1 2 SCORER ENTER B\n\
+    1 3 SCORER ENTER C\n1 4 SCORER FINISH 1 A\n1 5 SCORER TIE 1 B A\n\
+    1 6 SCORER FINISH 1 C\n1 7 SCORER SCORE 1\n1 8 JURY MARK 1 A DSQ\n";
+
+/// The table behind its entries.
+const TABLE: &[u8] = b"TABLE 3 RACES 1\n1 B 1.0 1.0\n2 C 2.0 2.0\n3 A 4.0 4.0/DSQ\n";
 
 /// What `SHOW` prints of these entries.
-static SHEET: &[u8] = b"JOURNAL 8\n1 1 SCORER ENTER A\n1 2 SCORER ENTER B\n\
+const SHEET: &[u8] = b"JOURNAL 8\n1 1 SCORER ENTER A\n1 2 SCORER ENTER B\n\
     1 3 SCORER ENTER C\n1 4 SCORER FINISH 1 A\n1 5 SCORER TIE 1 B A\n\
     1 6 SCORER FINISH 1 C\n1 7 SCORER SCORE 1\n1 8 JURY MARK 1 A DSQ\n\
     TABLE 3 RACES 1\n1 B 1.0 1.0\n2 C 2.0 2.0\n3 A 4.0 4.0/DSQ\nEND\n";
 
-/// What a journal begins with that is written.
-static VERSION_LINE: &[u8] = b"REGATTA 2\n";
-
 /// The results as CSV.
-static CSV: &[u8] = b"rank,sail,net,R1\n1,B,1.0,1.0\n2,C,2.0,2.0\n3,A,4.0,4.0/DSQ\n";
+const CSV: &[u8] = b"rank,sail,net,R1\n1,B,1.0,1.0\n2,C,2.0,2.0\n3,A,4.0,4.0/DSQ\n";
+
+/// An entry list with other columns than sails.
+static LIST: &[u8] = b"Boat,Sail,Club\nWind,gbr 12,X\n\"A, B\",NED7\n";
 
 /// The texts that are written.
-#[derive(Clone, Copy)]
+#[derive(Drop)]
 enum Text {
     Entry,
     Journal,
@@ -32,66 +40,49 @@ enum Text {
     Reply,
 }
 
-/// The calls that write, with what is due, and that read.
-#[derive(Clone, Copy)]
-enum Call<'a> {
-    Write(Text, &'a [u8]),
+/// The calls that write, with what is due, that read, and that make a tape.
+#[derive(Drop)]
+enum Call {
+    Write(Text, &'static [u8]),
     ReadJournal,
     ReadEntries,
     Start,
+    Tape,
 }
 
-/// What reading a journal tells with so many bytes left.
-fn reads_journal(alloc: Global, hoard: &mut Hoard, bytes: usize) -> Told {
-    hoard.leave(bytes);
-    let read = read_journal(alloc, DISQUALIFIED);
-    hoard.give_back();
-    match read {
+/// What reading a journal tells.
+fn reads_journal(alloc: Global) -> Told {
+    match read_journal(alloc, FILE) {
         Ok(journal) => ordinary_if(journal.as_slice().len() == 8),
         Err(why) => wanting_if(why == JournalFault::NoMemory),
     }
 }
 
-/// An entry list with other columns than sails.
-static LIST: &[u8] = b"Boat,Sail,Club\nWind,gbr 12,X\n\"A, B\",NED7\n";
-
-/// Whether these are the sails of the entry list.
-fn are_sails(sails: &[Sail]) -> bool {
-    match sails {
-        [one, two] => one.text() == "GBR12" && two.text() == "NED7",
-        _ => false,
-    }
-}
-
-/// What reading an entry list tells with so many bytes left.
-fn reads_list(alloc: Global, hoard: &mut Hoard, bytes: usize) -> Told {
-    hoard.leave(bytes);
-    let read = read_entries(alloc, LIST);
-    hoard.give_back();
-    match read {
-        Ok(sails) => ordinary_if(are_sails(sails.as_slice())),
+/// What reading an entry list tells.
+fn reads_list(alloc: Global) -> Told {
+    match read_entries(alloc, LIST) {
+        Ok(sails) => ordinary_if(match sails.as_slice() {
+            [one, two] => one.text() == "GBR12" && two.text() == "NED7",
+            _ => false,
+        }),
         Err(why) => wanting_if(why == EntriesFault::NoMemory),
     }
 }
 
-/// Whether these are the entries of the list's two sails, and there is memory to tell.
-fn are_entered(alloc: Global, entries: &[Entry]) -> bool {
-    let mut text = Vec::new(alloc);
-    let is_written = write_journal(entries, &mut text).is_ok();
-    let wanted = b"REGATTA 2\n1 1 SCORER ENTER GBR12\n1 2 SCORER ENTER NED7\n";
-    is_written && text.as_slice() == wanted.as_slice()
+/// Whether a series starts with the entries of the list's two sails.
+fn starts(alloc: Global, sails: &[Sail]) -> Result<bool, AllocError> {
+    Ok(match start_of(alloc, &[], sails)?.as_slice() {
+        [one, two] => {
+            read_entry(b"1 1 SCORER ENTER GBR12") == Ok(*one)
+                && read_entry(b"1 2 SCORER ENTER NED7") == Ok(*two)
+        }
+        _ => false,
+    })
 }
 
-/// What the entries that a series starts with, made of the list's sails with so many bytes left,
-/// tell.
-fn starts(alloc: Global, hoard: &mut Hoard, bytes: usize, sails: &[Sail]) -> Told {
-    hoard.leave(bytes);
-    let start = start_of(alloc, &[], sails);
-    hoard.give_back();
-    match start {
-        Ok(start) => ordinary_if(are_entered(alloc, start.as_slice())),
-        Err(_) => Told::Wanting,
-    }
+/// Whether a tape is made, with nothing on it.
+fn makes_tape(alloc: Global) -> Result<bool, AllocError> {
+    Ok(tape(alloc, FILE, 100)?.written().is_empty())
 }
 
 /// What the texts are made of.
@@ -105,7 +96,7 @@ struct Texts {
 
 impl Texts {
     /// Appends the text.
-    fn write(&self, what: Text, text: &mut Vec<u8>) -> Result<(), AllocError> {
+    fn write(&self, what: &Text, text: &mut Vec<u8>) -> Result<(), AllocError> {
         let entries = self.journal.as_slice();
         match what {
             Text::Entry => match entries.first() {
@@ -120,37 +111,37 @@ impl Texts {
         }
     }
 
-    /// What appending the text tells with so many bytes left. Behind a refusal there is what was
-    /// there, and no less room.
-    fn appends(&self, hoard: &mut Hoard, bytes: usize, what: Text, wanted: &[u8]) -> Told {
-        let Ok(mut text) = Vec::from_slice(self.alloc, BEFORE) else {
-            return Told::Other;
-        };
+    /// What appending the text tells. Behind a refusal there is what was there, and no less room.
+    fn appends(&self, what: &Text, wanted: &[u8], text: &mut Vec<u8>) -> Told {
         let room = text.capacity();
-        hoard.leave(bytes);
-        let written = self.write(what, &mut text);
-        hoard.give_back();
-        match written {
+        match self.write(what, text) {
             Ok(()) => ordinary_if(text.strip_prefix(BEFORE) == Some(wanted)),
             Err(_) => wanting_if(text.as_slice() == BEFORE && room <= text.capacity()),
         }
     }
 }
 
-impl Caller<Call<'_>> for Texts {
-    fn told(&mut self, call: &Call<'_>, hoard: &mut Hoard, bytes: usize) -> Told {
-        match call {
-            Call::Write(what, wanted) => self.appends(hoard, bytes, *what, wanted),
-            Call::ReadJournal => reads_journal(self.alloc, hoard, bytes),
-            Call::ReadEntries => reads_list(self.alloc, hoard, bytes),
-            Call::Start => starts(self.alloc, hoard, bytes, self.sails.as_slice()),
-        }
+impl Caller<Call> for Texts {
+    fn told(&mut self, call: &Call, hoard: &mut Hoard, bytes: usize) -> Told {
+        let Ok(mut text) = Vec::from_slice(self.alloc, BEFORE) else {
+            return Told::Other;
+        };
+        hoard.leave(bytes);
+        let told = match call {
+            Call::Write(what, wanted) => self.appends(what, wanted, &mut text),
+            Call::ReadJournal => reads_journal(self.alloc),
+            Call::ReadEntries => reads_list(self.alloc),
+            Call::Start => tells(starts(self.alloc, self.sails.as_slice())),
+            Call::Tape => tells(makes_tape(self.alloc)),
+        };
+        hoard.give_back();
+        told
     }
 }
 
 /// The texts of a series in which a boat is disqualified, and of an entry list.
 fn texts_of(alloc: Global) -> Option<Texts> {
-    let journal = read_journal(alloc, DISQUALIFIED).ok()?;
+    let journal = read_journal(alloc, FILE).ok()?;
     let sails = read_entries(alloc, LIST).ok()?;
     match standing_of(alloc, &default_rules(), journal.as_slice()) {
         Ok(standing) => Some(Texts {
@@ -163,28 +154,28 @@ fn texts_of(alloc: Global) -> Option<Texts> {
     }
 }
 
-/// Whether all texts are written and read, with each growth refused first.
-fn are_texts_refused(alloc: Global, file: &[u8]) -> bool {
-    let calls = [
-        (Call::Write(Text::Entry, b"1 1 SCORER ENTER A"), 4),
-        (Call::Write(Text::Journal, file), 75),
-        (Call::Write(Text::Table, DISQUALIFIED_TABLE), 6),
-        (Call::Write(Text::Csv, CSV), 40),
-        (Call::Write(Text::Sheet, SHEET), 75),
-        (Call::Write(Text::Reply, b"BYE\n"), 4),
-        (Call::ReadJournal, 35),
-        (Call::ReadEntries, 55),
-        (Call::Start, 18),
-    ];
+static CALLS: [(Call, u32); 10] = [
+    (Call::Write(Text::Entry, b"1 1 SCORER ENTER A"), 4),
+    (Call::Write(Text::Journal, FILE), 75),
+    (Call::Write(Text::Table, TABLE), 6),
+    (Call::Write(Text::Csv, CSV), 40),
+    (Call::Write(Text::Sheet, SHEET), 75),
+    (Call::Write(Text::Reply, b"BYE\n"), 4),
+    (Call::ReadJournal, 35),
+    (Call::ReadEntries, 55),
+    (Call::Start, 18),
+    (Call::Tape, 18),
+];
+
+/// Whether all texts are written and read, and a tape is made, with each growth refused first.
+fn are_texts_refused(alloc: Global) -> bool {
     match texts_of(alloc) {
-        Some(mut texts) => are_refused(alloc, &mut texts, &calls, SMALL_STEPS),
+        Some(mut texts) => are_refused(alloc, &mut texts, &CALLS),
         None => false,
     }
 }
 
 #[test]
-fn texts_want_memory(rt: HostRuntime) -> Result<(), Fail> {
-    let file = joined(rt.alloc(), &[VERSION_LINE, DISQUALIFIED])?;
-    assert!(rt; are_texts_refused(rt.alloc(), &file));
-    Ok(())
+fn texts_and_tapes_want_memory(rt: HostRuntime) {
+    assert!(rt; are_texts_refused(rt.alloc()));
 }
