@@ -6,7 +6,7 @@
 use super::*;
 use hoard::{Caller, FINE_RUNS, Hoard, MOST_RUNS, Told, are_refused, bytes_left};
 use regatta_scores::Standing;
-use regatta_tables::{Journal, read_journal, write_table};
+use regatta_tables::{Journal, read_journal};
 use std::alloc::AllocError;
 
 mod boards;
@@ -26,7 +26,7 @@ fn wanting_if(stands: bool) -> Told {
     if stands { Told::Wanting } else { Told::Other }
 }
 
-/// What a call told, where all is behind it as it is to be. Whoever holds much calls this rather than
+/// What a call told, if what it leaves is as it is to be. Whoever holds much calls this rather than
 /// branch, since each branch is proved to give all of it back.
 fn told_if(is_due: bool, told: Told) -> Told {
     if is_due { told } else { Told::Other }

@@ -252,7 +252,7 @@ fn learn_each_other<N: OfficeName, H: Wait + Drop, R: Wait>(
 }
 
 /// Whether a standing's table is this text.
-fn has_table(alloc: Global, standing: &Standing, table: &[u8]) -> bool {
+pub(crate) fn has_table(alloc: Global, standing: &Standing, table: &[u8]) -> bool {
     let mut text = Vec::new(alloc);
     let is_written = write_table(standing, &mut text).is_ok();
     is_written && text.as_slice() == table

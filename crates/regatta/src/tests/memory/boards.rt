@@ -1,5 +1,6 @@
 //! The calls of the board.
 
+use super::super::offices::has_table;
 use super::*;
 use regatta_board::{Board, ReplayFault, standing_of};
 use regatta_terms::Refusal;
@@ -152,20 +153,13 @@ impl Clerk<'_> {
         }
     }
 
-    /// Whether a standing has the table that is due, and there is memory to tell.
-    fn has_table(&self, standing: &Standing) -> bool {
-        let mut text = Vec::new(self.alloc);
-        let is_written = write_table(standing, &mut text).is_ok();
-        is_written && text.as_slice() == self.table
-    }
-
     /// What a standing that is made with so many bytes left tells by its table.
     fn stands(&self, call: &Call, hoard: &mut Hoard, bytes: usize) -> Told {
         hoard.leave(bytes);
         let standing = self.standing(call);
         hoard.give_back();
         match standing {
-            Ok(standing) => ordinary_if(self.has_table(&standing)),
+            Ok(standing) => ordinary_if(has_table(self.alloc, &standing, self.table)),
             Err(why) => wanting_if(why == ReplayFault::NoMemory),
         }
     }

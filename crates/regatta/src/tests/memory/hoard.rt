@@ -99,16 +99,17 @@ const DEPTH: usize = 4096;
 /// More runs than any call is made of.
 pub(crate) const MOST_RUNS: usize = 100_000;
 
-/// How many runs go through the bytes by units, before these jump by a room: 16 KiB, more than any
-/// call asks for besides its rooms. One that asks for more needs more such runs, as the program does.
+/// How many runs go through the bytes by units, before these jump to the next room: 16 KiB, more than
+/// any call but the program's asks for besides its rooms. Of one that asks for more, requests would be
+/// passed over, as `bench/growths.py` tells: it needs more such runs.
 pub(crate) const FINE_RUNS: usize = 1024;
 
 /// How many bytes are left to this run of a call, counted from 0: more by a unit each time, so that no
 /// growth that asks for more than the call has freed is passed over.
 ///
 /// Some calls ask for rooms for all entries that there may be. At any moment such a call has some of
-/// these rooms, and fewer bytes besides than so many runs go through; so behind them the bytes jump by
-/// a room.
+/// these rooms, and fewer bytes besides than so many runs go through; so behind them the bytes jump to
+/// the next room.
 pub(crate) fn bytes_left(run: usize, fine_runs: usize) -> usize {
     let runs = fine_runs.max(1);
     let jumped = (run / runs).saturating_mul(MAX_ENTRIES * size_of::<Entry>() + UNIT);

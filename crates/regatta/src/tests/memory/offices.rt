@@ -12,7 +12,8 @@ use regatta_terms::{Command, Line, Refusal, Role, read_entry};
 use std::marker::Brand;
 use std::sync::Wait;
 
-/// An office of two seats, of which the first has entered A.
+/// An office of two seats, of which the first has entered A. That she is read and stands in it, the
+/// test of its seats sees.
 fn opened_with_a<R: Wait>(rt: &R, alloc: Global) -> Result<Opened<&R>, OpenFault> {
     let start = read_entry(b"1 1 SCORER ENTER A").ok();
     Office::open(rt, alloc, &default_rules(), 2, start.as_slice())
@@ -111,8 +112,8 @@ fn session_at<R: Wait>(rt: &R, alloc: Global, hoard: &mut Hoard, bytes: usize) -
     }
 }
 
-/// The calls that open an office, or are made at one that was just opened. A replay stands here since
-/// it asks for rooms like theirs, and one test fewer is one hoard fewer.
+/// The calls that open an office, or are made at one that was just opened. A replay stands here, too:
+/// a test of its own would want a hoard of its own.
 #[derive(Drop)]
 enum OfficeCall {
     Open,
@@ -270,7 +271,7 @@ struct Seats<'a, N: OfficeName, H: Wait + Drop, R: Wait> {
 
 impl<N: OfficeName, H: Wait + Drop, R: Wait> Seats<'_, N, H, R> {
     /// Counts one boat more, where the call has entered her.
-    fn count(&mut self, call: &SeatCall, told: Told) {
+    fn count_boat(&mut self, call: &SeatCall, told: Told) {
         if let (SeatCall::Run | SeatCall::Answer, Told::Ordinary) = (call, told) {
             self.entered = self.entered.saturating_add(1);
         }
@@ -310,7 +311,7 @@ impl<N: OfficeName, H: Wait + Drop, R: Wait> Caller<SeatCall> for Seats<'_, N, H
         hoard.leave(bytes);
         let told = self.answers(call, command, &mut out);
         hoard.give_back();
-        self.count(call, told);
+        self.count_boat(call, told);
         told_if(self.has_entered(), told)
     }
 }

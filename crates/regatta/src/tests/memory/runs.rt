@@ -104,8 +104,8 @@ where
     )
 }
 
-/// How many runs of the program go through the bytes by units, before these jump by a room: 32 KiB,
-/// since its words and streams take some as well.
+/// How many runs of the program go through the bytes by units, before these jump to the next room:
+/// 32 KiB, since reading its words takes memory as well.
 const PROGRAM_FINE_RUNS: usize = 2048;
 
 /// Whether a run of the program is refused first, so often at least. It goes by no `Caller`: behind a
@@ -124,7 +124,8 @@ where
 }
 
 /// Whether these runs of the program are refused first, so often at least. True, with no run made, at
-/// a heap that has no hoard.
+/// a heap that has no hoard. It goes on behind a run that fails: a way out of the loop would be one
+/// more that is proved to give the hoard back.
 fn are_runs_refused<R>(rt: &R, calls: &[(Words, u32)]) -> bool
 where
     R: Files + AllocGlobal + Threads + Wait + Net + Sync,
@@ -145,7 +146,8 @@ where
 /// A path at which no socket can be made.
 const NOWHERE: &str = "/no/such/folder/race.sock";
 
-/// A replay, and what serves: it reads its words, and opens and splits an office, ahead of its socket.
+/// A replay; and a run that serves, which reads its words, opens and splits an office, and finds that
+/// its socket can't be made.
 static RUNS: [(Words, u32); 2] = [
     (
         Words {

@@ -112,14 +112,15 @@ fn line(alloc: Global, points: u32) -> Result<BoatLine, AllocError> {
     BoatLine::new(alloc, &[tenths(points), tenths(points)], &[false, false])
 }
 
-/// Three lines, of which two have the same points, and the third has more. They take no memory.
+/// Three lines, of which two have the same points, and the third has more. They take no memory, so
+/// that they may be made in the call that is refused.
 fn three_lines(alloc: Global) -> Result<[BoatLine; 3], AllocError> {
     Ok([line(alloc, 15)?, line(alloc, 15)?, line(alloc, 30)?])
 }
 
 /// Whether these are the ranks of such lines: the first two boats share their places, and the third
 /// is third (RRS A8).
-fn are_ranks(places: &Places) -> bool {
+fn is_first_shared(places: &Places) -> bool {
     match places.as_slice() {
         [one, two, three] => one.tied && two.rank == 1 && three.rank == 3,
         _ => false,
@@ -129,14 +130,14 @@ fn are_ranks(places: &Places) -> bool {
 /// Whether the ranks of three lines are due.
 fn are_ranked(alloc: Global) -> Result<bool, AllocError> {
     let places = ranks(alloc, &three_lines(alloc)?)?;
-    Ok(are_ranks(&places))
+    Ok(is_first_shared(&places))
 }
 
 /// Whether the ranks of references to three lines are due.
 fn are_references_ranked(alloc: Global) -> Result<bool, AllocError> {
     let [one, two, three] = &three_lines(alloc)?;
     let places = ranks_of(alloc, &[one, two, three])?;
-    Ok(are_ranks(&places))
+    Ok(is_first_shared(&places))
 }
 
 /// What a change tells with so many bytes left: the boats then have these points.
@@ -159,7 +160,7 @@ fn change_tells(
     }
 }
 
-/// Races of three boats, and series of two races.
+/// What makes races of three boats, and lines of two races.
 #[derive(Drop)]
 struct Races {
     alloc: Global,
@@ -201,7 +202,7 @@ impl Races {
 
     /// Whether a call that changes no sheet answers what is due, of a race in which the first of
     /// three boats has finished, or of a series.
-    fn answers(&self, call: &Call, first: &RaceSheet) -> Result<bool, AllocError> {
+    fn is_answered(&self, call: &Call, first: &RaceSheet) -> Result<bool, AllocError> {
         let alloc = self.alloc;
         match call {
             Call::Points => are_points(alloc, first, &[10, 40, 40]),
@@ -241,7 +242,7 @@ impl Races {
             | Call::Hold => self.changes(call, hoard, bytes, blank, first),
             _ => {
                 hoard.leave(bytes);
-                let answer = self.answers(call, first);
+                let answer = self.is_answered(call, first);
                 hoard.give_back();
                 tells(answer)
             }

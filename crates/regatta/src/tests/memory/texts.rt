@@ -5,7 +5,7 @@ use regatta_board::standing_of;
 use regatta_office::start_of;
 use regatta_tables::{
     EntriesFault, JournalFault, Sails, read_entries, write_csv, write_journal, write_reply,
-    write_sheet,
+    write_sheet, write_table,
 };
 use regatta_terms::{Reply, Sail, read_entry, write_entry};
 
