@@ -114,9 +114,9 @@ pub record IsLowerAtFirst (xs ys : List ℕ) : Type 0 where
   pub same : take at xs ≡ take at ys
   pub lower : slice_index xs at < slice_index ys at
 
--- a boat is better by her series score; or, if those are equal, by the first difference of the
--- scores that count from best to worst (A8.1); or, if those are equal too, by the first difference
--- from the last race back, excluded scores included (A8.2)
+-- a boat is better by her series score. If those are equal, the first difference of the scores that
+-- count from best to worst decides (A8.1). If those are equal too, the first difference from the
+-- last race back does, excluded scores included (A8.2)
 abbrev pub IsBetter : BoatScores → BoatScores → Type 0
 IsBetter a b =
     (net a < net b)
