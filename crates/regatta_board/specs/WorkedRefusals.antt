@@ -77,7 +77,7 @@ pub each_refusal_replies :
     ∷ []
 each_refusal_replies = refl
 
--- and the standing after them
+-- the standing after these commands
 pub each_refusal_table :
     standing default_rules (journal_after default_rules [] each_refusal_commands)
     ≡ table (1 ∷ []) (row a 1 false 25 (marked 25 abbreviation.Rdg ∷ []) ∷ [])

@@ -41,7 +41,7 @@ pub times_of_three_replies :
     ∷ []
 times_of_three_replies = refl
 
--- and the standing after them
+-- the standing after these commands
 pub times_of_three_table :
     standing by_times (journal_after by_times [] times_of_three)
     ≡ table (1 ∷ []) (row a 1 false 10 (plain 10 ∷ []) ∷ row b 2 false 20 (plain 20 ∷ [])
