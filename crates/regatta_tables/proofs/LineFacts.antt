@@ -9,13 +9,13 @@ use Rattle.regatta_terms.specs.Words.{spaced}
 use Rattle.regatta_tables.specs.Lines.{line}
 use denote.Ref.{Bor}
 
--- joined words are the first, and each other behind a space
+-- joined words are the first, and each other one after a space
 pub joined : (first : List ℕ) (words : List (List ℕ))
     → join_with_byte 32 (first ∷ words) ≡ first ++ spaced words
 joined first [] = sym (append-nil first)
 joined first (w ∷ ws) = ap (λ (t : List ℕ). first ++ 32 ∷ t) (joined w ws)
 
--- where the next piece has no room, there was none for all of them
+-- if the next piece has no room, there was none for all of them
 pub no_room : (pieces : List (Bor (List ℕ))) (i : ℕ) (d : Bor (List ℕ)) (before text : List ℕ)
     (room cap old len : ℕ) → i < length pieces
     → text ≡ before ++ flat_map (λ piece. piece.now) (take i pieces) → old ≡ length before
@@ -46,7 +46,7 @@ pushed_piece pieces i d before text new below so_far pushed =
     ∙ ap (λ (ps : List (Bor (List ℕ))). before ++ flat_map (λ piece. piece.now) ps)
     (sym (take_more pieces i d below))
 
--- where all pieces have room the next one has, so that it takes no memory
+-- if all pieces have room the next one has, so that the capacity stays
 pub stays_more : (pieces : List (Bor (List ℕ))) (i : ℕ) (d : Bor (List ℕ)) (before text : List ℕ)
     (first cap new old len : ℕ) → i < length pieces
     → text ≡ before ++ flat_map (λ piece. piece.now) (take i pieces) → old ≡ length before
@@ -82,7 +82,7 @@ text_more f xs i x start text new below item so_far pushed =
     ∙ ap (λ y. start ++ flat_map f (take i xs ++ y ∷ [])) item
     ∙ ap (λ ys. start ++ flat_map f ys) (sym (take_more xs i x below))
 
--- the next word behind a space makes the text of one word more
+-- a space and the next word make the text of one word more
 pub spaced_more : {X : Type 0} (f : X → List ℕ) (xs : List X) (i : ℕ) (x : X)
     (start text new : List ℕ) → i < length xs → x ≡ get_or xs i x
     → text ≡ start ++ spaced (map f (take i xs)) → new ≡ text ++ 32 ∷ f x
@@ -93,7 +93,7 @@ spaced_more f xs i x start text new below item so_far word =
     ∙ ap (λ (w : List ℕ). start ++ spaced (map f (take i xs) ++ w ∷ [])) (ap f item)
     ∙ ap (λ (ws : List (List ℕ)). start ++ spaced ws) (sym (map_more f xs i x below))
 
--- a first text, words behind spaces, and a line feed
+-- a first text, words that are each preceded by a space, and a line feed
 ended : (old first start text new : List ℕ) (words : List (List ℕ)) → start ≡ old ++ first
     → text ≡ start ++ spaced words → new ≡ text ++ 10 ∷ []
     → new ≡ ((old ++ first) ++ spaced words) ++ 10 ∷ []
