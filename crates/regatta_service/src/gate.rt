@@ -5,8 +5,8 @@ use crate::sessions::End;
 /// Asked before each line of a session is answered, and told when its reply was written. The lines
 /// of a session count from 1, unreadable ones included; the count stops at the greatest `u64`.
 pub trait Gate {
-    /// Returns whether the line may be answered; if not, the session ends as `Stopped`. The call may
-    /// keep the session waiting.
+    /// Returns whether the line may be answered; if not, the session ends as `Stopped`. The call
+    /// may keep the session waiting.
     fn before(&self, seat: u8, line: u64) -> bool;
 
     /// Told when the line's reply was written.
