@@ -112,7 +112,7 @@ not_help e memory help = differ (sym memory ∙ help)
     differ : OutOfMemory ≡ DisplayHelp → ⊥
     differ is = cc
 
--- help comes from words that ask for it
+-- the error for help comes only from arguments that ask for help
 pub helped : (app : App) (forms : ValueParser) (words : List Text) (e : Error)
     → app ≡ regatta forms
     → (is_simple_and_free app ≡ true → FailsBy {T = ArgMatches} (fault_of app words) (Err e))
