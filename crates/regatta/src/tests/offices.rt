@@ -276,7 +276,7 @@ fn is_shown_with<N: OfficeName>(
     }
 }
 
-/// Whether SHOW is answered `CLOSED`.
+/// Whether the answer to SHOW is `CLOSED`.
 fn answers_closed<N: OfficeName>(alloc: Global, pass: &mut Pass<N>) -> bool {
     let mut role = Role::Scorer;
     let mut out = Vec::new(alloc);

@@ -198,7 +198,7 @@ fn rescored(board: &mut Board, entry: Entry) -> Option<u32> {
     }
 }
 
-/// Whether the board takes these entries one by one, and scores so many races for each.
+/// Whether the board takes these entries one by one, and scores as many races for each.
 fn are_rescored(board: &mut Board, entries: &[Entry], counts: &[u32]) -> bool {
     for (entry, count) in entries.iter().zip(counts) {
         if rescored(board, *entry) != Some(*count) {
@@ -208,7 +208,7 @@ fn are_rescored(board: &mut Board, entries: &[Entry], counts: &[u32]) -> bool {
     entries.len() == counts.len()
 }
 
-/// Whether a new board takes the entries of this journal, and scores so many races for each.
+/// Whether a new board takes the entries of this journal, and scores as many races for each.
 fn scores_races(alloc: Global, text: &[u8], counts: &[u32]) -> Result<bool, Fail> {
     let journal = journal_of(alloc, text)?;
     match Board::open(alloc, default_rules()) {

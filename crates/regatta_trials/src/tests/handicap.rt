@@ -21,7 +21,7 @@ static MORE_REPLIES: &str = "OK 8 3 4.0\nOK 9 1 1.0\nNO 16\nNO 8\nNO 7\nNO 29\nN
 
 static LAST_TABLE: &str = "TABLE 3 RACES 1\n1 A 1.0 1.0\n2 B 2.0 2.0\n3 C 3.0 3.0\n";
 
-/// Whether a run over this text ends well and writes this.
+/// Whether a run over this text succeeds and writes this.
 fn is_answered(alloc: Global, text: &[u8], written: &[u8]) -> Result<bool, Fail> {
     let (output, ended) = replayed(alloc, text, &handicap_rules(), &[], Form::Table)?;
     Ok(ended == Ok(()) && output.written() == written)

@@ -26,7 +26,7 @@ where
     Ok(status == ending.status && streams.has_written(ending.written, ending.said))
 }
 
-/// Whether a run ends well that prints these replies, and then this.
+/// Whether a run succeeds that prints these replies, and then this.
 fn prints<R>(rt: &R, words: &[&str], text: &str, replies: &str, last: &str) -> Result<bool, Fail>
 where
     R: Files + AllocGlobal + Threads + Wait + Net + Sync,
@@ -191,7 +191,7 @@ fn are_named<R: Abort>(rt: &R, help: &[u8], names: &[&str]) {
     }
 }
 
-/// Asserts that a run of these words ends well, and that all it prints is help with these names.
+/// Asserts that a run of these words succeeds, and that all it prints is help with these names.
 fn helps<R>(rt: &R, words: &[&str], names: &[&str]) -> Result<(), Fail>
 where
     R: Files + AllocGlobal + Threads + Wait + Net + Abort + Sync,
@@ -461,8 +461,8 @@ fn starts_of_the_other_system_are_refused(rt: HostRuntime) -> Result<(), Fail> {
     files.remove(&rt)
 }
 
-/// Whether the program has a device fault where its input gives, and its output takes, so many
-/// bytes.
+/// Whether the program has a device fault if its input gives `gives` bytes, and its output takes
+/// `takes`.
 fn has_device_fault<R>(rt: &R, words: &[&str], gives: usize, takes: usize) -> Result<bool, Fail>
 where
     R: Files + AllocGlobal + Threads + Wait + Net + Sync,
@@ -472,7 +472,7 @@ where
     Ok(status == 3 && streams.has_said("regatta: device fault\n"))
 }
 
-/// The status where so many bytes can be said.
+/// The status if standard error takes `room` bytes.
 fn status_saying<R>(rt: &R, words: &[&str], room: usize) -> Result<u8, Fail>
 where
     R: Files + AllocGlobal + Threads + Wait + Net + Sync,

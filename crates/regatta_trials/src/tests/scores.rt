@@ -9,12 +9,12 @@ use regatta_scores::{
 use regatta_terms::{Code, Redress, Seconds, Tenths};
 use std::cmp::Ordering;
 
-/// So many tenths.
+/// Points in tenths.
 fn tenths(points: u32) -> Result<Tenths, Fail> {
     Ok(Tenths::new(points).ok_or("points")?)
 }
 
-/// Whether these are so many tenths each.
+/// Whether these are the points wanted, in tenths.
 fn are_tenths(points: &[Tenths], wanted: &[u32]) -> bool {
     points.iter().map(|p| p.get()).eq(wanted.iter().copied())
 }
@@ -29,7 +29,7 @@ struct Race<'a> {
     points: &'a [u32],
 }
 
-/// So many penalties under RRS 30.2, and Scoring Penalties (44.3).
+/// The boat holds penalties under RRS 30.2, and Scoring Penalties (44.3).
 fn penalised(boat: u16, zfp: u8, scp: u8) -> Change {
     let held = Held {
         zfp,
@@ -39,7 +39,7 @@ fn penalised(boat: u16, zfp: u8, scp: u8) -> Change {
     Change::Hold { boat, held }
 }
 
-/// A code.
+/// The boat holds a code.
 fn coded(boat: u16, code: Code) -> Change {
     let held = Held {
         code: Some(code),
@@ -242,8 +242,8 @@ const ALL: &str = "ALL";
 
 const BEFORE: &str = "BEFORE";
 
-/// A boat's points before redress in each race, in tenths, the races of which an average is her
-/// redress there, and her points with it.
+/// A boat's points before redress in each race, in tenths, the average that is her redress there, and
+/// her points with it.
 struct Averages {
     races: &'static [(u32, &'static str)],
     points: &'static [u32],

@@ -97,7 +97,7 @@ impl Clerk<'_> {
         }
     }
 
-    /// The outcome of making a standing with so many bytes left, by its table.
+    /// The outcome of making a standing with `bytes` bytes left, by its table.
     fn standing_outcome(&self, call: &Call, hoard: &mut Hoard, bytes: usize) -> Outcome {
         hoard.leave(bytes);
         let standing = self.standing(call);

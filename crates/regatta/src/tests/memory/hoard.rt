@@ -23,7 +23,7 @@ pub(crate) enum Outcome {
 
 /// What makes calls that allocate. `C` names one of them.
 pub(crate) trait Caller<C> {
-    /// Makes the call with so many bytes left. Only while the call runs does the hoard leave it
+    /// Makes the call with `bytes` bytes left. Only while the call runs does the hoard leave it
     /// these: whatever else allocates comes before `leave` or after `give_back`, so that its failed
     /// allocation isn't taken for the call's.
     fn outcome(&mut self, call: &C, hoard: &mut Hoard, bytes: usize) -> Outcome;
@@ -243,7 +243,7 @@ impl Hoard {
     }
 
     /// Leaves this many bytes to the calls that come, until `give_back`. `has_left` is false from then
-    /// on if there weren't so many.
+    /// on if there were fewer.
     pub(crate) fn leave(&mut self, bytes: usize) {
         // what the heap keeps apart from now on are blocks of `apart`, and none of the region
         self.region.take_kept();

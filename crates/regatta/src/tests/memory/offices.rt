@@ -12,8 +12,8 @@ use regatta_terms::{Command, Line, Refusal, Role, read_entry};
 use std::marker::Brand;
 use std::sync::Wait;
 
-/// An office with two seats, of which the first has entered A. That she is read and is in it, the test
-/// of its seats sees.
+/// An office with two seats; seat 1 has entered A. That she is read and is in it, the test of its
+/// seats sees.
 fn opened_with_a<R: Wait>(rt: &R, alloc: Global) -> Result<Opened<&R>, OpenFault> {
     let start = read_entry(b"1 1 SCORER ENTER A").ok();
     Office::open(rt, alloc, &default_rules(), 2, start.as_slice())
@@ -36,7 +36,7 @@ fn passes_made<N: OfficeName, H: Wait + Drop>(opened: Opened<H>) -> Option<usize
     Some(passes.len())
 }
 
-/// The outcome of splitting an office that was just opened, with so many bytes left.
+/// The outcome of splitting an office that was just opened, with `bytes` bytes left.
 fn split_outcome<R: Wait>(rt: &R, alloc: Global, hoard: &mut Hoard, bytes: usize) -> Outcome {
     let Some(opened) = opened_office(rt, alloc, 2) else {
         return Outcome::Other;
@@ -75,7 +75,7 @@ fn session_outcome(end: End, written: &[u8], last: u32) -> Outcome {
     })
 }
 
-/// The outcome of a session at the one seat of an office, with so many bytes left.
+/// The outcome of a session at the one seat of an office, with `bytes` bytes left.
 fn session_with<N: OfficeName, H: Wait + Drop, R: Wait>(
     rt: &R,
     alloc: Global,
@@ -157,7 +157,7 @@ fn offices_sessions_and_replays_run_out_of_memory(rt: HostRuntime) {
     assert!(rt; are_refused(&rt, &mut Offices { rt: &rt }, &OFFICE_CALLS));
 }
 
-/// The sail of the boat that is entered after so many.
+/// The sail of the boat that is entered after `entered` others.
 fn next_sail(entered: u32) -> &'static [u8] {
     match entered {
         0 => b"A",
@@ -166,7 +166,7 @@ fn next_sail(entered: u32) -> &'static [u8] {
     }
 }
 
-/// The entries by which seat 1 has entered so many boats.
+/// The entries by which seat 1 has entered `entered` boats.
 fn journal_of(entered: u32) -> &'static [u8] {
     match entered {
         0 => b"",
@@ -248,17 +248,17 @@ fn alone_outcome<N: OfficeName>(pass: &mut Pass<N>, is_role: bool, out: &mut Vec
 enum SeatCall {
     /// Seat 1 enters the next boat.
     Run,
-    /// Seat 1 is answered the line that enters the second boat.
+    /// Seat 1 sends the line that enters the second boat.
     Answer,
     /// Seat 2 is shown one entry.
     Show,
-    /// Seat 2 is answered SHOW.
+    /// Seat 2 asks for SHOW.
     AnswerShow,
-    /// Seat 2 is answered that it becomes the jury.
+    /// Seat 2 asks to be the jury.
     AnswerRole,
 }
 
-/// An office of two seats, of which the first has entered so many boats.
+/// An office with two seats; seat 1 has entered `entered` boats.
 #[derive(Drop)]
 struct Seats<'a, N: OfficeName, H: Wait + Drop, R: Wait> {
     rt: &'a R,
@@ -277,8 +277,7 @@ impl<N: OfficeName, H: Wait + Drop, R: Wait> Seats<'_, N, H, R> {
         }
     }
 
-    /// Whether the journal has so many boats, seat 1 knows that it has sent them, and seat 2 is shown
-    /// them.
+    /// Whether the journal has these boats, seat 1 knows that it has sent them, and seat 2 is shown them.
     fn has_entered(&mut self) -> bool {
         let journal = journal_of(self.entered);
         self.first.last() == self.entered
@@ -317,7 +316,7 @@ impl<N: OfficeName, H: Wait + Drop, R: Wait> Caller<SeatCall> for Seats<'_, N, H
 }
 
 /// Whether these calls of the seats are made, with each allocation refused first, once seat 1 has
-/// entered so many boats.
+/// entered `entered` boats.
 fn are_refused_at<N: OfficeName, H: Wait + Drop, R: Files + AllocGlobal + Wait>(
     rt: &R,
     opened: Opened<H>,

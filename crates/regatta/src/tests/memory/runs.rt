@@ -31,7 +31,7 @@ fn is_whole(written: &[u8]) -> bool {
         && written.len() == REPLIES.len() + TABLE.len()
 }
 
-/// The outcome of a replay over these tapes with so many bytes left. After a refusal whole replies
+/// The outcome of a replay over these tapes with `bytes` bytes left. After a refusal whole replies
 /// were written, and no final part.
 fn replay_over(
     alloc: Global,
@@ -87,7 +87,7 @@ fn run_outcome(call: &Words, status: u8, written: &[u8], said: &[u8]) -> Outcome
     ordinary_if(is_written && status == call.status && said == call.says)
 }
 
-/// The outcome of a run of the program with so many bytes left.
+/// The outcome of a run of the program with `bytes` bytes left.
 fn program_outcome<R>(rt: &R, hoard: &mut Hoard, bytes: usize, call: &Words) -> Outcome
 where
     R: Files + AllocGlobal + Threads + Wait + Net + Sync,
@@ -171,7 +171,7 @@ fn the_program_runs_out_of_memory(rt: HostRuntime) {
     assert!(rt; are_runs_refused(&rt, &RUNS));
 }
 
-/// The fault by which serving one client ends with so many bytes left.
+/// The fault by which serving one client ends with `bytes` bytes left.
 fn serve_at<N, H, R>(
     rt: &R,
     alloc: Global,
@@ -211,7 +211,7 @@ fn serve_once<R: Threads + Wait + Net + Sync>(
     }
 }
 
-/// The fault by which serving ends with so many bytes left, if its client is sent nothing. Their line
+/// The fault by which serving ends with `bytes` bytes left, if its client is sent nothing. Their line
 /// isn't read if there is no thread, so they are cut off.
 fn silent_fault<R: Threads + Wait + Net + Sync>(
     rt: &R,

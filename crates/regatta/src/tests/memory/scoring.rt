@@ -12,7 +12,7 @@ use regatta_scores::{
 };
 use regatta_terms::{Award, Redress, Seconds, Tenths};
 
-/// So many tenths, or ten if there are none such.
+/// `points` tenths, or ten if that is out of range.
 fn tenths(points: u32) -> Tenths {
     Tenths::new(points).unwrap_or(Tenths::new(10).unwrap())
 }
@@ -36,7 +36,7 @@ enum Call {
     Hold,
 }
 
-/// Whether these are so many tenths each.
+/// Whether these are the points wanted, in tenths.
 fn are_tenths(points: &[Tenths], wanted: &[u32]) -> bool {
     for (found, right) in points.iter().zip(wanted) {
         if *found != tenths(*right) {
@@ -57,7 +57,7 @@ fn are_points(alloc: Global, sheet: &RaceSheet, wanted: &[u32]) -> Result<bool, 
     }
 }
 
-/// Whether three boats have scores of which the first stands in the order, and no other. Behind a
+/// Whether three boats have scores of which the first stands in the order, and no other. After a
 /// refusal no race is counted as scored.
 fn are_scores(alloc: Global, sheet: &RaceSheet) -> Result<bool, AllocError> {
     let mut work = Work::new();
@@ -91,7 +91,7 @@ fn are_averages(alloc: Global) -> Result<bool, AllocError> {
     Ok(are_tenths(averages(alloc, &row)?.as_slice(), &[75, 20, 48]))
 }
 
-/// A score of so many tenths that may be excluded.
+/// A score of `points` tenths that may be excluded.
 fn scored(points: u32) -> Scored {
     Scored {
         points: tenths(points),
@@ -139,7 +139,7 @@ fn are_references_ranked(alloc: Global) -> Result<bool, AllocError> {
     Ok(is_first_shared(&places))
 }
 
-/// The outcome of a change with so many bytes left: the boats then have these points.
+/// The outcome of a change with `bytes` bytes left: the boats then have these points.
 fn change_outcome(
     alloc: Global,
     hoard: &mut Hoard,
@@ -218,7 +218,7 @@ impl Races {
         }
     }
 
-    /// The outcome of a call with so many bytes left.
+    /// The outcome of a call with `bytes` bytes left.
     fn outcome_with(
         &self,
         call: &Call,
