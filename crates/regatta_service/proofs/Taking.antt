@@ -23,7 +23,7 @@ replied_more rules [] line before between after same last =
 replied_more rules (first ∷ lines) line before between after (next, one, more) last =
     (next, one, replied_more rules lines line next between after more last)
 
--- what comes behind one byte more
+-- what comes after one more byte
 behind_byte : (rules : RulesParts) (line bytes : List ℕ) (before : Point) (later : List ℕ)
     (after : Point) (byte : ℕ) (rest : List ℕ)
     → (w : WentOn rules line bytes before later after)
@@ -82,7 +82,7 @@ line_taken rules line piece before later between i byte now left within at is go
     rw (none) (rw (front_more piece i byte within at)
     (line_more rules line (take i piece) before later between byte left is goes replied w))
 
--- a QUIT has ended, and others may stand behind it
+-- a QUIT has ended the session, and other lines may follow it
 pub quit_taken : (rules : RulesParts) (line piece : List ℕ) (before : Point) (later : List ℕ)
     (between : Point) (i byte : ℕ) (after : Point) → i < length piece
     → get_or piece i 0 ≡ byte → is_line_end byte ≡ true → next_after (line_of later) ≡ Next.End

@@ -1,4 +1,4 @@
--- What the lines of a session are answered.
+-- The replies to the lines of a session.
 use Rattle.std.specs.Prelude.{◌≡◌, ℕ, Bool, true, false, List, [], ◌++◌, Option, Some, None}
 use Rattle.std.specs.Prelude.{Result, Ok, Err}
 use Rattle.std.specs.Io.KnownBytes.{Appends}
@@ -17,9 +17,9 @@ use Rattle.regatta_desk.specs.Passes.{PassValue}
 use Rattle.regatta_desk.specs.Replies.{DeskReplies, PassReplies}
 use Rattle.regatta_service.specs.declared.sessions.End.{End}
 
--- a line that a desk answered for a pass in this role: it was found with a lawful journal, and did
--- what the line asks, and its reply is appended; no proof knows what lies under a lock, so this
--- says no more of what was found
+-- a line that a desk answered for a pass in this role: the desk had a lawful journal and did what
+-- the line asks, and its reply is appended; no proof knows what a lock guards, so this says no more
+-- of the desk found
 pub record DeskAnswers (rules : RulesParts) (line : Line) (role : Role) (before after : PassValue)
     (old new : List ℕ) : Type 0 where
   pub found : DeskValue
@@ -29,8 +29,8 @@ pub record DeskAnswers (rules : RulesParts) (line : Line) (role : Role) (before 
   pub replied : DeskReplies rules line role found left before after reply
   pub text : new ≡ old ++ reply_text reply
 
--- what is appended for a line of a session, and what it leaves of the pass: a desk answers a
--- command or a rank, and the pass alone the others
+-- the text appended for a line of a session, and what the line changes of the pass: a desk answers
+-- commands and RANK, and the pass alone answers the others
 abbrev pub Answers : RulesParts → Result Line LineFault → Role → PassValue → PassValue → List ℕ
     → List ℕ → Type 0
 Answers rules (Ok (Do command)) role before after old new =
@@ -44,7 +44,7 @@ Answers rules (Ok Quit) role before after old new = PassReplies rules (Ok Quit) 
 Answers rules (Err fault) role before after old new =
     PassReplies rules (Err fault) before after old new
 
--- whether the reply to the last line was written whole, where its session ended so or goes on
+-- whether the reply to the last line was written whole, if the session ended so or goes on (`None`)
 abbrev pub is_replied : Option End → Bool
 is_replied None = true
 is_replied (Some End.Quit) = true
@@ -54,8 +54,8 @@ is_replied (Some End.WriteFault) = false
 is_replied (Some End.Stopped) = false
 is_replied (Some End.NoMemory) = false
 
--- a line that was answered in this role, and what it leaves: the role of the lines behind it, the
--- pass, and the stream, to which just its reply was written
+-- a line that was answered in this role, and the state after it: the role of the next lines, the
+-- pass, and the stream, to which exactly the reply was written
 pub record Replied (rules : RulesParts) (asked : Result Line LineFault) (role later : Role)
     (before after : PassValue) (old new : Option (List ℕ)) : Type 0 where
   pub text : List ℕ
@@ -63,7 +63,7 @@ pub record Replied (rules : RulesParts) (asked : Result Line LineFault) (role la
   pub role_set : later ≡ role_after asked role
   pub wrote : Appends old new text
 
--- a line that was answered so, where a write failed: a beginning of its reply was written
+-- a line that was answered so, but a write failed: a beginning of its reply was written
 pub record CutOff (rules : RulesParts) (asked : Result Line LineFault) (role later : Role)
     (before after : PassValue) (old new : Option (List ℕ)) : Type 0 where
   pub text : List ℕ

@@ -9,13 +9,12 @@ use Rattle.regatta_desk.specs.Replies.{next_after}
 use Rattle.regatta_desk.specs.declared.answers.Next.{Next}
 use Rattle.regatta_service.specs.Lines.{Replied}
 
--- where a session stands: the role of the lines to come, the pass, and what was written
+-- the state of a session: the role of the next lines, the pass, and what was written
 pub record Point : Type 0 where
   pub role : Role
   pub pass : PassValue
   pub written : Option (List ℕ)
 
--- one, by its parts
 abbrev pub point : Role → PassValue → Option (List ℕ) → Point
 point role pass written = record { role = role; pass = pass; written = written }
 
@@ -25,19 +24,19 @@ IsReplied rules line before after =
     Replied rules (line_of line) before.role after.role before.pass after.pass before.written
     after.written
 
--- lines that were answered one behind the other, each once and with just its reply
+-- lines that were answered one after another, each once and with exactly its reply
 abbrev pub AreReplied : RulesParts → List (List ℕ) → Point → Point → Type 0
 AreReplied rules [] before after = after ≡ before
 AreReplied rules (line ∷ lines) before after =
     (between : Point) × IsReplied rules line before between
     × AreReplied rules lines between after
 
--- a line behind which its session goes on: all but QUIT
+-- a line after which the session goes on: any except QUIT
 abbrev pub GoesOn : List ℕ → Type 0
 GoesOn line = next_after (line_of line) ≡ Next.Go
 
--- the lines that ended in some bytes behind a line at hand were answered, and none of them is QUIT;
--- the session goes on with the line that is then at hand
+-- some bytes that continue the line so far: the lines that ended in them were answered, and none is
+-- QUIT; the session goes on with the line `later`
 pub record WentOn (rules : RulesParts) (line bytes : List ℕ) (before : Point) (later : List ℕ)
     (after : Point) : Type 0 where
   pub lines : List (List ℕ)
@@ -46,8 +45,8 @@ pub record WentOn (rules : RulesParts) (line bytes : List ℕ) (before : Point) 
       ≡ lines ++ heard_lines false later rest
   pub answered : AreReplied rules lines before after
 
--- of the lines that ended in some bytes behind a line at hand, those up to the first QUIT were
--- answered, and none behind it
+-- some bytes that continue the line so far: of the lines that ended in them, those up to the first
+-- QUIT were answered, and none after it
 pub record CameToQuit (rules : RulesParts) (line bytes : List ℕ) (before after : Point) : Type 0
   where
     pub lines : List (List ℕ)

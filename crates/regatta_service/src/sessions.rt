@@ -1,4 +1,4 @@
-//! One client's lines, answered one after another.
+//! The session of one client, whose lines are answered one after another.
 ghost use Rattle.std.specs.Prelude.{◌≡◌, ◌≢◌, ◌+◌, [], true, Ok, Some, None, IfSome, IfOk, OnOk};
 ghost use Rattle.std.specs.Prelude.{◌<◌, ◌≤◌, IsOk, OnErr, vec_capacity, vec_len};
 ghost use Rattle.std.specs.Io.KnownBytes.{IsAtEnd};
@@ -20,30 +20,30 @@ use std::alloc::{AllocError, Global};
 use std::sync::Wait;
 use std::thread;
 
-/// The bytes that one read asks for at most.
+/// The most bytes that one read asks for.
 const PIECE: usize = 512;
 
-/// How often a session whose line asked for a sheet lets others go first.
+/// How often a session yields to others after it has answered SHOW.
 const TURNS: u32 = 16;
 
 /// How a session ended.
 #[derive(Clone, Copy, Debug, PartialEq, Eq)]
 pub enum End {
-    /// By a QUIT, which was answered.
+    /// QUIT came and was answered.
     Quit,
-    /// The client's lines are at their end.
+    /// The client's stream has ended.
     Closed,
     /// A read of the stream failed.
     ReadFault,
     /// A write to the stream failed.
     WriteFault,
-    /// The gate didn't let a line through.
+    /// The gate stopped a line.
     Stopped,
-    /// Memory was wanting for a reply.
+    /// There was no memory for a reply.
     NoMemory,
 }
 
-/// The line as one that the desk answers, if it is one.
+/// The line, if the desk answers it.
 fn for_desk(asked: &Result<Line, LineFault>) -> Option<Line>
     ensures some { IfSome result (λ line.
         (asked.now ≡ Ok line) × (is_for_desk line ≡ true)) }
@@ -58,7 +58,7 @@ fn for_desk(asked: &Result<Line, LineFault>) -> Option<Line>
     }
 }
 
-/// Lets others go first behind a line that asked for a sheet: a watcher who asks without a pause
+/// Yields to other threads after a SHOW, so that a client who asks for sheets without a pause
 /// leaves the processors to those who send commands.
 fn make_way(asked: &Result<Line, LineFault>) {
     if let Ok(Line::Show) = asked {
@@ -68,9 +68,9 @@ fn make_way(asked: &Result<Line, LineFault>) {
     }
 }
 
-/// A client at a seat of the office, and what is kept from line to line: the role of the lines to
-/// come, the number of the last line, what came of the line at hand, the text of a reply, and how
-/// the session ended, which is none while it goes on.
+/// A client at a seat of the office, and what is kept from line to line: the role, the number of
+/// the last line, the buffered part of the current line, and the text of a reply. `ended` is `None`
+/// while the session goes on.
 #[derive(Drop)]
 struct Talk<'a, N: OfficeName, H: Wait + Drop, G: Gate> {
     office: &'a Office<N, H>,
@@ -84,7 +84,7 @@ struct Talk<'a, N: OfficeName, H: Wait + Drop, G: Gate> {
 }
 
 impl<N: OfficeName, H: Wait + Drop, G: Gate> Talk<'_, N, H, G> {
-    /// Has the desk answer a line, under its lock, in the session's role.
+    /// Takes the lock and has the desk answer a line, in the session's role.
     fn ask_desk<R: Wait>(&mut self, rt: &R, line: Line) -> Result<(), AllocError>
         requires { is_for_desk line ≡ true }
         ensures ok { OnOk result (DeskAnswers N.rules line self.old.role self.old.pass.now
@@ -97,13 +97,14 @@ impl<N: OfficeName, H: Wait + Drop, G: Gate> Talk<'_, N, H, G> {
         ensures ended { self.new.ended ≡ self.old.ended }
     {
         let mut desk = self.office.desk(rt);
-        // read for what it promises: the journal is lawful
+        // Called for its contract: the journal is lawful.
         let _ = desk.board();
         desk.answer(rt, self.pass, self.role, line, &mut self.reply)?;
         Ok(())
     }
 
-    /// Does what a line asks for, and makes its reply. Room for it is made ahead of the lock.
+    /// Does what a line asks for, and makes its reply. It makes room for the reply before it takes
+    /// the lock.
     fn answer<R: Wait>(
         &mut self,
         rt: &R,
@@ -133,26 +134,26 @@ impl<N: OfficeName, H: Wait + Drop, G: Gate> Talk<'_, N, H, G> {
         }
     }
 
-    /// Answers the line at hand, which may end the session.
+    /// Answers the current line, which may end the session.
     fn answer_line<R: Wait, S: Sink>(&mut self, rt: &R, stream: &mut S)
-        // No line is answered behind the end.
+        // No line is answered after the end.
         requires { self.old.ended ≡ None }
         ensures failures { S.failures stream.new
             ≡ S.failures stream.old + failures_so_far self.new.ended }
 
-        // It ends as quit exactly by a QUIT, and behind that it doesn't go on.
+        // The session ends as `Quit` only by a QUIT, and never goes on after one.
         ensures goes_on { self.new.ended ≡ None → next_after (line_of self.old.cutter) ≡ Next.Go }
         ensures quit { self.new.ended ≡ Some End.Quit →
             next_after (line_of self.old.cutter) ≡ Next.End }
 
-        // The line is answered in the session's role, and just its reply is written; the next line
-        // begins anew.
+        // The line is answered in the session's role, and exactly its reply is written. The next
+        // line starts empty.
         ensures replied { is_replied self.new.ended ≡ true →
             Replied N.rules (line_of self.old.cutter) self.old.role self.new.role
             self.old.pass.now self.new.pass.now (S.contents stream.old) (S.contents stream.new) }
         ensures cut { is_replied self.new.ended ≡ true → self.new.cutter ≡ [] }
 
-        // A line that isn't let through, or whose reply has no room and gets none, does nothing.
+        // A line has no effect if the gate stops it, or if there is no memory for its reply.
         ensures stopped { self.new.ended ≡ Some End.Stopped → (stream.new ≡ stream.old)
             × (self.new.pass.now ≡ self.old.pass.now) × (self.new.role ≡ self.old.role)
             × (self.new.cutter ≡ self.old.cutter) }
@@ -160,7 +161,7 @@ impl<N: OfficeName, H: Wait + Drop, G: Gate> Talk<'_, N, H, G> {
             (stream.new ≡ stream.old) × (self.new.pass.now ≡ self.old.pass.now)
             × (self.new.role ≡ self.old.role) × (vec_capacity self.old.reply < REPLY_ROOM) }
 
-        // A line whose reply met a write that failed was answered all the same.
+        // If the write of the reply fails, the line still took effect.
         ensures cut_off { self.new.ended ≡ Some End.WriteFault →
             CutOff N.rules (line_of self.old.cutter) self.old.role self.new.role
             self.old.pass.now self.new.pass.now (S.contents stream.old) (S.contents stream.new) }
@@ -198,8 +199,8 @@ impl<N: OfficeName, H: Wait + Drop, G: Gate> Talk<'_, N, H, G> {
         ensures failures { S.failures stream.new
             ≡ S.failures stream.old + failures_so_far self.new.ended }
 
-        // Each line is answered once and in its turn, up to a QUIT. Where there is none, the session
-        // goes on with what is then heard of the line at hand.
+        // Each line is answered once and in order, up to a QUIT. If there is none, the session goes
+        // on with what is then buffered of the current line.
         ensures goes_on { self.new.ended ≡ None → WentOn N.rules self.old.cutter piece.now
             (point self.old.role self.old.pass.now (S.contents stream.old)) self.new.cutter
             (point self.new.role self.new.pass.now (S.contents stream.new)) }
@@ -222,9 +223,9 @@ impl<N: OfficeName, H: Wait + Drop, G: Gate> Talk<'_, N, H, G> {
     }
 }
 
-/// Serves one client: each line that ends in LF is answered, up to QUIT. A line that is too long is
-/// answered once, as such. The first line is sent as the scorer. What was committed stays, however
-/// the session ends.
+/// Serves one client: answers each line that ends in LF, up to QUIT. A line that is too long gets
+/// one reply, which says so. The session starts in the scorer's role. What was committed stays,
+/// however the session ends.
 pub fn session<N: OfficeName, H: Wait + Drop, R: Wait, S: Source + Sink, G: Gate>(
     rt: &R,
     alloc: Global,
@@ -233,7 +234,8 @@ pub fn session<N: OfficeName, H: Wait + Drop, R: Wait, S: Source + Sink, G: Gate
     pass: &mut Pass<N>,
     gate: &G,
 ) -> End
-    // A call of the stream that fails ends the session, which tells it; none failed elsewhere.
+    // A failed call of the stream ends the session and is reported as what it is. Otherwise no call
+    // failed.
     ensures failures { S.failures stream.new ≡ S.failures stream.old + failures_in result }
     ensures closed { result ≡ End.Closed → IsAtEnd (S.remaining stream.new) }
 {

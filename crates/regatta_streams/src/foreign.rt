@@ -6,8 +6,8 @@ use crate::failures::Failures;
 use crate::stream::{Device, Sink, Source, StreamFault};
 use std::io::{Read, Write};
 
-/// A reader or writer of std, such as standard input or a socket, whose bytes it hands on as they
-/// are. It tells nothing of them by itself: no contract knows what a file or a socket holds.
+/// A reader or writer of std as a stream, for example standard input or a socket. Its bytes pass
+/// through unchanged. They are unknown (`None`): no contract knows what a file or a socket holds.
 #[derive(Drop)]
 pub struct Foreign<X> {
     inner: X,
@@ -17,7 +17,7 @@ pub struct Foreign<X> {
 impl<X> Foreign<X> {
     ghost use Rattle.regatta_streams.specs.Foreigns.{failed_calls};
 
-    /// The stream over `inner`, of which no call has failed yet.
+    /// A stream over `inner`. None of its calls has failed yet.
     pub fn new(inner: X) -> Foreign<X>
         ensures over { result.inner ≡ inner }
         ensures well { failed_calls result ≡ 0 }
@@ -46,7 +46,7 @@ impl<X: Read> Source for Foreign<X> {
         ensures well { OnOk result (failed_calls self.new ≡ failed_calls self.old) }
         ensures failed { OnErr result (failed_calls self.new ≡ failed_calls self.old + 1) }
 
-        // What the reader gives is handed on as it is, and its end and its faults as what they are.
+        // The reader's bytes, its end and its faults pass through as they are.
         ensures handed_on { ReadConsumes (inner_bytes X.remaining self.old)
             (inner_bytes X.remaining self.new) result buf.new }
     {
@@ -72,7 +72,7 @@ impl<X: Write> Sink for Foreign<X> {
         ensures well { OnOk result (failed_calls self.new ≡ failed_calls self.old) }
         ensures failed { OnErr result (failed_calls self.new ≡ failed_calls self.old + 1) }
 
-        // The writer is handed these bytes, and as many count as taken as it took.
+        // The writer gets these bytes, and the result is the number that it took.
         ensures handed_on { WriteAppends (inner_bytes X.contents self.old)
             (inner_bytes X.contents self.new) result buf.now }
     {

@@ -1,4 +1,4 @@
-//! What gives bytes, and what takes them.
+//! The traits of streams: what gives bytes, and what takes them.
 ghost use Rattle.std.specs.Prelude.{◌≡◌, ◌+◌, ◌<◌, ◌≤◌, ℕ, List, Option, length, IfOk, OnOk, OnErr};
 ghost use Rattle.std.specs.Io.KnownBytes.{ReadConsumes, WriteAppends};
 
@@ -6,17 +6,17 @@ ghost use Rattle.std.specs.Io.KnownBytes.{ReadConsumes, WriteAppends};
 #[derive(Clone, Copy, Debug, PartialEq, Eq)]
 pub struct StreamFault;
 
-/// What can fail, seen with the number of its calls that did.
+/// What reads or writes, seen with the number of its calls that have failed.
 pub trait Device {
     ghost failures: { Self → ℕ };
 }
 
-/// A reader, seen with the bytes that it still gives. A reader may leave them untold (`None`).
+/// A reader, seen with the bytes that it still gives: `None` if they are unknown.
 pub trait Source: Device {
     ghost remaining: { Self → Option (List ℕ) };
 
-    /// Gives as many bytes as it answers, at most as many as there is room for. None are given only
-    /// at the end, or where there is no room. A fault gives none, and is counted.
+    /// Reads into the front of `buf`, and returns the number of bytes read: 0 only at the end, or
+    /// if `buf` is empty. A failed read gives no byte, and is counted.
     fn read(&mut self, buf: &mut [u8]) -> Result<usize, StreamFault>
         ensures bound { IfOk result (λ n. n ≤ length buf.new) }
         ensures bytes { ReadConsumes (remaining self.old) (remaining self.new) result buf.new }
@@ -24,12 +24,12 @@ pub trait Source: Device {
         ensures failed { OnErr result (Self.failures self.new ≡ Self.failures self.old + 1) };
 }
 
-/// A writer, seen with the bytes that it holds. A writer may leave them untold (`None`).
+/// A writer, seen with the bytes that it holds: `None` if they are unknown.
 pub trait Sink: Device {
     ghost contents: { Self → Option (List ℕ) };
 
-    /// Takes as many of these bytes as it answers, from the first on: at least one where there is
-    /// one. A fault takes none, and is counted.
+    /// Writes the first bytes of `buf`, and returns how many: at least one, unless `buf` is empty.
+    /// A failed write takes none, and is counted.
     fn write(&mut self, buf: &[u8]) -> Result<usize, StreamFault>
         ensures bound { IfOk result (λ n. n ≤ length buf.now) }
         ensures some { IfOk result (λ n. 0 < length buf.now → 0 < n) }

@@ -8,8 +8,9 @@ use crate::stream::{Device, Sink, Source, StreamFault};
 use std::alloc::{AllocError, Global};
 use std::marker::Model;
 
-/// A stream over memory: it gives an input in pieces, keeps what it takes, and fails where it is
-/// told to. So a test sees what a run reads and writes, and what it does when a device fails.
+/// A stream over memory. It gives an input in pieces, keeps what is written, and fails after chosen
+/// numbers of bytes. So a test sees what a run reads and writes, and what it does when a device
+/// fails.
 #[derive(Drop)]
 pub struct Tape {
     input: Vec<u8>,
@@ -43,13 +44,13 @@ impl Model for Tape {
 impl Tape {
     ghost use Rattle.regatta_streams.specs.Tapes.{piece_len};
 
-    /// A tape that gives `input` in pieces of `piece` bytes. A read fails once `give` bytes were
-    /// given, also where the input ends just there, and a write of some bytes fails once `take`
-    /// bytes were taken. Room for these is made here: the tape takes no memory afterwards.
+    /// A tape that gives `input` in pieces of at most `piece` bytes. A read fails once `give` bytes
+    /// were given, even if the input ends just there. A write of some bytes fails once `take` bytes
+    /// were taken. Room for these is allocated here; no later call allocates.
     ///
     /// # Errors
     ///
-    /// Where the memory for the input and for that room is wanting.
+    /// If an allocation fails.
     pub fn new(
         alloc: Global,
         input: &[u8],
@@ -78,7 +79,6 @@ impl Tape {
         })
     }
 
-    /// How many bytes the next read gives where there is this room.
     fn next_len(&self, room: usize) -> usize
         ensures { result ≡ piece_len self.now room }
     {
@@ -86,7 +86,7 @@ impl Tape {
         self.piece.min(self.gives.min(left.min(room)))
     }
 
-    /// What was written so far.
+    /// The bytes written so far.
     pub fn written(&self) -> &[u8]
         ensures { result.now ≡ self.now.written }
     {
@@ -109,7 +109,7 @@ impl Source for Tape {
         ensures well { OnOk result (self.new.failures ≡ self.old.failures) }
         ensures failed { OnErr result (self.new.failures ≡ self.old.failures + 1) }
 
-        // It fails exactly where nothing is left to give, and else gives all that it may.
+        // It fails exactly when it has given all that it may. Otherwise it gives as much as it can.
         ensures fails { IsErr result ↔ (self.old.gives ≡ 0) }
         ensures given { IfOk result (λ n. n ≡ piece_len self.old (length buf.old)) }
         ensures buffer { IfOk result (λ n. take n buf.new ≡ take n self.old.rest) }
@@ -141,7 +141,7 @@ impl Sink for Tape {
         ensures well { OnOk result (self.new.failures ≡ self.old.failures) }
         ensures failed { OnErr result (self.new.failures ≡ self.old.failures + 1) }
 
-        // It fails exactly where there are bytes and no room, and else takes all that it may.
+        // It fails exactly when there are bytes and no room. Otherwise it takes as many as fit.
         ensures fails { IsErr result ↔ ((self.old.takes ≡ 0) × (0 < length buf.now)) }
         ensures taken { IfOk result (λ n. n ≡ taken_len self.old buf.now) }
         ensures ok { IfOk result (λ n. self.new ≡ after_write self.old (take n buf.now)) }

@@ -16,20 +16,20 @@ pub enum ReadFault {
     /// The stream gave a byte past the limit.
     #[error("the text is too long")]
     TooLong,
-    /// The memory for the text was wanting.
+    /// An allocation for the text failed.
     #[error("no memory")]
     NoMemory,
 }
 
-/// The bytes that one read asks for at most.
+/// The most bytes that one read asks for.
 const PIECE: usize = 4096;
 
-/// Reads all that the stream gives, `limit` bytes at most.
+/// Reads the whole stream, `limit` bytes at most.
 ///
 /// # Errors
 ///
-/// `Stream` where a read fails, `TooLong` once a byte past the limit came (no further byte is
-/// taken), `NoMemory` where the memory for the text is wanting.
+/// `Stream` if a read fails, `NoMemory` if an allocation fails. `TooLong` if a byte past the limit
+/// comes: no further byte is read.
 pub fn read_text<R: Source>(alloc: Global, input: &mut R, limit: u32) -> Result<Vec<u8>, ReadFault>
     ensures text { IfOk result (λ text.
         IfSome (R.remaining input.old) (λ given. text.items ≡ given)) }
@@ -39,7 +39,7 @@ pub fn read_text<R: Source>(alloc: Global, input: &mut R, limit: u32) -> Result<
         IfSome (R.remaining input.old) (λ given. limit < length given) }
     ensures taken { GaveAtMost (limit + 1) (R.remaining input.old) (R.remaining input.new) }
 
-    // A failed read is told by its own fault, and by no other.
+    // A failed read is reported as `Stream` and as nothing else.
     ensures failed { IsErrOf result ReadFault.Stream →
         R.failures input.new ≡ R.failures input.old + 1 }
     ensures well { OnOk result (R.failures input.new ≡ R.failures input.old) }
@@ -70,7 +70,7 @@ pub fn read_text<R: Source>(alloc: Global, input: &mut R, limit: u32) -> Result<
 ///
 /// # Errors
 ///
-/// Where a write fails: the first bytes are written then, as many as the stream took.
+/// If a write fails. Some first part of the bytes is written then, perhaps none.
 pub fn write_all<W: Sink>(output: &mut W, bytes: &[u8]) -> Result<(), StreamFault>
     ensures ok { OnOk result
         (Appends (W.contents output.old) (W.contents output.new) bytes.now) }

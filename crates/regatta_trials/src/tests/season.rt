@@ -4,7 +4,7 @@ ghost use Rattle.std.specs.Prelude.{◌≤◌};
 
 use super::*;
 use regatta_board::{Board, next_entry};
-use regatta_terms::{Code, Command, PenaltyKind, RaceNo, Redress, Refusal, Role, Sail};
+use regatta_terms::{Absent, Code, Command, PenaltyKind, RaceNo, Redress, Refusal, Role, Sail};
 
 /// How many boats finish in each race.
 const FINISHERS: u8 = 189;
@@ -102,11 +102,14 @@ fn has_all(board: &Board) -> Result<bool, Fail> {
     Ok(standing.races.as_slice().len() == 40 && standing.rows.as_slice().len() == 500)
 }
 
-/// Whether a season runs whole on this board: a boat more is refused, and a command more.
+/// Whether a season runs whole on this board: a boat more is refused, a boat that is entered, and a
+/// command more.
 fn is_sailed(board: &mut Board) -> Result<bool, Fail> {
     enter_all(board)?;
     let late = Command::Enter { sail: sail(500)? };
-    let is_full = refuses(board, late, Refusal::EntryFull);
+    let again = Command::Enter { sail: sail(0)? };
+    let is_full = refuses(board, late, Refusal::EntryFull)
+        && refuses(board, again, Refusal::AlreadyEntered);
     sail_all(board)?;
     let race = RaceNo::new(1).ok_or("the first race")?;
     let has_all = board.len() == 8192 && has_all(board)?;

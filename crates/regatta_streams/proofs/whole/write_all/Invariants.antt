@@ -2,7 +2,7 @@ use Rattle.std.proofs.Common.{◌≡◌, ◌++◌, ℕ, List, length}
 use Rattle.std.specs.Io.KnownBytes.{Appends}
 use Rattle.regatta_streams.proofs.whole.write_all.Given as goal
 
--- what is written so far is a front of the bytes, and the rest of them is left
+-- the bytes are those written so far, followed by `rest`
 abbrev pub invariant-loop-rest : goal.invariant-loop-rest
 invariant-loop-rest g l =
     (done : List ℕ) × (l.bytes ≡ done ++ l.rest)

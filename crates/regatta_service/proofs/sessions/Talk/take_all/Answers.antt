@@ -3,7 +3,7 @@ use Rattle.regatta_service.proofs.Taking.{byte_taken, line_taken, quit_taken}
 use Rattle.regatta_service.proofs.sessions.Talk.take_all.Goals as goal
 use Rattle.regatta_service.proofs.sessions.Talk.take_all.Goals.{then-take+else-is_some, else-take}
 
--- a QUIT has ended
+-- a QUIT has ended the session
 pub returns-then-is_some-clause-quit : goal.returns-then-is_some-clause-quit
 returns-then-is_some-clause-quit g c = λ quits.
     let piece = c.args.piece.now in
