@@ -52,7 +52,7 @@ fn a_door_without_an_end(rt: HostRuntime) -> Result<(), Fail> {
 }
 
 /// How many clients are served at once: one at each seat.
-const CLIENTS: u32 = 16;
+const CLIENTS: u8 = 16;
 
 /// How many entries the office starts with. With one of each client the journal is full.
 const START: u32 = 8176;
@@ -61,7 +61,7 @@ const START: u32 = 8176;
 const START_FILE: &str = "regatta_edge.journal";
 
 /// The number of a client's entry: the first seat has sent the start.
-fn number_of(client: u32) -> u32 {
+fn number_of(client: u8) -> u32 {
     if client == 0 { START + 1 } else { 1 }
 }
 
@@ -95,10 +95,11 @@ fn sheet_text(alloc: Global, start: &[u8], table: &[u8]) -> Result<Vec<u8>, Fail
 }
 
 /// The stream of a client who has a seat: they enter a boat, and are answered.
-fn seated<R: Net>(rt: &R, alloc: Global, client: u32) -> Option<UnixStream> {
+fn seated<R: Net>(rt: &R, alloc: Global, client: u8) -> Option<UnixStream> {
     let mut stream = connected(rt, SOCKET)?;
-    let line = format!(in alloc; "ENTER {}\n", client + 10).ok()?;
-    let wanted = format!(in alloc; "OK {} 1= 0.0\n", START + 1 + client).ok()?;
+    let number = u32::from(client);
+    let line = format!(in alloc; "ENTER {}\n", number + 10).ok()?;
+    let wanted = format!(in alloc; "OK {} 1= 0.0\n", number + START + 1).ok()?;
     let mut reply = vec![in alloc; 0; wanted.len()].ok()?;
     stream.write_all(line.as_bytes()).ok()?;
     stream.read_exact(&mut reply).ok()?;
