@@ -48,10 +48,11 @@ def planted(crate: str, word: str) -> list[Path]:
 
 
 def crates() -> list[str]:
-    """The crates that have edits here, in the order of crates.txt."""
+    """The crates that have edits here, in the order of crates.txt (one that it lacks, last)."""
     rows = (ROOT / "crates.txt").read_text(encoding="utf-8").splitlines()
-    names = [row.partition(":")[0].strip() for row in rows]
-    return [name for name in names if planted(name, "")]
+    place = {row.partition(":")[0].strip(): number for number, row in enumerate(rows)}
+    found = {it.parent.name for it in PLANTS.glob("*/*.edit")}
+    return sorted(found, key=lambda name: (place.get(name, len(rows)), name))
 
 
 def copy_to(copy: Path) -> None:
@@ -65,9 +66,10 @@ def verdicts(copy: Path, crate: str, edits: list[Path]) -> Iterator[tuple[str, s
     """Has `rt` try the edits of one crate, and gives the name and the verdict of each."""
     room = copy / "crates" / crate / "must-fail"
     shutil.rmtree(room, ignore_errors=True)
-    room.mkdir()
+    room.mkdir(parents=True)
     for edit in edits:
         shutil.copy(edit, room)
+    print(f"{crate}: trying {len(edits)} edits", file=sys.stderr)
     ran = subprocess.run(["rt", "must-fail", crate], cwd=copy, text=True, errors="replace",
                          stdin=subprocess.DEVNULL, stdout=subprocess.PIPE, stderr=subprocess.STDOUT)
     said = dict(re.findall(rf"^(?:rt: )?must-fail {crate}/(\S+)\.edit: (.*)$", ran.stdout, re.M))
@@ -104,6 +106,8 @@ def main() -> int:
     parser.add_argument("crate", metavar="CRATE", nargs="?", choices=crates())
     parser.add_argument("word", metavar="WORD", nargs="?", default="")
     asked = parser.parse_args()
+    if not shutil.which("rt"):
+        parser.error("the toolchain's command rt isn't on the path")
     chosen = [asked.crate] if asked.crate else crates()
     if not any(planted(crate, asked.word) for crate in chosen):
         parser.error(f"no edit of {asked.crate} has {asked.word} in its name")
