@@ -19,7 +19,7 @@ use std::thread::{self, Threads};
 
 /// What serving should leave: how many passes come back, and the journal.
 #[derive(Drop)]
-pub(crate) struct Left {
+pub(crate) struct Served {
     pub(crate) back: Result<usize, ServeFault>,
     pub(crate) journal: &'static [u8],
 }
@@ -54,7 +54,7 @@ fn leaves_at<N, H, R, D, G>(
     opened: Opened<H>,
     doors: &mut [D],
     gate: &G,
-    left: &Left,
+    left: &Served,
 ) -> bool
 where
     N: OfficeName + Send + Sync,
@@ -83,7 +83,7 @@ pub(crate) fn leaves<R, D, G>(
     seats: u8,
     doors: &mut [D],
     gate: &G,
-    left: &Left,
+    left: &Served,
 ) -> bool
 where
     R: Threads + Wait + Sync,
@@ -103,7 +103,7 @@ fn two_clients_side_by_side(rt: HostRuntime) -> Result<(), Fail> {
     let (second, writes) = (count(alloc)?, count(alloc)?);
     let gate = Hold::new(Some(&second), &second)?;
     let (door, mut ends) = door_of_two(&rt, alloc, b"ENTER B\n", [&writes, &writes])?;
-    let left = Left {
+    let left = Served {
         back: Ok(2),
         journal: b"2 1 SCORER ENTER B\n1 1 SCORER ENTER A\n",
     };
@@ -121,7 +121,7 @@ fn a_client_finds_no_seat(rt: HostRuntime) -> Result<(), Fail> {
     let (first, second) = (count(alloc)?, count(alloc)?);
     let gate = Hold::new(Some(&second), &first)?;
     let (door, mut ends) = door_of_two(&rt, alloc, b"", [&first, &second])?;
-    let left = Left {
+    let left = Served {
         back: Ok(1),
         journal: b"1 1 SCORER ENTER A\n",
     };
@@ -140,7 +140,7 @@ fn a_pass_serves_again(rt: HostRuntime) -> Result<(), Fail> {
     let gate = Hold::new(None, &writes)?;
     let (first, mut first_end) = door_of(&rt, alloc, b"ENTER A\n", true, &writes)?;
     let (second, mut second_end) = door_of(&rt, alloc, b"ENTER B\n", false, &writes)?;
-    let left = Left {
+    let left = Served {
         back: Ok(1),
         journal: b"1 1 SCORER ENTER A\n1 2 SCORER ENTER B\n",
     };
@@ -157,7 +157,7 @@ fn a_door_fails(rt: HostRuntime) -> Result<(), Fail> {
     let alloc = rt.alloc();
     let (mut door, mut end) = door_of(&rt, alloc, b"ENTER A\n", false, &count(alloc)?)?;
     door.fails_at_end = true;
-    let left = Left {
+    let left = Served {
         back: Err(ServeFault::Door),
         journal: b"1 1 SCORER ENTER A\n",
     };
@@ -195,7 +195,7 @@ fn a_client_at_a_socket(rt: HostRuntime) -> Result<(), Fail> {
     let _ = fs::remove_file(&rt, SOCKET);
     let door = SocketDoor::bind(&rt, SOCKET, 2)?;
     let client = thread::spawn(&rt, move || has_asked_twice(&rt, alloc))?;
-    let left = Left {
+    let left = Served {
         back: Ok(2),
         journal: b"1 1 SCORER ENTER A\n1 2 SCORER ENTER B\n",
     };

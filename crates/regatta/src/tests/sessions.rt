@@ -1,13 +1,13 @@
 ghost use Rattle.std.specs.Prelude.{◌≡◌};
 
-use super::offices::{answered, one_seat};
+use super::offices::{answered, enter, one_seat};
 use super::wires::{Count, count, wire_of};
 use super::*;
 use regatta_office::{
     End, Gate, Office, OfficeName, OpenGate, Opened, Pass, Sink, Source, session,
 };
 use regatta_tables::write_entries;
-use regatta_terms::{Command, Refusal, Sail};
+use regatta_terms::{Command, Refusal};
 use std::marker::Brand;
 use std::process::Abort;
 use std::sync::Wait;
@@ -139,11 +139,6 @@ fn the_desk_goes_on_after_two_sessions(rt: HostRuntime) -> Result<(), Fail> {
     go_on::<Brand, _, _>(&rt, rt.alloc(), opened)
 }
 
-fn enter(sail: &[u8]) -> Result<Command, Fail> {
-    let sail = Sail::read(sail).ok_or("a sail")?;
-    Ok(Command::Enter { sail })
-}
-
 /// The place in the journal of a command as scorer through the lock, or its refusal.
 pub(crate) fn place_of<N: OfficeName, H: Wait + Drop, R: Wait>(
     rt: &R,
@@ -223,10 +218,16 @@ fn run_by_guard<N: OfficeName, H: Wait + Drop, R: Wait + Abort>(
     office: &Office<N, H>,
     pass: &mut Pass<N>,
 ) -> Result<(), Fail> {
-    let refused = place_of(rt, office, pass, enter(b"A")?);
+    let refused = place_of(rt, office, pass, enter(b"A").ok_or("a sail")?);
     assert_eq!(rt; refused, Err(Refusal::AlreadyEntered));
-    assert_eq!(rt; place_of(rt, office, pass, enter(b"C")?), Ok(3));
-    assert_eq!(rt; place_of(rt, office, pass, enter(b"D")?), Ok(4));
+    assert_eq!(rt;
+        place_of(rt, office, pass, enter(b"C").ok_or("a sail")?),
+        Ok(3)
+    );
+    assert_eq!(rt;
+        place_of(rt, office, pass, enter(b"D").ok_or("a sail")?),
+        Ok(4)
+    );
     let sheet = pass.show().ok().ok_or("a sheet")?;
     assert_eq!(rt; sheet.journal.as_slice().len(), 4);
     Ok(())

@@ -2,7 +2,7 @@
 ghost use Rattle.std.specs.Prelude.{◌≡◌};
 
 use super::super::offices::opened_office;
-use super::super::serving::{Left, leaves};
+use super::super::serving::{Served, leaves};
 use super::super::wires::{Wires, count, door_of, was_sent};
 use super::*;
 use regatta_office::{Form, OfficeName, OpenGate, Opened, RunFault, ServeFault, replay, serve};
@@ -260,7 +260,7 @@ fn serving_runs_out_of_memory(rt: HostRuntime) -> Result<(), Fail> {
     let alloc = rt.alloc();
     assert!(rt; is_refused(&rt)?);
     let (door, mut end) = door_of(&rt, alloc, b"ENTER A\n", false, &count(alloc)?)?;
-    let left = Left {
+    let left = Served {
         back: Ok(1),
         journal: b"1 1 SCORER ENTER A\n",
     };
