@@ -42,7 +42,7 @@ def main():
             for line in told:
                 print("    " + line.removeprefix("growths: "))
                 failed += "answered behind a refusal" in line
-            if not told and not name.endswith("::serving_wants_memory"):
+            if not told and not name.endswith("::serving_runs_out_of_memory"):
                 print("    refused no call: FAILED")
                 failed += 1
             calls += len(told)
