@@ -1,5 +1,5 @@
 use regatta_fixtures::{
-    PLENTY, Streams, default_rules, handicap_rules, joined, repeated, status_of,
+    PLENTY, Streams, default_rules, handicap_rules, joined, repeated, repeated_line, status_of,
 };
 use regatta_office::Tape;
 use regatta_terms::{Entry, Rules};

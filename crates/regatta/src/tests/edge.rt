@@ -13,13 +13,14 @@ use std::{fs, thread};
 /// Where the sockets of these tests are bound.
 const SOCKET: &str = "regatta_edge.socket";
 
-/// How many bytes each of three clients sends.
+/// How many bytes each of these clients sends.
 const SENT: usize = 3;
 
-/// Three clients who are connected, and what they have sent.
-fn three_clients<R: Net>(rt: &R, alloc: Global) -> Result<Vec<UnixStream>, Fail> {
+/// Clients who are connected: three whose texts tell them apart, and three more, so that a door which
+/// drops some of them has others to give.
+fn six_clients<R: Net>(rt: &R, alloc: Global) -> Result<Vec<UnixStream>, Fail> {
     let mut clients = Vec::new(alloc);
-    for text in [b"one", b"two", b"six"] {
+    for text in [b"one", b"two", b"six", b"end", b"end", b"end"] {
         let mut client = UnixStream::connect(rt, SOCKET)?;
         client.write_all(text)?;
         clients.push(client)?;
@@ -41,7 +42,7 @@ fn is_next<R: Wait>(rt: &R, door: &mut SocketDoor, text: &[u8]) -> bool {
 fn a_door_without_an_end(rt: HostRuntime) -> Result<(), Fail> {
     let _ = fs::remove_file(&rt, SOCKET);
     let mut door = SocketDoor::bind(&rt, SOCKET, 0)?;
-    let clients = three_clients(&rt, rt.alloc())?;
+    let clients = six_clients(&rt, rt.alloc())?;
     let are_given = is_next(&rt, &mut door, b"one")
         && is_next(&rt, &mut door, b"two")
         && is_next(&rt, &mut door, b"six");
@@ -126,7 +127,7 @@ fn say_goodbye(alloc: Global, streams: &mut [UnixStream]) -> bool {
 
 /// Whether all clients have a seat at one time, and the last of them, once all have entered their
 /// boats, is sent this sheet.
-fn are_served<R: Net>(rt: &R, alloc: Global, sheet: &[u8]) -> bool {
+fn are_all_served<R: Net>(rt: &R, alloc: Global, sheet: &[u8]) -> bool {
     let Some(mut streams) = all_seated(rt, alloc) else {
         return false;
     };
@@ -135,6 +136,17 @@ fn are_served<R: Net>(rt: &R, alloc: Global, sheet: &[u8]) -> bool {
     };
     let is_shown = is_answered(alloc, &mut last, b"SHOW\nQUIT\n", sheet);
     say_goodbye(alloc, &mut streams) && is_shown
+}
+
+/// The same. If it isn't so, as many clients come and go as the program still waits for.
+fn are_served<R: Net>(rt: &R, alloc: Global, sheet: &[u8]) -> bool {
+    let are_served = are_all_served(rt, alloc, sheet);
+    if !are_served {
+        for _client in 0..CLIENTS {
+            let _ = UnixStream::connect(rt, SOCKET);
+        }
+    }
+    are_served
 }
 
 /// The arguments that serve all seats from the start file, to one client at each.

@@ -263,6 +263,22 @@ fn lines_that_cannot_be_read(rt: HostRuntime) -> Result<(), Fail> {
     Ok(())
 }
 
+/// A session answers as many lines as its client sends.
+#[test]
+fn a_long_session(rt: HostRuntime) -> Result<(), Fail> {
+    let lines = repeated_line(rt.alloc(), b"ENTER A\n", b"NOPE\n", 2000)?;
+    let replies = repeated_line(rt.alloc(), b"OK 1 1 0.0\n", b"NO 21\n", 2000)?;
+    let mut tapes = [client(rt.alloc(), &lines)?];
+    let left = Left {
+        ends: &[End::Closed],
+        last: 1,
+        journal: b"1 1 SCORER ENTER A\n",
+    };
+    assert!(rt; leave(&rt, &default_rules(), &mut tapes, &OpenGate, &left));
+    assert_eq!(rt; tapes[0].written(), replies.as_slice());
+    Ok(())
+}
+
 /// Three boats, of which two have equal seconds.
 const TIMES: &[u8] = b"ENTER A\nENTER B\nENTER C\nTIME 1 A 3605\nTIME 1 B 3600\nTIME 1 C 3605\n\
     SCORE 1\n";

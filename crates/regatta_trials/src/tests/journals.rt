@@ -3,9 +3,10 @@
 
 use super::*;
 use regatta_board::standing_of;
+use regatta_office::start_of;
 use regatta_scores::Standing;
 use regatta_tables::{EntriesFault, read_entries, read_journal, write_entries, write_journal};
-use regatta_terms::{VersionLine, read_version};
+use regatta_terms::{VersionLine, read_entry, read_version};
 
 /// A journal of two seats.
 static SECOND: &[u8] = b"REGATTA 2\n1 1 SCORER ENTER A\n2 1 JURY REDRESS 1 A 7.5\n";
@@ -85,6 +86,9 @@ fn an_entry_list_has_a_boat_too_many(rt: HostRuntime) -> Result<(), Fail> {
         .as_slice()
         .strip_suffix(b"501\n")
         .ok_or("a list of 500")?;
-    assert!(rt; read_entries(rt.alloc(), within).is_ok());
+    let sails = read_entries(rt.alloc(), within).ok().ok_or("500 sails")?;
+    let start = start_of(rt.alloc(), &[], sails.as_slice())?;
+    let last = read_entry(b"1 500 SCORER ENTER 500").ok();
+    assert!(rt; start.as_slice().len() == 500 && start.as_slice().last().copied() == last);
     Ok(())
 }

@@ -140,3 +140,15 @@ fn a_full_journal_takes_no_more(rt: HostRuntime) -> Result<(), Fail> {
     assert!(rt; ended == Ok(()) && output.written() == wanted.as_slice());
     Ok(())
 }
+
+/// A run may start with a full journal, and then takes no line that adds to it.
+#[test]
+fn a_full_journal_is_a_start(rt: HostRuntime) -> Result<(), Fail> {
+    let alloc = rt.alloc();
+    let start = journal_of(alloc, &full_journal(alloc)?)?;
+    let (rules, entries) = (default_rules(), start.as_slice());
+    let (output, ended) = replayed(alloc, b"STRIKE 1 A\n", &rules, entries, Form::Table)?;
+    let wanted = b"NO 2\nTABLE 1 RACES\n1 A 0.0\n".as_slice();
+    assert!(rt; ended == Ok(()) && output.written() == wanted);
+    Ok(())
+}

@@ -382,6 +382,53 @@ fn ranks_without_a_race(rt: HostRuntime) -> Result<(), Fail> {
     Ok(())
 }
 
+/// Whether a list has this many of these points, in tenths.
+fn are_all(points: &[Tenths], count: usize, wanted: u32) -> bool {
+    for point in points {
+        if point.get() != wanted {
+            return false;
+        }
+    }
+    points.len() == count
+}
+
+/// Nobody came to a race of 500 boats: each scores 501 points (RRS A5.2).
+#[test]
+fn a_race_of_500_boats(rt: HostRuntime) -> Result<(), Fail> {
+    let alloc = rt.alloc();
+    let sheet = sheet_after(alloc, 500, &[])?.ok_or("a sheet")?;
+    let points = race_points(alloc, &sheet, &default_rules(), &mut Work::new())?;
+    assert!(rt; are_all(points.as_slice(), 500, 5010));
+    Ok(())
+}
+
+/// In each of 40 races a boat scores 1 point; in the last she has her average of the others. The
+/// first of her equal scores is excluded (RRS A2.1, A9).
+#[test]
+fn a_series_of_40_races(rt: HostRuntime) -> Result<(), Fail> {
+    let alloc = rt.alloc();
+    let point = tenths(10)?;
+    let one = RowItem {
+        plain: point,
+        redress: None,
+    };
+    let last = RowItem {
+        plain: tenths(50)?,
+        redress: Some(Redress::AllRaces),
+    };
+    let mut row = [one; 40];
+    row[39] = last;
+    assert!(rt; are_all(averages(alloc, &row)?.as_slice(), 40, 10));
+    let scores = [Scored {
+        points: point,
+        dne: false,
+    }; 40];
+    let flags = excluded(alloc, &scores, &default_rules())?;
+    assert!(rt; flags.as_slice().first() == Some(&true));
+    assert!(rt; total(&[point; 40], flags.as_slice()) == Some(390));
+    Ok(())
+}
+
 #[test]
 fn a_sheet_has_the_times_of_boats(rt: HostRuntime) -> Result<(), Fail> {
     let sheet = RaceSheet::new(rt.alloc(), 2)?;

@@ -121,7 +121,10 @@ fn three_lines(alloc: Global) -> Result<[BoatLine; 3], AllocError> {
 /// is third (RRS A8).
 fn is_first_shared(places: &Places) -> bool {
     match places.as_slice() {
-        [one, two, three] => one.tied && two.rank == 1 && three.rank == 3,
+        [one, two, three] => {
+            (one.tied, two.tied, three.tied) == (true, true, false)
+                && (one.rank, two.rank, three.rank) == (1, 1, 3)
+        }
         _ => false,
     }
 }
