@@ -121,7 +121,7 @@ def line_of(path: str, number: int) -> str:
 
 
 def rank_of(row: Row) -> str:
-    return ordinal(row.rank) + (", tied," if row.shared else "")
+    return ordinal(row.rank) + (" (tied)" if row.shared else "")
 
 
 def score_of(score: Score) -> str:
@@ -134,4 +134,4 @@ def moved(change: Change, boat: str) -> str:
     rank = f"{rank_of(was)} to {rank_of(now)}" if rank_of(was) != rank_of(now) else rank_of(now)
     net = f"net {was.net} to {now.net}" if was.net != now.net else f"net {now.net}"
     cells = [f"race {number}: {score_of(a)} to {score_of(b)}" for number, a, b in change.races]
-    return f"{boat}: {rank.rstrip(',')}, {net}" + (f" ({'; '.join(cells)})" if cells else "")
+    return f"{boat}: {rank}, {net}" + (f" ({'; '.join(cells)})" if cells else "")
