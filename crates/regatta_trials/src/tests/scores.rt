@@ -48,29 +48,27 @@ fn coded(boat: u16, code: Code) -> Change {
     Change::Hold { boat, held }
 }
 
-/// The first boats finish, one after another.
-fn finish(changes: &mut Vec<Change>, count: u16) -> Result<(), Fail> {
-    // named for the prover, which has to know the type of each part of a change
-    let _part: Option<Redress> = None;
-    for boat in 0..count {
-        changes.push(Change::Last { boat })?;
-    }
-    Ok(())
-}
-
 /// Ten boats finish. The DNF score is 11 points, so a 20% penalty is 2 (RRS 44.3(c)); a stated
 /// Scoring Penalty is 3 points.
 #[test]
 fn penalties_add_up_to_the_cap(rt: HostRuntime) -> Result<(), Fail> {
-    let mut changes = Vec::new(rt.alloc());
-    finish(&mut changes, 10)?;
-    changes.extend_from_slice(&[
+    let changes = [
+        Change::Last { boat: 0 },
+        Change::Last { boat: 1 },
+        Change::Last { boat: 2 },
+        Change::Last { boat: 3 },
+        Change::Last { boat: 4 },
+        Change::Last { boat: 5 },
+        Change::Last { boat: 6 },
+        Change::Last { boat: 7 },
+        Change::Last { boat: 8 },
+        Change::Last { boat: 9 },
         penalised(0, 0, 1),
         penalised(1, 1, 1),
         penalised(7, 1, 0),
         penalised(8, 1, 0),
         penalised(9, 1, 0),
-    ])?;
+    ];
     let race = Race {
         boats: 10,
         absent: Absent::A52,
@@ -86,14 +84,17 @@ fn penalties_add_up_to_the_cap(rt: HostRuntime) -> Result<(), Fail> {
 /// the DNF score is 7 points, and a 20% penalty is 1.
 #[test]
 fn boats_that_came_make_the_cap(rt: HostRuntime) -> Result<(), Fail> {
-    let mut changes = Vec::new(rt.alloc());
-    finish(&mut changes, 5)?;
-    changes.extend_from_slice(&[
+    let changes = [
+        Change::Last { boat: 0 },
+        Change::Last { boat: 1 },
+        Change::Last { boat: 2 },
+        Change::Last { boat: 3 },
+        Change::Last { boat: 4 },
         coded(5, Code::Dnf),
         penalised(2, 1, 0),
         penalised(9, 1, 0),
         penalised(4, 3, 0),
-    ])?;
+    ];
     let race = Race {
         boats: 10,
         absent: Absent::A53,
