@@ -84,7 +84,8 @@ OK 11   race 1 counts
 > n
    Not sent.
 > finish 1 33
-   33 is GBR 33 Turnstone
+   RACE 1 COUNTS ALREADY. Is this a correction? [y/N]
+> y
 OK 12   3rd in race 1
    >>> RACE 1 COUNTS: THE RESULTS HAVE CHANGED.
        GBR 33 Turnstone: 3rd (tied) to 3rd, net 8.0 to 3.0 (race 1: 8.0/DNC to 3.0)
@@ -96,6 +97,9 @@ OK 12   3rd in race 1
 > clear 1 7
    DNF and ZFP both go; type again what stays. Clear her? [y/N]
 > n
+   Not sent.
+> before 1 5 33
+   5 is IRL 5 Curlew
 > mark 2 5 ocs
 > finish 2 5
 OK 15   she holds OCS in race 2, and is scored so

@@ -21,7 +21,7 @@ STOPS = {signal.SIGINT, signal.SIGHUP, signal.SIGTERM}
 
 
 class Due:
-    """Whether it is time again for what is done once in so many seconds."""
+    """Whether it is time again for what is done once in a number of seconds."""
 
     def __init__(self, seconds: float) -> None:
         self.seconds, self.next = seconds, time.monotonic() + seconds

@@ -57,7 +57,7 @@ def shown(entry: Logged) -> str:
 
 
 def unsaved(held: int, logged: list[Logged]) -> Unsaved:
-    """What the log has beyond a journal of so many entries."""
+    """What the log has beyond a journal of `held` entries."""
     found = Unsaved(held)
     for entry in logged:
         found.follow(entry)
