@@ -102,7 +102,7 @@ OK 12   3rd in race 1
    5 is IRL 5 Curlew
 > mark 2 5 ocs
 > finish 2 5
-OK 15   she holds OCS in race 2, and is scored so
+OK 16   she holds OCS in race 2, and is scored so
 > score 2
 Only boats with a code are in the finishing order. Score it all the same? [y/N]
 > n
@@ -189,6 +189,64 @@ Not sent: the office of cup has gone. Write 12 down.
    fleet: 2nd in race 2
 """)
 
+    def test_a_class_that_opens_later(self) -> None:
+        self.make("fleet", entries="Boat,Sail\nFulmar,GBR 33\nSterna,NED 80\n")
+        self.open()
+        window = self.window("client.py", "cup", "fleet", "--role", "finish")
+        window.read("Beware: no office is open there, that of fleet. The others go on.\n> $")
+        os.write(window.master, b"finish 1 ned ")
+        self.open("fleet")
+        window.read("The office of fleet is back with 2 entries.\n> ")
+        window.say("80", "OK 3   fleet: 1st in race 1; .*\n> $")
+
+    def test_no_answer(self) -> None:
+        """A line without an answer is looked for after the crash, and listed by the office."""
+        office = self.open()
+        window = self.typist()
+        number = int(self.text("cup", "office", "pid").split()[0])
+        os.kill(number, signal.SIGSTOP)
+        window.type("finish 1 7")
+        window.read("7 is GBR 7 Sea Pink\n")
+        os.kill(number, signal.SIGKILL)
+        window.read("No answer came to: FINISH 1 GBR7\nIt may be in the journal, or not.\nBeware: ")
+        office.rest()
+        again = self.window("series.py", "open", "cup")
+        said = again.read("The office is open")
+        self.addCleanup(self.stop, "cup")
+        self.assertIn("These lines had no answer. Look whether they are in the journal before you type "
+                      "them again:\n          FINISH  FINISH 1 GBR7\n", said)
+        window.read("FINISH 1 GBR7 is not in the journal.\n> $")
+
+    def test_half_a_line(self) -> None:
+        """What has been typed of a line when the office goes is there again afterwards."""
+        office = self.open()
+        window = self.typist()
+        os.write(window.master, b"finish 1 10")
+        os.kill(int(self.text("cup", "office", "pid").split()[0]), signal.SIGKILL)
+        window.read("Beware: ")
+        office.rest()
+        self.open()
+        window.read("is back with 7 entries.\n> ")
+        window.say("1", "101 is GBR 101 Kestrel\nOK 8 ")
+
+    def test_history(self) -> None:
+        """Arrow up brings the last line, and no answer to a question."""
+        self.open()
+        window = self.typist("scorer")
+        window.say("enter den 16", r"\[y/N\] $")
+        window.say("n", "Not sent.\n> $")
+        window.say("\x1b[A", r"Enter DEN16\? .*\[y/N\] $")
+
+    def test_full(self) -> None:
+        """Who finds no seat is told who has them."""
+        self.make("small", seats="2")
+        self.open("small")
+        first = self.client("small", "--role", "finish", "--name", "Ann")
+        second = self.window("client.py", "small", "--role", "jury")
+        second.read(r"Waiting: all seats of the office are taken: Ann since \d\d:\d\d\. Ctrl-C ends")
+        first.type("quit")
+        second.read("you type as the jury")
+
     def test_crash(self) -> None:
         """A kill of the office is said at the prompt; afterwards what is lost is listed."""
         office = self.open()
@@ -225,6 +283,21 @@ Not sent: the office of cup has gone. Write 12 down.
         said, status = window.rest()
         self.assertIn("The office is being closed: this window ends.", said)
         self.assertEqual(status, 0)
+
+    def test_block(self) -> None:
+        """Several lines that are pasted at once; a list of sails is shown and agreed to first."""
+        self.open()
+        window = self.typist()
+        self.assertIn("Not sent, since the line before it was refused: finish 1 7\n", window.say(
+            "finish 1 101\x16\nfinish 1 101\x16\nfinish 1 7", r"\n> $"))
+        window.say("at 1", "1> $")
+        self.assertEqual(window.say("12\x16\n7\x16\ngbr 33", r"\] $"),
+                         "     1  NED 12 Windhover\n     2  GBR 7 Sea Pink\n     3  GBR 33 Turnstone\n"
+                         "   Send these 3 finishes in race 1? [y/N] ")
+        window.say("n", "Not sent.\n1> $")
+        window.say("12\x16\n7\x16\ngbr 33", r"\] $")
+        window.say("y", "OK 11   4th in race 1; .*\n1> $")
+        window.say("9\x16\n9x", "   9X isn't entered.*\n   Not sent.\n1> $")
 
     def test_pasted(self) -> None:
         """Pasted lines stop at the first that is refused."""
