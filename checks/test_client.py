@@ -114,6 +114,22 @@ ROLE JURY   your lines are now those of the jury
 """)
         self.assertEqual(self.text("five", "office.log").count("\tOK 12"), 1)
 
+    def test_two_windows(self) -> None:
+        """What is asked depends on what another window has typed meanwhile."""
+        self.open()
+        scorer = self.typist("scorer")
+        finish = self.typist()
+        finish.say("finish 1 101", "OK 8 .*\n> $")
+        self.assertIn("Race 1 doesn't count yet: 1 finished, 0 coded, 6 not recorded, 7 boats\n     1  "
+                      "GBR 101 Kestrel\n", scorer.say("score 1", r"with 6 boats as DNC\? \[y/N\] $"))
+        scorer.say("y", "OK 9   race 1 counts\n> $")
+        finish.say("finish 1 7", r"RACE 1 COUNTS ALREADY\. Is this a correction\? \[y/N\] $")
+        finish.say("n", "Not sent.\n> $")
+        scorer.say("enter usa 7", r"\[y/N\] $")
+        scorer.say("y", "OK 10 .*(\n .*)*\n> $")
+        finish.say("finish 2 7", "7 may be GBR 7 Sea Pink or USA7: type more of her sail.\n> $")
+        finish.say("finish gbr 7", "GBR is no race: the number of the race comes after FINISH.\n> $")
+
     def test_abandon(self) -> None:
         self.open()
         window = self.typist("scorer")
@@ -202,20 +218,33 @@ Not sent: the office of cup has gone. Write 12 down.
     def test_no_answer(self) -> None:
         """A line without an answer is looked for after the crash, and listed by the office."""
         office = self.open()
-        window = self.typist()
+        window = self.typist("scorer")
+        window.say("enter den 16", r"\[y/N\] $")
         number = int(self.text("cup", "office", "pid").split()[0])
         os.kill(number, signal.SIGSTOP)
-        window.type("finish 1 7")
-        window.read("7 is GBR 7 Sea Pink\n")
+        window.type("y")
+        window.read("No answer came to: ENTER DEN16\nIt may be in the journal, or not.\nBeware: the "
+                    "office hasn't answered for 10 seconds. Waiting")
         os.kill(number, signal.SIGKILL)
-        window.read("No answer came to: FINISH 1 GBR7\nIt may be in the journal, or not.\nBeware: ")
         office.rest()
         again = self.window("series.py", "open", "cup")
         said = again.read("The office is open")
         self.addCleanup(self.stop, "cup")
         self.assertIn("These lines had no answer. Look whether they are in the journal before you type "
-                      "them again:\n          FINISH  FINISH 1 GBR7\n", said)
-        window.read("FINISH 1 GBR7 is not in the journal.\n> $")
+                      "them again:\n          SCORER  ENTER DEN16\n", said)
+        window.read("ENTER DEN16 is not in the journal.\n> $")
+
+    def test_not_sent(self) -> None:
+        """A line that the office didn't get, since it had stopped, comes back."""
+        self.open()
+        window = self.typist()
+        number = int(self.text("cup", "office", "pid").split()[0])
+        os.kill(number, signal.SIGSTOP)
+        window.type("finish 1 7")
+        window.read("Not sent: finish 1 7\nBeware: the office hasn't answered for 10 seconds. Waiting")
+        os.kill(number, signal.SIGCONT)
+        window.read("The office is back with 7 entries.\n> $")
+        window.say("finish 1 7", "OK 8 ")
 
     def test_half_a_line(self) -> None:
         """What has been typed of a line when the office goes is there again afterwards."""

@@ -60,6 +60,19 @@ class Opening(helpers.Series):
             "points. By order of finishing.\n", 0))
         self.assertEqual(helpers.run("series.py", "new", "dragon", cwd=self.here)[1], 1)
 
+    def test_new_stopped(self) -> None:
+        """Ctrl-C at a question writes nothing."""
+        self.write(helpers.ENTRIES, "list.csv")
+        window = self.window("series.py", "new", "dragon")
+        for asked, typed in [("Title: ", "Winter"), ("Class .*: ", ""), ("Club .*: ", ""),
+                             ("Entry list .*: ", "list.csv"), ("Which\\? .*", "1")]:
+            window.read(asked)
+            window.type(typed)
+        window.read("A5.3 apply .*] ")
+        window.press()
+        self.assertEqual(window.rest(), ("\nno answer came. Nothing was written.\n", 1))
+        self.assertFalse(os.path.exists(os.path.join(self.here, "dragon")))
+
     def test_open_and_close(self) -> None:
         window = self.open()
         place = os.path.join(self.here, "cup", "office")

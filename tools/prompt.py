@@ -13,16 +13,21 @@ def sentence(text: object) -> str:
     return str(text) if str(text).endswith((".", "?")) else f"{text}."
 
 
-def answer(text: str) -> str:
-    """What somebody types to a question; empty at the end of the input, and after Ctrl-C."""
+def typed(text: str) -> str | None:
+    """What somebody types to a question; None at the end of the input, and after Ctrl-C."""
     try:
         given = input(text).strip()
     except (EOFError, KeyboardInterrupt):
         print(flush=True)
-        return ""
+        return None
     if not sys.stdin.isatty():
         say(given)
     return given
+
+
+def answer(text: str) -> str:
+    """What somebody types to a question; nothing after Ctrl-C."""
+    return typed(text) or ""
 
 
 def question(text: str, yes: bool = False) -> bool:

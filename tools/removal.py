@@ -55,6 +55,7 @@ def remove(path: str, words: list[str]) -> int:
     copy = Keeper(folder).keep_dated()
     replace_whole(folder.journal, text.encode())
     held = count(len(left), "entry", "entries")
+    folder.log("", "", "", f"removed {sail}", held)
     folder.log("", "", "", "closed", held)
     say(f"{sail} is taken out. journal.txt has {held}; {copy} has all {len(journal)}.")
     return 0

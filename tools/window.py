@@ -149,6 +149,8 @@ class Window:
         try:
             return desk.do(rest)
         except Trouble as trouble:
+            if not desk.unanswered and not desk.answered:
+                say(f"Not sent: {rest}")
             self.lost(desk, trouble)
             return True
 
