@@ -267,7 +267,7 @@ Not sent: the office of cup has gone. Write 12 down.
         window.say("\x1b[A", r"Enter DEN16\? .*\[y/N\] $")
 
     def test_full(self) -> None:
-        """Who finds no seat is told who has them."""
+        """If all seats are taken, the window says by whom."""
         self.make("small", seats="2")
         self.open("small")
         first = self.client("small", "--role", "finish", "--name", "Ann")

@@ -16,7 +16,7 @@ def race_of(*groups: str) -> Race:
 
 class Unread(unittest.TestCase):
     def test_place(self) -> None:
-        """She was seen after A and B. Whatever happens to the order, she is behind both."""
+        """She was seen after A and B. Whatever happens to the order, she finished behind both."""
         meant = Waiting().added(race_of("A", "B")).all[0]
         for order, line in [(("A", "B"), "FINISH 1 X"), (("A", "B", "C"), "BEFORE 1 X C"),
                             (("C", "A", "B", "D"), "BEFORE 1 X D"), (("A", "BC", "D"), "BEFORE 1 X D"),
@@ -25,7 +25,7 @@ class Unread(unittest.TestCase):
             self.assertEqual(meant.line("X", race_of(*order)), line, order)
 
     def test_two(self) -> None:
-        """A, ?1, B, ?2, C: the second known first stays behind the first."""
+        """The order is A, ?1, B, ?2, C. The second is known first, and finishes behind ?1."""
         waiting = Waiting().added(race_of("A")).added(race_of("A", "B"))
         order = race_of("A", "B", "C")
         self.assertEqual([waiting.ahead_of(order, sail) for sail in "ABC"], [0, 1, 2])
@@ -38,7 +38,7 @@ class Unread(unittest.TestCase):
         self.assertRaises(NotSent, left.one, 1, 0)
 
     def test_side_by_side(self) -> None:
-        """A, ?1, ?2: the first known, nobody between; the second is behind her."""
+        """The order is A, ?1, ?2, and nobody finished between those two."""
         waiting = Waiting().added(race_of("A")).added(race_of("A"))
         left = waiting.without(waiting.one(1, 1), "X")
         self.assertEqual(left.one(1, 1).line("Y", race_of("A", "X", "B")), "BEFORE 1 Y B")

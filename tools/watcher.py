@@ -2,6 +2,7 @@
 from __future__ import annotations
 
 import contextlib
+import os
 import select
 import signal
 import threading
@@ -16,6 +17,9 @@ try:
 
     # Answers to questions aren't lines.
     readline.set_auto_history(False)
+    if os.environ.get("TERM", "dumb") != "dumb":
+        # Pasted lines come together, and wait for Enter.
+        readline.parse_and_bind("set enable-bracketed-paste on")
 except ImportError:
     readline = None
 
