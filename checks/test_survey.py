@@ -67,13 +67,32 @@ class Survey(helpers.Series):
         said = "".join(typist.say("rank gbr 101", r"with 0.0 points\n> $") for _ in range(80))
         self.assertIn("Beware: office.log can't be written: No space left on device.", said)
         window.read(r"Not saved: .*journal\.txt can't be written: No space left on device\.")
-        os.remove(filler)
-        helpers.until("the journal", lambda: self.text("disk", "full", "journal.txt").count("\n") == 8)
         typist.type("quit")
         typist.rest()
         window.press()
+        window.read(r"The office stays until its journal is saved: .*No space left on device\.")
+        self.assertEqual(self.text("disk", "full", "journal.txt").count("\n"), 7)
+        os.remove(filler)
         said, status = window.rest()
+        self.assertRegex(said, r"Closed\. journal\.txt has 8 entries, and so has kept/")
         self.assertEqual((said.count("Not saved"), status), (0, 0))
+
+    def test_journal_of_another(self) -> None:
+        """If somebody has changed journal.txt meanwhile, both journals are there in the end."""
+        window = self.open()
+        typist = self.client("cup", "--role", "finish")
+        other = self.text("cup", "journal.txt").replace("GBR101", "GBR102")
+        self.write(other, "cup", "journal.txt")
+        typist.say("finish 1 7", r"OK 8 .*\n> $")
+        typist.type("quit")
+        typist.rest()
+        window.read(r"Not saved: .*journal\.txt holds entries that the office doesn't have")
+        window.press()
+        said, status = window.rest()
+        self.assertEqual((self.text("cup", "journal.txt"), status), (other, 0))
+        kept = said.split("The journal of the office is in ")[1].split(".txt")[0] + ".txt"
+        self.assertEqual(self.text("cup", kept).count("\n"), 8)
+        self.assertIn("FINISH 1 GBR7\n", self.text("cup", kept))
 
     def test_fullest_copy(self) -> None:
         os.mkdir(os.path.join(self.here, "stick"))

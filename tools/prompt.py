@@ -43,6 +43,10 @@ class Once:
         self.said: dict[str, str] = {}
 
     def say(self, about: str, text: str) -> None:
-        if text and self.said.get(about) != text:
+        if self.is_new(about, text):
             say(text)
-        self.said[about] = text
+
+    def is_new(self, about: str, text: str) -> bool:
+        """Whether this has to be said, which it then is."""
+        before, self.said[about] = self.said.get(about), text
+        return bool(text) and before != text

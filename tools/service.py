@@ -122,6 +122,11 @@ class Service:
         self.link.close()
         self.wait_for_end()
 
+    def undo_start(self) -> None:
+        """Ends a program that this window has started, but not one that it has taken over."""
+        if self.process:
+            self.stop()
+
     def stop(self) -> None:
         """Ends the program although clients are there."""
         os.kill(self.number, signal.SIGTERM)

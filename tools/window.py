@@ -8,16 +8,14 @@ import sys
 import termios
 import time
 
+from classes import FIRST, desk_meant
 from desk import Desk
 from folder import Folder
 from office import NoSeat, Trouble
 from prompt import question, say, sentence
-from spoken import OTHERS, SAILS, NotSent, boats_meant, line_meant
+from spoken import NotSent, line_meant
 from watcher import AGAIN, LOOK, News, Watcher
-from words import count, joined
-
-# First words that are the window's own.
-OWN = ("at", "race", "abandon", "help")
+from words import count
 
 
 class Closing(Exception):
@@ -127,8 +125,7 @@ class Window:
         """Whether somebody agrees to a pasted list of bare sails, which are shown by their names."""
         desk = self.desks[0]
         words = [line.upper().split()[:1] for line in lines]
-        known = SAILS.keys() | OTHERS | {word.upper() for word in OWN}
-        if self.several or not desk.at or any(word and word[0] in known for word in words):
+        if self.several or not desk.at or any(word and word[0] in FIRST for word in words):
             return True
         try:
             meant = [line_meant(line, desk.at, desk.book.boats, desk.book.called)
@@ -142,7 +139,7 @@ class Window:
 
     def do(self, typed: str) -> bool:
         """Gives a line to the desk that it is for; whether it was taken."""
-        desk, rest = self.desk_meant(typed)
+        desk, rest = desk_meant(self.desks, typed)
         desk.prefix = f"{desk.folder.name}: " if self.several else ""
         if desk.link is None:
             raise NotSent(f"the office of {desk.folder.name} has gone. Write {rest.upper()} down")
@@ -153,35 +150,6 @@ class Window:
                 say(f"Not sent: {rest}")
             self.lost(desk, trouble)
             return True
-
-    def desk_meant(self, typed: str) -> tuple[Desk, str]:
-        """The class that a line is for, and the line without its class."""
-        words = typed.split()
-        if not self.several or not words:
-            return self.desks[0], typed
-        if named := self.desk_named(words):
-            return named, " ".join(words[1:])
-        if words[0].lower() == "help":
-            return self.desks[0], typed
-        rest = words[2:] if words[0].upper() in SAILS else words[words[0].upper() in OTHERS:]
-        found = [(desk, boat) for desk in self.desks for boat in first_meant(rest, desk)]
-        if len({id(desk) for desk, _ in found}) == 1:
-            return found[0][0], typed
-        if found:
-            boats = [f"{desk.book.called(boat)} ({desk.folder.name})" for desk, boat in found]
-            raise NotSent(f"{' '.join(rest).upper()} may be {joined(boats, 'or')}: type her class "
-                          "first")
-        names = joined([desk.folder.name for desk in self.desks], "or")
-        raise NotSent(f"it isn't clear for which class this is: type {names} first")
-
-    def desk_named(self, words: list[str]) -> Desk | None:
-        """The class that the first word names by its first letters, unless it is a line's or a
-        boat's."""
-        first = words[0].lower()
-        named = [desk for desk in self.desks if desk.folder.name.lower().startswith(first)]
-        is_line = first.upper() in SAILS.keys() | OTHERS or first in OWN
-        is_boat = any("".join(words).upper() in desk.book.boats for desk in self.desks)
-        return named[0] if len(named) == 1 and len(words) > 1 and not is_line and not is_boat else None
 
     # When an office goes
 
@@ -292,9 +260,3 @@ def typed_already() -> str:
         data += more
     termios.tcflush(0, termios.TCIFLUSH)
     return data.decode("utf-8", "replace")
-
-
-def first_meant(words: list[str], desk: Desk) -> list[str]:
-    """The boats of a class that the first of these words may mean, as many words as name one."""
-    ways = [boats_meant(words[:at], desk.book.boats) for at in range(len(words), 0, -1)]
-    return next((boats for boats in ways if boats), [])
