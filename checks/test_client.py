@@ -328,6 +328,39 @@ Not sent: the office of cup has gone. Write 12 down.
         window.say("y", "OK 11   4th in race 1; .*\n1> $")
         window.say("9\x16\n9x", "   9X isn't entered.*\n   Not sent.\n1> $")
 
+    def test_block_and_crash(self) -> None:
+        """When the office goes in the middle of a block, the rest isn't sent."""
+        office = self.open()
+        window = self.typist("scorer")
+        window.say("finish 1 101\x16\nenter den 16\x16\nfinish 1 7", r"OK 8 (.|\n)*\[y/N\] $")
+        os.kill(int(self.text("cup", "office", "pid").split()[0]), signal.SIGKILL)
+        window.type("y")
+        window.read("No answer came to: ENTER DEN16\n(.|\n)*Waiting for the office")
+        office.rest()
+        self.open()
+        said = window.read("> $")
+        self.assertIn("Not sent, since the office was away: finish 1 7\n", said)
+        self.assertNotIn("FINISH 1 GBR7", self.text("cup", "office.log"))
+
+    def test_typed_ahead(self) -> None:
+        """A line that was typed before a question came is no answer to it."""
+        self.open()
+        window = self.typist("scorer")
+        os.write(window.master, b"enter den 16\nyes\n")
+        window.read(r"Not sent, since a question came before it: yes\n(.|\n)*\[y/N\] $")
+        window.say("n", "Not sent.\n> $")
+
+    def test_waiting_ended(self) -> None:
+        """Ctrl-C ends a window that waits for its office."""
+        office = self.open()
+        window = self.typist()
+        os.kill(int(self.text("cup", "office", "pid").split()[0]), signal.SIGKILL)
+        window.read("Waiting for the office; Ctrl-C ends this window.")
+        office.rest()
+        window.press()
+        self.assertEqual(window.rest()[1], 0)
+        self.assertIn("\tleft\t", self.text("cup", "office.log"))
+
     def test_pasted(self) -> None:
         """Pasted lines stop at the first that is refused."""
         self.open()

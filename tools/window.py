@@ -18,15 +18,15 @@ from watcher import AGAIN, LOOK, News, Watcher
 from words import count
 
 
-class Closing(Exception):
-    """The office is being closed, so this window ends."""
+class End(Exception):
+    """Why this window ends, in words."""
 
 
 class Window:
     """A prompt, and a desk for each class."""
 
     def __init__(self, folders: list[Folder], role: str, name: str) -> None:
-        self.desks = [Desk(folder, role, name, say, question) for folder in folders]
+        self.desks = [Desk(folder, role, name, say, self.ask) for folder in folders]
         self.watcher = Watcher(self.desks)
 
     @property
@@ -35,13 +35,13 @@ class Window:
 
     def run(self) -> int:
         """Is the window until somebody leaves it; the status."""
-        self.come()
-        self.watcher.start()
         try:
+            self.come()
+            self.watcher.start()
             while self.is_going_on():
                 pass
-        except Closing:
-            say("The office is being closed: this window ends.")
+        except End as why:
+            say(str(why))
         self.leave()
         return 0
 
@@ -116,10 +116,28 @@ class Window:
     def refused(self, line: str) -> str:
         """Does a line; why the lines after it can't be sent, or nothing."""
         try:
-            return "" if self.do(line) else "since the line before it was refused"
+            return self.do(*desk_meant(self.desks, line))
         except NotSent as why:
             say(f"   Not sent: {sentence(why)}")
             return "since the line before it wasn't"
+
+    def do(self, desk: Desk, line: str) -> str:
+        """Gives a line to the desk that it is for; why the lines after it can't be sent, or nothing."""
+        desk.prefix = f"{desk.folder.name}: " if self.several else ""
+        if desk.link is None:
+            raise NotSent(f"the office of {desk.folder.name} has gone. Write {line.upper()} down")
+        try:
+            return "" if desk.do(line) else "since the line before it was refused"
+        except Trouble as trouble:
+            if not desk.unanswered and not desk.answered:
+                say(f"Not sent: {line}")
+            self.lost(desk, trouble)
+            return "since the office was away"
+
+    def ask(self, text: str) -> bool:
+        """Whether somebody says yes. What was typed before the question is no answer to it."""
+        self.drop_typed("since a question came before it")
+        return question(text)
 
     def is_agreed(self, lines: list[str]) -> bool:
         """Whether somebody agrees to a pasted list of bare sails, which are shown by their names."""
@@ -136,20 +154,6 @@ class Window:
         for at, line in enumerate(meant, 1):
             say(f"{at:>6}  {desk.book.called(line.split()[2])}")
         return question(f"   Send these {count(len(meant), 'finish', 'finishes')} in race {desk.at}?")
-
-    def do(self, typed: str) -> bool:
-        """Gives a line to the desk that it is for; whether it was taken."""
-        desk, rest = desk_meant(self.desks, typed)
-        desk.prefix = f"{desk.folder.name}: " if self.several else ""
-        if desk.link is None:
-            raise NotSent(f"the office of {desk.folder.name} has gone. Write {rest.upper()} down")
-        try:
-            return desk.do(rest)
-        except Trouble as trouble:
-            if not desk.unanswered and not desk.answered:
-                say(f"Not sent: {rest}")
-            self.lost(desk, trouble)
-            return True
 
     # When an office goes
 
@@ -184,7 +188,7 @@ class Window:
             say(f"No answer came to: {desk.unanswered}\nIt may be in the journal, or not.")
         desk.disconnect()
         if desk.folder.is_closing() and not any(other.link for other in self.desks):
-            raise Closing
+            raise End("The office is being closed: this window ends.")
         if self.several:
             say(f"Beware: {trouble}, that of {desk.folder.name}. The others go on.")
             return
@@ -204,7 +208,7 @@ class Window:
                     say(f"Waiting: {trouble}{seats_taken(desk, trouble)}. Ctrl-C ends this window.")
                 told = True
                 # A client who finds no seat uses up one of the office's sessions.
-                time.sleep(AGAIN if isinstance(trouble, NoSeat) else LOOK)
+                wait(AGAIN if isinstance(trouble, NoSeat) else LOOK)
 
     def say_back(self, desk: Desk) -> None:
         """Says which of this window's lines the office has after a crash."""
@@ -230,6 +234,14 @@ class Window:
         """Shows the lines that wait at the prompt already, and sends none of them."""
         if sys.stdin.isatty():
             not_sent(typed_already().splitlines(), why)
+
+
+def wait(seconds: float) -> None:
+    """Waits, and ends the window on Ctrl-C."""
+    try:
+        time.sleep(seconds)
+    except KeyboardInterrupt:
+        raise End("") from None
 
 
 def heard(desk: Desk) -> Trouble:
