@@ -317,7 +317,7 @@ Not sent: the office of cup has gone. Write 12 down.
         """Several lines that are pasted at once; a list of sails is shown and agreed to first."""
         self.open()
         window = self.typist()
-        self.assertIn("Not sent, since the line before it was refused: finish 1 7\n", window.say(
+        self.assertIn("Not sent, since the line before it wasn't taken: finish 1 7\n", window.say(
             "finish 1 101\x16\nfinish 1 101\x16\nfinish 1 7", r"\n> $"))
         window.say("at 1", "1> $")
         self.assertEqual(window.say("12\x16\n7\x16\ngbr 33", r"\] $"),
@@ -368,7 +368,7 @@ Not sent: the office of cup has gone. Write 12 down.
         os.write(window.master, b"finish 1 101\nfinish 1 101\nfinish 1 7\n")
         window.read("OK 8 ")
         window.read("NO 8 ")
-        window.read("Not sent, since the line before it was refused: finish 1 7\n> $")
+        window.read("Not sent, since the line before it wasn't taken: finish 1 7\n> $")
 
 
 if __name__ == "__main__":

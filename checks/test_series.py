@@ -214,7 +214,10 @@ class Opening(helpers.Series):
         said = helpers.run("series.py", "remove", "cup", "DEN16", cwd=self.here)
         self.assertEqual(said, ("DEN16 can't be taken out: entry 10, TIE 1 GBR7 DEN16, places another "
                                 "boat beside her.\n", 1))
-        self.assertEqual(self.text("cup", "journal.txt"), before)
+        self.write("\n".join(before.splitlines()[:9] + ["1 10 SCORER SCORE 1", ""]), "cup", "journal.txt")
+        said, status = helpers.run("series.py", "remove", "cup", "DEN16", cwd=self.here)
+        self.assertIn("DEN16 can't be taken out: a race that counts would have no finisher", said)
+        self.assertEqual((self.text("cup", "journal.txt").count("\n"), status), (10, 1))
 
     def test_long_path(self) -> None:
         deep = os.path.join("d" * 100, "e" * 100)

@@ -120,7 +120,7 @@ class Desk:
         """Sends a line after what has to be asked; whether it was taken."""
         if not self.is_meant(line):
             self.say("   Not sent.")
-            return True
+            return False
         before, length = self.book.standing, len(self.book.sheet.journal)
         answer = self.exchange(line)
         if not answer.startswith("OK "):
@@ -196,12 +196,13 @@ class Desk:
             raise NotSent(f"abandon {race.number} needs {joined(barred)}, which the "
                           f"{self.role.lower()} doesn't send: let the scorer type it")
         if not plan.lines:
+            self.unread = self.unread.without_race(race.number)
             self.say(f"Nothing of race {race.number} has to be taken away.")
             return True
         self.say_all(plan_lines(self.book, race, plan))
         if not self.ask("   Send them?"):
             self.say("   Not sent.")
-            return True
+            return False
         before, length = self.book.standing, len(self.book.sheet.journal)
         if not self.is_sent(race, plan):
             return False

@@ -38,8 +38,8 @@ class Service:
                 serve_words(self.folder, SESSIONS), cwd=self.file(), stdin=subprocess.DEVNULL,
                 stdout=table, stderr=fault, start_new_session=True, pass_fds=[self.lock.file])
         self.number = self.process.pid
-        self.link = self.first_link()
         self.note_pid()
+        self.link = self.first_link()
 
     def first_link(self) -> Link:
         """The link to the program once it has made its socket."""

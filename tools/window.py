@@ -127,7 +127,7 @@ class Window:
         if desk.link is None:
             raise NotSent(f"the office of {desk.folder.name} has gone. Write {line.upper()} down")
         try:
-            return "" if desk.do(line) else "since the line before it was refused"
+            return "" if desk.do(line) else "since the line before it wasn't taken"
         except Trouble as trouble:
             if not desk.unanswered and not desk.answered:
                 say(f"Not sent: {line}")
