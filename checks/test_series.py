@@ -282,6 +282,9 @@ class Faults(helpers.Series):
         self.write(helpers.ENTRIES.replace("NED 12", "NED/12"), "cup", "entries.csv")
         self.assertEqual(self.fault(), 'entries.csv, row 4 (P. de Wit): the sail "NED/12" has a slash. '
                          "A sail has 1 to 12 letters, digits and dashes.\nNothing was opened.\n")
+        self.write(helpers.ENTRIES.replace("A. Moss", "A" * (1 << 20)), "cup", "entries.csv")
+        self.assertEqual(self.fault(), "journal.txt or entries.csv is longer than 1,048,576 bytes.\n"
+                         "Nothing was opened.\n")
         os.remove(os.path.join(self.here, "cup", "entries.csv"))
         self.assertIn("entries.csv isn't there", self.fault())
 
