@@ -71,7 +71,7 @@ def before_redress(book: Book, race: Race, number: str, sail: str) -> list[str]:
     """What is asked before a boat without a place and a code is given redress."""
     if sail not in race.missing(book.boats):
         return []
-    come = (" Under RRS A5.3 she doesn't count as having come: mark her first, as DNF or DNS."
-            if book.is_a53 else "")
+    come = (" Under RRS A5.3 she doesn't count as having come: the scorer marks her first, as DNF or "
+            "DNS." if book.is_a53 else "")
     return [f"{book.called(sail)} has no place and no code in race {number}.{come} Give her redress "
             "as she is?"]
