@@ -94,7 +94,15 @@ OK 14   6th in race 1; 6 finished, 1 coded, 0 to come of 7
 > at
 > ? 9
    Not sent: first say which race: at 3.
+> at 2
+> ?
+> quit
+   1 finisher without a sail (?) would be forgotten. Leave? [y/N]
+> n
+> ?1 none
 """)
+        window.type("quit")
+        self.assertEqual(window.rest()[1], 0)
 
     def test_questions(self) -> None:
         self.make("five", absent="a53")

@@ -16,7 +16,7 @@ def questions(book: Book, role: str, line: str, unread: int, corrected: set[int]
         return []
     if command == "ENTER":
         return [before_entry(book, rest[0])]
-    race = book.series.races.get(int(rest[0]) if rest[0].isdigit() else 0)
+    race = book.series.races.get(int(rest[0]) if rest[0].isdecimal() else 0)
     if command == "SCORE" and len(rest) == 1 and race and not race.counts:
         return before_score(book, race, unread)
     if command in FINISHING and race and race.counts and race.number not in corrected:
