@@ -252,6 +252,7 @@ class Opening(helpers.Series):
         said, status = window.rest()
         self.assertIn("still there after 10 seconds: somebody who isn't in office.log. The office is "
                       "stopped", said)
+        self.assertIn("TABLE 7 RACES\n1= FRA9 0.0\n", said)
         self.assertEqual(status, 0)
         link.close()
         self.assertTrue(self.saved(7))

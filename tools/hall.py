@@ -11,6 +11,7 @@ import entries
 from folder import Folder, clock
 from keeper import Keeper
 from office import Sheet, Trouble, remove_socket
+from program import Program
 from prompt import Once, question, say
 from service import LEAVE, Service
 from survey import changes_of_rules, notes, rules_before, summary
@@ -211,5 +212,6 @@ class Hall:
         except Trouble as trouble:
             copy = f". {trouble}"
         say(f"{clock()} Closed. journal.txt has {held}{copy}.")
-        say(self.service.table())
+        # A program that was stopped hasn't printed its table.
+        say(self.service.table() or Program(self.folder).table(self.folder.settings.options()))
         return 0
