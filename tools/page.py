@@ -178,6 +178,8 @@ data-now="{now}">
 <a class="skip" href="#table">To the table</a>
 <p class="alarm" id="alarm" role="alert" hidden><b>Out of date.</b> <span></span> \
 <a href="?">Reload</a></p>
+<noscript><p class="reason provisional">Without scripts this page can't say whether it is out of \
+date: reload it to be sure.</p></noscript>
 {body}
 <script>
 {file("page.js")}</script>
@@ -230,7 +232,9 @@ def cell(score: Score) -> str:
 
 
 def rank(view: View, row: Row) -> str:
-    medal = f' class="m{row.rank}"' if row.rank <= 3 and view.standing.races else ""
+    if not view.standing.races:
+        return '<td class="rank"><span>–</span></td>'
+    medal = f' class="m{row.rank}"' if row.rank <= 3 else ""
     return f'<td class="rank"><span{medal}>{row.rank}{"=" if row.shared else ""}</span></td>'
 
 
@@ -239,10 +243,11 @@ def line(view: View, row: Row, mark: str) -> str:
     boat = view.boat(row.sail)
     tie = f'<a href="#tie-{mark}" aria-label="tie, note {mark}">{mark}</a>' if mark else ""
     total = f'<td class="total">{points(view.totals[row.sail])}</td>' if view.totals else ""
+    net = points(row.net) if view.standing.races else "–"
     return (f'<tr id="{row.sail}" {row_head(view, row.sail)}>{rank(view, row)}'
             f'<th scope="row" class="sail">{esc(boat.sail)}<span class="helm">'
             f'{esc(boat.helm or boat.name)}</span></th><td class="who">{who(boat)}</td>'
-            f'<td class="net">{points(row.net)}{tie}</td>{"".join(map(cell, row.scores))}{total}</tr>')
+            f'<td class="net">{net}{tie}</td>{"".join(map(cell, row.scores))}{total}</tr>')
 
 
 def race_heads(races: Sequence[int], prefix: str) -> str:
@@ -397,7 +402,7 @@ def overall_style(view: View) -> str:
   .rank, th.sail {{ position: sticky; z-index: 2; }}
   thead .rank, thead th.sail {{ z-index: 4; }}
   .rank {{ left: 0; min-width: 2.9rem; }}
-  th.sail {{ left: 2.9rem; border-right: 1px solid var(--line); }}
+  th.sail {{ left: 2.9rem; min-width: 6.4rem; border-right: 1px solid var(--line); }}
 }}
 """
 
@@ -405,7 +410,8 @@ def overall_style(view: View) -> str:
 # On paper: letters of a small series, and those of one with many races.
 ROOMY = """body { font-size: 10.5pt; } th, td { padding: 1mm .8mm .8mm; }
 .r abbr { font-size: 7.5pt; } .who span { font-size: 8.5pt; } .notes { font-size: 9pt; }
-.notes section { break-inside: avoid; } th.sail { width: 23mm; }"""
+.notes section { break-inside: avoid; } th.sail { width: 23mm; }
+.r { width: 17mm; } .net { width: 17mm; } .total { width: 17mm; }"""
 DENSE = """body {{ font-size: {0}pt; }} .r abbr {{ font-size: {1}pt; }} .who span {{ font-size: {2}pt; }}
 th, td {{ padding-inline: .3mm; }} thead th {{ font-size: {3}pt; }} thead th.r {{ padding-right: .8mm; }}
 .net {{ width: 11mm; }}"""
@@ -523,10 +529,11 @@ def race(view: View, number: int, names: Sequence[Named] = ()) -> str:
 
 # The list of the series
 
-def entry(view: View) -> str:
-    """A series in the list: what it is, how far it is, and who leads."""
+def entry(view: View, above: Sequence[str]) -> str:
+    """A series in the list: what isn't above it already, how far it is, and who leads."""
     shown, races = view.settings, len(view.standing.races)
-    sub = " · ".join(text for text in (shown.title if shown.group else "", shown.club) if text)
+    sub = " · ".join(text for text in (shown.title, shown.club)
+                     if text and text not in (view.label, *above))
     first = [row for row in view.standing.rows if row.rank == 1] if races else []
     lead = " and ".join(f"<b>{esc(view.boat(row.sail).sail)}</b> {esc(view.boat(row.sail).helm)}"
                         for row in first[:3])
@@ -534,7 +541,7 @@ def entry(view: View) -> str:
     leads = f"<p>{which}: {lead}</p>" if lead else ""
     return (f'<li><h2><a href="{view.address}/index.html">{esc(view.label)}</a> '
             f'<span class="word {shown.state}">{shown.state.capitalize()}</span></h2>'
-            f"<p>{esc(sub)}</p><p>{count(len(view.standing.rows), 'boat')}, "
+            f"<p class=sub>{esc(sub)}</p><p>{count(len(view.standing.rows), 'boat')}, "
             f"{count(races, 'race')} scored</p>{leads}"
             f'<p class="when"><span>Last changed</span> {esc(view.when(view.changed))}</p></li>')
 
@@ -544,12 +551,13 @@ def series_list(views: Sequence[View], version: str) -> str:
     titles = list(dict.fromkeys(view.settings.title for view in views))
     clubs = list(dict.fromkeys(view.settings.club for view in views if view.settings.club))
     title = titles[0] if len(titles) == 1 else "Results"
-    small = f"<small>{esc(' · '.join(clubs))}</small>" if clubs else ""
+    small = f"<small>{esc(clubs[0])}</small>" if len(clubs) == 1 else ""
+    above = titles[:1] * (len(titles) == 1) + clubs[:1] * (len(clubs) == 1)
     live = "yes" if any(view.settings.state == "provisional" for view in views) else "no"
     body = f"""<main class="series">
 <header><h1>{small}{esc(title)}</h1></header>
 <ul class="list" id="table">
-{chr(10).join(map(entry, views))}
+{"".join(entry(view, above) for view in views)}
 </ul>
 <footer><p>Scored by regatta under Appendix A (Low Point System), Racing Rules of Sailing \
 2025–2028.</p></footer>
