@@ -35,6 +35,7 @@ class Shown:
     def __init__(self, sources: list[Source], files: list[Files], board: Board | None) -> None:
         self.sources, self.files, self.board = sources, files, board
         self.site = Site(sources)
+        self.width = max(len(source.name) for source in sources)
         self.said: dict[str, str] = {}
 
     def tell(self, about: str, text: str, stamp: str) -> None:
@@ -43,19 +44,17 @@ class Shown:
             say(f"{stamp}{text}")
         self.said[about] = text
 
-    def look(self, source: Source, stamp: str = "") -> bool:
-        """Looks at one series, and says what has changed; whether that went well."""
-        source.due = time.monotonic() + source.settings.every
-        trouble = ""
-        try:
-            source.look()
-        except Trouble as cause:
-            trouble = sentence(cause)
-        self.tell(source.folder.name, said_of(source, trouble, bool(stamp)), stamp)
-        for about, text in source.notes.items():
-            self.tell(f"{source.folder.name} {about}", text and f"{source.name}: {sentence(text)}",
-                      stamp)
-        return not trouble
+    def look(self, due: list[Source], stamp: str = "") -> bool:
+        """Looks at some series, shows what was found and then says what has changed; whether all
+        went well."""
+        troubles = [trouble_of(source) for source in due]
+        well = self.publish() and not any(troubles)
+        for source, trouble in zip(due, troubles):
+            self.tell(source.folder.name, said_of(source, trouble, self.width, bool(stamp)), stamp)
+            for about, text in source.notes.items():
+                self.tell(f"{source.folder.name} {about}", text and
+                          f"{source.name}: {sentence(text)}", stamp)
+        return well
 
     def publish(self) -> bool:
         """Shows what was found, to phones and in files; whether all files were written."""
@@ -76,20 +75,28 @@ class Shown:
             if source.folder.is_closing():
                 source.leave()
         due = [source for source in self.sources if time.monotonic() >= source.due]
-        for source in due:
-            self.look(source, f"{clock()} ")
         if due:
-            self.publish()
+            self.look(due, f"{clock()} ")
 
     def leave(self) -> None:
         for source in self.sources:
             source.leave()
 
 
-def said_of(source: Source, trouble: str, is_later: bool) -> str:
+def trouble_of(source: Source) -> str:
+    """Looks at one series; why its page stays as it was, or nothing."""
+    source.due = time.monotonic() + source.settings.every
+    try:
+        source.look()
+    except Trouble as trouble:
+        return sentence(trouble)
+    return ""
+
+
+def said_of(source: Source, trouble: str, width: int, is_later: bool) -> str:
     """What is shown of a series, and from where."""
     view = source.view
-    name = f"{source.name}: " if is_later else f"{source.name}  "
+    name = f"{source.name}: " if is_later else f"{source.name:<{width}}  "
     if trouble:
         red = view is not None and view.settings.state == "provisional"
         after = " The page says so in red." if red else "" if view else " There is no page yet."
@@ -163,8 +170,7 @@ def show(asked: argparse.Namespace) -> int:
     server = Server(("0.0.0.0", number), board) if board is not None else None
     shown = Shown(sources, files, board)
     try:
-        well = all([shown.look(source) for source in sources])
-        well = shown.publish() and well
+        well = shown.look(sources)
         if asked.once:
             return 0 if well else 1
         if server:
