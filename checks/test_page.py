@@ -7,6 +7,7 @@ import re
 import shutil
 import signal
 import subprocess
+import sys
 import time
 import unittest
 
@@ -260,6 +261,21 @@ class Pages(helpers.Series):
                                      text=True, check=True).stdout
             for text in texts:
                 self.assertIn(text, " ".join(printed.split()))
+
+    @unittest.skipUnless(shutil.which("pdftoppm"), "pdftoppm isn't installed")
+    def test_pictures(self) -> None:
+        """The pictures in docs/ can be made anew, and none is large."""
+        screens = os.path.join(helpers.TOP, "checks", "screens.py")
+        subprocess.run([sys.executable, screens, helpers.PROGRAM, self.here], check=True,
+                       stdout=subprocess.DEVNULL)
+        for name in ("board-phone.png", "board-desktop.png", "board-print.png"):
+            heads = []
+            for folder in (self.here, os.path.join(helpers.TOP, "docs")):
+                with open(os.path.join(folder, name), "rb") as file:
+                    data = file.read()
+                self.assertLess(len(data), 150_000, name)
+                heads.append(data[:24])
+            self.assertEqual(heads[0], heads[1], f"{name} has another size than in docs/")
 
     # Out of date
 

@@ -402,6 +402,7 @@ def overall_style(view: View) -> str:
   .rank, th.sail {{ position: sticky; z-index: 2; }}
   thead .rank, thead th.sail {{ z-index: 4; }}
   .rank {{ left: 0; min-width: 2.9rem; }}
+  .who {{ min-width: 13rem; }}
   th.sail {{ left: 2.9rem; min-width: 6.4rem; border-right: 1px solid var(--line); }}
 }}
 """
@@ -413,7 +414,7 @@ ROOMY = """body { font-size: 10.5pt; } th, td { padding: 1mm .8mm .8mm; }
 .notes section { break-inside: avoid; } th.sail { width: 23mm; }
 .r { width: 17mm; } .net { width: 17mm; } .total { width: 17mm; }"""
 DENSE = """body {{ font-size: {0}pt; }} .r abbr {{ font-size: {1}pt; }} .who span {{ font-size: {2}pt; }}
-th, td {{ padding-inline: .3mm; }} thead th {{ font-size: {3}pt; }} thead th.r {{ padding-right: .8mm; }}
+th, td {{ padding: .65mm .3mm .35mm; }} thead th {{ font-size: {3}pt; }} thead th.r {{ padding-right: .8mm; }}
 .net {{ width: 11mm; }}"""
 
 

@@ -73,7 +73,9 @@ class Site:
     def texts(self, fresh: bool = False) -> dict[str, tuple[str, bytes]]:
         """All texts, by address, as files have it."""
         views = [source.view for source in self.sources if source.view]
-        names = tuple(Named(view.label, view.address) for view in views)
+        labels = [view.label for view in views]
+        names = tuple(Named(view.label if labels.count(view.label) == 1 else
+                            f"{view.label} ({view.name})", view.address) for view in views)
         found = self.front(views, fresh)
         for source in self.sources:
             if (view := source.view) is None:
