@@ -46,7 +46,7 @@ def free_port() -> int:
 
 
 class Relay:
-    """Stands between the board and an office, and counts the lines that the board sends."""
+    """A relay of the board to an office, which counts the lines that the board sends."""
 
     def __init__(self, path: str) -> None:
         self.real, self.lines = f"{path}.real", []

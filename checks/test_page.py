@@ -81,7 +81,7 @@ IS_RED = "!document.getElementById('alarm').hidden"
 
 
 def season(races: int, seed: int) -> list[str]:
-    """The lines of so many races of the week's boats, with ties, codes, penalties and redress."""
+    """The lines of a number of races of the week's boats, with ties, codes, penalties and redress."""
     dice = random.Random(seed)
     with open(os.path.join(WEEK, "entries.csv"), encoding="utf-8") as file:
         boats = [line.split(",")[0].replace(" ", "") for line in file.readlines()[1:]]
@@ -115,7 +115,7 @@ class Pages(helpers.Series):
         self.write(text, "dragon", "series.ini")
 
     def raced(self, races: int) -> str:
-        """A series of so many races, and the address of its page."""
+        """A series with this number of races, and the address of its page."""
         name = f"races-{races}"
         with open(os.path.join(WEEK, "entries.csv"), encoding="utf-8") as file:
             self.make(name, file.read(), exclude="4,8", title="Winter Series")
@@ -264,7 +264,7 @@ class Pages(helpers.Series):
 
     @unittest.skipUnless(shutil.which("pdftoppm"), "pdftoppm isn't installed")
     def test_pictures(self) -> None:
-        """The pictures in docs/ can be made anew, and none is large."""
+        """The pictures in docs/ can be made again, and none is large."""
         screens = os.path.join(helpers.TOP, "checks", "screens.py")
         subprocess.run([sys.executable, screens, helpers.PROGRAM, self.here], check=True,
                        stdout=subprocess.DEVNULL)

@@ -3,8 +3,8 @@
 
     board.py FOLDER [FOLDER ...] [--http [PORT]] [--page OUT] [--once]
 
-The results are those of the open office, or else of journal.txt. An office is asked once in so many
-seconds as series.ini says, however many phones look. The board only reads: nothing that a phone
+The results are those of the open office, or else of journal.txt. An office is asked as often as
+series.ini says, however many phones look. The board only reads: nothing that a phone
 sends reaches an office or a file.
 """
 from __future__ import annotations

@@ -37,7 +37,7 @@ class Site:
 
     def kept(self, name: str, key: object, make: Callable[[], dict[str, str]], fresh: bool,
              checked: datetime.datetime, office: str) -> dict[str, tuple[str, bytes]]:
-        """The pages of this name, made if the key is another; confirmed anew if they are to be
+        """The pages of this name, made if the key is another; stamped again if they are to be
         fresh."""
         old = self.made.get(name)
         if old and old.key == key and not fresh:
@@ -98,7 +98,7 @@ def served(texts: dict[str, tuple[str, bytes]]) -> dict[str, tuple[str, bytes]]:
 
 
 class Files:
-    """The pages as files in a folder, to be looked at there or to be uploaded."""
+    """The pages as files in a folder, to be opened there or to be uploaded."""
 
     def __init__(self, folder: str, site: Site) -> None:
         self.folder, self.site = folder, site

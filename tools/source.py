@@ -81,6 +81,8 @@ class Source:
         self.office, self.checked = "away", now()
         self.settings, self.rules = self.folder.settings, {}
         self.notes: dict[str, str] = {}
+        self.replayed: tuple[object, Sheet] | None = None
+        self.summed: tuple[object, dict[str, str]] | None = None
         self.due = 0.0
 
     @property
@@ -148,9 +150,15 @@ class Source:
             raise
 
     def from_journal(self) -> Sheet:
+        """The sheet of the folder's files, which is replayed when one of them has changed."""
         self.leave()
         self.rules = {}
-        return replayed(self.folder, self.settings.options())
+        files = [self.folder.program, self.folder.journal, self.folder.entries]
+        found = [os.stat(path) for path in files if os.path.exists(path)]
+        key = (self.settings.options(), [(file.st_mtime_ns, file.st_size) for file in found])
+        if self.replayed is None or self.replayed[0] != key:
+            self.replayed = (key, replayed(self.folder, self.settings.options()))
+        return self.replayed[1]
 
     # One look
 
@@ -176,7 +184,7 @@ class Source:
             pass
 
     def show(self, sheet: Sheet) -> None:
-        """Makes the view anew if anything that it shows has changed."""
+        """Makes a new view if anything that it shows has changed."""
         shown = dataclasses.replace(self.settings, **self.rules)
         self.note("rules", "" if shown.options() == self.settings.options() else
                   "series.ini has other rules than the open office. Close and open the office to "
@@ -194,13 +202,19 @@ class Source:
         self.view = dataclasses.replace(fresh, changed=changed)
 
     def totals(self, sheet: Sheet, standing: Standing, shown: Settings) -> dict[str, str]:
-        """The net of each boat without exclusions, by the program; none if nothing is excluded."""
+        """The net of each boat without exclusions, by the program; none if nothing is excluded.
+
+        As long as the table is the same, so are they: a long journal is replayed when it has changed.
+        """
         if not any(score.excluded for row in standing.rows for score in row.scores):
             return {}
         options = dataclasses.replace(shown, exclude="none").options()
-        journal = "".join(f"{line}\n" for line in sheet.journal).encode()
-        table = replayed(self.folder, options, journal).table
-        return {row.sail: row.net for row in Standing.read(list(table)).rows}
+        if self.summed is None or self.summed[0] != (sheet.table, options):
+            journal = "".join(f"{line}\n" for line in sheet.journal).encode()
+            table = replayed(self.folder, options, journal).table
+            totals = {row.sail: row.net for row in Standing.read(list(table)).rows}
+            self.summed = ((sheet.table, options), totals)
+        return self.summed[1]
 
     def changed_at(self, sheet: Sheet, standing: Standing) -> datetime.datetime:
         """When the results changed last, as far as the log and the files know."""

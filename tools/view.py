@@ -66,7 +66,7 @@ class View:
 
     @property
     def excluded(self) -> int:
-        """How many scores of each boat the rules exclude after so many races."""
+        """How many scores of each boat the rules exclude after the races that count."""
         return sum(len(self.standing.races) >= races for races in self.settings.thresholds)
 
     @functools.cached_property
