@@ -348,6 +348,21 @@ class Boards(helpers.Series):
         boats = json.loads(self.get("/odd/results.json").data)["boats"]
         self.assertEqual((boats[0]["boat"], boats[1]["helm"]), ("=1+1", "@SUM(A1)"))
 
+    def test_ties(self) -> None:
+        """Each note names the rule that broke a tie, with the scores by which it did."""
+        self.make("ties", "Sail\nA 1\nB 2\nC 3\nD 4\nE 5\n", exclude="none")
+        self.journal("FINISH 1 A1", "FINISH 1 B2", "FINISH 1 C3", "FINISH 1 D4", "TIE 1 E5 D4",
+                     "SCORE 1", "FINISH 2 C3", "FINISH 2 B2", "FINISH 2 A1", "FINISH 2 D4",
+                     "TIE 2 E5 D4", "SCORE 2", name="ties")
+        helpers.run("board.py", "ties", "--page", "out", "--once", cwd=self.here)
+        notes = re.findall('<li id="tie-(.)"><b>(.)</b>(.*?)</li>',
+                           self.text("out", "ties", "index.html"))
+        self.assertEqual(notes, [
+            ("a", "a", "4.0 points each. C 3 beats A 1 on A8.2: their counting scores are "
+             "identical, so the last race decides, 1.0 to 3.0 in race 2. A 1 beats B 2 on A8.1: "
+             "best score 1.0 to 2.0."),
+            ("b", "b", "9.0 points each. D 4 and E 5 have identical scores and share the rank.")])
+
     def test_total(self) -> None:
         """The total is the program's net without exclusions; every score is the program's."""
         self.journal(*RACE, *SECOND)
