@@ -11,7 +11,7 @@ import zoneinfo
 from dataclasses import dataclass
 
 from office import Trouble
-from words import joined
+from words import TIMES, joined
 
 NAME = "series.ini"
 KEYS = {
@@ -61,7 +61,6 @@ port = {port}
 page = {page}
 """
 STATES = ["provisional", "final", "amended"]
-TIMES = ["no", "one", "two", "three", "four"]
 
 
 @dataclass(frozen=True)
