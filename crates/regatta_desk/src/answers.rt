@@ -1,6 +1,7 @@
 //! What a line is answered, by whoever holds the desk and by a pass alone.
 ghost use Rattle.std.specs.Prelude.{◌≡◌, ◌≢◌, ◌+◌, ◌≤◌, ◌++◌, true, Ok, IsOk, IfOk, OnOk, OnErr};
-ghost use Rattle.std.specs.Prelude.{vec_len, vec_capacity};
+ghost use Rattle.std.specs.Prelude.{All, vec_len, vec_capacity};
+ghost use mathlib.Core.List.{IsPrefix};
 ghost use Rattle.regatta_terms.specs.declared.reply.Reply.{Reply as ReplyValue};
 ghost use Rattle.regatta_board.specs.Answers.{rank_of};
 ghost use Rattle.regatta_tables.specs.ReplyTexts.{reply_text};
@@ -38,21 +39,26 @@ impl<N: OfficeName, R: Wait + Drop> Desk<N, R> {
     /// Does what a line asks of the desk, and gives the reply.
     fn reply<W: Wait>(&mut self, rt: &W, pass: &mut Pass<N>, role: Role, line: Line) -> Reply
         requires { is_for_desk line ≡ true }
-        ensures { DeskReplies N.rules line role self.old self.new pass.old pass.new result }
+        ensures replied { DeskReplies N.rules line role self.old self.new pass.old pass.new result }
+        ensures told { All (λ j. IsPrefix j self.old.entries) pass.old.told }
     {
         match line {
             Line::Do(command) => match self.run(rt, pass, role, command) {
                 Ok(receipt) => reply_of(Ok(receipt.answer())),
                 Err(why) => reply_of(Err(why)),
             },
-            Line::Rank(sail) => self.rank_reply(sail),
+            Line::Rank(sail) => {
+                self.cover(pass);
+                self.rank_reply(sail)
+            }
             Line::SetRole(_) | Line::Show | Line::Quit => unreachable!(),
         }
     }
 
     /// Answers a line that asks for a command or a rank: runs the command for the pass in this
-    /// role, or looks the boat up, and appends the reply. Where there is room for one, the room
-    /// stays as it was.
+    /// role, or looks the boat up, and appends the reply. Each journal that the pass was told of is
+    /// a beginning of the one that the desk was found with. Where there is room for a reply, the
+    /// room stays as it was.
     ///
     /// # Errors
     ///
@@ -70,6 +76,7 @@ impl<N: OfficeName, R: Wait + Drop> Desk<N, R> {
         ensures ok { OnOk result ((reply : ReplyValue)
             × DeskReplies N.rules line role self.old self.new pass.old pass.new reply
             × (out.new.items ≡ out.old.items ++ reply_text reply)) }
+        ensures told { OnOk result (All (λ j. IsPrefix j self.old.entries) pass.old.told) }
         ensures room { vec_capacity out.old ≤ vec_capacity out.new }
         ensures fits { vec_len out.old + REPLY_ROOM ≤ vec_capacity out.old → IsOk result }
         ensures stays { vec_len out.old + REPLY_ROOM ≤ vec_capacity out.old

@@ -1,6 +1,7 @@
 -- What the lines of a session are answered.
 use Rattle.std.specs.Prelude.{◌≡◌, ℕ, Bool, true, false, List, [], ◌++◌, Option, Some, None}
-use Rattle.std.specs.Prelude.{Result, Ok, Err}
+use Rattle.std.specs.Prelude.{Result, Ok, Err, All}
+use mathlib.Core.List.{IsPrefix}
 use Rattle.std.specs.Io.KnownBytes.{Appends}
 use Rattle.regatta_terms.specs.Rules.{RulesParts}
 use Rattle.regatta_terms.specs.declared.command.Role.{Role}
@@ -17,15 +18,16 @@ use Rattle.regatta_desk.specs.Passes.{PassValue}
 use Rattle.regatta_desk.specs.Replies.{DeskReplies, PassReplies}
 use Rattle.regatta_service.specs.declared.sessions.End.{End}
 
--- a line that a desk answered for a pass in this role: it was found with a lawful journal, and did
--- what the line asks, and its reply is appended; no proof knows what lies under a lock, so this
--- says no more of what was found
+-- a line that a desk answered for a pass in this role: it was found with a lawful journal, which
+-- begins with each that the pass was told of, and did what the line asks, and its reply is appended;
+-- no proof knows what lies under a lock, so this says no more of what was found
 pub record DeskAnswers (rules : RulesParts) (line : Line) (role : Role) (before after : PassValue)
     (old new : List ℕ) : Type 0 where
   pub found : DeskValue
   pub left : DeskValue
   pub reply : Reply
   pub lawful : is_lawful limits rules found.entries ≡ true
+  pub told : All (λ j. IsPrefix j found.entries) before.told
   pub replied : DeskReplies rules line role found left before after reply
   pub text : new ≡ old ++ reply_text reply
 
@@ -63,7 +65,8 @@ pub record Replied (rules : RulesParts) (asked : Result Line LineFault) (role la
   pub role_set : later ≡ role_after asked role
   pub wrote : Appends old new text
 
--- a line that was answered so, where a write failed: a beginning of its reply was written
+-- a line that was answered so, where a write failed: a beginning of its reply was written, and not
+-- all of it
 pub record CutOff (rules : RulesParts) (asked : Result Line LineFault) (role later : Role)
     (before after : PassValue) (old new : Option (List ℕ)) : Type 0 where
   pub text : List ℕ

@@ -1,7 +1,7 @@
 //! One client's lines, answered one after another.
 ghost use Rattle.std.specs.Prelude.{◌≡◌, ◌≢◌, ◌+◌, [], true, Ok, Some, None, IfSome, IfOk, OnOk};
 ghost use Rattle.std.specs.Prelude.{◌<◌, ◌≤◌, IsOk, OnErr, vec_capacity, vec_len};
-ghost use Rattle.std.specs.Io.KnownBytes.{IsAtEnd};
+ghost use Rattle.std.specs.Io.KnownBytes.{IsAtEnd, Keeps};
 ghost use Rattle.regatta_terms.specs.Lines.{line_of};
 ghost use Rattle.regatta_talk.specs.Replies.{role_after};
 ghost use Rattle.regatta_tables.specs.declared.replies.TheConstants.{REPLY_ROOM};
@@ -9,7 +9,7 @@ ghost use Rattle.regatta_desk.specs.Replies.{is_for_desk, is_for_pass, next_afte
 ghost use Rattle.regatta_service.specs.Ends.{failures_in, failures_so_far};
 ghost use Rattle.regatta_service.specs.Lines.{Answers, CutOff, DeskAnswers, Replied};
 ghost use Rattle.regatta_service.specs.Lines.{is_replied};
-ghost use Rattle.regatta_service.specs.LinesTaken.{CameToQuit, WentOn, point};
+ghost use Rattle.regatta_service.specs.LinesTaken.{Talked, Took, WentOn, asked_from, point};
 
 use crate::gate::Gate;
 use regatta_desk::{Next, Office, OfficeName, Pass, answer_alone};
@@ -68,13 +68,12 @@ fn make_way(asked: &Result<Line, LineFault>) {
     }
 }
 
-/// A client at a seat of the office, and what is kept from line to line: the role of the lines to
-/// come, the number of the last line, what came of the line at hand, the text of a reply, and how
+/// A client of the office, and what is kept from line to line beside her pass: the role of the lines
+/// to come, the number of the last line, what came of the line at hand, the text of a reply, and how
 /// the session ended, which is none while it goes on.
 #[derive(Drop)]
 struct Talk<'a, N: OfficeName, H: Wait + Drop, G: Gate> {
     office: &'a Office<N, H>,
-    pass: &'a mut Pass<N>,
     gate: &'a G,
     role: Role,
     line: u64,
@@ -85,13 +84,18 @@ struct Talk<'a, N: OfficeName, H: Wait + Drop, G: Gate> {
 
 impl<N: OfficeName, H: Wait + Drop, G: Gate> Talk<'_, N, H, G> {
     /// Has the desk answer a line, under its lock, in the session's role.
-    fn ask_desk<R: Wait>(&mut self, rt: &R, line: Line) -> Result<(), AllocError>
+    fn ask_desk<R: Wait>(
+        &mut self,
+        rt: &R,
+        pass: &mut Pass<N>,
+        line: Line,
+    ) -> Result<(), AllocError>
         requires { is_for_desk line ≡ true }
-        ensures ok { OnOk result (DeskAnswers N.rules line self.old.role self.old.pass.now
-            self.new.pass.now self.old.reply.items self.new.reply.items) }
+        ensures ok { OnOk result (DeskAnswers N.rules line self.old.role pass.old pass.new
+            self.old.reply.items self.new.reply.items) }
         ensures fits { vec_len self.old.reply + REPLY_ROOM ≤ vec_capacity self.old.reply
             → IsOk result }
-        ensures err { OnErr result (self.new.pass.now ≡ self.old.pass.now) }
+        ensures err { OnErr result (pass.new ≡ pass.old) }
         ensures role { self.new.role ≡ self.old.role }
         ensures cutter { self.new.cutter ≡ self.old.cutter }
         ensures ended { self.new.ended ≡ self.old.ended }
@@ -99,7 +103,7 @@ impl<N: OfficeName, H: Wait + Drop, G: Gate> Talk<'_, N, H, G> {
         let mut desk = self.office.desk(rt);
         // read for what it promises: the journal is lawful
         let _ = desk.board();
-        desk.answer(rt, self.pass, self.role, line, &mut self.reply)?;
+        desk.answer(rt, pass, self.role, line, &mut self.reply)?;
         Ok(())
     }
 
@@ -107,15 +111,15 @@ impl<N: OfficeName, H: Wait + Drop, G: Gate> Talk<'_, N, H, G> {
     fn answer<R: Wait>(
         &mut self,
         rt: &R,
+        pass: &mut Pass<N>,
         asked: Result<Line, LineFault>,
     ) -> Result<Next, AllocError>
-        ensures ok { OnOk result (Answers N.rules asked self.old.role self.old.pass.now
-            self.new.pass.now [] self.new.reply.items) }
+        ensures ok { OnOk result (Answers N.rules asked self.old.role pass.old pass.new []
+            self.new.reply.items) }
         ensures role { OnOk result (self.new.role ≡ role_after asked self.old.role) }
         ensures next { IfOk result (λ next. next ≡ next_after asked) }
         ensures fits { REPLY_ROOM ≤ vec_capacity self.old.reply → IsOk result }
-        ensures err { OnErr result ((self.new.pass.now ≡ self.old.pass.now)
-            × (self.new.role ≡ self.old.role)) }
+        ensures err { OnErr result ((pass.new ≡ pass.old) × (self.new.role ≡ self.old.role)) }
         ensures cutter { self.new.cutter ≡ self.old.cutter }
         ensures ended { self.new.ended ≡ self.old.ended }
     {
@@ -123,18 +127,18 @@ impl<N: OfficeName, H: Wait + Drop, G: Gate> Talk<'_, N, H, G> {
         make_room(&mut self.reply)?;
         match for_desk(&asked) {
             Some(line) => {
-                self.ask_desk(rt, line)?;
+                self.ask_desk(rt, pass, line)?;
                 Ok(Next::Go)
             }
             None => {
-                let next = answer_alone(self.pass, &mut self.role, asked, &mut self.reply)?;
+                let next = answer_alone(pass, &mut self.role, asked, &mut self.reply)?;
                 Ok(next)
             }
         }
     }
 
     /// Answers the line at hand, which may end the session.
-    fn answer_line<R: Wait, S: Sink>(&mut self, rt: &R, stream: &mut S)
+    fn answer_line<R: Wait, S: Sink>(&mut self, rt: &R, stream: &mut S, pass: &mut Pass<N>)
         // No line is answered behind the end.
         requires { self.old.ended ≡ None }
         ensures failures { S.failures stream.new
@@ -148,35 +152,36 @@ impl<N: OfficeName, H: Wait + Drop, G: Gate> Talk<'_, N, H, G> {
         // The line is answered in the session's role, and just its reply is written; the next line
         // begins anew.
         ensures replied { is_replied self.new.ended ≡ true →
-            Replied N.rules (line_of self.old.cutter) self.old.role self.new.role
-            self.old.pass.now self.new.pass.now (S.contents stream.old) (S.contents stream.new) }
+            Replied N.rules (line_of self.old.cutter) self.old.role self.new.role pass.old pass.new
+            (S.contents stream.old) (S.contents stream.new) }
         ensures cut { is_replied self.new.ended ≡ true → self.new.cutter ≡ [] }
 
         // A line that isn't let through, or whose reply has no room and gets none, does nothing.
         ensures stopped { self.new.ended ≡ Some End.Stopped → (stream.new ≡ stream.old)
-            × (self.new.pass.now ≡ self.old.pass.now) × (self.new.role ≡ self.old.role)
+            × (pass.new ≡ pass.old) × (self.new.role ≡ self.old.role)
             × (self.new.cutter ≡ self.old.cutter) }
-        ensures wanting { self.new.ended ≡ Some End.NoMemory →
-            (stream.new ≡ stream.old) × (self.new.pass.now ≡ self.old.pass.now)
-            × (self.new.role ≡ self.old.role) × (vec_capacity self.old.reply < REPLY_ROOM) }
+        ensures wanting { self.new.ended ≡ Some End.NoMemory → (stream.new ≡ stream.old)
+            × (pass.new ≡ pass.old) × (self.new.role ≡ self.old.role)
+            × (vec_capacity self.old.reply < REPLY_ROOM) }
 
         // A line whose reply met a write that failed was answered all the same.
         ensures cut_off { self.new.ended ≡ Some End.WriteFault →
-            CutOff N.rules (line_of self.old.cutter) self.old.role self.new.role
-            self.old.pass.now self.new.pass.now (S.contents stream.old) (S.contents stream.new) }
+            CutOff N.rules (line_of self.old.cutter) self.old.role self.new.role pass.old pass.new
+            (S.contents stream.old) (S.contents stream.new) }
 
-        // No read is made here, so none ends the session.
+        // No read is made here, so none ends the session, and what is still to be read stays.
         ensures unread { (self.new.ended ≢ Some End.Closed)
             × (self.new.ended ≢ Some End.ReadFault) }
+        ensures keeps { Keeps (S.remaining stream.old) (S.remaining stream.new) }
     {
         self.line = self.line.saturating_add(1);
-        if !self.gate.before(self.pass.seat(), self.line) {
+        if !self.gate.before(pass.seat(), self.line) {
             self.ended = Some(End::Stopped);
             return;
         }
         let asked = read_line(self.cutter.line());
         self.cutter.clear();
-        let Ok(next) = self.answer(rt, asked) else {
+        let Ok(next) = self.answer(rt, pass, asked) else {
             self.ended = Some(End::NoMemory);
             return;
         };
@@ -184,7 +189,7 @@ impl<N: OfficeName, H: Wait + Drop, G: Gate> Talk<'_, N, H, G> {
             self.ended = Some(End::WriteFault);
             return;
         }
-        self.gate.after(self.pass.seat(), self.line);
+        self.gate.after(pass.seat(), self.line);
         make_way(&asked);
         match next {
             Next::Go => {}
@@ -193,27 +198,35 @@ impl<N: OfficeName, H: Wait + Drop, G: Gate> Talk<'_, N, H, G> {
     }
 
     /// Answers the lines that end in these bytes, up to one that ends the session.
-    fn take_all<R: Wait, S: Sink>(&mut self, rt: &R, stream: &mut S, piece: &[u8])
+    fn take_all<R: Wait, S: Sink>(
+        &mut self,
+        rt: &R,
+        stream: &mut S,
+        pass: &mut Pass<N>,
+        piece: &[u8],
+    )
         requires { self.old.ended ≡ None }
         ensures failures { S.failures stream.new
             ≡ S.failures stream.old + failures_so_far self.new.ended }
 
-        // Each line is answered once and in its turn, up to a QUIT. Where there is none, the session
-        // goes on with what is then heard of the line at hand.
+        // Each line is answered once and in its turn, up to one at which the session ends. Where
+        // there is none, it goes on with what is then heard of the line at hand.
         ensures goes_on { self.new.ended ≡ None → WentOn N.rules self.old.cutter piece.now
-            (point self.old.role self.old.pass.now (S.contents stream.old)) self.new.cutter
-            (point self.new.role self.new.pass.now (S.contents stream.new)) }
-        ensures quit { self.new.ended ≡ Some End.Quit → CameToQuit N.rules self.old.cutter piece.now
-            (point self.old.role self.old.pass.now (S.contents stream.old))
-            (point self.new.role self.new.pass.now (S.contents stream.new)) }
+            (point self.old.role pass.old (S.contents stream.old)) self.new.cutter
+            (point self.new.role pass.new (S.contents stream.new)) }
+        ensures ended { IfSome self.new.ended (λ end. Took N.rules end
+            (asked_from self.old.cutter piece.now)
+            (point self.old.role pass.old (S.contents stream.old))
+            (point self.new.role pass.new (S.contents stream.new))) }
 
-        // No read is made here, so none ends the session.
+        // No read is made here, so none ends the session, and what is still to be read stays.
         ensures unread { (self.new.ended ≢ Some End.Closed)
             × (self.new.ended ≢ Some End.ReadFault) }
+        ensures keeps { Keeps (S.remaining stream.old) (S.remaining stream.new) }
     {
         for byte in piece {
             if self.cutter.take(*byte) {
-                self.answer_line(rt, stream);
+                self.answer_line(rt, stream, pass);
                 if self.ended.is_some() {
                     return;
                 }
@@ -236,10 +249,15 @@ pub fn session<N: OfficeName, H: Wait + Drop, R: Wait, S: Source + Sink, G: Gate
     // A call of the stream that fails ends the session, which tells it; none failed elsewhere.
     ensures failures { S.failures stream.new ≡ S.failures stream.old + failures_in result }
     ensures closed { result ≡ End.Closed → IsAtEnd (S.remaining stream.new) }
+
+    // Of the bytes that the stream gave, the lines that ended were answered as its end says, from
+    // the scorer's role on, and just their replies were written.
+    ensures talked { Talked N.rules result (S.remaining stream.old) (S.remaining stream.new)
+        pass.old pass.new (S.contents stream.old) (S.contents stream.new) }
+    ensures seat { pass.new.seat ≡ pass.old.seat }
 {
     let mut talk = Talk {
         office,
-        pass,
         gate,
         role: Role::Scorer,
         line: 0,
@@ -255,7 +273,7 @@ pub fn session<N: OfficeName, H: Wait + Drop, R: Wait, S: Source + Sink, G: Gate
         if count == 0 {
             return End::Closed;
         }
-        talk.take_all(rt, stream, &buffer[..count]);
+        talk.take_all(rt, stream, pass, &buffer[..count]);
         if let Some(end) = talk.ended {
             return end;
         }

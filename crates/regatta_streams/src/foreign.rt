@@ -1,6 +1,6 @@
 //! Readers and writers of std as streams.
 ghost use Rattle.std.specs.Prelude.{◌≡◌, ◌+◌, ◌<◌, ◌≤◌, None, length, IfOk, OnOk, OnErr};
-ghost use Rattle.std.specs.Io.KnownBytes.{ReadConsumes, WriteAppends};
+ghost use Rattle.std.specs.Io.KnownBytes.{Keeps, ReadConsumes, WriteAppends};
 
 use crate::failures::Failures;
 use crate::stream::{Device, Sink, Source, StreamFault};
@@ -38,11 +38,10 @@ impl<X> Device for Foreign<X> {
 impl<X: Read> Source for Foreign<X> {
     ghost use Rattle.regatta_streams.specs.Foreigns.{failed_calls, inner_bytes};
 
-    ghost remaining = { λ _. None };
-
     fn read(&mut self, buf: &mut [u8]) -> Result<usize, StreamFault>
         ensures bound { IfOk result (λ n. n ≤ length buf.new) }
         ensures bytes { ReadConsumes None None result buf.new }
+        ensures keeps { Keeps None None }
         ensures well { OnOk result (failed_calls self.new ≡ failed_calls self.old) }
         ensures failed { OnErr result (failed_calls self.new ≡ failed_calls self.old + 1) }
 
@@ -63,12 +62,11 @@ impl<X: Read> Source for Foreign<X> {
 impl<X: Write> Sink for Foreign<X> {
     ghost use Rattle.regatta_streams.specs.Foreigns.{failed_calls, inner_bytes};
 
-    ghost contents = { λ _. None };
-
     fn write(&mut self, buf: &[u8]) -> Result<usize, StreamFault>
         ensures bound { IfOk result (λ n. n ≤ length buf.now) }
         ensures some { IfOk result (λ n. 0 < length buf.now → 0 < n) }
         ensures bytes { WriteAppends None None result buf.now }
+        ensures keeps { Keeps None None }
         ensures well { OnOk result (failed_calls self.new ≡ failed_calls self.old) }
         ensures failed { OnErr result (failed_calls self.new ≡ failed_calls self.old + 1) }
 

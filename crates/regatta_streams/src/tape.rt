@@ -1,7 +1,7 @@
 //! Streams over memory.
 ghost use Rattle.std.specs.Prelude.{◌≡◌, ◌+◌, ◌<◌, ◌≤◌, ◌↔◌, [], Some, length, take, IfOk, OnOk};
 ghost use Rattle.std.specs.Prelude.{OnErr, IsErr};
-ghost use Rattle.std.specs.Io.KnownBytes.{ReadConsumes, WriteAppends};
+ghost use Rattle.std.specs.Io.KnownBytes.{Keeps, ReadConsumes, WriteAppends};
 
 use crate::failures::Failures;
 use crate::stream::{Device, Sink, Source, StreamFault};
@@ -96,16 +96,19 @@ impl Tape {
 
 impl Device for Tape {
     ghost failures = { λ tape. tape.failures };
+
+    ghost remaining = { λ tape. Some tape.rest };
+
+    ghost contents = { λ tape. Some tape.written };
 }
 
 impl Source for Tape {
     ghost use Rattle.regatta_streams.specs.Tapes.{piece_len, after_read, after_fault};
 
-    ghost remaining = { λ tape. Some tape.rest };
-
     fn read(&mut self, buf: &mut [u8]) -> Result<usize, StreamFault>
         ensures bound { IfOk result (λ n. n ≤ length buf.new) }
         ensures bytes { ReadConsumes (Some self.old.rest) (Some self.new.rest) result buf.new }
+        ensures keeps { Keeps (Some self.old.written) (Some self.new.written) }
         ensures well { OnOk result (self.new.failures ≡ self.old.failures) }
         ensures failed { OnErr result (self.new.failures ≡ self.old.failures + 1) }
 
@@ -131,13 +134,12 @@ impl Source for Tape {
 impl Sink for Tape {
     ghost use Rattle.regatta_streams.specs.Tapes.{taken_len, after_write, after_fault};
 
-    ghost contents = { λ tape. Some tape.written };
-
     fn write(&mut self, buf: &[u8]) -> Result<usize, StreamFault>
         ensures bound { IfOk result (λ n. n ≤ length buf.now) }
         ensures some { IfOk result (λ n. 0 < length buf.now → 0 < n) }
         ensures bytes { WriteAppends (Some self.old.written) (Some self.new.written)
             result buf.now }
+        ensures keeps { Keeps (Some self.old.rest) (Some self.new.rest) }
         ensures well { OnOk result (self.new.failures ≡ self.old.failures) }
         ensures failed { OnErr result (self.new.failures ≡ self.old.failures + 1) }
 

@@ -1,6 +1,5 @@
 //! Clients made beforehand: streams that may fail, a door that gives them, and a gate that holds
 //! one line back.
-ghost use Rattle.std.specs.Prelude.{None};
 
 use super::*;
 use regatta_office::{
@@ -36,8 +35,6 @@ impl Device for Wire {
 }
 
 impl Source for Wire {
-    ghost remaining = { λ _. None };
-
     fn read(&mut self, buf: &mut [u8]) -> Result<usize, StreamFault> {
         match self.stream.read(buf) {
             Ok(count) if count > 0 || !self.fails_at_end => Ok(count),
@@ -50,8 +47,6 @@ impl Source for Wire {
 }
 
 impl Sink for Wire {
-    ghost contents = { λ _. None };
-
     fn write(&mut self, buf: &[u8]) -> Result<usize, StreamFault> {
         match self.stream.write(buf) {
             Ok(taken) => {

@@ -1,8 +1,15 @@
 use Rattle.std.proofs.Common.{◌≡◌, None}
+use Rattle.regatta_terms.specs.declared.command.Role.{Role}
+use Rattle.regatta_service.specs.LinesTaken.{point}
+use Rattle.regatta_service.proofs.Talking.{SoFar}
 use Rattle.regatta_service.proofs.sessions.session.Given as goal
 
--- no call of the stream has failed, and the session goes on
+-- no call of the stream has failed, and the session goes on behind the bytes so far
 abbrev pub invariant-loop : goal.invariant-loop
 invariant-loop g l =
     (goal.iterator-loop g).can_next l.iterator' × (goal.iterator-loop g).is_finite l.iterator'
     × (g.S.Device.failures l.stream ≡ g.S.Device.failures l.fn.stream) × (l.talk.ended ≡ None)
+    × SoFar g.N.OfficeName.rules (g.S.Device.remaining l.fn.stream)
+    (g.S.Device.remaining l.stream)
+    (point Role.Scorer l.fn.pass (g.S.Device.contents l.fn.stream)) l.talk.cutter
+    (point l.talk.role l.pass (g.S.Device.contents l.stream))
