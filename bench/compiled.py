@@ -1,4 +1,4 @@
-"""What refuse.py and serve.py share: a C source of this folder, compiled by the machine's compiler."""
+"""Compiles a C source of this folder with the machine's compiler, for the scripts beside it."""
 import os
 import subprocess
 import sys
@@ -7,7 +7,7 @@ HERE = os.path.dirname(os.path.abspath(__file__))
 
 
 def compiled(folder, source, *options):
-    """The path of what the source is compiled to, in this folder."""
+    """The path of the source's program or library, which is made in the folder given."""
     path = os.path.join(folder, os.path.splitext(source)[0])
     for compiler in (os.environ.get("CC"), "cc", "gcc", "clang"):
         words = [compiler, "-O2", *options, "-o", path, os.path.join(HERE, source)]
@@ -16,4 +16,4 @@ def compiled(folder, source, *options):
                 return path
         except FileNotFoundError:
             pass
-    sys.exit("no C compiler is to be had")
+    sys.exit("no C compiler was found: install one, or name it in CC")

@@ -1,13 +1,18 @@
-/* Counts the requests for memory of each run of a hoard, for bench/growths.py: it is preloaded ahead
- * of the C library.
+/* Counts the requests for memory of each run of a hoard, for bench/growths.py. It is preloaded before
+ * the C library.
  *
- * A run begins behind a request of RUN_BEGINS bytes that is had, and ends where that block is given
- * back (`leave` and `give_back` of the hoard). A request of CALL_ENDS bytes outside a run tells that
- * the last run answered as the call does with ample memory (`verdict`). Then a line is written to
- * standard error: how many requests that run made, how many runs were refused, how many requests were
- * the first refused of some run, how many others asked for memory that the call had anyway, since
- * their block was long enough already or was made of what the call had given back, and the number and
- * size of the rest; and whether that run was refused a request, and answered so all the same.
+ * A run begins after a successful request of RUN_BEGINS bytes, and ends when that block is freed
+ * (`leave` and `give_back` of the hoard). A request of CALL_ENDS bytes outside a run means that the
+ * last run answered as the call does with ample memory (`verdict`). Then a line is written to standard
+ * error, with
+ *
+ * - how many requests that run made;
+ * - how many runs were refused;
+ * - how many requests were the first refused of some run;
+ * - how many others asked for memory that the call had anyway: their block was long enough already,
+ *   or was made of what the call had freed;
+ * - the number and size of the rest;
+ * - whether that run was refused a request, and answered as with ample memory all the same.
  */
 #define _GNU_SOURCE
 #include <malloc.h>
@@ -18,9 +23,9 @@
 
 #define RUN_BEGINS 2047
 #define CALL_ENDS 2045
-/* A hoard asks for blocks of this size while it fills its region, and no call does. Where a run is left
- * no byte, the block that keeps room for it meanwhile has the size of RUN_BEGINS, too: what is asked for
- * behind that one is the hoard's, and no run. */
+/* A hoard asks for blocks of this size while it fills its region, and no call does. If a run is left
+ * no byte, the block that meanwhile keeps room for it has the size of RUN_BEGINS, too. What is asked for
+ * after that block is the hoard's, and no run. */
 #define FILLS 0x2000000
 #define MOST 200000
 

@@ -1,16 +1,21 @@
 #!/usr/bin/env python3
-"""Counts which growths the tests of want of memory refuse, and which they pass over.
+"""Counts which allocations the tests of refused memory refuse, and which they skip.
 
     bench/growths.py TESTS
 
 TESTS is the program of the tests as `rt test` in `crates/regatta` builds it, `out/regatta_tests`. Each
-test of `tests::memory` is run with a library that counts requests preloaded (growths.c, beside this
-file, built with the machine's C compiler). For each call that the test refuses, in its order, it tells
-how many requests for memory the call makes where none is refused, how many runs were refused, how many
-of the requests were met as the first refused, how many others the call had memory for anyway, and the
-number and size of each that was passed over. The script ends with status 1 where a test fails, where
-one refused no call (the test of serving, which has a loop of its own, aside), or where a run was refused
-a request and answered as with ample memory.
+test of `tests::memory` runs with a preloaded library that counts requests (growths.c, built with the
+machine's C compiler). For each call that the test refuses, in its order, these are printed:
+
+- how many requests for memory the call makes if none is refused;
+- how many runs were refused;
+- how many of the requests were the first refused of some run;
+- for how many others the call had memory anyway;
+- the number and size of each request that was skipped.
+
+The script ends with status 1 if a test fails, or if a run was refused a request and answered as with
+ample memory. It also does if a test refused no call, except the test of serving, which has a loop of
+its own.
 """
 import os
 import subprocess
@@ -37,7 +42,7 @@ def main():
             for line in told:
                 print("    " + line.removeprefix("growths: "))
                 failed += "answered behind a refusal" in line
-            if not told and not name.endswith("::serving_wants_memory"):
+            if not told and not name.endswith("::serving_runs_out_of_memory"):
                 print("    refused no call: FAILED")
                 failed += 1
             calls += len(told)

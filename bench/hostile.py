@@ -1,11 +1,11 @@
 #!/usr/bin/env python3
-"""Runs a built `regatta` on hostile input, and says how each run ended.
+"""Runs a built `regatta` on hostile input, and reports each run that ended badly.
 
     bench/hostile.py PROGRAM [SEED]
 
-Random bytes, junk up to the limit and past it, long lines, lines of known words in random order,
-and start files of all these kinds. A run may end with status 0 or 1, and with nothing on standard
-error but the program's own words: a crash, a signal or another status is told, and the script then
+The input is random bytes, junk up to the limit and past it, long lines, and lines of known words in
+random order. Start files are made of all these, too. A run may end with status 0 or 1, and with at
+most one line on standard error. A crash, a signal or another status is reported, and the script then
 ends with status 1.
 """
 import os
@@ -20,7 +20,7 @@ WORDS = ("ENTER FINISH TIE BEFORE TIME STRIKE MARK PENALTY REDRESS CLEAR SCORE U
 
 
 def lines_of_words(rng, count):
-    """Lines of random words, most of them of a few boats and races."""
+    """Lines of random words. There are few boats and races, so that some lines are accepted."""
     return "\n".join(" ".join(rng.choices(WORDS, k=rng.randint(0, 6))) for _ in range(count))
 
 

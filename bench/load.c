@@ -2,11 +2,11 @@
  *
  *     load PATH CLIENTS WATCHERS COMMANDS
  *
- * Each client sends FINISH and STRIKE of boat A by turns, in a race of its own, one line at a time;
- * all of them send COMMANDS lines together. Each watcher asks for SHOW without a pause until the
- * clients are done. It prints a line for each thread, with its kind, when it began and ended in
- * seconds, and how many lines were accepted (of a watcher: how often it was shown the journal),
- * and then the seconds that each of them waited. */
+ * Each client sends FINISH and STRIKE of boat A by turns, in a race of its own, one line at a time.
+ * Together they send COMMANDS lines. Each watcher asks for SHOW without a pause until the clients are
+ * done. A line is printed for each thread: its kind, when it began and ended in seconds, how many
+ * lines were accepted (for a watcher, how many sheets it read), and how many seconds it waited for
+ * each of them. */
 #include <pthread.h>
 #include <stdatomic.h>
 #include <stdio.h>
@@ -44,7 +44,7 @@ static void tell(int stream, const char *line) {
     if (send(stream, line, strlen(line), 0) < 0) fail("send");
 }
 
-/* How many bytes of a reply came, which ends in `end`. */
+/* Reads a reply that ends in `end`, and returns its length. */
 static size_t hear(int stream, char *reply, size_t room, const char *end) {
     size_t long_end = strlen(end), count = 0;
     for (;;) {

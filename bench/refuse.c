@@ -1,8 +1,8 @@
-/* A heap that refuses one request, for bench/refuse.py: it is preloaded ahead of the C library.
+/* A heap that refuses one request, for bench/refuse.py. It is preloaded before the C library.
  *
  * REFUSE_NTH is the number of the request that is refused, counted from 1; 0 refuses none.
- * REFUSE_COUNT names a file of eight bytes, which counts the requests.
- * Only requests of the program itself count, not those that the C library makes for its own ends.
+ * REFUSE_COUNT names a file of eight bytes in which the requests are counted.
+ * Only requests of the program itself count, not those that the C library makes for itself.
  */
 #define _GNU_SOURCE
 #include <errno.h>
@@ -30,7 +30,7 @@ static int of_program(struct dl_phdr_info *info, size_t size, void *unused) {
             program_end = program_begin + part->p_memsz;
         }
     }
-    return 1; /* the program is the first */
+    return 1; /* the program is the first object, so the others aren't visited */
 }
 
 __attribute__((constructor)) static void begin(void) {

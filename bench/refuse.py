@@ -3,17 +3,20 @@
 
     bench/refuse.py PROGRAM
 
-The Nth request of a run is refused, for N = 1, 2, .. up to as many as the run makes: of replays of
-all commands, by finishes and by corrected times, and of the weekend of `examples/`, with and
-without start files, in each form, of help, of words that aren't the program's, and of serving one
-client. A heap that refuses one request (refuse.c, beside this file) is built with the machine's C
-compiler and preloaded.
+The Nth request of a run is refused, for N = 1, 2, .. up to as many as the run makes. The runs are:
 
-A refused run must answer `regatta: no memory` with status 3, and print nothing but whole replies to
-some first lines. Where `clap` refuses the words, it asks again for its own text, so that the
-ordinary answer may be given. Serving may also end as a device fault, where the refused request was
-for a thread, or well, where a session met the refusal: the client then reads whole replies to some
-first lines, of which one may be `NO 1`. Each other answer is told, and the script then ends with
+- replays of all commands, by finishes and by corrected times;
+- replays of the weekend of `examples/`, with and without start files, in each form;
+- help, and arguments that are refused;
+- serving one client.
+
+A heap that refuses one request (refuse.c) is built with the machine's C compiler and preloaded.
+
+A refused run must say `regatta: no memory`, end with status 3, and print nothing but whole replies to
+some first lines. There are two exceptions. If `clap` refuses the arguments, it asks again for its own
+text, so the usual answer may be given. Serving may also end as a device fault, if the refused request
+was for a thread, or well, if a session met the refusal. The client then reads whole replies to some
+first lines, of which one may be `NO 1`. Each other answer is reported, and the script then ends with
 status 1.
 """
 import os
@@ -73,7 +76,7 @@ def example(name):
 
 
 class Run:
-    """A run of the program, which may be made again and again: each refuses one more request."""
+    """A run of the program that is repeated, each time with a later request refused."""
 
     def __init__(self, folder, program, name, words, text=b"", asks_again=False):
         self.folder, self.program, self.name = folder, program, name
@@ -88,7 +91,7 @@ class Run:
         return subprocess.Popen([self.program] + words, env=env, **streams)
 
     def ended(self, library, refused, words=None, text=None):
-        """The status, what was said on standard error, and what was printed."""
+        """The status, what was written to standard error, and what was printed."""
         pipe = subprocess.PIPE
         run = self.start(library, refused, self.words if words is None else words,
                          stdin=pipe, stdout=pipe, stderr=pipe)
@@ -100,7 +103,7 @@ class Run:
             return int.from_bytes(file.read(), sys.byteorder)
 
     def first_replies(self, library):
-        """What may be printed: the replies to the first lines, of none, one, two, .."""
+        """All that a refused run may print: the replies to no line, to the first, to the first two, .."""
         words = list(self.words)
         if "--print" in words:
             words[words.index("--print") + 1] = "table"
@@ -111,7 +114,7 @@ class Run:
         return replies
 
     def sweep(self, library):
-        """How many requests the run makes, and each answer that isn't want of memory."""
+        """How many requests the run makes, and each answer that doesn't report the refused one."""
         whole = self.ended(library, 0)
         requests = self.requests()
         replies = self.first_replies(library)
@@ -128,7 +131,7 @@ class Run:
 
 
 class Serving(Run):
-    """A run of `serve`, with a client who sends all her lines at once and reads to the end."""
+    """A run of `serve`, with a client that sends all of its lines at once and reads to the end."""
 
     def asked(self, path, replies):
         for _ in range(20_000):
@@ -158,13 +161,13 @@ class Serving(Run):
         printed, said = run.communicate(timeout=60)
         self.over.set()
         if not os.path.exists(path):
-            open(path, "w").close()  # a client who waits for the socket gives up
+            open(path, "w").close()  # so that a client that waits for the socket gives up
         client.join()
         os.unlink(path)
         return run.returncode, said, printed, b"".join(replies)
 
     def may_be(self, library, ended):
-        """Whether a refused run may end so."""
+        """Whether a refused run may end in this way."""
         status, said, printed, replies = ended
         if (status, said) in (NO_MEMORY, DEVICE_FAULT):
             return printed == b"" and (replies in self.replies or b"NO 1\n" in replies)

@@ -5,22 +5,23 @@
                     PROGRAM [WORD..]
     bench/season.py [--boats B] [--races N] [--entries E] --write FILE
 
-A season has B boats, N races and at most E commands, all of them accepted (500, 40 and 8,192, which
-is as large as a series may grow): the boats enter; of each race every command is a finish, a tie, a
-code, a penalty or redress, and one of the last scores it. PROGRAM (the built `regatta`) is run R
-times (9) as `PROGRAM replay WORD..` on each of:
+A season has B boats, N races and at most E commands, all of them accepted. The defaults are 500, 40
+and 8,192, which is as large as a series may grow. First the boats enter. Then every command of a race
+is a finish, a tie, a code, a penalty or redress, and one of the last scores it. PROGRAM (the built
+`regatta`) is run R times (default 9) as `PROGRAM replay WORD..` on each of:
 
 - the season;
 - the season with a SHOW after each sixteenth command;
-- the journal of the season as a start, with no line, which makes the standing once;
+- the journal of the season as a start, without lines, which computes the standing once;
 - seasons of an eighth, a quarter, a half and all of the boats;
-- 40 late entries, and 40 times UNSCORE and SCORE, where all races count: the time of one of them.
+- the season with 40 late entries, and with 40 times UNSCORE and SCORE, when all races count; the time
+  of one of these is printed.
 
 With --handicap among the WORDs each finish and each tie is a corrected time, in no order.
 
 The least processor time of each is printed, and the peak memory. With --beside the program of those
-words takes its turn in each round, and the two are compared. With --write the season's lines are
-written to FILE.
+words runs, too, in each round, and the two are compared. With --write the season's lines are written
+to FILE.
 """
 import argparse
 import math
@@ -36,7 +37,7 @@ BOATS, RACES, ENTRIES, SHOW_EVERY, LATE = 500, 40, 8192, 16, 40
 
 
 def race_lines(race, boats, count):
-    """So many commands of a race, or one for each boat where those are fewer, and its SCORE last."""
+    """At most `count` commands of a race, at most one for each boat, and SCORE last."""
     step = next(step for step in (7, 11, 13, 1) if math.gcd(step, boats) == 1)
     order = [(race * 37 + i * step) % boats for i in range(boats)]
     lines, placed = [], None
@@ -57,7 +58,7 @@ def race_lines(race, boats, count):
 
 
 def season(boats, races, entries):
-    """The lines of a season of so many boats and races, and at most so many commands."""
+    """The lines of a season with `boats` boats, `races` races and at most `entries` commands."""
     lines = [f"ENTER GBR{boat + 1}" for boat in range(boats)]
     left = entries - boats - races
     for race in range(1, races + 1):
@@ -81,8 +82,8 @@ def with_shows(lines):
 
 
 def journal(lines):
-    """The journal text of the lines, which are all accepted. It has no version line: a program of
-    before there was one reads it, too."""
+    """The journal text of the lines, which are all accepted. It has no version line, so that a program
+    from before there was one reads it, too."""
     role, entries = "SCORER", []
     for line in lines:
         if line.startswith("ROLE "):
@@ -93,7 +94,7 @@ def journal(lines):
 
 
 def by_times(lines):
-    """The lines with a corrected time in the place of each finish and each tie."""
+    """The lines with a corrected time instead of each finish and each tie."""
     timed = []
     for line in lines:
         place = re.search(r"(FINISH|TIE) (\d+) (\S+)(?: (\S+))?$", line)
@@ -119,7 +120,7 @@ def run(program, words, data):
         child.returncode = os.waitstatus_to_exitcode(status)
         if child.returncode != 0:
             sys.exit(f"{program[0]} ended with {child.returncode}")
-        # line by line: the peak of a child counts what this process held when it started it
+        # Line by line, since the memory of this process counts in the peak of the next child.
         out.seek(0)
         accepted, refused = 0, 0
         for reply in out:
@@ -135,7 +136,7 @@ class Bench:
         self.programs, self.words, self.rounds = programs, words, rounds
 
     def least(self, lines, start=None):
-        """Of each program the least seconds and the greatest memory; all must accept alike."""
+        """The least seconds and the most memory of each program; all must accept the same commands."""
         words, turned = list(self.words), by_times if "--handicap" in self.words else list
         data = text(turned(lines))
         with tempfile.NamedTemporaryFile() as file:
@@ -157,7 +158,7 @@ class Bench:
         print(f"{name:34} {'   '.join(parts)}")
 
     def each(self, name, base, more, count):
-        """What one command costs, of so many that come behind the others."""
+        """Shows the cost of one of the `count` commands in `more`, which follow those in `base`."""
         before, after = self.least(base), self.least(base + more)
         found = [((a[0] - b[0]) / count, a[1], 0, 0) for a, b in zip(after, before)]
         self.show(name, found)

@@ -5,18 +5,20 @@
                    [--native] [--beside WORDS] PROGRAM WORD..
     bench/serve.py --soak [--lines L] [--seed S] [--replay PROGRAM] PROGRAM WORD..
 
-PROGRAM WORD.. is what serves, as `crates/regatta/out/regatta serve`; `--socket`, `--clients` and
-`--sessions` are put behind it.
+PROGRAM WORD.. is what serves, such as `crates/regatta/out/regatta serve`; `--socket`, `--clients` and
+`--sessions` are added to it.
 
 The first form starts the program R times. N clients, each a process with a race of its own, send C
-commands in all (4,000), one line at a time, and all of them are accepted; M watchers ask for SHOW
-without a pause meanwhile. With E the journal has E entries before the clock starts. Accepted
+commands in all (default 4,000), one line at a time, and all of them are accepted. Meanwhile M watchers
+ask for SHOW without a pause. With E the journal has E entries before the clock starts. Accepted
 commands a second, how long a line waited for its reply, and the peak memory of the program are
-printed. With `--native` the clients and watchers are threads of a program in C (load.c beside this
-file), which is compiled first: a client in Python is slower than the program. With `--beside` the
-program of those words takes its turn in each round, and the two are compared.
+printed.
 
-The second form is in soak.py, beside this file.
+With `--native` the clients and watchers are threads of a program in C (load.c), which is compiled
+first: a client in Python is slower than the program. With `--beside` the program of those words runs,
+too, in each round, and the two are compared.
+
+The second form is in soak.py.
 """
 import argparse
 import multiprocessing
@@ -61,7 +63,7 @@ class Client:
         return self.line()
 
     def show(self):
-        """What SHOW answers, as it comes. Nothing else is asked for before its end."""
+        """The reply to SHOW as bytes. Nothing else may be asked before its end."""
         self.send(b"SHOW\n")
         text, self.rest = bytearray(self.rest), b""
         while not text.endswith(b"\nEND\n"):
@@ -72,13 +74,13 @@ class Client:
         return bytes(text)
 
     def sheet(self):
-        """What SHOW answers: the entries of the journal, and the lines of the table."""
+        """The reply to SHOW: the entries of the journal, and the lines of the table."""
         lines = self.show().split(b"\n")
         count = int(lines[0].removeprefix(b"JOURNAL "))
         return lines[1:count + 1], lines[count + 1:-2]
 
     def is_at_end(self):
-        """Whether the stream ends here as it should: no byte more, and no reset."""
+        """Whether the stream ends here as it should, with no further byte and no reset."""
         try:
             return self.rest == b"" and self.socket.recv(1) == b""
         except OSError:
@@ -89,7 +91,7 @@ class Client:
 
 
 class Server:
-    """A program that serves, and the socket at which it does."""
+    """A program that serves, and its socket."""
 
     def __init__(self, words, clients, sessions):
         self.folder = tempfile.TemporaryDirectory()
@@ -108,13 +110,13 @@ class Server:
             sys.exit(f"{words[0]} ended with status {status}: {errors.decode()}")
 
     def memory(self):
-        """The most memory that the program has held so far, in MiB."""
+        """The peak memory of the program so far, in MiB."""
         with open(f"/proc/{self.program.pid}/status") as status:
             kib = next(line.split()[1] for line in status if line.startswith("VmHWM"))
         return int(kib) / 1024
 
     def end(self):
-        """Waits for the program: its status, and what it wrote."""
+        """Waits for the program to end. Returns its status and what it wrote."""
         status = self.program.wait(timeout=60)
         self.out.seek(0)
         self.errors.seek(0)
@@ -122,12 +124,12 @@ class Server:
 
 
 def write_commands(path, race, count, start, results):
-    """Sends so many commands of one race, each once the one before was answered."""
+    """Sends `count` commands of one race, each after the reply to the one before."""
     client = Client(path)
     client.ask(b"RANK A")
     lines = [b"FINISH %d A\n" % race, b"STRIKE %d A\n" % race] * (count // 2 + 1)
-    # a reply is so short that it comes whole, and a socket without a time limit asks the system
-    # for one call less
+    # A reply is so short that it comes whole. A socket without a time limit makes one system call
+    # fewer for each reply.
     client.socket.settimeout(None)
     send, receive, clock = client.socket.send, client.socket.recv, time.perf_counter
     waits, replies = [], []
@@ -160,7 +162,7 @@ def watch(path, done, start, results):
 
 
 def begin(server, entries):
-    """Two boats, and as many entries as are asked for. The client stays for the end."""
+    """Enters two boats, and makes `entries` entries more, before the clock starts."""
     client = Client(server.path)
     client.ask(b"ENTER A")
     client.ask(b"ENTER B")
@@ -172,7 +174,7 @@ def begin(server, entries):
 
 
 def told_by_threads(load, server, clients, watchers, commands):
-    """What each client and watcher of the program in C tells."""
+    """The report of each client and watcher of the program in C."""
     words = [load, server.path, str(clients), str(watchers), str(commands)]
     told = []
     for line in subprocess.run(words, check=True, stdout=subprocess.PIPE).stdout.splitlines():
@@ -182,7 +184,7 @@ def told_by_threads(load, server, clients, watchers, commands):
 
 
 def told_by_processes(server, clients, watchers, commands):
-    """What each client and watcher of this program tells."""
+    """The report of each client and watcher of this program."""
     start = multiprocessing.Barrier(clients + watchers)
     done, results = multiprocessing.Event(), multiprocessing.Queue()
     shares = [commands // clients + (i < commands % clients) for i in range(clients)]
@@ -204,7 +206,7 @@ def told_by_processes(server, clients, watchers, commands):
 
 
 def run_once(words, asked):
-    """One round: the clock's time, what was accepted, the waits of both kinds, and the memory."""
+    """One round: its seconds, how many commands were accepted, the waits of both kinds, the memory."""
     clients, watchers, entries = asked.clients, asked.watchers, asked.entries
     server = Server(words, clients + watchers, clients + watchers + 2)
     begin(server, entries)
@@ -227,14 +229,14 @@ def run_once(words, asked):
 
 
 def percentiles(waits):
-    """The waits that 50, 99 and 99.9 percent don't exceed, in microseconds."""
+    """The waits that 50, 99 and 99.9 percent of all don't exceed, in microseconds."""
     waits = sorted(waits)
     at = [waits[min(len(waits) - 1, int(len(waits) * part))] for part in (0.5, 0.99, 0.999)]
     return "50% {:.0f}, 99% {:.0f}, 99.9% {:.0f} microseconds".format(*(1e6 * x for x in at))
 
 
 class Told:
-    """What the rounds of one program told."""
+    """The figures of all rounds of one program."""
 
     def __init__(self, words):
         self.words, self.rates, self.waits, self.shows, self.memory = words, [], [], [], 0

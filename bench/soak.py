@@ -1,16 +1,17 @@
 """The soak of `regatta serve`: sixteen clients, well behaved and not, and a judge.
 
 Eleven clients send lines of all kinds, at times many at once and cut anywhere, and come back in new
-sessions; each has boats and a race of its own, so that it knows every reply but places, ranks and
-nets. Of the others one hangs up in mid-line again and again, one never reads, one sends random
-bytes, one sends lines of 1 MiB, and one sends QUIT ahead of further lines. A seventeenth client
-comes while all seats are taken. When they are done, the journal is asked for with SHOW, and judged:
+sessions. Each has boats and a race of its own, so that it knows every reply except places, ranks and
+nets. The other five each misbehave in one way: one hangs up in mid-line again and again, one never
+reads, one sends random bytes, one sends lines of 1 MiB, and one sends further lines after QUIT. A
+seventeenth client comes while all seats are taken. When they are done, SHOW gives the journal, and it
+is judged:
 
-- each accepted command stands in its place of the journal, and what wasn't sent doesn't;
-- `regatta replay` of the commands in this order gives the very replies that the clients read;
+- each accepted command is in its place of the journal, and nothing that wasn't sent is in it;
+- `regatta replay` of the commands in this order gives exactly the replies that the clients read;
 - the table that the program prints is that of the journal, replayed from a file.
 
-It ends with status 0 where nothing was wrong.
+It ends with status 0 if nothing was wrong.
 """
 import multiprocessing
 import os
@@ -40,19 +41,19 @@ class Caller:
         self.client, self.full = None, False
 
     def connect(self):
-        """A new session, once a seat is free. It is asked a line, so that it has begun."""
+        """Begins a new session, once a seat is free. Its first line shows that it has begun."""
         while True:
             self.client = Client(self.path)
             self.sessions += 1
             try:
                 self.client.send(b"RANK NOBODY\n")
             except BrokenPipeError:
-                pass  # who finds no seat may be told so before she has asked
+                pass  # BUSY and the end of the stream may come before the line is sent
             try:
                 reply = self.client.line()
             except OSError as why:
                 reply = b"BUSY"
-                self.wrong.append(f"a client who came found neither a seat nor BUSY: {why}")
+                self.wrong.append(f"a client found neither a seat nor BUSY: {why}")
             if reply != b"BUSY":
                 self.lines += 1
                 self.expect(b"RANK NOBODY", reply, rb"NO 7")
@@ -69,7 +70,7 @@ class Caller:
         self.lines += 1
         self.expect(b"QUIT", self.client.ask(b"QUIT"), rb"BYE")
         if not self.client.is_at_end():
-            self.wrong.append("a stream didn't end well behind BYE")
+            self.wrong.append("a stream didn't end well after BYE")
         self.client.close()
 
     def report(self):
@@ -78,7 +79,7 @@ class Caller:
 
 
 class Talker(Caller):
-    """A client that knows what it is owed: its boats and its race are its own."""
+    """A client that knows the reply to each line, since its boats and its race are its own."""
 
     def __init__(self, path, number, seed):
         super().__init__(path, number, seed)
@@ -88,7 +89,7 @@ class Talker(Caller):
         self.role = b"SCORER"
 
     def command(self):
-        """A command, and the number of its refusal; 0 where it is accepted."""
+        """A command, and the number of its refusal; 0 if it is accepted."""
         boat, other = self.rng.sample(self.boats, 2)
         kind = self.rng.choice((b"ENTER", b"FINISH", b"FINISH", b"STRIKE", b"TIE", b"SCORE", b"MARK"))
         if kind == b"ENTER":
@@ -108,7 +109,7 @@ class Talker(Caller):
         return line, 0 if kind == b"FINISH" or other in self.placed else 9
 
     def note(self, line):
-        """What the client knows once this command was accepted."""
+        """Keeps what the client knows after this command was accepted."""
         words = line.split()
         if words[0] == b"ENTER":
             self.entered.add(words[1])
@@ -131,8 +132,8 @@ class Talker(Caller):
             (b"RANK \xff", rb"NO 23"), (b"SHOW\r\r", rb"NO 21")))
 
     def next_line(self):
-        """A line with the pattern of its reply. Of the commands few are accepted ones, since a
-        journal has an end."""
+        """A line with the pattern of its reply. Few are commands that are accepted, since the journal
+        has room for 8,192 alone."""
         if self.role != b"SCORER":
             self.role = b"SCORER"
             return b"ROLE SCORER", rb"ROLE SCORER"
@@ -165,7 +166,7 @@ class Talker(Caller):
             if reply and reply.startswith(b"OK"):
                 self.accepted.append((int(reply.split()[1]), line, reply))
                 if self.full:
-                    self.wrong.append(f"{line!r} was accepted behind NO 2")
+                    self.wrong.append(f"{line!r} was accepted after NO 2")
 
     def run(self, count, gather):
         self.connect()
@@ -184,7 +185,7 @@ class Talker(Caller):
 
 
 class HangsUp(Caller):
-    """Goes away in the middle of a line, with replies unread."""
+    """Closes the stream in the middle of a line, with replies unread."""
 
     def run(self, count, gather):
         boat = b"S%dX0" % self.number
@@ -226,7 +227,7 @@ class NeverReads(Caller):
 
 
 class RandomBytes(Caller):
-    """Sends bytes that are no line of anybody's."""
+    """Sends bytes that hold no word of a command."""
 
     def pattern(self, line):
         line = line.removesuffix(b"\r")
@@ -249,7 +250,7 @@ class RandomBytes(Caller):
 
 
 class LongLines(Caller):
-    """Sends lines of 1 MiB, of which some never end."""
+    """Sends lines of 1 MiB, every second of which never ends."""
 
     def run(self, count, gather):
         self.connect()
@@ -267,7 +268,7 @@ class LongLines(Caller):
 
 
 class QuitsEarly(Caller):
-    """Sends lines behind QUIT, which aren't answered; every reply that is owed arrives."""
+    """Sends lines after QUIT, which aren't answered; every reply up to BYE arrives."""
 
     def run(self, count, gather):
         self.connect()
@@ -279,7 +280,7 @@ class QuitsEarly(Caller):
             self.expect(b"NOPE", self.client.line(), rb"NO 21")
             self.expect(b"QUIT", self.client.line(), rb"BYE")
             if not self.client.is_at_end():
-                self.wrong.append("a stream didn't end well behind BYE, with lines unread")
+                self.wrong.append("a stream didn't end well after BYE, with lines unread")
             self.client.close()
             self.connect()
         self.quit()
@@ -296,7 +297,7 @@ def work(kind, path, number, seed, count, gather, reports):
 
 
 def turned_away(path, wrong):
-    """Clients that come while all seats are taken read BUSY, whatever they sent."""
+    """Checks that clients who come while all seats are taken read BUSY, whatever they send."""
     for sent in (b"", b"ENTER UNSENT\n", b"SHOW\n" * 1000):
         client = Client(path)
         try:
@@ -311,14 +312,14 @@ def turned_away(path, wrong):
         if reply != b"BUSY":
             wrong.append(f"a client too many read {reply!r}")
         elif not client.is_at_end():
-            wrong.append(f"a stream didn't end well behind BUSY, {len(sent)} bytes unread")
+            wrong.append(f"a stream didn't end well after BUSY, {len(sent)} bytes unread")
         client.close()
     return 3
 
 
 def last_session(path, left, wrong):
-    """Uses up the sessions that are left, the last of them to ask for the sheet; who comes then is
-    let in no more, though that session still runs."""
+    """Uses up the sessions that are left. The last of them asks for the sheet, and a client who comes
+    while it runs must not be let in."""
     for _ in range(left - 1):
         client = Client(path)
         client.ask(b"QUIT")
@@ -330,11 +331,11 @@ def last_session(path, left, wrong):
         late = Client(path)
         late.socket.settimeout(2)
         late.line()
-        wrong.append("a client that came behind the last was let in")
+        wrong.append("a client that came after the last was let in")
     except ConnectionError:
         pass
     except TimeoutError:
-        wrong.append("a client that came behind the last hangs")
+        wrong.append("a client that came after the last hangs")
     last.ask(b"QUIT")
     return journal, table
 
@@ -345,7 +346,7 @@ def replayed(program, words, text):
 
 
 def judge(program, journal, accepted, table, printed, wrong):
-    """Holds the journal against what clients read and what the program printed."""
+    """Compares the journal with what clients read and what the program printed."""
     lines, role = [], None
     numbers = {}
     for entry in journal:
@@ -369,7 +370,7 @@ def judge(program, journal, accepted, table, printed, wrong):
         if sent != list(range(1, len(sent) + 1)):
             wrong.append(f"the numbers of seat {seat!r} don't rise one by one")
     if any(b"UNSENT" in entry for entry in journal):
-        wrong.append("the journal has a command that nobody ended")
+        wrong.append("the journal has a line that wasn't finished")
     with tempfile.NamedTemporaryFile() as file:
         file.write(b"".join(line + b"\n" for line in [b"REGATTA 2"] + journal))
         file.flush()

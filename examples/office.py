@@ -2,9 +2,9 @@
 
     python3 office.py SOCKET
 
-makes way for an office: the file that one left at this path is taken away. Where one is still open
-there, or the file is another, it stays, and the status is 1. Two offices at one path would keep two
-journals, and nobody who types would notice.
+makes way for an office: the file that one left at this path is taken away. If one is still open
+there, if one still serves its last clients, or if the file is another, it stays, and the status is
+1. Two offices at one path would keep two journals, and nobody who types would notice.
 
 The office is `regatta serve`, which answers lines at a socket. What can go wrong on the way to it
 is a Trouble, whose text says in words what happened; the tools show it, and none of them stops at
@@ -12,7 +12,10 @@ one with a page of Python.
 """
 import argparse
 import collections
+import contextlib
+import glob
 import os
+import re
 import socket
 import stat
 import sys
@@ -22,6 +25,12 @@ import time
 # 500 boats, 40 races and 8,192 entries has less than a quarter of that.
 PATIENCE = 10
 LARGEST = 4 << 20
+
+# What the kernel says of each Unix socket that has a path: its flags, its number and the path. A
+# listening socket has this flag.
+SOCKETS = "/proc/net/unix"
+SOCKET = re.compile(rb"^\S+: \S+ \S+ (\S+) \S+ \S+ +(\d+) (.+)$", re.MULTILINE)
+LISTENS = 1 << 16
 
 # What each number of a reply says, in the words of docs/GUIDE.md.
 NUMBERS = {
@@ -134,30 +143,80 @@ class Link:
         return Trouble(f"the office said {text!r}, which nobody had asked for")
 
 
+def folders_of_sockets():
+    """By the number of a socket, the folder of a process that has it open."""
+    found = {}
+    for name in glob.iglob("/proc/[0-9]*/fd/[0-9]*"):
+        # A process may end meanwhile, and those of other accounts aren't shown.
+        with contextlib.suppress(OSError):
+            opened = os.readlink(name)
+            if opened.startswith("socket:["):
+                found[int(opened[8:-1])] = os.readlink(f"{name.split('/fd/')[0]}/cwd")
+    return found
+
+
+def sockets_at(path, ours):
+    """Of each socket that an office made at this path, or accepted there, whether it listens.
+
+    `ours` says whether this account made the file there.
+    """
+    try:
+        with open(SOCKETS, "rb") as file:
+            said = file.read()
+    except OSError as cause:
+        raise Trouble(f"nobody can say whether an office is still at {path}: {SOCKETS} can't be "
+                      f"read: {cause.strerror}. The file stays as it is") from None
+    asked, folders, found = os.path.realpath(path), folders_of_sockets(), []
+    for flags, number, name in SOCKET.findall(said):
+        name = os.fsdecode(name)
+        if os.path.basename(name) != os.path.basename(path):
+            continue
+        # The name is that which the office was given, and may start at the office's own folder.
+        folder = folders.get(int(number))
+        if folder is not None or os.path.isabs(name):
+            same = os.path.realpath(os.path.join(folder or "/", name)) == asked
+        else:
+            # This is an office of another account, which may only have made a file of that account.
+            same = not ours
+        if same:
+            found.append(bool(int(flags, 16) & LISTENS))
+    return found
+
+
 def make_way(path):
     """Takes away the file that an office left at this path; a Trouble where it may not go."""
     try:
-        kind = os.lstat(path).st_mode
+        file = os.lstat(path)
     except FileNotFoundError:
         return
     except OSError as cause:
         raise unreachable(path, cause) from None
-    if not stat.S_ISSOCK(kind):
+    if not stat.S_ISSOCK(file.st_mode):
         raise Trouble(f"{path} is no file that an office leaves. It stays as it is")
+    # Who connects uses up one of an office's --sessions, so the kernel is asked first.
+    found = sockets_at(path, file.st_uid == os.geteuid())
+    if any(found) or not found and is_answered(path):
+        raise Trouble(f"an office is open at {path}. Find its window and press Ctrl-C there")
+    if found:
+        raise Trouble(f"an office is still there with its last clients: it lets nobody in at {path} "
+                      "any more, and ends when they leave. The file stays until then")
+    try:
+        os.remove(path)
+    except OSError as cause:
+        raise Trouble(f"{path} can't be removed: {cause.strerror}") from None
+
+
+def is_answered(path):
+    """Whether somebody accepts clients at this path, as from a container that hides its sockets."""
     with socket.socket(socket.AF_UNIX, socket.SOCK_STREAM) as caller:
         caller.settimeout(PATIENCE)
         try:
             caller.connect(path)
         except ConnectionRefusedError:
-            pass
+            return False
         except OSError as cause:
             raise unreachable(path, cause) from None
-        else:
-            raise Trouble(f"an office is open at {path}. Find its window and press Ctrl-C there")
-    try:
-        os.remove(path)
-    except OSError as cause:
-        raise Trouble(f"{path} can't be removed: {cause.strerror}") from None
+    return True
 
 
 def sheet(link):

@@ -11,6 +11,7 @@ import contextlib
 import os
 import pty
 import re
+import resource
 import socket
 import subprocess
 import sys
@@ -92,13 +93,15 @@ def ran(*words, lines=""):
 
 
 @contextlib.contextmanager
-def served(program, *words):
+def served(program, *words, name=SOCKET, folder="."):
     """An office, which is killed at the end, and leaves the file of its socket behind."""
-    if os.path.exists(SOCKET):
-        os.remove(SOCKET)
-    serving = subprocess.Popen([program, "serve", "--socket", SOCKET, *words])
+    path = os.path.join(folder, name)
+    if os.path.exists(path):
+        os.remove(path)
+    serving = subprocess.Popen([program, "serve", "--socket", name, *words], cwd=folder,
+                               stdout=subprocess.DEVNULL, stderr=subprocess.DEVNULL)
     try:
-        until("the socket", lambda: os.path.exists(SOCKET))
+        until("the socket", lambda: os.path.exists(path))
         yield serving
     finally:
         serving.kill()
@@ -230,25 +233,96 @@ The office is there again. Ask for SHOW: your last lines may be missing.
 """, 0))
 
 
+def seated(path=SOCKET):
+    """A client who has a seat."""
+    client = started("client.py", path, "--wait", "0")
+    expect("a seat", client.stdout.readline(),
+           "ROLE SCORER   (your lines are now those of the scorer)\n")
+    return client
+
+
+def is_open(path=SOCKET):
+    return (f"Stopped: an office is open at {path}. Find its window and press Ctrl-C there.\n", 1)
+
+
+def is_free(path=SOCKET):
+    return (f"{path} is free: no office is open there\n", 0)
+
+
+def has_last_clients(path=SOCKET):
+    return (f"Stopped: an office is still there with its last clients: it lets nobody in at {path} "
+            "any more, and ends when they leave. The file stays until then.\n", 1)
+
+
 def ways(program):
     """The file of a socket goes where nobody serves, and where somebody does it stays."""
-    free = (f"{SOCKET} is free: no office is open there\n", 0)
-    expect("nothing there", ran("office.py", SOCKET), free)
+    expect("nothing there", ran("office.py", SOCKET), is_free())
     with served(program, "--clients", "1"):
-        is_open = (f"Stopped: an office is open at {SOCKET}. "
-                   "Find its window and press Ctrl-C there.\n")
-        expect("an open office", ran("office.py", SOCKET), (is_open, 1))
-        client = started("client.py", SOCKET)
-        client.stdout.readline()
-        expect("a full office", ran("office.py", SOCKET), (is_open, 1))
+        expect("an open office", ran("office.py", SOCKET), is_open())
+        client = seated()
+        expect("a full office", ran("office.py", SOCKET), is_open())
         expect("its last line", ended(client, "QUIT\n")[1], 0)
-    expect("a file that was left", ran("office.py", SOCKET), free)
+    expect("a file that was left", ran("office.py", SOCKET), is_free())
     expect("what is left in the folder", os.listdir(), [])
     with open("saturday.txt", "w") as file:
         file.write(HELD)
     expect("another file", ran("office.py", "saturday.txt"),
            ("Stopped: saturday.txt is no file that an office leaves. It stays as it is.\n", 1))
     expect("its text", os.path.getsize("saturday.txt"), len(HELD))
+
+
+def looks(program):
+    """To look for an office uses up none of its sessions."""
+    with served(program, "--sessions", "2") as serving:
+        for _ in range(3):
+            expect("an open office", ran("office.py", SOCKET), is_open())
+        clients = [seated(), seated()]
+        for client in clients:
+            expect("its last line", ended(client, "QUIT\n")[1], 0)
+        expect("its end", serving.wait(PATIENCE), 0)
+    expect("a file that was left", ran("office.py", SOCKET), is_free())
+
+
+def remains(program):
+    """While an office has its last clients the file stays, by whichever name one looks for it."""
+    os.mkdir("other")
+    whole = os.path.abspath(SOCKET)
+    for name in [SOCKET, f"./{SOCKET}", f"other/../{SOCKET}", whole]:
+        with served(program, "--sessions", "1", name=name) as serving:
+            client = seated()
+            for path in [SOCKET, f"other/../{SOCKET}", whole]:
+                expect(f"{name} by the name of {path}", ran("office.py", path),
+                       has_last_clients(path))
+            expect("the file", os.path.exists(SOCKET), True)
+            expect("its last line", ended(client, "QUIT\n")[1], 0)
+            expect("its end", serving.wait(PATIENCE), 0)
+        expect("a file that was left", ran("office.py", SOCKET), is_free())
+        expect("no file", os.path.exists(SOCKET), False)
+    with served(program):
+        pass
+    with served(program, folder="other"):
+        expect("an office elsewhere", ran("office.py", SOCKET), is_free())
+        expect("its file", os.path.exists(f"other/{SOCKET}"), True)
+
+
+def stops(program):
+    """An office whose `accept` has failed lets nobody in, and still serves those who are there."""
+    with served(program) as serving:
+        client = seated()
+        most = 1 + max(map(int, os.listdir(f"/proc/{serving.pid}/fd")))
+        resource.prlimit(serving.pid, resource.RLIMIT_NOFILE, (most, most))
+        with socket.socket(socket.AF_UNIX, socket.SOCK_STREAM) as refused:
+            refused.connect(SOCKET)
+            until("a failure", lambda: ran("office.py", SOCKET) == has_last_clients())
+        client.stdin.write("ENTER A\n")
+        client.stdin.flush()
+        client.stdout.readline()
+        expect("a line", client.stdout.readline(),
+               "OK 1 1 0.0   (entry 1; A stands 1st with 0.0 points)\n")
+        expect("the file", os.path.exists(SOCKET), True)
+        expect("its last line", ended(client, "QUIT\n")[1], 0)
+        expect("its end", serving.wait(PATIENCE), 3)
+    expect("a file that was left", ran("office.py", SOCKET), is_free())
 
 
 def refusals(program):
@@ -374,7 +448,8 @@ def strangers(_program):
 
 def main():
     program = os.path.realpath(sys.argv[1])
-    for trial in [clients, seats, typists, ways, refusals, savers, boards, strangers]:
+    for trial in [clients, seats, typists, ways, looks, remains, stops, refusals, savers, boards,
+                  strangers]:
         with tempfile.TemporaryDirectory() as folder:
             os.chdir(folder)
             trial(program)

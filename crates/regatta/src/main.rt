@@ -1,4 +1,4 @@
-//! The program: it hands its words and its standard streams to the library.
+//! The program: it passes its arguments and its standard streams to the library.
 #![tactic(auto)]
 
 use regatta_office::{Foreign, Sink, program, write_all};
@@ -8,17 +8,17 @@ use std::env::Args;
 use std::io::ErrorKind;
 use std::process::ExitCode;
 
-/// The status where the words aren't text.
+/// The status if an argument isn't UTF-8.
 const BAD_WORDS: u8 = 2;
 
-/// The status where standard error fails.
+/// The status if a write to standard error fails.
 const DEVICE_FAULT: u8 = 3;
 
-/// The status where memory is wanting.
+/// The status if an allocation fails.
 const NO_MEMORY: u8 = 3;
 
-/// The program's words, behind its own name. Each growth is asked for once, so that one that is
-/// refused is answered.
+/// The arguments after the program's own name. The list asks for each allocation once, so that one
+/// that fails is reported.
 fn words_of(alloc: Global, args: Args<Global>) -> Result<Vec<String>, AllocError> {
     let mut words = Vec::new(alloc);
     for word in args.skip(1) {
@@ -27,7 +27,7 @@ fn words_of(alloc: Global, args: Args<Global>) -> Result<Vec<String>, AllocError
     Ok(words)
 }
 
-/// The words as borrowed text.
+/// The arguments as borrowed text.
 fn texts_of(alloc: Global, words: &[String]) -> Result<Vec<&str>, AllocError> {
     let mut texts = Vec::new(alloc);
     for word in words {
@@ -36,7 +36,7 @@ fn texts_of(alloc: Global, words: &[String]) -> Result<Vec<&str>, AllocError> {
     Ok(texts)
 }
 
-/// The status where the words aren't text, which is said on standard error.
+/// Says on standard error that an argument isn't UTF-8, and returns the status.
 fn bad_words<E: Sink>(errors: &mut E) -> ExitCode {
     if write_all(errors, b"error: a word isn't UTF-8\n").is_err() {
         return ExitCode::from(DEVICE_FAULT);
@@ -44,7 +44,7 @@ fn bad_words<E: Sink>(errors: &mut E) -> ExitCode {
     ExitCode::from(BAD_WORDS)
 }
 
-/// The status where memory is wanting, which is said on standard error.
+/// Says on standard error that an allocation failed, and returns the status.
 fn no_memory<E: Sink>(errors: &mut E) -> ExitCode {
     let _ = write_all(errors, b"regatta: no memory\n");
     ExitCode::from(NO_MEMORY)

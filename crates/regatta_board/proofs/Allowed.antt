@@ -1,5 +1,5 @@
--- A boat's number stands on a sheet where she stands in the order, and is below the number of boats
--- where she is entered.
+-- A boat's number is on a sheet if she is in the order, and is below the number of boats if she is
+-- entered.
 use Rattle.std.proofs.Common.{◌≡◌, ℕ, ◌+◌, ◌<◌, Bool, true, false, cond, not, ◌||◌, List, [], ◌∷◌}
 use Rattle.std.proofs.Common.{refl, ◌∙◌, arith, length, map, nat_eq}
 use Rattle.std.specs.List.{list_any}
@@ -15,7 +15,7 @@ use Rattle.regatta_board.specs.KeptJournal.{number, sheet_of}
 use Rattle.regatta_board.proofs.Numbers.{index_in}
 use Rattle.regatta_board.proofs.Renumbered.{group_numbered}
 
--- on the sheet as in the journal
+-- a boat is placed on the sheet if and only if she is in the journal
 pub placed_same : (rules : RulesParts) (journal : Journal) (race : ℕ) (boat : Sail)
     → is_entered journal boat ≡ true
     → stands_in nat_eq (number journal boat) (sheet_of rules journal race).order
@@ -49,7 +49,6 @@ number_below rules journal race boat known =
       length-map (entered journal) (held journal race),
     )
 
--- the conditions of changes
 pub unplaced : (rules : RulesParts) (journal : Journal) (race : ℕ) (boat : Sail)
     → is_entered journal boat ≡ true
     → is_placed rules journal race boat ≡ false

@@ -15,7 +15,6 @@ use Rattle.regatta_board.specs.SheetList.{sheets_of, AreAlike}
 abbrev pub with_boat : Sheet → Sheet
 with_boat sheet = after sheet AddBoat
 
--- no race has a sheet of its own
 pub blank_sheets : (blank : Sheet) (changed : List (Option Sheet)) → blank ≡ empty_sheet 0
     → changed ≡ replicate MAX_RACES None
     → sheets_of blank changed ≡ replicate MAX_RACES (empty_sheet 0)
@@ -56,7 +55,6 @@ one_more sheet = omega (arith, length-append sheet.held (nothing_held ∷ []))
 
 module _ (blank : Sheet) (changed : List (Option Sheet))
     (alike : AreAlike blank (sheets_of blank changed)) where
-  -- the blank sheet and those of a race's own, each with one more boat
   module _ (new : Sheet) (all : List (Option Sheet)) (is : new ≡ with_boat blank)
       (are : all ≡ map (option_map with_boat) changed) where
     pub more_after : sheets_of new all ≡ map with_boat (sheets_of blank changed)
@@ -70,7 +68,7 @@ module _ (blank : Sheet) (changed : List (Option Sheet))
         ∙ sym (ap boats is ∙ one_more blank)))
 
   module _ (few : All (λ sheet. boats sheet < limits.boats) (sheets_of blank changed)) where
-    -- each sheet that there is has room for a boat
+    -- each changed sheet has room for a boat
     pub changed_few : All (λ sheet. IfSome sheet (λ found. boats found < limits.boats)) changed
     changed_few k d h = by (get_or changed k d) (few_at k d h)
       where
@@ -85,7 +83,7 @@ module _ (blank : Sheet) (changed : List (Option Sheet))
         by None room = tt
         by (Some sheet) room = room
 
-  -- ---- a sheet of a race's own
+  -- ---- the sheet of one race
 
   pub put_in : (at : ℕ) (sheet : Sheet)
       → sheets_of blank (slice_set changed at (Some sheet))

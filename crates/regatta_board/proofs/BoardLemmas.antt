@@ -1,4 +1,4 @@
--- The scores of a board, and of one accepted entry more.
+-- The scores of a board, and those after one more accepted entry.
 use Rattle.std.proofs.Common.{◌≡◌, ℕ, ◌<◌, Bool, true, false, cond, List, [], ◌∷◌, ◌++◌, refl}
 use Rattle.std.proofs.Common.{ap, ◌∙◌, sym, subst, arith, length, nat_lt, Option, Some, None}
 use Rattle.std.specs.List.{position, position_or_len}
@@ -26,7 +26,7 @@ use Rattle.regatta_board.proofs.RowFound.{rank_found}
 use Rattle.regatta_board.proofs.ScoringFacts.{lines_by_long}
 use Rattle.regatta_board.proofs.TableOf.{table_is, lines_kept}
 
--- what an answer tells of a boat is read under her number
+-- an answer has the row of a boat, which is found by her number
 pub board_rank : (rules : RulesParts) (journal : Journal) → is_lawful limits rules journal ≡ true
     → (scoring : Scoring) → IsScoring rules (kept_of rules journal) scoring → (boat : Sail)
     → option_map (touched_at scoring) (position (same_sail boat) (entered journal))
@@ -36,7 +36,6 @@ board_rank rules journal lawful scoring is boat =
     rank_found rules journal boat orderly.apart scoring
     (is.lines ∙ lines_kept rules journal orderly) is.ranks
 
--- a position is within the list
 pub position_within : {X : Type 0} (p : X → Bool) (xs : List X) (at : ℕ)
     → position p xs ≡ Some at → at < length xs
 position_within p xs at e = by (nat_lt (position_or_len p xs) (length xs)) refl e
@@ -63,12 +62,12 @@ line_within rules journal scoring is boat at e =
     let within = position_within (same_sail boat) (entered journal) at e in
     (omega (arith, lines, within), omega (arith, lines, ranks, within))
 
--- a command that may be committed was prepared on what the board holds
+-- a command that may be committed was prepared on the same board
 pub basis_is : {staged value : StagedValue} {held board : BoardValue} → staged ≡ value
     → value.board ≡ board → held ≡ board → staged.board ≡ held
 basis_is staged_is of held_is = ap (λ (v : StagedValue). v.board) staged_is ∙ of ∙ sym held_is
 
--- the table of what is kept of a lawful journal is its standing
+-- the table computed from what is kept of a lawful journal is its standing
 pub lawful_table : (rules : RulesParts) (journal : Journal) → is_lawful limits rules journal ≡ true
     → table rules (kept_of rules journal) ≡ standing rules journal
 lawful_table rules journal lawful =

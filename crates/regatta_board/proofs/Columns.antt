@@ -19,12 +19,12 @@ scores_long : (rules : RulesParts) (sheet : Sheet)
     → length (race_scores rules sheet) ≡ boats sheet
 scores_long rules sheet = length-map-range_with_len (race_score rules sheet) 0 (boats sheet)
 
--- who has a score is on the sheet
+-- a boat with a score is on the sheet
 pub scored : (rules : RulesParts) (sheet : Sheet) (scores : List RaceScore) (boat : ℕ)
     → scores ≡ race_scores rules sheet → boat < length scores → boat < boats sheet
 scored rules sheet scores boat are h = omega (arith, ap length are, scores_long rules sheet)
 
--- what came of one more boat
+-- the outcome of one more boat is appended
 pub outcome_pushed : (rules : RulesParts) (sheet : Sheet) (scores : List RaceScore) (boat : ℕ)
     (score : RaceScore) (outcome : Outcome) (old new : List Outcome)
     → scores ≡ race_scores rules sheet → boat < length scores → score ≡ get_or scores boat score
@@ -48,7 +48,7 @@ outcome_pushed rules sheet scores boat score outcome old new are h is made so_fa
     }) hers in
     pushed_number (outcome_on rules sheet) boat outcome old new same so_far pushed
 
--- once what came of each boat is pushed, the column is whole
+-- after the outcome of each boat is appended, the column is complete
 pub column_whole : (rules : RulesParts) (sheet : Sheet) (scores : List RaceScore) (n : ℕ)
     (found : List Outcome) → scores ≡ race_scores rules sheet → n ≡ length scores
     → found ≡ map (outcome_on rules sheet) (range_with_len 0 n) → found ≡ column rules sheet
@@ -85,12 +85,12 @@ pub few_more : (b : Bool) (found new : List ℕ) (i r : ℕ) → new ≡ found +
     → length found ≤ i → length new ≤ i + 1
 few_more b found new i r e h = omega (arith, ap length e, one_long b found r)
 
--- one column of each race: no more than races
+-- one column for each race: no more than races
 pub columns_few : (f : ℕ → List Outcome) (races : List ℕ) (found : List (List Outcome))
     → found ≡ map f races → length races ≤ MAX_RACES → length found ≤ MAX_RACES
 columns_few f races found is few = omega (arith, ap length is, length-map races f)
 
--- one more race is counted where it counts
+-- one more race adds to the count if it counts
 pub counted_more : (counts : List Bool) (i start old new : ℕ)
     → old ≡ start + length (filter (λ race. get_or counts (race - 1) false) (range_with_len 1 i))
     → new ≡ old + cond (get_or counts ((i + 1) - 1) false) 1 0

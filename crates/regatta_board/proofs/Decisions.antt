@@ -1,4 +1,4 @@
--- What one more command of a race makes of what a boat holds.
+-- The effect of one more command of a race on what a boat holds.
 use Rattle.std.proofs.Common.{◌≡◌, ℕ, suc, ◌+◌, ◌-◌, ◌<◌, Bool, true, false, cond, not, List, []}
 use Rattle.std.proofs.Common.{◌∷◌, ◌++◌, refl, ap, ◌∙◌, sym, arith, length, map, filter, filter_map}
 use Rattle.std.proofs.Common.{drop, count_by, get_or, slice_set, Some, None}
@@ -138,7 +138,7 @@ module _ (commands : List Command) (race : ℕ) (boat : Sail) where
       ap (λ xs. held_by (after_last is_clear xs)) now
       ∙ ap held_by (after_last_hit is_clear ds c refl)
 
--- one boat's record is replaced, under her number
+-- one boat's record is replaced, at her number
 pub held_replaced : {V : Type 0} (f g : Sail → V) (s : Sail) (xs : List Sail)
     → ((x : Sail) → same_sail x s ≡ false → g x ≡ f x)
     → ((i j : ℕ) (d : Sail) → i < j → j < length xs

@@ -37,7 +37,7 @@ numbered_more es last n e is index boat k at =
     (λ p b m h. (let here = is p b m h in omega (arith, here))) index boat k at in
     omega (arith, rest)
 
--- a clone of the entries is the entries, where clones of keys and values are themselves
+-- a clone of the entries equals them, if clones of keys and values do
 pub entries_cloned : {C : Sail → Sail → Type 0} {D : ℕ → ℕ → Type 0}
     → ((x y : Sail) → C x y → y ≡ x) → ((x y : ℕ) → D x y → y ≡ x) → (es fs : List (Sail × ℕ))
     → AllZip (λ p q. C p.0 q.0 × D p.1 q.1) es fs → fs ≡ es
@@ -47,7 +47,7 @@ entries_cloned c d (e ∷ es) [] all = absurd all
 entries_cloned c d (e ∷ es) (f ∷ fs) all = let rest = entries_cloned c d es fs all.1 in
     λ i. (c e.0 f.0 all.0.0 i, d e.1 f.1 all.0.1 i) ∷ rest i
 
--- who isn't in the list has no number
+-- a boat that isn't in the list has no number
 pub no_number : (es : List (Sail × ℕ)) (boat : Sail)
     → list_any (same_sail boat) (keys_of es) ≡ false → lookup (same_sail boat) es ≡ None
 no_number es boat out = by (lookup (same_sail boat) es) (is_some-lookup (same_sail boat) es ∙ out)
@@ -60,7 +60,7 @@ pub listed : (es new : List (Sail × ℕ)) (boat : Sail) (n : ℕ) → new ≡ e
     → keys_of new ≡ keys_of es ++ boat ∷ []
 listed es new boat n e = ap keys_of e ∙ map-append (λ (x : Sail × ℕ). x.0) es ((boat, n) ∷ [])
 
--- where none passes, the index of the first is past the end
+-- if no element passes, the index of the first that does is past the end
 pub index_past : {X : Type 0} (p : X → Bool) (xs : List X) → position p xs ≡ None
     → length xs ≡ position_or_len p xs
 index_past p xs e = by (nat_lt (position_or_len p xs) (length xs)) refl e

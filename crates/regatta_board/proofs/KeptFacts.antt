@@ -1,4 +1,4 @@
--- What is kept of a journal says what the journal says.
+-- What is kept of a journal agrees with the journal.
 use Rattle.std.proofs.Common.{◌≡◌, ℕ, ◌-◌, ◌<◌, ◌≤◌, true, false, not, ◌&&◌, List, [], ◌∷◌, refl}
 use Rattle.std.proofs.Common.{ap, ◌∙◌, sym, subst, arith, length, map, get_or, nat_eq, nat_le, None}
 use Rattle.std.specs.List.{list_any}
@@ -97,7 +97,7 @@ module _ (rules : RulesParts) (journal : Journal) (o : IsOrderly rules journal) 
     empty_is race r = ap (λ s. is_empty s.order) (sheet_kept race r)
         ∙ same_emptiness (map (number journal)) (order rules journal race)
 
-    -- ---- what an accepted command asks of what is kept
+    -- ---- what an accepted command requires of what is kept
 
     on : (race : ℕ) → IsRace race → (boat : Sail) → is_entered journal boat ≡ true
         → IsOn kept race boat

@@ -1,4 +1,4 @@
--- How long the lists are.
+-- The lengths of lists of outcomes, points, scores and flags.
 use Rattle.std.proofs.Common.{◌≡◌, ℕ, ◌+◌, Bool, List, [], ◌∷◌, refl, ap, ◌∙◌, length, zip, suc}
 use Rattle.std.specs.List.{enumerate_from}
 use Rattle.std.proofs.lemmas.List.{length-map}

@@ -52,7 +52,7 @@ rows_step f n b h =
     ap (λ xs. sorted_rows (map f xs)) e
     ∙ ap (λ k. with_row (f k) (sorted_rows (map f (drop (b + 1) (range_with_len 0 n))))) here
 
--- a row put in before those of the boats after it
+-- a row inserted into those of the boats after it
 pub put_before : (f : ℕ → Row) (n b : ℕ) (r : Row) (xs new : List Row) → 1 ≤ b → b ≤ n
     → r ≡ f (b - 1) → xs ≡ sorted_rows (map f (drop b (range_with_len 0 n))) → new ≡ with_row r xs
     → new ≡ sorted_rows (map f (drop (b - 1) (range_with_len 0 n)))
@@ -79,7 +79,7 @@ pub line_at : (rules : RulesParts) (columns : List (List Outcome)) (n b : ℕ) (
 line_at rules columns n b d h =
     get_or-map-range_with_len (λ b. boat.line rules (outcomes columns b)) 0 n b b d h (omega arith)
 
--- the rows made from the lines of the boats and their ranks are those of the table
+-- the rows computed from the lines of the boats and their ranks are those of the table
 pub rows_are : (rules : RulesParts) (sails : List Sail) (columns : List (List Outcome))
     (ls : List BoatScores) (ps : List Place) → ls ≡ lines rules columns (length sails)
     → ps ≡ places ls → rows_by sails columns ls ps ≡ rows rules sails columns

@@ -1,4 +1,4 @@
--- Lines of which some are replaced by new ones.
+-- Lines, some of which are replaced by new ones.
 use Rattle.std.proofs.Common.{◌≡◌, ℕ, zero, suc, ◌+◌, ◌<◌, List, [], ◌∷◌, ◌++◌, refl, ap, ◌∙◌}
 use Rattle.std.proofs.Common.{sym, arith, add-one, length, length-take-le, take, get_or, set}
 use Rattle.std.proofs.Common.{Option, Some, None, IfSome}
@@ -7,7 +7,7 @@ use Rattle.std.proofs.lemmas.List.{take_more}
 use Rattle.regatta_scores.specs.Ranking.{BoatScores}
 use Rattle.regatta_board.specs.Scoring.{with_changed}
 
--- one more boat, with what is new of her
+-- appending one more boat, with her new line if she has one
 changed_push : (olds : List BoatScores) (news : List (Option BoatScores)) (old : BoatScores)
     (new : Option BoatScores) → length olds ≡ length news
     → with_changed (olds ++ old ∷ []) (news ++ new ∷ [])
@@ -18,7 +18,7 @@ changed_push (o ∷ olds) [] old new e = absurd (cc)
 changed_push (o ∷ olds) (n ∷ news) old new e =
     ap (λ ls. unwrap_or n o ∷ ls) (changed_push olds news old new (cc))
 
--- the new line of one more boat is made
+-- the new line of one more boat is computed
 pub changed_more : (olds : List BoatScores) (news : List (Option BoatScores)) (i : ℕ)
     (d : BoatScores) (new : Option BoatScores) → length news ≡ i → i < length olds
     → with_changed (take (i + 1) olds) (news ++ new ∷ [])
@@ -29,7 +29,7 @@ changed_more olds news i d new long h =
     (let even : length (take i olds) ≡ length news =
     omega (arith, length-take-le i olds, long, h) in even)
 
--- the line of one more boat is found
+-- the current line of one more boat is found
 pub found_more : (olds : List BoatScores) (news : List (Option BoatScores)) (i : ℕ)
     (d : BoatScores) (e : Option BoatScores) → i < length olds → length news ≡ length olds
     → with_changed (take (i + 1) olds) (take (i + 1) news)
@@ -45,7 +45,7 @@ pub changed_none : (olds : List BoatScores) → with_changed olds [] ≡ olds
 changed_none [] = refl
 changed_none (old ∷ olds) = refl
 
--- the new line of one more boat is put in
+-- the new line of one more boat is moved in
 put_suc : (olds : List BoatScores) (news : List (Option BoatScores)) (i : ℕ) (d : BoatScores)
     (e : Option BoatScores) → i < length olds → i < length news
     → set (with_changed olds (take i news)) i
@@ -66,7 +66,7 @@ pub put_more : (olds : List BoatScores) (news : List (Option BoatScores)) (i : �
     ≡ with_changed olds (take (i + 1) news)
 put_more olds news i d e h k = rw add-one (put_suc olds news i d e h k)
 
--- a boat's line is hers, made anew or not
+-- a boat's current line is hers, whether it was recomputed or not
 pub new_or_old : (new : Option BoatScores) (old hers : BoatScores) → (new ≡ None → old ≡ hers)
     → IfSome new (λ line. line ≡ hers) → unwrap_or new old ≡ hers
 new_or_old None old hers stays made = stays refl

@@ -1,4 +1,4 @@
--- A finishing order by numbers, on a sheet on which nothing is held, stays one of a sheet.
+-- A finishing order that a sheet may have, by the boats' numbers, stays one.
 use Rattle.std.proofs.Common.{◌≡◌, ℕ, ◌<◌, true, false, List, [], ◌∷◌, ◌++◌, ap, ◌∙◌}
 use Rattle.std.proofs.Common.{refl, sym, arith, length, map, nat_eq, None}
 use Rattle.std.specs.List.{list_any}
@@ -29,14 +29,14 @@ use Rattle.regatta_board.proofs.Renumbered.{last_numbered, joined_numbered, ahea
 use Rattle.regatta_board.proofs.Renumbered.{without_numbered, timed_numbered}
 use Rattle.regatta_board.proofs.Renumbered.{order_stays}
 
--- the same order of the same boats
+-- if nothing changes
 pub on_same : (old new : List Sail) (o p : List (List Sail)) → new ≡ old → p ≡ o
     → IsOnSheet old o → IsOnSheet new p
 on_same old new o p boats orders is =
     copied_sheet (map (map (index_in old)) o) (map (map (index_in new)) p) (blank old) (blank new)
     (λ i. map (map (index_in (boats i))) (orders i)) (ap blank boats) is
 
--- one more boat entered
+-- if one more boat is entered
 pub on_more : (boats : List Sail) (s : Sail) (o : List (List Sail)) → IsOnSheet boats o
     → ((x : Sail) → stands_in same_sail x o ≡ true → list_any (same_sail x) boats ≡ true)
     → length boats < limits.boats → IsOnSheet (boats ++ s ∷ []) o
@@ -52,7 +52,7 @@ module _ (rules : RulesParts) (journal : Journal) (race : ℕ)
     (is : IsOnSheet (entered journal) (order rules journal race))
     (all_entered : (x : Sail) → is_placed rules journal race x ≡ true
     → is_entered journal x ≡ true) where
-  -- the time of a boat that is entered, under her number
+  -- the time of a boat that is entered is at her number
   pub time_there : (x : Sail) → is_entered journal x ≡ true
       → time_of (map (time journal race) (entered journal)) (number journal x) ≡ time journal race x
   time_there x known =
@@ -82,7 +82,7 @@ module _ (rules : RulesParts) (journal : Journal) (race : ℕ)
       copied_sheet numbers (map (map (number journal)) new) (blank (entered journal))
       (blank (entered journal)) e refl sheet
 
-  -- a command of the race that its refusals let through
+  -- after a command of the race that isn't refused
   pub on_after : (c : Command) → names_race race c ≡ true → MayStep rules journal c
       → IsOnSheet (entered journal)
       (order_with (time journal race) (order rules journal race) c)

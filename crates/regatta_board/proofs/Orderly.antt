@@ -37,7 +37,7 @@ or_elim : (a b : Bool) (Q : Type 0) → (a ≡ true → Q) → (b ≡ true → Q
 or_elim true b Q f g h = f refl
 or_elim false b Q f g h = g h
 
--- ---- who stands in an order after one more change: those before, and the boat of the command
+-- ---- the boats in an order after one more change: those before, and the boat of the command
 
 group_push : (b s : Sail) (g : List Sail) (Q : Type 0) → (in_group same_sail b g ≡ true → Q)
     → (same_sail s b ≡ true → Q) → in_group same_sail b (g ++ s ∷ []) ≡ true → Q
@@ -153,7 +153,7 @@ entered_one : (boats : List Sail) (s b : Sail) → list_any (same_sail s) boats 
     → same_sail s b ≡ true → list_any (same_sail b) boats ≡ true
 entered_one boats s b h e = ap (λ x. list_any (same_sail x) boats) (sym (same_is s b e)) ∙ h
 
--- what an accepted command asks of the order of its race
+-- what an accepted command requires of the order of its race
 suits : (rules : RulesParts) (journal : Journal) (c : Command) (race : ℕ)
     → names_race race c ≡ true → MayStep rules journal c → Suits rules (order rules journal race) c
 suits rules journal (Time r s seconds) race named may = (
@@ -192,7 +192,7 @@ order_more rules journal entry c race is may =
         (order_has_none rules (race_commands journal race)) (suits rules journal c race named may)
     by false named = ap (order_by rules) (append-nil (race_commands journal race))
 
--- who stands in an order after the command is entered
+-- a boat in an order after the command is entered
 stands_entered : (rules : RulesParts) (journal : Journal) → IsOrderly rules journal
     → (c : Command) (race : ℕ)
     → MayStep rules journal c → (b : Sail)
@@ -220,7 +220,7 @@ stands_entered rules journal o (Clear r s) race may b h = o.known race b h
 stands_entered rules journal o (Score r) race may b h = o.known race b h
 stands_entered rules journal o (Unscore r) race may b h = o.known race b h
 
--- nobody else is decided about
+-- the command is no decision on any other boat
 not_about : (boats : List Sail) (s b : Sail) (t : Bool) → list_any (same_sail s) boats ≡ true
     → list_any (same_sail b) boats ≡ false → same_sail b s ≡ t → t ≡ false
 not_about boats s b true h out e = let in_it : list_any (same_sail b) boats ≡ true =
@@ -245,7 +245,7 @@ undecided rules journal (Strike r s) may b out = refl
 undecided rules journal (Score r) may b out = refl
 undecided rules journal (Unscore r) may b out = refl
 
--- nobody else's time ends
+-- the command ends no other boat's time
 unended : (rules : RulesParts) (journal : Journal) (c : Command) → MayStep rules journal c
     → (b : Sail) → is_entered journal b ≡ false → ends_time b c ≡ false
 unended rules journal (Time r s seconds) may b out =
@@ -262,7 +262,7 @@ unended rules journal (Clear r s) may b out = refl
 unended rules journal (Score r) may b out = refl
 unended rules journal (Unscore r) may b out = refl
 
--- what is told of a race stays where its commands, with one more, tell it as before
+-- a fact about a race stays if it stays with one more command of the race
 told_more : {X : Type 0} (told : List Command → X) (journal : Journal) (entry : EntryParts)
     (c : Command) (race : ℕ) → entry.command ≡ c
     → told (race_commands journal race ++ c ∷ []) ≡ told (race_commands journal race)

@@ -107,7 +107,7 @@ without_numbered boats order sail known =
 -- ---- one more time
 
 module _ (boats : List Sail) (time : Sail → Option ℕ) (times : ℕ → Option ℕ) where
-  -- under her number each boat of the order has her time
+  -- each boat of the order has her time, at her number
   abbrev AreNumbered : List (List Sail) → Type 0
   AreNumbered order =
       (x : Sail) → stands_in same_sail x order ≡ true → times (index_in boats x) ≡ time x

@@ -1,4 +1,4 @@
--- How many races a command scores anew at most, by what is kept and by the journal.
+-- The most races that a command rescores, by what is kept and by the journal.
 use Rattle.std.proofs.Common.{◌≡◌, ℕ, ◌-◌, ◌<◌, true, false, cond, [], ◌∷◌, ◌++◌, ap}
 use Rattle.std.proofs.Common.{◌∙◌, sym, arith, length, get_or}
 use Rattle.std.proofs.lemmas.List.{get_or-set_same}

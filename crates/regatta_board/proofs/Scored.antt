@@ -1,4 +1,4 @@
--- What the board keeps of the scores, after one more command.
+-- The scores that the board keeps, after one more command.
 use Rattle.std.proofs.Common.{◌≡◌, ◌≢◌, ℕ, ◌+◌, ◌-◌, ◌<◌, ◌≤◌, Bool, true, false, List, [], ◌∷◌, ◌++◌}
 use Rattle.std.proofs.Common.{refl, ap, ◌∙◌, sym, arith, length, map, get_or, nat_eq, nat_lt, cond}
 use Rattle.std.specs.List.{range_with_len}
@@ -16,7 +16,7 @@ use Rattle.regatta_board.specs.Table.{Kept, column, columns, races, outcomes, no
 use Rattle.regatta_board.specs.Scoring.{AreColumns, column_at}
 use Rattle.regatta_board.proofs.Untouched.{map_passed}
 
--- by whether two numbers are one
+-- two cases: two numbers are equal, or they are not
 one_or_other : {P : Type 0} (k r : ℕ) → (k ≡ r → P) → (k ≢ r → P) → P
 one_or_other {P} k r one other = by (nat_eq k r) refl
   where
@@ -24,7 +24,7 @@ one_or_other {P} k r one other = by (nat_eq k r) refl
     by true e = one (eqb-true k r e)
     by false e = other (eqb-false k r e)
 
--- the column of a race that counts, and of one that doesn't
+-- the column of a race, by whether it counts
 pub counted_at : (rules : RulesParts) (kept : Kept) (k : ℕ) → get_or kept.counts k false ≡ true
     → column_at rules kept k ≡ column rules (get_or kept.sheets k (empty_sheet 0))
 counted_at rules kept k e =
@@ -37,7 +37,7 @@ uncounted_at rules kept k e =
 
 module _ (rules : RulesParts) (kept : Kept) (found : List (List Outcome))
     (are : AreColumns rules kept found) where
-  -- the columns of the races that count are those that their sheets make
+  -- the columns of the races that count are those of their sheets
   pub columns_found : map (λ race. get_or found (race - 1) []) (races kept.counts)
       ≡ columns rules kept.sheets (races kept.counts)
   columns_found =
@@ -47,7 +47,7 @@ module _ (rules : RulesParts) (kept : Kept) (found : List (List Outcome))
       (λ race counts. are (race - 1) ∙ counted_at rules kept (race - 1) counts)
       (range_with_len 1 MAX_RACES)
 
-  -- one more sheet of a race that doesn't count
+  -- a new sheet of a race that doesn't count
   pub uncounted_sheet : (r : ℕ) (sheet : Sheet) → get_or kept.counts r false ≡ false
       → AreColumns rules (record kept { sheets = set kept.sheets r sheet }) found
   uncounted_sheet r sheet none k = are k
@@ -59,7 +59,7 @@ module _ (rules : RulesParts) (kept : Kept) (found : List (List Outcome))
       (λ apart. ap (λ s. cond (get_or kept.counts k false) (column rules s) [])
       (sym (get_or-set_other kept.sheets r k sheet (empty_sheet 0) apart)))
 
--- a boat for whom the one new column says what the old one said keeps her line
+-- a boat keeps her line if her outcome in the only new column is the same
 pub line_stays : (rules : RulesParts) (counts : List Bool) (found : List (List Outcome)) (r b : ℕ)
     (new : List Outcome)
     → get_or new b no_outcome ≡ get_or (get_or found r []) b no_outcome → r < length found
@@ -80,7 +80,7 @@ line_stays rules counts found r b new same h = ap (line rules) (each (races coun
             (λ apart. ap (λ c. get_or c b no_outcome)
             (get_or-set_other found r (x - 1) new [] apart))
 
--- one more column, of the next race
+-- the column of the next race is appended
 pub columns_pushed : (rules : RulesParts) (kept : Kept) (i : ℕ) (found new : List (List Outcome))
     (next : List Outcome) → new ≡ found ++ next ∷ [] → length found ≡ i
     → ((k : ℕ) → k < i → get_or found k [] ≡ column_at rules kept k)
@@ -98,7 +98,7 @@ columns_pushed rules kept i found new next e long are is k h =
     below : (k i n : ℕ) → k < i + 1 → k ≢ i → n ≡ i → k < n
     below k i n h apart e = omega (arith, h, apart, e)
 
--- and once they are pushed of all races, each is what it should be
+-- when those of all races are appended, each is right
 pub columns_all : (rules : RulesParts) (kept : Kept) (found : List (List Outcome))
     → length kept.counts ≡ MAX_RACES → length found ≡ MAX_RACES
     → ((k : ℕ) → k < MAX_RACES → get_or found k [] ≡ column_at rules kept k)

@@ -1,4 +1,4 @@
--- What the board keeps of the scores is as long as it should be, and stays where it may.
+-- The lengths of the scores that the board keeps, and when they stay.
 use Rattle.std.proofs.Common.{◌≡◌, ℕ, zero, suc, ◌+◌, ◌-◌, ◌<◌, ◌≤◌, true, false, List, [], ◌∷◌}
 use Rattle.std.proofs.Common.{ap, ◌∙◌, sym, subst, arith, length, map, get_or, All, Option, Some}
 use Rattle.std.proofs.Common.{None}
@@ -52,7 +52,7 @@ columns_even rules kept is =
         column_long rules (sheet_in kept r) ∙ sheet_long kept is r (low, omega arith)
     even (r ∷ rs) all (suc k) d h = even rs all.1 k d (omega (arith, h))
 
--- columns found one by one are those that the sheets make
+-- columns that are looked up one by one are those of the sheets
 module _ (rules : RulesParts) (kept : Kept) (is : IsKept kept) (slots : List (List Outcome))
     (are : AreColumns rules kept slots) (rs : List ℕ) (counted : rs ≡ races kept.counts)
     (found : List (List Outcome))
@@ -82,7 +82,7 @@ pub lines_by_long : (rules : RulesParts) (kept : Kept) → length (lines_by rule
 lines_by_long rules kept =
     lines_long rules (columns rules kept.sheets (races kept.counts)) (length kept.sails)
 
--- a new sheet of a race turns its column alone
+-- a new sheet of a race changes only its column
 pub sheet_turns : (rules : RulesParts) (kept : Kept) (scoring : Scoring) (change : Revision)
     (new : NewColumns) → RemakesOneColumn rules change new → (race : ℕ) (sheet : Sheet)
     → change ≡ revision.Sheet race sheet → RemakesOnly rules kept change race scoring new
@@ -93,7 +93,7 @@ sheet_turns rules kept scoring change new one race sheet turned = record {
   column = subst (λ r. RemakesOneColumn rules r new) turned one scoring.columns;
 }
 
--- where the column of one race is made anew, the line of a boat stays of whom it says what it said
+-- if the column of one race is recomputed, a boat with the same outcome keeps her line
 module _ (rules : RulesParts) (kept : Kept) (scoring : Scoring)
     (is : IsScoring rules kept scoring) (change : Revision) (new : NewColumns) (race : ℕ)
     (turned : RemakesOnly rules kept change race scoring new) (within : IsRace race) where
@@ -123,7 +123,7 @@ module _ (rules : RulesParts) (kept : Kept) (scoring : Scoring)
       ∙ ap (λ cs. line rules (outcomes cs boat)) (sym (made
       ∙ (λ i. map (λ race. get_or (turned.column i) (race - 1) []) (races (turned.counts i)))))
 
--- a boat's line has as many scores as races count
+-- a boat's line has one score for each race that counts
 pub line_long : (rules : RulesParts) (found : List (List Outcome)) (boat : ℕ) (hers : BoatScores)
     → hers ≡ line rules (outcomes found boat) → length hers.points ≡ length found
 line_long rules found boat hers e =
@@ -136,7 +136,7 @@ all_long rules found n k d h =
     line_long rules found k (get_or (lines rules found n) k d)
     (line_at rules found n k d (omega (arith, h, lines_long rules found n)))
 
--- what is needed of the parts that a turned column makes the lines from
+-- what the lines need, if one column is changed
 module _ (rules : RulesParts) (kept : Kept) (is_kept : IsKept kept) (change : Revision)
     (next : IsKept (revised kept change)) (scoring : Scoring)
     (is : IsScoring rules kept scoring) (new : NewColumns)
@@ -190,7 +190,7 @@ module _ (rules : RulesParts) (kept : Kept) (is_kept : IsKept kept) (change : Re
           ∙ (λ i. lines rules (found_columns rules (revised kept change) next slots slots_are rs
           counted found each i) ((long ∙ ap length (sym turned.sails)) i))
 
--- new scores moved in are those of what is kept afterwards
+-- after new scores are moved in, the scores are those of what is kept afterwards
 pub scored_after : (rules : RulesParts) (before after : Kept) (old : Scoring)
     → IsScoring rules before old → (new : NewScores) → AreNewScores rules before after new
     → IsScoring rules after (with_scores old new)
@@ -211,7 +211,7 @@ scored_after rules before after old is new are = record {
     ranks_are None e = is.ranks
     ranks_are (Some ranked) e = e.2 ∙ ap places (sym (lines_are (Some ranked) e))
 
--- new lines, if there are any, are said to be of each boat
+-- new lines, if there are any, have an item for each boat
 pub new_lines_fit : (rules : RulesParts) (before after : Kept) (old : Scoring)
     → IsScoring rules before old → (new : NewScores) → AreNewScores rules before after new
     → FitLines old.lines new.ranked
@@ -222,7 +222,7 @@ new_lines_fit rules before after old is new are = by new.ranked are.ranked
     by None e = tt
     by (Some ranked) e = subst (λ ls. IsOfEach ls ranked.lines) (sym is.lines) e.0
 
--- new lines and ranks, made from the lines that are kept, are those of what is kept afterwards
+-- new lines and ranks, computed from the lines that are kept, are those of what is kept afterwards
 pub are_ranked : (rules : RulesParts) (before after : Kept) (old : Scoring)
     → IsScoring rules before old → (ranked : Ranked) → IsOfEach old.lines ranked.lines
     → with_lines old.lines ranked.lines ≡ lines_by rules after
@@ -234,7 +234,7 @@ are_ranked rules before after old is ranked each made ranks = (
   ranks ∙ ap places made,
 )
 
--- a revision that touches no race that counts changes no score
+-- a revision that can't change the standing changes no score
 pub untouched_scores : (rules : RulesParts) (kept : Kept) (change : Revision)
     → may_change_standing kept change ≡ false
     → AreNewScores rules kept (revised kept change) (record { columns = Same; ranked = None })
@@ -246,7 +246,7 @@ untouched_scores rules kept (revision.Sheet race sheet) e = record {
       (length kept.sails);
 }
 
--- where a new sheet says of each boat what the old one said, no line changes
+-- if a new sheet leaves the outcome of each boat as it was, no line changes
 pub unchanged_lines : (rules : RulesParts) (kept : Kept) (scoring : Scoring)
     → IsScoring rules kept scoring → (change : Revision) (new : NewColumns)
     → AreNewColumns rules kept (revised kept change) new → SaysTheSame scoring change new

@@ -1,4 +1,4 @@
--- The standing made from what is kept of a journal is that of the journal.
+-- The standing computed from what is kept of a journal is that of the journal.
 use Rattle.std.proofs.Common.{◌≡◌, ℕ, suc, ◌+◌, ◌-◌, ◌<◌, ◌≤◌, Bool, true, false, List, [], ◌∷◌}
 use Rattle.std.proofs.Common.{refl, ap, ◌∙◌, sym, arith, length, map, zip, get_or, nat_eq}
 use Rattle.std.specs.List.{range_with_len, AllByRecursion}
@@ -246,7 +246,7 @@ module _ (rules : RulesParts) (journal : Journal) (orderly : IsOrderly rules jou
       (λ b h. ap (one.line rules) (by_boat b h)
       ∙ line_is rules journal (get_or (entered journal) b []))
 
-  -- the lines made from what is kept of the journal are those of the journal
+  -- the lines computed from what is kept of the journal are those of the journal
   pub lines_kept : lines_by rules (kept_of rules journal) ≡ by_journal.lines rules journal
   lines_kept =
       (λ i. all.lines rules (all.columns rules (kept_of rules journal).sheets (races_are i))

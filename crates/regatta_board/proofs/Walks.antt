@@ -1,4 +1,4 @@
--- How a value without bytes is made. Assumes `Logic`.
+-- Making a value without bytes. Assumes `Logic`.
 use Rattle.std.proofs.Common.{List, [], ◌∷◌, refl}
 use seplogic.Ra.Ura.{Ura}
 use mir.Val.{Val, vstruct, vnil}

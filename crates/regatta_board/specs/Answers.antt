@@ -15,7 +15,7 @@ use Rattle.regatta_scores.specs.declared.table.Row.{Row}
 use Rattle.regatta_scores.specs.Journal.{Journal, same_sail, is_scored, scored}
 use Rattle.regatta_scores.specs.Standing.{standing}
 
--- the first boat that a command names
+-- the first boat that a command names, if any
 abbrev pub boat_named : Command → Option Sail
 boat_named (Enter sail) = Some sail
 boat_named (Finish race sail) = Some sail
@@ -30,7 +30,7 @@ boat_named (Clear race sail) = Some sail
 boat_named (Score race) = None
 boat_named (Unscore race) = None
 
--- what an answer tells of a row: rank (RRS A8), whether it is shared, and net points
+-- the part of a row that an answer has: rank (RRS A8), whether it is shared, and net points
 abbrev pub touched_by : Row → Touched
 touched_by row = record { rank = row.rank; tied = row.tied; net = row.net }
 
@@ -39,12 +39,12 @@ abbrev pub rank_of : RulesParts → Journal → Sail → Option Touched
 rank_of rules journal boat =
     option_map touched_by (find (λ row. same_sail boat row.sail) (standing rules journal).rows)
 
--- the same of the boat that a command names, if it names one
+-- the same for the boat that a command names, if any
 abbrev pub touched : RulesParts → Journal → Option Sail → Option Touched
 touched rules journal None = None
 touched rules journal (Some boat) = rank_of rules journal boat
 
--- the place of the entry, and where it names a boat her row in the new standing
+-- the place of the entry, and the new row of the boat that it names
 abbrev pub answer : RulesParts → Journal → EntryParts → Answer
 answer rules journal entry =
     record {
@@ -52,12 +52,12 @@ answer rules journal entry =
       touched = touched rules (journal ++ entry ∷ []) (boat_named entry.command);
     }
 
--- 1 for a race that counts, and 0 for one that doesn't
+-- 1 if the race counts, else 0
 abbrev pub once_if_scored : Journal → ℕ → ℕ
 once_if_scored journal race = if is_scored journal race then 1 else 0
 
--- how many races are scored anew at most for a command, by the journal that ends with it: none
--- where its race doesn't count there, one where it does, and all that count for one more boat
+-- the most races that a command rescores, by the journal that ends with it: 0 if its race doesn't
+-- count there, 1 if it does, and all that count if it enters a boat
 abbrev pub most_rescored : Journal → Command → ℕ
 most_rescored journal (Enter sail) = length (scored journal)
 most_rescored journal (Finish race sail) = once_if_scored journal race

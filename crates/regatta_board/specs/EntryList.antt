@@ -2,7 +2,7 @@
 use Rattle.std.specs.Prelude.{◌≡◌, ℕ, List, Some, slice_get}
 use Rattle.regatta_terms.specs.declared.sail.Sail.{Sail}
 
--- each boat has her position in the list as her number
+-- a boat's number is her position in the list
 abbrev pub IsNumbered : List (Sail × ℕ) → Type 0
 IsNumbered entries =
     (position : ℕ) (boat : Sail) (number : ℕ)

@@ -1,4 +1,4 @@
--- What came of a boat in each race that counts, and the line and the row that it makes.
+-- Outcomes: a boat's results in the races that count, and the line and row computed from them.
 use Rattle.std.specs.Prelude.{ℕ, Bool, List, length, map, zip, Option}
 use Rattle.regatta_terms.specs.Rules.{RulesParts, exclusions_of}
 use Rattle.regatta_terms.specs.declared.sail.Sail.{Sail}
@@ -17,15 +17,15 @@ use Rattle.regatta_scores.specs.Ranking.{BoatScores, net}
 use Rattle.regatta_scores.specs.Standing.{is_dne, mark_by}
 use Rattle.regatta_board.specs.declared.outcomes.Outcome.{Outcome}
 
--- what averages are made from: a boat's plain points and her redress in each race (RRS A9)
+-- a boat's plain points and her redress in each race, from which averages are computed (RRS A9)
 abbrev pub items : List Outcome → List RowItem
 items outcomes = map (λ o. record { plain = o.plain; redress = o.held.redress }) outcomes
 
--- her points in each race, with redress worked out over the races that count (RRS A9)
+-- her points in each race, with redress over the races that count (RRS A9)
 abbrev pub points : List Outcome → List ℕ
 points outcomes = averages.points (items outcomes)
 
--- her scores as exclusions see them: the points, and whether a DNE keeps the score in (RRS A2.1)
+-- her points, and whether a DNE forbids excluding them (RRS A2.1)
 abbrev pub scores_by : List Outcome → List ℕ → List Scored
 scores_by outcomes points =
     map (λ o. record { points = o.1; dne = is_dne o.0.held.code }) (zip outcomes points)
@@ -37,15 +37,15 @@ flags rules outcomes =
     (exclusions_of rules.thresholds (length (scores_by outcomes (points outcomes))))
     (scores_by outcomes (points outcomes))
 
--- what ranks are made from: her points, and which of them are excluded (RRS A2.1, A8)
+-- her line, by which she is ranked: her points, and which of them are excluded (RRS A2.1, A8)
 abbrev pub line : RulesParts → List Outcome → BoatScores
 line rules outcomes = record { points = points outcomes; excluded = flags rules outcomes }
 
--- the abbreviation that the table shows beside the points, if any (RRS A10)
+-- the abbreviation beside the points in the table, if any (RRS A10)
 abbrev pub mark : Outcome → Option Abbrev
 mark o = mark_by o.held.redress (status_by o.held.code o.placed) o.held
 
--- a cell of the table: points, abbreviation (RRS A10), and whether it is excluded (RRS A2.1)
+-- a cell of the table: points, abbreviation (RRS A10), and whether the score is excluded (RRS A2.1)
 abbrev pub cell : Outcome → ℕ → Bool → Cell
 cell o points dropped = record { points = points; mark = mark o; dropped = dropped }
 
@@ -63,11 +63,11 @@ row_by boat found line outcomes = record {
   cells = cells_by outcomes line.points line.excluded;
 }
 
--- the same where the line is made from what came of her
+-- a boat's row of the table from her outcomes and her rank (RRS A8)
 abbrev pub row : RulesParts → Sail → Place → List Outcome → Row
 row rules boat found outcomes = row_by boat found (line rules outcomes) outcomes
 
--- what the journal says of a boat in one race: her plain points (RRS A6.1, A7), what she holds, and
+-- a boat's outcome in one race by the journal: her plain points (RRS A6.1, A7), what she holds, and
 -- whether she is placed
 abbrev pub outcome : RulesParts → Journal → ℕ → Sail → Outcome
 outcome rules journal race boat =
@@ -77,6 +77,6 @@ outcome rules journal race boat =
       placed = stands_in same_sail boat (order rules journal race);
     }
 
--- the same in each race that counts
+-- her outcome in each race that counts
 abbrev pub outcomes : RulesParts → Journal → Sail → List Outcome
 outcomes rules journal boat = map (λ race. outcome rules journal race boat) (scored journal)

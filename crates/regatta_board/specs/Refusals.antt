@@ -1,4 +1,4 @@
--- Which command is refused, and why: by the first reason that applies.
+-- Which commands are refused, and why: the first reason that applies.
 use Rattle.std.specs.Prelude.{◌≡◌, ℕ, ◌+◌, min, Bool, true, false, not, ◌&&◌, ◌||◌, nat_eq, nat_le}
 use Rattle.std.specs.Prelude.{List, [], ◌∷◌, ◌++◌, length, filter, map, unwrap_or, Option, Some}
 use Rattle.std.specs.Prelude.{None, is_some, is_none, if◌then◌else◌}
@@ -31,25 +31,25 @@ use Rattle.regatta_scores.specs.Journal.{Journal, same_sail, entered, order, hel
 use Rattle.regatta_scores.specs.Journal.{last_item, is_of_other_system}
 use Rattle.regatta_scores.specs.Order.{stands_in, is_empty}
 
--- how many boats may be entered, and how many entries a journal may hold
+-- how many boats may be entered, and how many entries a journal may have
 pub record Limits : Type 0 where
   pub boats : ℕ
   pub entries : ℕ
 
--- those of this board
+-- the limits of this board
 abbrev pub limits : Limits
 limits = record { boats = MAX_BOATS; entries = MAX_ENTRIES }
 
--- ---- what a refusal asks of the journal
+-- ---- the facts that refusals depend on
 
--- the last number of the seat, or 0
+-- the last number of the seat, or 0 if it has none
 abbrev pub last_number : Journal → ℕ → ℕ
 last_number journal seat =
     unwrap_or
     (last_item (map (λ entry. entry.nth) (filter (λ entry. nat_eq entry.seat seat) journal)))
     0
 
--- the number after one: a number at the end of its range stays
+-- the number after one; the greatest number stays
 abbrev pub number_after : ℕ → ℕ
 number_after last = min (last + 1) 4294967295
 
@@ -62,52 +62,52 @@ next_entry seat last role command =
 abbrev pub is_entered : Journal → Sail → Bool
 is_entered journal boat = list_any (same_sail boat) (entered journal)
 
--- the boat stands in the finishing order of the race, under the rules of the series
+-- the boat is in the finishing order of the race, under the rules of the series
 abbrev pub is_placed : RulesParts → Journal → ℕ → Sail → Bool
 is_placed rules journal race boat = stands_in same_sail boat (order rules journal race)
 
--- a code of the protest committee, DSQ or DNE: RRS A5.1 names the others
+-- a code of the protest committee, DSQ or DNE (RRS A5.1 lists the others)
 abbrev pub is_protest_code : Option Code → Bool
 is_protest_code None = false
 is_protest_code (Some code) = is_jury_code code
 
--- she holds a decision of the protest committee: DSQ, DNE or redress
+-- she has a decision of the protest committee: DSQ, DNE or redress
 abbrev pub is_decided : Held → Bool
 is_decided held = is_protest_code held.code || is_some held.redress
 
--- how many penalties of the kind she holds: ZFP (RRS 30.2) or SCP (RRS 44.3(c))
+-- how many penalties of the kind she has: ZFP (RRS 30.2) or SCP (RRS 44.3(c))
 abbrev pub penalties : PenaltyKind → Held → ℕ
 penalties Zfp held = held.zfp
 penalties Scp held = held.scp
 
--- no code, penalty or redress: there is nothing that Clear could take away
+-- she has no code, penalty or redress, so Clear has nothing to remove
 abbrev pub holds_nothing : Held → Bool
 holds_nothing held =
     is_none held.code && nat_eq held.zfp 0 && nat_eq held.scp 0 && is_none held.redress
 
--- the role of the protest committee, which alone may clear its own decisions
+-- the role of the protest committee; only it may clear its own decisions
 abbrev pub is_jury : Role → Bool
 is_jury role.Finish = false
 is_jury role.Jury = true
 is_jury role.Scorer = false
 
--- ---- the refusals of each command, in their order
+-- ---- the refusals of each command, in the order in which they are checked
 
--- of Enter: a boat is entered once (RRS A2.2), while there is room for her
+-- Enter: a boat is entered once (RRS A2.2), if there is room for her
 abbrev pub enter_refusal : Limits → Journal → Sail → Option Refusal
 enter_refusal most journal boat =
     if is_entered journal boat then Some AlreadyEntered
     else if nat_le most.boats (length (entered journal)) then Some EntryFull
     else None
 
--- of Finish and Time: a boat is placed once in a race (RRS A3)
+-- Finish and Time: a boat is placed once in a race (RRS A3)
 abbrev pub place_refusal : RulesParts → Journal → ℕ → Sail → Option Refusal
 place_refusal rules journal race boat =
     if not (is_entered journal boat) then Some NotEntered
     else if is_placed rules journal race boat then Some AlreadyPlaced
     else None
 
--- of Tie and Before: a place by that of another boat (RRS A3, A7)
+-- Tie and Before: a place by that of another boat (RRS A3, A7)
 abbrev pub place_by_refusal : RulesParts → Journal → ℕ → Sail → Sail → Option Refusal
 place_by_refusal rules journal race boat other =
     if not (is_entered journal boat && is_entered journal other) then Some NotEntered
@@ -115,22 +115,22 @@ place_by_refusal rules journal race boat other =
     else if not (is_placed rules journal race other) then Some NotPlaced
     else None
 
--- of Strike: only who stands in the order can be taken out of it
+-- Strike: the boat has to be in the order
 abbrev pub strike_refusal : RulesParts → Journal → ℕ → Sail → Option Refusal
 strike_refusal rules journal race boat =
     if not (is_entered journal boat) then Some NotEntered
     else if not (is_placed rules journal race boat) then Some NotPlaced
     else None
 
--- of Mark and Redress: a decision of the protest committee stands
+-- Mark and Redress: a decision of the protest committee stays until it is cleared
 abbrev pub decision_refusal : Journal → ℕ → Sail → Option Refusal
 decision_refusal journal race boat =
     if not (is_entered journal boat) then Some NotEntered
     else if is_decided (held journal race boat) then Some Decided
     else None
 
--- of Penalise: so many ZFP (RRS 30.2) and so many SCP (RRS 44.3(c)) at most, and none after a
--- decision
+-- Penalise: at most MAX_PENALTIES ZFP (RRS 30.2) and as many SCP (RRS 44.3(c)), and none after a
+-- decision of the protest committee
 abbrev pub penalty_refusal : Journal → ℕ → Sail → PenaltyKind → Option Refusal
 penalty_refusal journal race boat kind =
     if not (is_entered journal boat) then Some NotEntered
@@ -138,7 +138,7 @@ penalty_refusal journal race boat kind =
     else if nat_le MAX_PENALTIES (penalties kind (held journal race boat)) then Some PenaltyLimit
     else None
 
--- of Clear: a decision of the protest committee is cleared by the jury alone
+-- Clear: only the jury clears a decision of the protest committee
 abbrev pub clear_refusal : Journal → Role → ℕ → Sail → Option Refusal
 clear_refusal journal role race boat =
     if not (is_entered journal boat) then Some NotEntered
@@ -146,19 +146,18 @@ clear_refusal journal role race boat =
     else if holds_nothing (held journal race boat) then Some NothingToClear
     else None
 
--- of Score: a race counts once, and not while nobody stands in its order; a boat with a code that
--- stands there is enough
+-- Score: a race counts once, and only if its order has a boat; a boat with a code is enough
 abbrev pub score_refusal : RulesParts → Journal → ℕ → Option Refusal
 score_refusal rules journal race =
     if is_scored journal race then Some AlreadyScored
     else if is_empty (order rules journal race) then Some NoFinisher
     else None
 
--- of Unscore: only a race that counts can stop counting
+-- Unscore: the race has to count
 abbrev pub unscore_refusal : Journal → ℕ → Option Refusal
 unscore_refusal journal race = if is_scored journal race then None else Some NotScored
 
--- of each command; the finishing order is that of the rules of the series
+-- the refusal of a command; the finishing order is that of the rules of the series
 abbrev pub command_refusal : Limits → RulesParts → Journal → Role → Command → Option Refusal
 command_refusal most rules journal role (Enter sail) = enter_refusal most journal sail
 command_refusal most rules journal role (Finish race sail) = place_refusal rules journal race sail
@@ -178,7 +177,7 @@ command_refusal most rules journal role (Clear race sail) = clear_refusal journa
 command_refusal most rules journal role (Score race) = score_refusal rules journal race
 command_refusal most rules journal role (Unscore race) = unscore_refusal journal race
 
--- why the entry is refused by the journal, or nothing
+-- why the journal refuses the entry, or None
 abbrev pub refusal : Limits → RulesParts → Journal → EntryParts → Option Refusal
 refusal most rules journal entry =
     if nat_le most.entries (length journal) then Some JournalFull
@@ -188,23 +187,23 @@ refusal most rules journal entry =
     else if is_of_other_system rules entry.command then Some WrongSystem
     else command_refusal most rules journal entry.role entry.command
 
--- what a call may answer: the refusal that is due, or want of memory where none is due
+-- what a call may return: the refusal that applies, or NoMemory if none applies
 abbrev pub IsRefusal : Option Refusal → Refusal → Type 0
 IsRefusal (Some due) why = why ≡ due
 IsRefusal None why = why ≡ NoMemory
 
--- a refusal at this place, or what comes after it
+-- the refusal at this place, or else the first one after it
 abbrev pub refused_or : Option Refusal → ℕ → Option (ℕ × Refusal) → Option (ℕ × Refusal)
 refused_or (Some why) at rest = Some (at, why)
 refused_or None at rest = rest
 
--- the first entry refused where those before it stand already: its place, counted from 1, and why
+-- the first entry refused after those before it: its place, from 1, and why
 abbrev pub refused_from : Limits → RulesParts → Journal → List EntryParts → Option (ℕ × Refusal)
 refused_from most rules before [] = None
 refused_from most rules before (entry ∷ entries) =
     refused_or (refusal most rules before entry) (length before + 1)
     (refused_from most rules (before ++ entry ∷ []) entries)
 
--- a journal that a board may hold: no entry of it is refused by those before it
+-- a journal that a board may hold: no entry is refused after those before it
 abbrev pub is_lawful : Limits → RulesParts → Journal → Bool
 is_lawful most rules journal = is_none (refused_from most rules [] journal)

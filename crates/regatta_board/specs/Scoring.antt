@@ -1,4 +1,4 @@
--- What the board keeps of the scores: a column for each race, a line and a rank for each boat.
+-- The scores that the board keeps: a column for each race, a line and a rank for each boat.
 use Rattle.std.specs.Prelude.{◌≡◌, ℕ, ◌-◌, false, List, [], length, slice_index_or, slice_set}
 use Rattle.std.specs.Prelude.{Option, Some, None, ◌∷◌, if◌then◌else◌}
 use Rattle.std.specs.Option.{unwrap_or}
@@ -25,42 +25,41 @@ use Rattle.regatta_board.specs.Revisions.{revised}
 use Rattle.regatta_board.specs.Table.{Kept, column, columns, races, lines as lines_of}
 use Rattle.regatta_board.specs.Table.{no_line, no_rank}
 
--- for each race of a series a column, which says nothing where the race doesn't count; for each
--- boat her line (RRS A2.1) and her rank (RRS A8)
+-- a column for each race of a series, which is empty if the race doesn't count; a line (RRS A2.1)
+-- and a rank (RRS A8) for each boat
 pub record Scoring : Type 0 where
   pub columns : List (List Outcome)
   pub lines : List BoatScores
   pub ranks : List Place
 
--- what the column at an index says: what the race's sheet makes of each boat where the race counts,
--- and nothing where it doesn't
+-- the column at an index: each boat's outcome on the race's sheet, or nothing if the race doesn't
+-- count
 abbrev pub column_at : RulesParts → Kept → ℕ → List Outcome
 column_at rules kept k =
     if slice_index_or kept.counts k false
     then column rules (slice_index_or kept.sheets k (empty_sheet 0)) else []
 
--- each column is what it should be
 abbrev pub AreColumns : RulesParts → Kept → List (List Outcome) → Type 0
 AreColumns rules kept columns = (k : ℕ) → slice_index_or columns k [] ≡ column_at rules kept k
 
--- the columns once the new ones have replaced the old ones
+-- the columns, after new ones replace the old ones
 abbrev pub with_columns : List (List Outcome) → NewColumns → List (List Outcome)
 with_columns old Same = old
 with_columns old (One race column) = slice_set old (race - 1) column
 with_columns old (All columns) = columns.items
 
--- 1 for a race that counts, and 0 for one that doesn't
+-- 1 if the race counts, else 0
 abbrev pub once_if_counted : Kept → ℕ → ℕ
 once_if_counted kept race = if slice_index_or kept.counts (race - 1) false then 1 else 0
 
--- how many columns a revision makes anew at most: those of all races that count for one more boat,
--- else that of its race where it counts from then on
+-- the most columns that a revision recomputes: those of all races that count if it enters a boat,
+-- else that of its race, if this counts afterwards
 abbrev pub most_remade : Kept → Revision → ℕ
 most_remade kept (revision.Enter boats sheets) = length (races kept.counts)
 most_remade kept (revision.Sheet race sheet) = once_if_counted kept race
 most_remade kept (revision.Counts race counts) = if counts then 1 else 0
 
--- the same by the command that is accepted
+-- the same, by the accepted command
 abbrev pub most_remade_by : Kept → Command → ℕ
 most_remade_by kept (Enter sail) = length (races kept.counts)
 most_remade_by kept (Finish race sail) = once_if_counted kept race
@@ -75,37 +74,37 @@ most_remade_by kept (Clear race sail) = once_if_counted kept race
 most_remade_by kept (Score race) = 1
 most_remade_by kept (Unscore race) = 0
 
--- the lines of all boats, made from what is kept of the journal
+-- the lines of all boats, computed from what is kept of the journal
 abbrev pub lines_by : RulesParts → Kept → List BoatScores
 lines_by rules kept =
     lines_of rules (columns rules kept.sheets (races kept.counts)) (length kept.sails)
 
--- each part is as what is kept of the journal makes it
+-- each part is as computed from what is kept of the journal
 pub record IsScoring (rules : RulesParts) (kept : Kept) (scoring : Scoring) : Type 0 where
   pub long : length scoring.columns ≡ MAX_RACES
   pub columns : AreColumns rules kept scoring.columns
   pub lines : scoring.lines ≡ lines_by rules kept
   pub ranks : scoring.ranks ≡ places_of scoring.lines
 
--- the lines once the new ones have replaced the old ones: of each boat the new one where there is
--- one, else the old one
+-- the lines, after new ones replace the old ones: each boat's new line if there is one, else the
+-- old one
 abbrev pub with_changed : List BoatScores → List (Option BoatScores) → List BoatScores
 with_changed [] new = []
 with_changed (old ∷ olds) [] = old ∷ olds
 with_changed (old ∷ olds) (new ∷ news) = unwrap_or new old ∷ with_changed olds news
 
--- the lines once new ones have replaced some or all of them
+-- the lines, after new ones replace some or all of them
 abbrev pub with_lines : List BoatScores → NewLines → List BoatScores
 with_lines old (lines.Changed new) = with_changed old new.items
 with_lines old (lines.All new) = new.items
 
--- where some lines are new, it is said of each boat whether hers is
+-- if some lines are new, the list has an item for each boat
 abbrev pub IsOfEach : List BoatScores → NewLines → Type 0
 IsOfEach old (lines.Changed new) = length new.items ≡ length old
 IsOfEach old (lines.All new) = Unit {0}
 
--- new lines make those of what is kept before into those of what is kept after, and the ranks are
--- theirs; where there are none, the lines stay
+-- the new lines turn the lines before into those after, and the ranks are theirs; without new
+-- lines, the lines stay
 abbrev pub AreRanked : RulesParts → Kept → Kept → Option Ranked → Type 0
 AreRanked rules before after None = lines_by rules before ≡ lines_by rules after
 AreRanked rules before after (Some ranked) =
@@ -113,13 +112,13 @@ AreRanked rules before after (Some ranked) =
     × (with_lines (lines_by rules before) ranked.lines ≡ lines_by rules after)
     × (ranked.ranks ≡ places_of (lines_by rules after))
 
--- new columns make those of what is kept before into those of what is kept after
+-- the new columns turn the columns before into those after
 abbrev pub AreNewColumns : RulesParts → Kept → Kept → NewColumns → Type 0
 AreNewColumns rules before after new =
     (old : List (List Outcome)) → length old ≡ MAX_RACES → AreColumns rules before old
     → (length (with_columns old new) ≡ MAX_RACES) × AreColumns rules after (with_columns old new)
 
--- a new sheet turns the column of its race alone
+-- a new sheet changes only the column of its race
 abbrev pub RemakesOneColumn : RulesParts → Revision → NewColumns → Type 0
 RemakesOneColumn rules (revision.Enter boats sheets) new = Unit {0}
 RemakesOneColumn rules (revision.Sheet race sheet) new =
@@ -127,7 +126,7 @@ RemakesOneColumn rules (revision.Sheet race sheet) new =
     → with_columns old new ≡ slice_set old (race - 1) (column rules sheet)
 RemakesOneColumn rules (revision.Counts race counts) new = Unit {0}
 
--- a revision turns the column of this race, and leaves the races that count and the boats as they
+-- a revision changes the column of this race, and leaves the boats and the races that count as they
 -- are
 pub record RemakesOnly (rules : RulesParts) (kept : Kept) (change : Revision) (race : ℕ)
     (scoring : Scoring) (new : NewColumns) : Type 0 where
@@ -137,34 +136,34 @@ pub record RemakesOnly (rules : RulesParts) (kept : Kept) (change : Revision) (r
   pub column : with_columns scoring.columns new
       ≡ slice_set scoring.columns (race - 1) (column rules sheet)
 
--- a new sheet says of each boat what the old one said
+-- a new sheet leaves the outcome of each boat as it was
 abbrev pub SaysTheSame : Scoring → Revision → NewColumns → Type 0
 SaysTheSame scoring (revision.Enter boats sheets) new = ⊥
 SaysTheSame scoring (revision.Sheet race sheet) new =
     with_columns scoring.columns new ≡ scoring.columns
 SaysTheSame scoring (revision.Counts race counts) new = ⊥
 
--- new scores make those of what is kept before into those of what is kept after
+-- the new scores turn the scores before into those after
 pub record AreNewScores (rules : RulesParts) (before after : Kept) (new : NewScores) : Type 0 where
   pub columns : AreNewColumns rules before after new.columns
   pub ranked : AreRanked rules before after new.ranked
 
--- new lines, if there are any, are said to be of each boat
+-- new lines, if there are any, have an item for each boat
 abbrev pub FitLines : List BoatScores → Option Ranked → Type 0
 FitLines old None = Unit {0}
 FitLines old (Some ranked) = IsOfEach old ranked.lines
 
--- the lines once new ones, if there are any, have replaced them
+-- the lines, after new ones, if there are any, replace them
 abbrev pub lines_after : List BoatScores → Option Ranked → List BoatScores
 lines_after old None = old
 lines_after old (Some ranked) = with_lines old ranked.lines
 
--- the ranks, likewise
+-- the ranks, after new ones, if there are any, replace them
 abbrev pub ranks_after : List Place → Option Ranked → List Place
 ranks_after old None = old
 ranks_after old (Some ranked) = ranked.ranks
 
--- the scores once the new ones are moved in
+-- the scores, after the new ones are moved in
 abbrev pub with_scores : Scoring → NewScores → Scoring
 with_scores old new = record {
   columns = with_columns old.columns new.columns;
@@ -172,7 +171,7 @@ with_scores old new = record {
   ranks = ranks_after old.ranks new.ranked;
 }
 
--- what an answer tells of the boat of this number: rank (RRS A8), whether it is shared, and net
+-- what an answer has about the boat with this number: rank (RRS A8), whether it is shared, and net
 -- points
 abbrev pub touched_at : Scoring → ℕ → Touched
 touched_at scoring n = record {

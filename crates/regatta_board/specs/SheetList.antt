@@ -6,6 +6,6 @@ use Rattle.regatta_scores.specs.Sheet.{Sheet, boats}
 abbrev pub sheets_of : Sheet → List (Option Sheet) → List Sheet
 sheets_of blank changed = map (λ sheet. unwrap_or sheet blank) changed
 
--- all sheets have as many boats as the blank one (RRS A2.2: each boat is scored in each race)
+-- all sheets have as many boats as the blank one: each boat is scored in each race (RRS A2.2)
 abbrev pub AreAlike : Sheet → List Sheet → Type 0
 AreAlike blank sheets = All (λ sheet. boats sheet ≡ boats blank) sheets

@@ -1,4 +1,4 @@
--- The standing made from sheets: boats and races by their numbers.
+-- The standing from sheets, with boats and races by their numbers.
 use Rattle.std.specs.Prelude.{◌≡◌, ℕ, ◌-◌, ◌≤◌, Bool, false, nat_eq, List, [], length, map, filter}
 use Rattle.std.specs.Prelude.{slice_index_or, All}
 use Rattle.std.specs.List.{range_with_len}
@@ -18,24 +18,25 @@ use Rattle.regatta_board.specs.declared.outcomes.Outcome.{Outcome}
 use Rattle.regatta_board.specs.Refusals.{limits}
 use Rattle.regatta_board.specs.Outcomes.{line, row, row_by}
 
--- what is kept of a journal: the boats entered, and of each race its sheet and whether it counts
+-- what is kept of a journal: the boats entered, each race's sheet, and whether it counts
 pub record Kept : Type 0 where
   pub sails : List Sail
   pub sheets : List Sheet
   pub counts : List Bool
 
--- a sheet for each race, no more boats than may be entered, and all of them on each sheet
+-- there is a sheet for each race, there are no more boats than may be entered, and each sheet has
+-- all
 pub record IsKept (kept : Kept) : Type 0 where
   pub few : length kept.sails ≤ limits.boats
   pub sheets : length kept.sheets ≡ MAX_RACES
   pub counts : length kept.counts ≡ MAX_RACES
   pub same : All (λ sheet. boats sheet ≡ length kept.sails) kept.sheets
 
--- what stands where no boat has this number: no lookup that matters meets it
+-- the default outcome; no number of a boat leads to it
 abbrev pub no_outcome : Outcome
 no_outcome = record { plain = 0; held = nothing_held; placed = false }
 
--- what came of each boat on a sheet
+-- the outcome of a boat on a sheet
 abbrev pub outcome_on : RulesParts → Sheet → ℕ → Outcome
 outcome_on rules sheet boat =
     record {
@@ -44,7 +45,7 @@ outcome_on rules sheet boat =
       placed = stands_in nat_eq boat sheet.order;
     }
 
--- what came of every boat in one race, by their numbers
+-- the outcomes of all boats in one race, by their numbers
 abbrev pub column : RulesParts → Sheet → List Outcome
 column rules sheet = map (outcome_on rules sheet) (range_with_len 0 (boats sheet))
 
@@ -57,7 +58,7 @@ abbrev pub columns : RulesParts → List Sheet → List ℕ → List (List Outco
 columns rules sheets races =
     map (λ race. column rules (slice_index_or sheets (race - 1) (empty_sheet 0))) races
 
--- what came of one boat in each race that counts
+-- one boat's outcome in each race that counts
 abbrev pub outcomes : List (List Outcome) → ℕ → List Outcome
 outcomes columns boat = map (λ column. slice_index_or column boat no_outcome) columns
 
@@ -72,27 +73,27 @@ row_of rules sails columns boat =
     (place (lines rules columns (length sails)) (line rules (outcomes columns boat)))
     (outcomes columns boat)
 
--- the rows of all boats, in the order in which the table shows them (RRS A8)
+-- the rows of all boats, in the order of the table (RRS A8)
 abbrev pub rows : RulesParts → List Sail → List (List Outcome) → List Row
 rows rules sails columns =
     scores.sorted_rows (map (row_of rules sails columns) (range_with_len 0 (length sails)))
 
--- what stands where no boat has this number, in the list of ranks
+-- the default rank; no number of a boat leads to it
 abbrev pub no_rank : Place
 no_rank = record { rank = 0; tied = false }
 
--- a boat's row from the lines and ranks of the boats, each made once (RRS A8)
+-- a boat's row from the lines and ranks of all boats, which are computed once (RRS A8)
 abbrev pub row_at : List Sail → List (List Outcome) → List BoatScores → List Place → ℕ → Row
 row_at sails columns lines ranks boat =
     row_by (slice_index_or sails boat []) (slice_index_or ranks boat no_rank)
     (slice_index_or lines boat no_line) (outcomes columns boat)
 
--- the rows of all boats from their lines and ranks, in the table's order (RRS A8)
+-- the rows of all boats from their lines and ranks, in the order of the table (RRS A8)
 abbrev pub rows_by : List Sail → List (List Outcome) → List BoatScores → List Place → List Row
 rows_by sails columns lines ranks =
     scores.sorted_rows (map (row_at sails columns lines ranks) (range_with_len 0 (length sails)))
 
--- the standing that what is kept makes: the races that count, and a row for each boat (RRS A2.2)
+-- the standing by what is kept: the races that count, and a row for each boat (RRS A2.2)
 abbrev pub table : RulesParts → Kept → Standing
 table rules kept =
     let cols = columns rules kept.sheets (races kept.counts) in

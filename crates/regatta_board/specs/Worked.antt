@@ -8,6 +8,6 @@ abbrev pub ok : ℕ → ℕ → Bool → ℕ → Result Answer Refusal
 ok place rank tied net =
     Ok (record { place = place; touched = Some (record { rank = rank; tied = tied; net = net }) })
 
--- the answer to one that names none: its place
+-- the answer to a command that names no boat: its place
 abbrev pub ok_alone : ℕ → Result Answer Refusal
 ok_alone place = Ok (record { place = place; touched = None })

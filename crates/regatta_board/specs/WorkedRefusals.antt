@@ -22,11 +22,10 @@ use Rattle.regatta_board.specs.Refusals.{limits}
 use Rattle.regatta_board.specs.Runs.{replies, journal_after}
 use Rattle.regatta_board.specs.Worked.{ok, ok_alone}
 
--- how large a series may grow
 pub limits_are : (limits.boats ≡ 500) × (limits.entries ≡ 8192)
 limits_are = (refl, refl)
 
--- refusals that one boat and one race can meet
+-- commands that are refused, with one boat and one race
 abbrev pub each_refusal_commands : List (Role × Command)
 each_refusal_commands =
     scorer (Enter a)
@@ -52,7 +51,6 @@ each_refusal_commands =
     ∷ jury (Redress 1 a redress.AllRaces)
     ∷ []
 
--- what each of them is answered
 pub each_refusal_replies :
     replies default_rules [] each_refusal_commands
     ≡ ok 1 1 false 0
@@ -79,7 +77,7 @@ pub each_refusal_replies :
     ∷ []
 each_refusal_replies = refl
 
--- and the standing that they leave
+-- the standing after these commands
 pub each_refusal_table :
     standing default_rules (journal_after default_rules [] each_refusal_commands)
     ≡ table (1 ∷ []) (row a 1 false 25 (marked 25 abbreviation.Rdg ∷ []) ∷ [])
@@ -89,7 +87,7 @@ each_refusal_table = refl
 abbrev pub nine_penalties : List (Role × Command)
 nine_penalties = scorer (Enter a) ∷ replicate 9 (scorer (Penalise 1 a kind.Zfp))
 
--- a tenth is refused, and a penalty of the other kind is not
+-- a tenth is refused, and a penalty of the other kind is accepted
 pub tenth_penalty :
     replies default_rules (journal_after default_rules [] nine_penalties)
     (scorer (Penalise 1 a kind.Zfp) ∷ jury (Penalise 1 a kind.Scp) ∷ [])

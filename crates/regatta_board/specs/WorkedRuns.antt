@@ -1,5 +1,5 @@
--- Worked examples: what each command of a run is answered. The standings that the runs leave are
--- worked beside the definitions of scoring.
+-- Worked examples: the replies to the commands of a run. The standings after the runs are worked
+-- beside the definitions of scoring.
 use Rattle.std.specs.Prelude.{◌≡◌, refl, false, true, List, [], ◌∷◌, ◌++◌, Err}
 use Rattle.regatta_terms.specs.declared.command.Code.TheVariants as code
 use Rattle.regatta_terms.specs.declared.command.Redress.TheVariants.{AllRaces}
@@ -15,14 +15,15 @@ use Rattle.regatta_board.specs.Refusals.{limits, is_lawful}
 use Rattle.regatta_board.specs.Runs.{replies, journal_after}
 use Rattle.regatta_board.specs.Worked.{ok, ok_alone}
 
--- A and B share the first place (A7); A is disqualified, and the others move up (A6.1); then a role
--- sends what isn't its own, and the race committee a code for A, whose disqualification stands
+-- A and B share the first place (A7); A is disqualified, and the others move up (A6.1). Then a role
+-- sends a command that isn't its own, and the race committee sends a code for A, whose
+-- disqualification stays
 abbrev pub disqualified_from_a_tie : List (Role × Command)
 disqualified_from_a_tie =
     tie_for_first
     ++ jury (Mark 1 a code.Dsq) ∷ (Finish, Mark 1 b code.Dsq) ∷ scorer (Mark 1 a code.Ret) ∷ []
 
--- each answer is told by the standing after its command: nothing counts before SCORE
+-- each answer is by the standing after its command: nothing counts before SCORE
 pub disqualified_from_a_tie_replies :
     replies default_rules [] disqualified_from_a_tie
     ≡ ok 1 1 false 0
@@ -58,7 +59,7 @@ pub late_entry_replies :
     ∷ []
 late_entry_replies = refl
 
--- an average as redress follows her other races (A9)
+-- an average as redress depends on her other races (A9)
 pub average_follows_replies :
     replies no_exclusions [] average_in_the_second
     ≡ ok 1 1 false 0
@@ -74,7 +75,7 @@ pub average_follows_replies :
     ∷ []
 average_follows_replies = refl
 
--- a late entry beside an average as redress (A2.2, A9)
+-- a late entry, with an average as redress (A2.2, A9)
 pub late_entry_with_average_replies :
     replies no_exclusions [] (two_races ++ jury (Redress 1 a AllRaces) ∷ scorer (Enter c) ∷ [])
     ≡ ok 1 1 false 0

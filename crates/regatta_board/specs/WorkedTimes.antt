@@ -1,4 +1,4 @@
--- Worked examples of runs by corrected times (RRS A3, A7): what each command is answered.
+-- Worked examples of runs by corrected times (RRS A3, A7): the replies to their commands.
 use Rattle.std.specs.Prelude.{◌≡◌, refl, false, true, List, [], ◌∷◌, ◌++◌, Some, Err}
 use Rattle.regatta_terms.specs.declared.command.Role.{Role}
 use Rattle.regatta_terms.specs.declared.command.Command.{Command}
@@ -14,15 +14,14 @@ use Rattle.regatta_board.specs.Refusals.{limits, is_lawful, refused_from}
 use Rattle.regatta_board.specs.Runs.{replies, journal_after}
 use Rattle.regatta_board.specs.Worked.{ok, ok_alone}
 
--- three boats are timed; one is struck and timed again; then a place by finishing, a time for a
--- boat that has one, for one that isn't entered, and from the protest committee
+-- three boats are timed; one is struck and timed again. Then come a place by finishing, and times
+-- for a boat that has one, for one that isn't entered, and from the protest committee
 abbrev pub times_of_three : List (Role × Command)
 times_of_three =
     timed_again
     ++ scorer (Finish 1 b) ∷ scorer (Time 1 b 1) ∷ scorer (Time 1 d 1) ∷ jury (Time 1 b 1)
     ∷ jury (Finish 1 b) ∷ []
 
--- each of these lines is answered so
 pub times_of_three_replies :
     replies by_times [] times_of_three
     ≡ ok 1 1 false 0
@@ -42,7 +41,7 @@ pub times_of_three_replies :
     ∷ []
 times_of_three_replies = refl
 
--- and the standing that they leave
+-- the standing after these commands
 pub times_of_three_table :
     standing by_times (journal_after by_times [] times_of_three)
     ≡ table (1 ∷ []) (row a 1 false 10 (plain 10 ∷ []) ∷ row b 2 false 20 (plain 20 ∷ [])
@@ -71,7 +70,7 @@ pub finishes_refused : refused_from limits by_times [] (journal tie_for_first)
     ≡ Some (4, WrongSystem)
 finishes_refused = refl
 
--- and so is one of corrected times, without handicap
+-- without handicap, so is a journal of corrected times
 pub times_refused : refused_from limits default_rules [] (journal three_timed)
     ≡ Some (4, WrongSystem)
 times_refused = refl

@@ -1,4 +1,4 @@
-//! Which board a command was prepared on.
+//! The board that a command was prepared on.
 ghost use Rattle.std.specs.Prelude.{◌≡◌};
 ghost use Rattle.std.specs.Borrow.{ftrue};
 ghost use Rattle.regatta_board.specs.BoardFacts.{BoardValue};
@@ -6,7 +6,7 @@ ghost use Rattle.regatta_board.specs.BoardFacts.{BoardValue};
 use crate::board::Board;
 use std::marker::Model;
 
-/// The board that a command was prepared on, for clauses alone. It takes no bytes.
+/// The board that a command was prepared on. Only clauses use it: it has no bytes.
 #[derive(Drop)]
 pub(crate) struct Basis {
     pub ghost board: { BoardValue },
@@ -17,7 +17,7 @@ impl Model for Basis {
 }
 
 impl Basis {
-    /// Of this board, as it is now.
+    /// Records the board as it is now.
     pub(crate) fn of(board: &Board) -> Basis
         ensures { result.board ≡ board.now }
     {

@@ -10,8 +10,8 @@ use regatta_terms::Sail;
 use std::alloc::{AllocError, Global};
 use std::marker::Model;
 
-/// The boats entered, in order of their entry, each once and with her number: her position in
-/// the list, counted from 0.
+/// The boats entered, in order of entry, each once. A boat's number is her position in the list,
+/// from 0.
 #[derive(Drop)]
 pub struct Boats {
     numbers: IndexMap<Sail, u16>,
@@ -31,7 +31,6 @@ impl Model for Boats {
 }
 
 impl Boats {
-    /// No boats.
     pub(crate) fn new(alloc: Global) -> Boats
         ensures { result ≡ [] }
     {
@@ -40,21 +39,19 @@ impl Boats {
         }
     }
 
-    /// How many boats there are.
     pub(crate) fn len(&self) -> usize
         ensures { result ≡ length self.now }
     {
         self.numbers.len()
     }
 
-    /// Whether the boat is in the list.
     pub(crate) fn contains(&self, boat: Sail) -> bool
         ensures { result ≡ list_any (same_sail boat) self.now }
     {
         self.numbers.contains_key(&boat)
     }
 
-    /// The number of the boat, where she is in the list.
+    /// The number of the boat, if she is in the list.
     pub(crate) fn number(&self, boat: Sail) -> Option<u16>
         ensures { result ≡ position (same_sail boat) self.now }
     {
@@ -62,7 +59,6 @@ impl Boats {
         Some(*number)
     }
 
-    /// The boat of this number.
     pub(crate) fn at(&self, number: usize) -> Sail
         requires { number < length self.now }
         ensures { result ≡ slice_index_or self.now number [] }
@@ -70,7 +66,7 @@ impl Boats {
         *self.numbers.get_index(number).unwrap().0
     }
 
-    /// The list with one more boat, last.
+    /// Copies the list and appends a boat.
     pub(crate) fn with(&self, boat: Sail) -> Result<Boats, AllocError>
         requires few { length self.now < limits.boats }
         requires new { list_any (same_sail boat) self.now ≡ false }

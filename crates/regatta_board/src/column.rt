@@ -1,4 +1,4 @@
-//! Columns: what came of each boat in a race that counts.
+//! Columns: the outcomes of all boats in a race that counts.
 ghost use Rattle.std.specs.Prelude.{◌≡◌, ◌+◌, ◌-◌, ◌<◌, ◌≤◌, ◌^◌, [], true, false, length, List};
 ghost use Rattle.std.specs.Prelude.{map, slice_index_or, slice_set, IfOk, OnOk, if◌then◌else◌, ◌↔◌};
 ghost use Rattle.regatta_terms.specs.Entries.{IsRace};
@@ -18,7 +18,7 @@ use regatta_terms::{MAX_RACES, RaceNo, Redress, Rules};
 use std::alloc::{AllocError, Global};
 use std::marker::Model;
 
-/// What came of each boat in one race, in their order.
+/// The outcome of each boat in one race, in the order of their numbers.
 #[derive(Drop)]
 pub struct Column {
     outcomes: Vec<Outcome>,
@@ -34,7 +34,7 @@ impl Model for Column {
 }
 
 impl Column {
-    /// That of a race which doesn't count: it says nothing, and takes no memory.
+    /// The column of a race that doesn't count. It has no outcomes, and doesn't allocate.
     pub(crate) fn empty(alloc: Global) -> Column
         ensures { result ≡ [] }
     {
@@ -43,7 +43,6 @@ impl Column {
         }
     }
 
-    /// What came of one boat.
     pub(crate) fn at(&self, boat: usize) -> Outcome
         requires { boat < length self.now }
         ensures { result ≡ slice_index_or self.now boat no_outcome }
@@ -51,7 +50,7 @@ impl Column {
         self.outcomes[boat]
     }
 
-    /// Whether it says of each boat what the other says.
+    /// Whether both have the same outcome for each boat.
     pub(crate) fn is_same(&self, other: &Column) -> bool
         ensures { (result ≡ true) ↔ (self.now ≡ other.now) }
     {
@@ -59,7 +58,6 @@ impl Column {
     }
 }
 
-/// What came of a boat on a sheet where this is her score.
 fn outcome(sheet: &RaceSheet, score: RaceScore, boat: u16) -> Outcome
     requires { boat < boats_of sheet.now }
     ensures { result ≡ record {
@@ -75,7 +73,6 @@ fn outcome(sheet: &RaceSheet, score: RaceScore, boat: u16) -> Outcome
     }
 }
 
-/// What came of each boat in a race.
 pub(crate) fn made_column(
     alloc: Global,
     sheet: &RaceSheet,
@@ -90,7 +87,7 @@ pub(crate) fn made_column(
 {
     let scores = race_scores(alloc, sheet, rules, work)?;
     let scores = scores.as_slice();
-    // rattle must see the types that an outcome is made of
+    // Rattle has to see the types that an outcome is made of.
     let _parts: (Option<Held>, Option<Redress>) = (None, None);
     let mut column = Vec::with_capacity(alloc, scores.len())?;
     for boat in 0..scores.len() {
@@ -99,18 +96,18 @@ pub(crate) fn made_column(
     Ok(Column { outcomes: column })
 }
 
-/// The columns that a command makes anew.
+/// The columns that a command recomputes.
 #[derive(Drop)]
 pub enum NewColumns {
-    /// None: it names a race that doesn't count.
+    /// None: the command names a race that doesn't count.
     Same,
-    /// That of one race: empty where it doesn't count any more.
+    /// The column of one race; it is empty if the race no longer counts.
     One { race: RaceNo, column: Column },
-    /// Those of all races that count.
+    /// The columns of all races that count.
     All { columns: Vec<Column> },
 }
 
-/// The column of a race, where it counts.
+/// The column of a race, or an empty one if the race doesn't count.
 fn column_if_scored(
     alloc: Global,
     draft: &Draft,
@@ -134,7 +131,7 @@ fn column_if_scored(
     Ok(column)
 }
 
-/// The columns of all races that count.
+/// Computes the columns of all races that count.
 pub(crate) fn all_columns(
     alloc: Global,
     draft: &Draft,
@@ -154,7 +151,7 @@ pub(crate) fn all_columns(
     Ok(columns)
 }
 
-/// The column of one race, made anew.
+/// Recomputes the column of one race.
 fn one_column(
     alloc: Global,
     race: RaceNo,
@@ -172,7 +169,7 @@ fn one_column(
     Ok(NewColumns::One { race, column })
 }
 
-/// The column of one race that doesn't count any more.
+/// Empties the column of a race that no longer counts.
 fn no_column(alloc: Global, race: RaceNo) -> NewColumns
     ensures { (old : List (List Outcome)) →
         with_columns old result ≡ slice_set old (race - 1) [] }
@@ -183,8 +180,8 @@ fn no_column(alloc: Global, race: RaceNo) -> NewColumns
     }
 }
 
-/// The columns that a revision of what the standing is made from makes anew: at most one, but of
-/// all races that count for one more boat.
+/// Recomputes the columns that a revision changes: all those of races that count if it enters a
+/// boat, else at most one.
 pub(crate) fn new_columns(
     alloc: Global,
     kept: &Kept,
@@ -208,7 +205,8 @@ pub(crate) fn new_columns(
             Ok(NewColumns::All { columns })
         }
         Revision::Sheet { race, sheet } => {
-            // does nothing: the proof learns here that the race is one a series may have
+            // This call does nothing. From its contract the proof learns that a series may have the
+            // race.
             let _ = race.get();
             one_column(alloc, *race, sheet, rules, work)
         }
@@ -235,7 +233,6 @@ impl<'a> Model for CurrentColumn<'a> {
 }
 
 impl<'a> CurrentColumn<'a> {
-    /// What came of one boat.
     pub(crate) fn at(&self, boat: usize) -> Outcome
         requires { boat < length self.now }
         ensures { result ≡ slice_index_or self.now boat no_outcome }
@@ -244,7 +241,7 @@ impl<'a> CurrentColumn<'a> {
     }
 }
 
-/// The column of a race, once the new ones have replaced the old ones.
+/// The column of a race, after new columns replace the old ones.
 pub(crate) fn current<'a>(old: &'a [Column], new: &'a NewColumns, race: RaceNo) -> CurrentColumn<'a>
     requires old { length old.now ≡ MAX_RACES }
     requires new { length (with_columns old.now new.now) ≡ MAX_RACES }
@@ -262,7 +259,7 @@ pub(crate) fn current<'a>(old: &'a [Column], new: &'a NewColumns, race: RaceNo) 
     CurrentColumn { column }
 }
 
-/// The columns of these races, once the new ones have replaced the old ones.
+/// The columns of these races, after new ones replace the old ones.
 pub(crate) fn current_columns<'a>(
     alloc: Global,
     old: &'a [Column],

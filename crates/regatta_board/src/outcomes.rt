@@ -1,4 +1,4 @@
-//! What came of a boat in each race that counts, and the line and the row that it makes.
+//! Outcomes: a boat's results in the races that count, and the line and row computed from them.
 ghost use Rattle.std.specs.Prelude.{◌≡◌, ◌≤◌, length, IfOk};
 ghost use Rattle.regatta_board.specs.Outcomes.{items as items_of, points as points_of, scores_by};
 ghost use Rattle.regatta_board.specs.Outcomes.{flags as flags_of, line as line_of, row_by};
@@ -11,18 +11,17 @@ use regatta_scores::{
 use regatta_terms::{MAX_RACES, Rules, Sail, Tenths};
 use std::alloc::{AllocError, Global};
 
-/// What came of one boat in one race.
+/// A boat's result in one race, from which her points, her line and her cell follow.
 #[derive(Clone, Copy, Default, PartialEq, Eq)]
 pub struct Outcome {
     /// Her points before redress.
     pub plain: Tenths,
-    /// What she holds.
+    /// Her code, penalties and redress.
     pub held: Held,
-    /// Whether she stands in the finishing order.
+    /// Whether she is in the finishing order.
     pub placed: bool,
 }
 
-/// Her scores before redress, and her redress.
 fn items(outcomes: &[Outcome]) -> PerRace<RowItem>
     requires { length outcomes.now ≤ MAX_RACES }
     ensures { result.items ≡ items_of outcomes.now }
@@ -37,7 +36,6 @@ fn items(outcomes: &[Outcome]) -> PerRace<RowItem>
     found
 }
 
-/// Her points in each race, with redress (RRS A9).
 #[tactic(auto, using(crate::proofs::Lengths::lengths))]
 fn points(outcomes: &[Outcome]) -> PerRace<Tenths>
     requires { length outcomes.now ≤ MAX_RACES }
@@ -47,7 +45,7 @@ fn points(outcomes: &[Outcome]) -> PerRace<Tenths>
     redressed_points(&items(outcomes))
 }
 
-/// Her points, and whether they are a disqualification that is not excludable.
+/// Her points, and whether they are for a disqualification that is not excludable (RRS 90.3(b)).
 #[tactic(auto, using(crate::proofs::Zipped::scores_more))]
 fn scores(outcomes: &[Outcome], points: &[Tenths]) -> PerRace<Scored>
     requires few { length outcomes.now ≤ MAX_RACES }
@@ -75,7 +73,7 @@ fn flags(outcomes: &[Outcome], points: &[Tenths], rules: &Rules) -> PerRace<bool
     exclusion_flags(&scores(outcomes, points), rules)
 }
 
-/// Her line, by which boats are compared.
+/// Her line, by which she is ranked.
 #[tactic(auto, using(crate::proofs::Lengths::lengths))]
 pub(crate) fn line(outcomes: &[Outcome], rules: &Rules) -> BoatLine
     requires { length outcomes.now ≤ MAX_RACES }
@@ -87,7 +85,6 @@ pub(crate) fn line(outcomes: &[Outcome], rules: &Rules) -> BoatLine
     BoatLine::of(&points, &flags)
 }
 
-/// A cell of the table.
 fn cell(outcome: &Outcome, points: Tenths, dropped: bool) -> Cell
     ensures { result ≡ cell_of outcome.now points dropped }
 {
@@ -98,7 +95,6 @@ fn cell(outcome: &Outcome, points: Tenths, dropped: bool) -> Cell
     }
 }
 
-/// Her cells.
 fn cells(
     alloc: Global,
     outcomes: &[Outcome],
@@ -116,7 +112,6 @@ fn cells(
     Ok(found)
 }
 
-/// Her row of the table.
 pub(crate) fn row(
     alloc: Global,
     boat: Sail,

@@ -1,4 +1,4 @@
-//! What is kept of the scores: a column for each race, a line and a rank for each boat.
+//! The scores that are kept: a column for each race, a line and a rank for each boat.
 ghost use Rattle.std.specs.Prelude.{◌≡◌, ◌+◌, ◌-◌, ◌<◌, ◌≤◌, ◌^◌, ℕ, true, false, length};
 ghost use Rattle.std.specs.Prelude.{slice_index_or, All, IfOk, IfSome, OnOk, None, ◌↔◌};
 ghost use Rattle.std.specs.Option.{unwrap_or};
@@ -30,8 +30,8 @@ use std::alloc::{AllocError, Global};
 use std::marker::Model;
 use std::mem::swap;
 
-/// A column for each race, which says something only where the race counts, and a line and a
-/// rank for each boat.
+/// A column for each race, which is empty if the race doesn't count, and a line and a rank for each
+/// boat.
 #[derive(Drop)]
 pub(crate) struct Scoring {
     columns: Vec<Column>,
@@ -51,13 +51,13 @@ impl Model for Scoring {
     } };
 }
 
-/// The lines that a command makes anew.
+/// The lines that a command recomputes.
 #[derive(Drop)]
 pub enum NewLines {
-    /// Those of the boats of whom a race's new sheet says something else, and None for each other
-    /// boat, whose line stays.
+    /// The new lines of boats whose outcome in a race changed; `None` for each boat whose line
+    /// stays.
     Changed { lines: Vec<Option<BoatLine>> },
-    /// Those of all boats.
+    /// The lines of all boats.
     All { lines: Vec<BoatLine> },
 }
 
@@ -68,15 +68,15 @@ pub struct Ranked {
     ranks: Places,
 }
 
-/// What a command changes of the scores.
+/// The scores that a command changes.
 #[derive(Drop)]
 pub struct NewScores {
     columns: NewColumns,
-    /// None where no boat's line changes.
+    /// `None` if no boat's line changes.
     ranked: Option<Ranked>,
 }
 
-/// A boat's line once new ones have replaced the old ones.
+/// A boat's line, after new ones replace the old ones.
 fn current_line<'a>(old: &'a BoatLine, new: &'a Option<BoatLine>) -> &'a BoatLine
     ensures { result.now ≡ unwrap_or new.now old.now }
 {
@@ -86,7 +86,7 @@ fn current_line<'a>(old: &'a BoatLine, new: &'a Option<BoatLine>) -> &'a BoatLin
     }
 }
 
-/// The lines of all boats once new ones have replaced the old ones, where they stand.
+/// References to the lines of all boats, after new ones replace the old ones.
 fn current_lines<'a>(
     alloc: Global,
     old: &'a [BoatLine],
@@ -102,7 +102,7 @@ fn current_lines<'a>(
     Ok(each)
 }
 
-/// The ranks of all boats once new lines have replaced the old ones.
+/// The ranks of all boats, after new lines replace the old ones.
 fn new_ranks(alloc: Global, old: &[BoatLine], new: &NewLines) -> Result<Places, AllocError>
     requires each { IsOfEach old.now new.now }
     requires few { length (with_lines old.now new.now) ≤ limits.boats }
@@ -117,8 +117,7 @@ fn new_ranks(alloc: Global, old: &[BoatLine], new: &NewLines) -> Result<Places, 
     }
 }
 
-/// A boat's new line, where one column is made anew: None where that says of her what the old one
-/// said.
+/// A boat's new line after one column is recomputed, or `None` if her outcome in it is the same.
 fn line_after(
     old: Outcome,
     new: Outcome,
@@ -138,7 +137,7 @@ fn line_after(
     Some(boat_line(columns, boat, rules))
 }
 
-/// The lines that change, where one column is made anew.
+/// The lines that change when one column is recomputed.
 fn changed_lines(
     alloc: Global,
     lines: &[BoatLine],
@@ -167,7 +166,7 @@ fn changed_lines(
     Ok(made)
 }
 
-/// The lines of all boats, made anew from these columns.
+/// Computes the lines of all boats from these columns.
 fn drafted_lines(
     alloc: Global,
     draft: &Draft,
@@ -187,7 +186,7 @@ fn drafted_lines(
     Ok(lines)
 }
 
-/// The lines that change, where the sheet of one race that counts is made anew.
+/// The lines that change when the sheet of a race that counts changes.
 fn remade_lines(
     alloc: Global,
     scoring: &Scoring,
@@ -215,7 +214,7 @@ fn remade_lines(
     Ok(NewLines::Changed { lines })
 }
 
-/// The lines that a revision and the columns that it makes anew make anew.
+/// Computes the lines that change with a revision and its new columns.
 fn new_lines(
     alloc: Global,
     scoring: &Scoring,
@@ -243,7 +242,7 @@ fn new_lines(
     Ok(NewLines::All { lines })
 }
 
-/// Whether a new sheet says of each boat what the old one said, so that no line changes.
+/// Whether a new sheet leaves each boat's outcome unchanged, so that no line changes.
 fn says_the_same(scoring: &Scoring, revision: &Revision, columns: &NewColumns) -> bool
     requires { length scoring.now.columns ≡ MAX_RACES }
     ensures { result ≡ true → SaysTheSame scoring.now revision.now columns.now }
@@ -256,7 +255,7 @@ fn says_the_same(scoring: &Scoring, revision: &Revision, columns: &NewColumns) -
     }
 }
 
-/// What a revision changes of the scores.
+/// Computes what a revision changes of the scores.
 pub(crate) fn new_scores(
     alloc: Global,
     scoring: &Scoring,
@@ -295,7 +294,6 @@ pub(crate) fn new_scores(
     })
 }
 
-/// Moves new columns in.
 fn put_columns(columns: &mut Vec<Column>, new: NewColumns)
     requires { length columns.old.items ≡ MAX_RACES }
     ensures { columns.new.items ≡ with_columns columns.old.items new }
@@ -316,7 +314,6 @@ fn put_line(line: &mut BoatLine, new: &mut Option<BoatLine>)
     }
 }
 
-/// Moves the lines that changed in.
 fn put_changed(lines: &mut [BoatLine], new: Vec<Option<BoatLine>>)
     requires { length new.items ≡ length lines.old }
     ensures { lines.new ≡ with_changed lines.old new.items }
@@ -327,7 +324,6 @@ fn put_changed(lines: &mut [BoatLine], new: Vec<Option<BoatLine>>)
     }
 }
 
-/// Moves new lines in.
 fn put_lines(lines: &mut Vec<BoatLine>, new: NewLines)
     requires { IsOfEach lines.old.items new }
     ensures { lines.new.items ≡ with_lines lines.old.items new }
@@ -339,7 +335,7 @@ fn put_lines(lines: &mut Vec<BoatLine>, new: NewLines)
 }
 
 impl Scoring {
-    /// The scores of what is kept, all made anew.
+    /// Computes all scores from scratch.
     pub(crate) fn of(alloc: Global, kept: &Kept, rules: &Rules) -> Result<Scoring, AllocError>
         requires { IsKept kept.now }
         ensures { IfOk result (IsScoring rules.now kept.now) }
@@ -355,7 +351,6 @@ impl Scoring {
         })
     }
 
-    /// Moves new scores in.
     pub(crate) fn revise(&mut self, new: NewScores)
         requires long { length self.old.columns ≡ MAX_RACES }
         requires each { FitLines self.old.lines new.ranked }
@@ -368,7 +363,7 @@ impl Scoring {
         }
     }
 
-    /// What an answer tells of the boat of this number.
+    /// The rank, tie and net points of the boat with this number, for an answer.
     pub(crate) fn touched(&self, boat: usize) -> Touched
         requires lines { boat < length self.now.lines }
         requires ranks { boat < length self.now.ranks }
@@ -382,7 +377,7 @@ impl Scoring {
         }
     }
 
-    /// The standing that what is kept makes.
+    /// Builds the standing from the scores and what is kept.
     pub(crate) fn standing(&self, alloc: Global, kept: &Kept) -> Result<Standing, AllocError>
         requires kept { IsKept kept.now }
         requires scoring { (rules : RulesParts) × IsScoring rules kept.now self.now }

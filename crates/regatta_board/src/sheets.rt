@@ -13,7 +13,7 @@ use std::alloc::{AllocError, Global};
 use std::marker::Model;
 
 /// The sheet of each race, by its index from 0. Races whose sheet was never changed share a blank
-/// one, so that they cost nothing when a boat is entered.
+/// one, so entering a boat costs nothing for them.
 #[derive(Drop)]
 pub struct Sheets {
     blank: RaceSheet,
@@ -32,7 +32,6 @@ impl Model for Sheets {
     ghost invariant = { λ s. AreAlike s.blank (sheets_of s.blank s.changed.items) };
 }
 
-/// No sheet of any race.
 fn unchanged(alloc: Global) -> Result<Vec<Option<RaceSheet>>, AllocError>
     ensures { IfOk result (λ changed. changed.items ≡ replicate MAX_RACES None) }
 {
@@ -43,7 +42,6 @@ fn unchanged(alloc: Global) -> Result<Vec<Option<RaceSheet>>, AllocError>
     Ok(changed)
 }
 
-/// The sheet, if there is one, with one more boat.
 fn with_boat(sheet: &Option<RaceSheet>) -> Result<Option<RaceSheet>, AllocError>
     requires { IfSome sheet.now (λ found. boats found < limits.boats) }
     ensures { IfOk result (λ new. new ≡ option_map (λ found. after found AddBoat) sheet.now) }
@@ -57,7 +55,6 @@ fn with_boat(sheet: &Option<RaceSheet>) -> Result<Option<RaceSheet>, AllocError>
     }
 }
 
-/// The sheets that there are, each with one more boat.
 fn each_with_boat(
     alloc: Global,
     sheets: &[Option<RaceSheet>],
@@ -74,7 +71,7 @@ fn each_with_boat(
 }
 
 impl Sheets {
-    /// Blank sheets of all races, without boats.
+    /// Blank sheets for all races, without boats.
     #[tactic(auto, using(crate::proofs::BlankSheets::blank_facts))]
     pub(crate) fn new(alloc: Global) -> Result<Sheets, AllocError>
         ensures { IfOk result (λ sheets. sheets ≡ replicate MAX_RACES (empty_sheet 0)) }
@@ -84,7 +81,6 @@ impl Sheets {
         Ok(Sheets { blank, changed })
     }
 
-    /// The sheet of a race.
     pub(crate) fn at(&self, at: usize) -> &RaceSheet
         requires { at < length self.now }
         ensures { result.now ≡ slice_index_or self.now at (empty_sheet 0) }
@@ -95,7 +91,7 @@ impl Sheets {
         }
     }
 
-    /// The sheets, each with one more boat.
+    /// Copies the sheets, each with one more boat.
     pub(crate) fn with_boat(&self, alloc: Global) -> Result<Sheets, AllocError>
         requires some { 0 < length self.now }
         requires few { All (λ sheet. boats sheet < limits.boats) self.now }
@@ -106,7 +102,6 @@ impl Sheets {
         Ok(Sheets { blank, changed })
     }
 
-    /// Replaces the sheet of a race.
     pub(crate) fn put(&mut self, at: usize, sheet: RaceSheet)
         requires within { at < length self.old }
         requires alike { boats sheet ≡ boats (slice_index_or self.old at (empty_sheet 0)) }

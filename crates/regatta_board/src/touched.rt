@@ -1,10 +1,10 @@
-//! The boat that an answer tells of.
+//! The boat whose row an answer has.
 ghost use Rattle.std.specs.Prelude.{◌≡◌};
 ghost use Rattle.regatta_board.specs.Answers.{boat_named as boat_named_by};
 
 use regatta_terms::{Command, Sail};
 
-/// The first boat that a command names.
+/// The first boat that a command names, if any.
 pub(crate) fn boat_named(command: Command) -> Option<Sail>
     ensures { result ≡ boat_named_by command }
 {

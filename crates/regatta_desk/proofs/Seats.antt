@@ -13,7 +13,7 @@ use Rattle.regatta_desk.specs.Passes.{PassValue}
 use Rattle.regatta_desk.specs.Offices.{AreSeated, seated}
 
 module _ (entries : Journal) where
-  -- passes in order of seat from one, and the next
+  -- passes in order of seat, and one more
   seated_from : (n : ℕ) (passes : List PassValue) (p : PassValue)
       → ((k : ℕ) (q : PassValue) → slice_get passes k ≡ Some q → q ≡ seated entries (n + k))
       → p ≡ seated entries (n + length passes)
@@ -39,7 +39,7 @@ module _ (entries : Journal) where
       (last ∙ ap (seated entries) (sym (plain (length passes)))) k q at
       ∙ ap (seated entries) (plain k)
 
--- what holds of all holds of the rest, and of the first
+-- what holds of all members holds of the rest, and of the first
 pub all_rest : {X : Type 0} (P : X → Type 0) (x : X) (xs : List X) → All P (x ∷ xs) → All P xs
 all_rest P x xs all k d within = all (suc k) d (omega arith)
 

@@ -1,4 +1,4 @@
--- What contracts see of a desk, and what is true of each whenever its lock is free.
+-- What contracts see of a desk, and what holds whenever its lock is free.
 use Rattle.std.specs.Prelude.{◌≡◌, ℕ, [], ◌∷◌, ◌++◌}
 use Rattle.atomic_table.specs.Seated.{TableId}
 use Rattle.regatta_terms.specs.Entries.{EntryParts}
@@ -8,14 +8,14 @@ use Rattle.regatta_board.specs.BoardFacts.{BoardValue}
 use Rattle.regatta_watch.specs.Notes.{NoteValue}
 use Rattle.regatta_watch.specs.Publishers.{PublisherValue}
 
--- the board's rules and journal, what readers enter, and how many entries they don't see yet
+-- the board's rules and journal, the published journal, and the number of entries not published yet
 pub record DeskValue : Type 0 where
   pub rules : RulesParts
   pub entries : Journal
   pub published : Journal
   pub pending : ℕ
 
--- the desk once an entry is appended and published
+-- the desk after an entry is appended and published
 abbrev pub desk_with : DeskValue → EntryParts → DeskValue
 desk_with desk entry = record {
   rules = desk.rules;
@@ -24,8 +24,8 @@ desk_with desk entry = record {
   pending = 0;
 }
 
--- the publication and the history have just the journal of the board, under these rules, and
--- nothing is pending
+-- the publication and the history have exactly the board's journal, under these rules, and nothing
+-- is pending
 pub record AtRest (board : BoardValue) (now : PublisherValue) (known : NoteValue)
     (rules : RulesParts) (history : TableId) : Type 0 where
   pub list : now.published.entries ≡ board.entries

@@ -10,22 +10,22 @@ use Rattle.regatta_desk.specs.Passes.{PassValue}
 use Rattle.regatta_desk.specs.declared.opening.OpenFault.{OpenFault}
 use Rattle.regatta_desk.specs.declared.opening.OpenFault.TheVariants as fault
 
--- series rules, the journal, how many seats, and which history
+-- the series rules, the journal, the number of seats, and the history
 pub record OpenedValue : Type 0 where
   pub rules : RulesParts
   pub entries : Journal
   pub seats : ℕ
   pub history : TableId
 
--- why an office with this start may not be opened: an entry is named only where it is the first
--- refused, and no reader is wanting where one is
+-- why an office with this start may fail to open: `Refused` names the first refused entry, and
+-- `NoReader` never comes if an entry is refused
 abbrev pub IsOpenFault : RulesParts → Journal → OpenFault → Type 0
 IsOpenFault rules start (fault.Refused at why) = first_refused rules start ≡ Some (at, why)
 IsOpenFault rules start fault.NoReader = first_refused rules start ≡ None
 IsOpenFault rules start fault.BadSeats = Unit {0}
 IsOpenFault rules start fault.NoMemory = Unit {0}
 
--- what is published first: all of the journal, which is noted, and no entry came last
+-- what is published first: the whole journal, noted as a whole, without a last entry
 abbrev pub first_published : RulesParts → Journal → TableId → Published
 first_published rules entries history = record {
   entries = entries;

@@ -1,4 +1,4 @@
--- What contracts see of a pass, and what is true of each.
+-- What contracts see of a pass, and what holds of each.
 use Rattle.std.specs.Prelude.{◌≡◌, ℕ, ◌-◌, ◌<◌, ◌≤◌, List, length, slice_get, Some, IsTrue, All}
 use mathlib.Core.List.{IsPrefix}
 use Rattle.atomic_table.specs.Seated.{TableId}
@@ -21,11 +21,11 @@ pub record PassValue : Type 0 where
   pub seen : Journal
   pub told : List Journal
 
--- the entry that a pass makes next
+-- the entry for the next command of a pass
 abbrev pub entry_of : PassValue → Role → Command → EntryParts
 entry_of pass role command = next_entry pass.seat pass.last role command
 
--- the journal that a note of it stands for
+-- the journal that was seen: that of its note, followed by the last entry if there is one
 abbrev pub seen_of : Seen → Journal
 seen_of seen = journal_of seen.journal.note.journal seen.journal.last
 
@@ -33,12 +33,12 @@ seen_of seen = journal_of seen.journal.note.journal seen.journal.last
 abbrev pub IsKnown : Journal → ℕ → EntryParts → Type 0
 IsKnown journal count last = (count ≡ length journal) × (0 < count → EndsWith journal last)
 
--- the journal has this entry as the last of its first so many
+-- the journal has `count` entries or more, and this is the last of the first `count`, if any
 abbrev pub Reaches : Journal → ℕ → EntryParts → Type 0
 Reaches journal count last =
     (count ≤ length journal) × (0 < count → slice_get journal (count - 1) ≡ Some last)
 
--- what is true of each pass of the office of these rules and this history: its watcher sees no less
+-- what holds of each pass of the office with these rules and this history: its watcher sees no less
 -- than the pass has seen, and each journal that it was told of is a beginning of the longest
 pub record IsPass (rules : RulesParts) (history : TableId) (seat : ℕ) (watcher : ReaderView)
     (seen : Seen) (told : Told) (shared : TableId) : Type 0 where

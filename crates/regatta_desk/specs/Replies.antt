@@ -1,4 +1,4 @@
--- What the lines of a session are answered, and what they leave.
+-- The replies to the lines of a session, and what each line changes.
 use Rattle.std.specs.Prelude.{◌≡◌, ◌⊎◌, ℕ, Bool, true, false, List, [], ◌∷◌, ◌++◌, None, All}
 use Rattle.std.specs.Prelude.{Result, Ok, Err}
 use mathlib.Core.List.{IsPrefix}
@@ -24,7 +24,7 @@ use Rattle.regatta_desk.specs.Passes.{PassValue, entry_of}
 use Rattle.regatta_desk.specs.declared.answers.Next.{Next}
 use Rattle.regatta_desk.specs.declared.answers.Next.TheVariants.{Go, End}
 
--- the lines that ask for a command or a rank: the desk answers them
+-- the lines that the desk answers: commands and RANK
 abbrev pub is_for_desk : Line → Bool
 is_for_desk (Do command) = true
 is_for_desk (Rank sail) = true
@@ -32,7 +32,7 @@ is_for_desk (SetRole role) = false
 is_for_desk Show = false
 is_for_desk Quit = false
 
--- the others, and what can't be read: a pass answers them alone
+-- the lines that a pass answers alone: the others, and those that can't be read
 abbrev pub is_for_pass : Result Line LineFault → Bool
 is_for_pass (Ok (Do command)) = false
 is_for_pass (Ok (Rank sail)) = false
@@ -64,8 +64,8 @@ pub record RefusedCommand (rules : RulesParts) (role : Role) (command : Command)
   pub pass : after ≡ before
   pub answered : reply ≡ reply_of (Err why)
 
--- the reply to a line that the desk answers, and what it leaves of desk and pass; of other lines
--- nothing is said
+-- the reply to a line that the desk answers, and what the line changes of desk and pass; nothing is
+-- said of other lines
 abbrev pub DeskReplies : RulesParts → Line → Role → DeskValue → DeskValue → PassValue → PassValue
     → Reply → Type 0
 DeskReplies rules (Do command) role old new before after reply =
@@ -85,7 +85,7 @@ pub record MayShow (rules : RulesParts) (pass : PassValue) (journal : Journal) :
   pub seen : IsPrefix pass.seen journal
   pub told : All (λ j. IsPrefix j journal) pass.told
 
--- a sheet of such a journal, with its standing, which was seen
+-- the sheet of such a journal, with its standing: the pass has now seen it
 pub record ShowsSheet (rules : RulesParts) (before after : PassValue) (old new : List ℕ)
     : Type 0 where
   pub journal : Journal
@@ -93,7 +93,7 @@ pub record ShowsSheet (rules : RulesParts) (before after : PassValue) (old new :
   pub pass : after ≡ record before { seen = journal }
   pub text : new ≡ old ++ sheet_text journal (standing rules journal)
 
--- a sheet that was seen, and had no room
+-- a sheet without memory for its text: the pass has seen it, and the reply is a refusal
 pub record SawSheet (rules : RulesParts) (before after : PassValue) (old new : List ℕ)
     : Type 0 where
   pub journal : Journal
@@ -112,8 +112,8 @@ abbrev pub RepliesApart : Result Line LineFault → PassValue → PassValue → 
 RepliesApart asked before after old new =
     (after ≡ before) × (new ≡ old ++ reply_text (reply_apart asked))
 
--- what is appended for a line that a pass answers alone, and what it leaves of the pass; of other
--- lines nothing is said
+-- the text appended for a line that a pass answers alone, and what the line changes of the pass;
+-- nothing is said of other lines
 abbrev pub PassReplies : RulesParts → Result Line LineFault → PassValue → PassValue → List ℕ
     → List ℕ → Type 0
 PassReplies rules (Ok Show) before after old new =

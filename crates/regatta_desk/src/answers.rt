@@ -1,4 +1,4 @@
-//! What a line is answered, by whoever holds the desk and by a pass alone.
+//! The answers to lines: from the desk, or from a pass alone.
 ghost use Rattle.std.specs.Prelude.{◌≡◌, ◌≢◌, ◌+◌, ◌≤◌, ◌++◌, true, Ok, IsOk, IfOk, OnOk, OnErr};
 ghost use Rattle.std.specs.Prelude.{All, vec_len, vec_capacity};
 ghost use mathlib.Core.List.{IsPrefix};
@@ -19,24 +19,23 @@ use regatta_watch::{OfficeName, ShowFault};
 use std::alloc::AllocError;
 use std::sync::Wait;
 
-/// Whether more lines are answered.
+/// Whether the session answers more lines.
 #[derive(Clone, Copy, Debug, PartialEq, Eq)]
 pub enum Next {
     /// The session goes on.
     Go,
-    /// It ends, by QUIT.
+    /// QUIT has ended it.
     End,
 }
 
 impl<N: OfficeName, R: Wait + Drop> Desk<N, R> {
-    /// The reply to RANK.
     fn rank_reply(&self, sail: Sail) -> Reply
         ensures { result ≡ ranked_by (rank_of N.rules self.now.entries sail) }
     {
         ranked(self.board().rank(sail))
     }
 
-    /// Does what a line asks of the desk, and gives the reply.
+    /// Does what a line asks of the desk, and returns the reply.
     fn reply<W: Wait>(&mut self, rt: &W, pass: &mut Pass<N>, role: Role, line: Line) -> Reply
         requires { is_for_desk line ≡ true }
         ensures replied { DeskReplies N.rules line role self.old self.new pass.old pass.new result }
@@ -62,8 +61,8 @@ impl<N: OfficeName, R: Wait + Drop> Desk<N, R> {
     ///
     /// # Errors
     ///
-    /// Where memory is wanting for the reply, never where there is room for one. Nothing has
-    /// changed then, nor has the room.
+    /// If the allocation for the reply fails; never if `out` has room for a reply. Nothing has
+    /// changed then, and the capacity is the same.
     pub fn answer<W: Wait>(
         &mut self,
         rt: &W,
@@ -92,7 +91,7 @@ impl<N: OfficeName, R: Wait + Drop> Desk<N, R> {
     }
 }
 
-/// Appends the sheet of what is published, or the reply that stands for it.
+/// Appends the sheet of the published journal, or a reply in its place.
 fn show<N: OfficeName>(pass: &mut Pass<N>, out: &mut Vec<u8>)
     requires { vec_len out.old + REPLY_ROOM ≤ vec_capacity out.old }
     ensures text { PassReplies N.rules (Ok Line.Show) pass.old pass.new out.old.items out.new.items }
@@ -112,15 +111,15 @@ fn show<N: OfficeName>(pass: &mut Pass<N>, out: &mut Vec<u8>)
     write_fitting(&reply, out);
 }
 
-/// Answers a line that asks for no command and no rank. It takes no lock, and waits for nobody.
+/// Answers a line that is neither a command nor RANK. It takes no lock, and waits for nobody.
 ///
-/// SHOW is answered by a sheet, by CLOSED where the publication lets no reader in, or as refused
-/// where there is no memory for the sheet.
+/// The answer to SHOW is a sheet, CLOSED if the publication lets no reader in, or a refusal if
+/// there is no memory for the sheet.
 ///
 /// # Errors
 ///
-/// Where memory is wanting for a reply, never where there is room for one. Nothing has changed
-/// then, nor has the room.
+/// If the allocation for a reply fails; never if `out` has room for a reply. Nothing has changed
+/// then, and the capacity is the same.
 pub fn answer_alone<N: OfficeName>(
     pass: &mut Pass<N>,
     role: &mut Role,

@@ -1,4 +1,5 @@
-//! The desk under its lock, and the passes by which seats run commands and watch without it.
+//! The desk under its lock, and the passes: with a pass, a seat runs commands at the desk and
+//! watches without the lock.
 #![tactic(auto)]
 
 mod answers;

@@ -18,7 +18,7 @@ use std::sync::{Mutex, MutexGuard, Wait};
 
 /// An office that isn't locked yet.
 ///
-/// It is seen as its series rules, its journal and its seats, and which history it has.
+/// It is seen as its series rules, its journal, the number of its seats, and its history.
 #[derive(Drop)]
 pub struct Opened<R: Wait + Drop> {
     alloc: Global,
@@ -57,21 +57,21 @@ pub struct Office<N: OfficeName, R: Wait + Drop> {
 }
 
 impl<N: OfficeName, R: Wait + Drop> Office<N, R> {
-    /// The one way to the desk: it waits for the lock.
+    /// Waits for the lock and returns the desk. There is no other way to it.
     pub fn desk<W: Wait>(&self, rt: &W) -> MutexGuard<'_, Desk<N, R>> {
         self.desk.lock(rt)
     }
 }
 
 impl<R: Wait + Drop> Office<Brand, R> {
-    /// Opens an office of so many seats, with a journal to begin from. It has no name yet, and
-    /// waits for nobody.
+    /// Opens an office with `seats` seats and the journal `start`. The office has no name yet.
+    /// Opening waits for nobody.
     ///
     /// # Errors
     ///
-    /// `BadSeats` exactly where the seats aren't 1 to [`MAX_SEATS`](regatta_terms::MAX_SEATS), else
-    /// `Refused` with the first entry that those before it refuse, or `NoReader` or `NoMemory` where
-    /// those are wanting.
+    /// `BadSeats` exactly when the seats aren't 1 to [`MAX_SEATS`](regatta_terms::MAX_SEATS).
+    /// Otherwise `Refused` with the first entry that those before it refuse, `NoReader` if the
+    /// publication has no room for a reader, or `NoMemory` if an allocation fails.
     pub fn open(
         rt: R,
         alloc: Global,
@@ -91,13 +91,13 @@ impl<R: Wait + Drop> Office<Brand, R> {
             return Err(OpenFault::BadSeats);
         }
         let board = board_of(alloc, rules, start)?;
-        // read for what it promises: the journal is lawful
+        // Called for its contract: the journal is lawful.
         let _ = board.entries();
         opened_with(rt, alloc, board, seats)
     }
 }
 
-/// The office of a board, with a watcher for each of so many seats.
+/// The office of a board, with a watcher for each seat.
 fn opened_with<R: Wait + Drop>(
     rt: R,
     alloc: Global,
@@ -122,12 +122,12 @@ fn opened_with<R: Wait + Drop>(
 }
 
 impl<R: Wait + Drop> Opened<R> {
-    /// Puts the desk behind its lock, and gives a pass for each seat, in order from 1. The caller
-    /// picks N for this office.
+    /// Puts the desk behind its lock, and returns it with a pass for each seat, in order from 1.
+    /// The caller picks N for this office.
     ///
     /// # Errors
     ///
-    /// Where memory is wanting. The office is then gone.
+    /// If an allocation fails. The office is then gone.
     pub fn split<N: OfficeName>(self) -> Result<(Office<N, R>, Vec<Pass<N>>), AllocError>
         requires history { self.history ≡ N.history }
         requires rules { self.rules ≡ N.rules }
@@ -176,7 +176,7 @@ fn passes_of<N: OfficeName>(
     Ok(passes)
 }
 
-/// The pass of the seat after so many.
+/// The pass of the seat after `before` others.
 fn pass_of<N: OfficeName>(
     alloc: Global,
     board: &Board,

@@ -1,4 +1,4 @@
-//! What is handed out for a command that was run.
+//! Receipts for commands that were run.
 ghost use Rattle.std.specs.Prelude.{◌≡◌, length};
 ghost use Rattle.regatta_desk.specs.Receipts.{EndsWith};
 
@@ -6,9 +6,9 @@ use regatta_terms::{Answer, Entry};
 use regatta_watch::{Note, OfficeName};
 use std::marker::{Model, PhantomData};
 
-/// That a command was run: its answer, and a note of the journal that ends with its entry.
+/// Evidence that a command was run: its answer, and a note of the journal that ends with its entry.
 ///
-/// It is seen as its place, its answer and that journal.
+/// It is seen as the entry's place, the answer and that journal.
 #[derive(Drop)]
 pub struct Receipt<N: OfficeName> {
     pub(crate) answer: Answer,
@@ -51,7 +51,7 @@ impl<N: OfficeName> Receipt<N> {
         }
     }
 
-    /// The place of its entry in the journal, counted from 1: it is the last.
+    /// The place of the command's entry in the journal, counted from 1. It is the last entry.
     pub fn place(&self) -> u32
         ensures place { result ≡ self.now.place }
         ensures last { result ≡ length self.now.journal }
@@ -59,7 +59,7 @@ impl<N: OfficeName> Receipt<N> {
         self.answer.place
     }
 
-    /// What the command was answered.
+    /// The answer to the command.
     pub fn answer(&self) -> Answer
         ensures { result ≡ self.now.answer }
     {

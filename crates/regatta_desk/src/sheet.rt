@@ -12,13 +12,10 @@ use std::alloc::{AllocError, Global};
 /// What a watcher is shown: a journal, and its standing (RRS Appendix A).
 #[derive(Drop)]
 pub struct Sheet {
-    /// The journal.
     pub journal: Journal,
-    /// Its standing.
     pub standing: Standing,
 }
 
-/// The standing of a lawful journal.
 pub(crate) fn standing_of_lawful(
     alloc: Global,
     rules: &Rules,

@@ -76,7 +76,7 @@ serving_is met f asked named found is = ap asked_by (subcommand_is met _ _ named
     ∙ (λ i. option_map Serve (serving_with (λ option. sym (first_value-rows f option) i)))
     ∙ ap (option_map Serve) is
 
--- the program's words are of the kind whose matches `clap` tells
+-- the program is of the kind whose matches `clap` specifies
 simple : (forms : ValueParser) → is_simple (regatta forms) ≡ true
 unfolding clap_on_literals regatta with_rules with_start with_seats
 simple forms = refl
@@ -112,7 +112,7 @@ not_help e memory help = differ (sym memory ∙ help)
     differ : OutOfMemory ≡ DisplayHelp → ⊥
     differ is = cc
 
--- help comes of words that ask for it
+-- the error for help comes only from arguments that ask for help
 pub helped : (app : App) (forms : ValueParser) (words : List Text) (e : Error)
     → app ≡ regatta forms
     → (is_simple_and_free app ≡ true → FailsBy {T = ArgMatches} (fault_of app words) (Err e))

@@ -1,4 +1,4 @@
--- What is due is gathered over a piece of a text, and then written.
+-- The text for a piece is gathered and then written.
 use Rattle.std.proofs.Common.{◌≡◌, ℕ, ◌+◌, ◌-◌, ◌<◌, ◌≤◌, length, Bool, true, false, List, []}
 use Rattle.std.proofs.Common.{◌++◌, Option, Some, None, Result, Ok, Err, IfOk, IfSome, OnErr, sym}
 use Rattle.std.proofs.Common.{ap, ◌∙◌, subst, append_assoc, arith, take, drop}
@@ -8,14 +8,14 @@ use Rattle.regatta_streams.specs.Texts.{AppendsPrefix}
 use Rattle.regatta_office.specs.Coming.{Broke, Cuts, Point, Said, Stops, Took, Went, unless}
 use Rattle.regatta_office.proofs.Streams.{cut-then, prefix-longer, stop-none, stop-then, went-then}
 
--- the first bytes of a piece, and then those behind them
+-- the first bytes of a piece, followed by the others
 front_back : (n : ℕ) (piece rest : List ℕ)
     → take n piece ++ (drop n piece ++ rest) ≡ piece ++ rest
 front_back n piece rest =
     sym (append_assoc (take n piece) (drop n piece) rest)
     ∙ ap (λ (bytes : List ℕ). bytes ++ rest) (take-append-drop n piece)
 
--- the slice of a piece behind its first bytes
+-- the slice of a piece after its first bytes
 pub slice_behind : (n : ℕ) (piece : List ℕ) → take (length piece - n) (drop n piece) ≡ drop n piece
 slice_behind n piece =
     take_all (length piece - n) (drop n piece) (omega (arith, length-drop n piece))
@@ -46,7 +46,7 @@ gathered-cut old new due piece p q (Err e) u v cut rest = subst (Cuts old new p)
     (went-cut old new due (take v.count piece) (drop v.count piece ++ rest) p v.after false v.went
     cut)
 
--- ---- some bytes of a piece were taken, and then of the rest as many as are told
+-- ---- some bytes of a piece were taken, and then some of the rest
 
 -- no more than there are
 pub few_more : (taken n : ℕ) (piece rest : List ℕ) (count : Option ℕ) → rest ≡ drop taken piece
@@ -85,7 +85,7 @@ module _ (a b c : Option (List ℕ)) (p q : Point) (taken : ℕ) (piece rest : L
       (cut-then a b c (take taken piece) (drop taken piece ++ text) p q u
       (subst (λ (bytes : List ℕ). Cuts b c q (bytes ++ text)) same (cut text)))
 
-  -- memory was wanting
+  -- an allocation failed
   pub stop-more : Broke b c rest q → (text : List ℕ) → Stops a c p (piece ++ text)
   stop-more v text =
       subst (Stops a c p) (front_back taken piece text)

@@ -1,4 +1,4 @@
--- A refusal that isn't want of memory is the one that was due.
+-- A refusal other than `NoMemory` is the one that applies.
 use Rattle.std.proofs.Common.{◌≡◌, Option, Some, None, true, false, sym, ap, ◌∙◌}
 use Rattle.regatta_terms.specs.declared.reply.Refusal.{Refusal}
 use Rattle.regatta_terms.specs.Entries.{EntryParts}
@@ -15,7 +15,7 @@ refused_is None why is known = absurd (want (sym (ap is_want_of_memory is) ∙ k
     want e = cc
 refused_is (Some due) why is known = ap Some (sym is)
 
--- what a command was refused for is what was due for its entry
+-- the reason of a refused command is the one that applies to its entry
 pub due_is : (rules : RulesParts) (talk : Talk) (command : Command) (entry : EntryParts)
     (why : Refusal) → entry ≡ entry_of talk command
     → IsRefusal (refusal limits rules talk.journal entry) why → is_want_of_memory why ≡ false

@@ -18,7 +18,7 @@ pub error_is : {T E : Type 0} (e f : E) → IsErrOf {T = T} (Err e) f → e ≡ 
 unfolding error_or
 error_is e f is = ap (error_or e) is
 
--- which error it is doesn't hang on the type of the values
+-- which error it is doesn't depend on the type of the values
 pub err_as : {T : Type 0} (U : Type 0) {E : Type 0} (e f : E) → IsErrOf {T = T} (Err e) f
     → IsErrOf {T = U} (Err e) f
 err_as U e f is = ap Err (error_is e f is)
@@ -63,7 +63,7 @@ long_is_no_write scribe.NoMemory r P made is =
     differ : NoMemory ≡ InputTooLong → ⊥
     differ e = cc
 
--- where the writing broke off, no entry of the start is refused
+-- if the writing broke off, no entry of the start is refused
 pub start_stands : (due : Option (ℕ × Refusal)) (fault : ScribeFault) (r : RunFault)
     → r ≡ scribe_fault fault → due ≡ None → IsRunFault due r
 start_stands due scribe.Write r made none = subst (IsRunFault due) (sym made) none

@@ -1,4 +1,4 @@
--- What is said to lines, one after another.
+-- The answers to lines, one after another.
 use Rattle.std.proofs.Common.{◌≡◌, ℕ, ◌<◌, length, arith, Bool, true, false, cond, List, [], ◌∷◌}
 use Rattle.std.proofs.Common.{◌++◌, map, Result, refl, sym, ap, ◌∙◌, append_assoc}
 use Rattle.regatta_terms.specs.Lines.{line_of}
@@ -13,7 +13,7 @@ use Rattle.regatta_office.specs.Transcript.{Talk, has_quit, is_quit, replies, ta
 use Rattle.regatta_office.specs.Transcript.{talk_at_end, text_after, up_to_quit}
 use Rattle.regatta_talk.proofs.HeardLines.{heard_byte, heard_end, heard_of_text, heard_reads}
 
--- a line, by what it reads as, and what is said to the lines behind it
+-- the answer to a line, from what it reads as, followed by the answers to the next lines
 abbrev next_said : RulesParts → Talk → Result Line LineFault → List (List ℕ) → Said
 next_said rules talk asked rest =
     ahead (text_after rules talk asked) (cond (is_quit asked)
@@ -36,7 +36,7 @@ pub said-cons : (rules : RulesParts) (talk : Talk) (line : List ℕ) (rest : Lis
     → said rules talk (line ∷ rest) ≡ next_said rules talk (line_of line) rest
 said-cons rules talk line rest = said-by rules talk line rest (is_quit (line_of line)) refl
 
--- lines that read alike are answered alike
+-- buffered lines get the answers of the whole lines
 pub said-heard : (rules : RulesParts) (talk : Talk) (lines : List (List ℕ))
     → said rules talk (map heard lines) ≡ said rules talk lines
 said-heard rules talk [] = refl
@@ -53,7 +53,7 @@ said-heard rules talk (line ∷ rest) =
     (said-heard rules (talk_after rules talk (line_of line)) rest)
     ∙ sym (said-cons rules talk line rest)
 
--- what is to come at the beginning of a text is what is said to its lines
+-- what is to come at the beginning of a text is the answers to its lines
 pub coming-whole : (counts : Bool) (rules : RulesParts) (talk : Talk) (text : List ℕ)
     → coming counts (record { rules = rules; talk = talk; line = [] }) text
     ≡ said rules talk (lines_by counts text)
@@ -83,7 +83,7 @@ pub line_goes : (counts : Bool) (point : Point) (byte : ℕ) (rest : List ℕ)
 line_goes counts point byte rest is = ap (said point.rules point.talk)
     (heard_byte counts point.line byte rest is)
 
--- the end of a text, with bytes of a line at hand, and with none
+-- the end of a text, with bytes of a current line, and without
 last_heard : (line : List ℕ) → 0 < length line → heard_lines true line [] ≡ line ∷ []
 unfolding heard_lines
 last_heard [] some = absurd (omega (arith, some))
@@ -121,7 +121,7 @@ pub line_none : (point : Point) → length point.line ≡ 0 → coming true poin
 line_none point none = ap (said point.rules point.talk) (none_heard point.line none)
     ∙ said-none point.rules point.talk
 
--- ---- a text ahead
+-- ---- a text before the answers
 
 pub ahead-ahead : (a b : List ℕ) (s : Said) → ahead (a ++ b) s ≡ ahead a (ahead b s)
 ahead-ahead a b s = ap (λ (t : List ℕ). record { text = t; journal = s.journal; quit = s.quit })

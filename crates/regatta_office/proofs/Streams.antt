@@ -19,7 +19,7 @@ use Rattle.regatta_office.specs.Transcript.{is_quit, talk_after, text_after}
 use Rattle.regatta_office.proofs.Saying.{ahead-ahead, line_ends, line_goes, line_last, line_none}
 use Rattle.regatta_office.proofs.Saying.{said-none}
 
--- a byte of a line was heard
+-- a byte of a line was buffered
 pub byte_heard : (out : Option (List ℕ)) (before after : Point) (byte : ℕ)
     → is_line_end byte ≡ false
     → after ≡ record before { line = heard_with before.line byte }
@@ -54,7 +54,7 @@ line_ended old new before after byte quit is quits wrote went = record {
       (unless (sym quits i) counts (sym went i) rest));
 }
 
--- the same of an answer that may have failed, with what was heard of the line
+-- the same for an answer that may have failed, with the buffered part of the line
 pub line_ended_ok : {E : Type 0} (old new : Option (List ℕ)) (before after : Point) (line : List ℕ)
     (byte : ℕ) (r : Result Bool E)
     → is_line_end byte ≡ true → line ≡ before.line
@@ -127,7 +127,7 @@ went-then a b c xs ys p q r quit u v = record {
       ∙ sym (ahead-ahead u.written v.written (unless quit counts r rest));
 }
 
--- where the run ended within some bytes, those behind them say nothing
+-- if the run ended within some bytes, those after them count for nothing
 pub went-quit : (a b : Option (List ℕ)) (xs ys : List ℕ) (p q : Point) → Went a b xs p q true
     → Went a b (xs ++ ys) p q true
 went-quit a b xs ys p q u = record {
@@ -137,7 +137,7 @@ went-quit a b xs ys p q u = record {
   goes = λ counts rest. ap (coming counts p) (append_assoc xs ys rest) ∙ u.goes counts (ys ++ rest);
 }
 
--- ---- a writer that failed, and want of memory
+-- ---- a writer that failed, and out of memory
 
 -- some first part of a text is one of a longer text
 pub prefix-longer : (old new : Option (List ℕ)) (a b : List ℕ) → AppendsPrefix old new a
@@ -165,7 +165,7 @@ pub last_cut : (old new : Option (List ℕ)) (before : Point) → 0 < length bef
 last_cut old new before some cut = subst (λ (s : Said). AppendsPrefix old new s.text)
     (sym (line_last before some)) (prefix-longer old new _ [] cut)
 
--- the write behind some bytes failed
+-- the write after some bytes failed
 pub cut-then : (a b c : Option (List ℕ)) (xs rest : List ℕ) (p q : Point) → Went a b xs p q false
     → Cuts b c q rest → Cuts a c p (xs ++ rest)
 cut-then a b c xs rest p q u cut =
@@ -180,7 +180,7 @@ nothing_comes q = ap (said q.rules q.talk) (none q.line) ∙ said-none q.rules q
     none [] = refl
     none (byte ∷ line) = refl
 
--- nothing is due yet
+-- there is nothing to write yet
 pub stop-none : (out : Option (List ℕ)) (before : Point) (text : List ℕ) → Stops out out before text
 stop-none out before text = (
   0,
@@ -188,7 +188,7 @@ stop-none out before text = (
       (sym (nothing_comes before)) (appends-none out),
 )
 
--- memory was wanting behind some bytes
+-- an allocation failed after some bytes
 pub stop-then : (a b c : Option (List ℕ)) (xs rest : List ℕ) (p q : Point) → Went a b xs p q false
     → Stops b c q rest → Stops a c p (xs ++ rest)
 stop-then a b c xs rest p q u (n, wrote) = (
@@ -199,7 +199,7 @@ stop-then a b c xs rest p q u (n, wrote) = (
       (appends-then a b c u.written (coming false q (take n rest)).text u.wrote wrote),
 )
 
--- the same of what a reader gives
+-- the same for what a reader gives
 pub given_cut : (a b c d : Option (List ℕ)) (p : Point) (given bytes left : List ℕ)
     → given ≡ bytes ++ left → Consumes a b given
     → ((rest : List ℕ) → Cuts c d p (bytes ++ rest)) → IfSome a (Cuts c d p)
@@ -227,13 +227,13 @@ any_stop (Some text) c p = stop-none c p text
 not_some : {n : ℕ} → None ≡ Some n → ⊥
 not_some e = cc
 
--- a piece of a list stands in a longer one
+-- a first part of a list is one of a longer first part
 pub take_front : (m n : ℕ) (xs : List ℕ) → m ≤ n → take n xs ≡ take m xs ++ drop m (take n xs)
 take_front m n xs few =
     sym (take-append-drop m (take n xs)) ∙ ap (λ (ys : List ℕ). ys ++ drop m (take n xs))
     (take-take m n xs few)
 
--- a QUIT stood in what the reader gave
+-- a QUIT was in what the reader gave
 pub talked_quit : (a b c d : Option (List ℕ)) (p q : Point) (given bytes left : List ℕ)
     → given ≡ bytes ++ left
     → Consumes a b given → Went c d bytes p q true → Talked a b c d p q None
@@ -256,7 +256,7 @@ talked_quit a b c d p q given bytes left cut took u = record {
           ∙ ap (coming true p) (append_assoc bytes left rest) ∙ u.goes true (left ++ rest),
     )
 
--- the bytes that were answered are as many as may be, and more were given
+-- `most` bytes were answered, and the reader gave more
 pub talked_long : (a b c d : Option (List ℕ)) (p q : Point) (most : ℕ) (given bytes left : List ℕ)
     → given ≡ bytes ++ left
     → length bytes ≡ most → 0 < length left
@@ -285,7 +285,7 @@ talked_long (Some text) (Some rest) c d p q most given bytes left cut full more 
           u.wrote;
     }
 
--- a QUIT stood in the bytes that were answered, which are no more than may be
+-- a QUIT was in the bytes that were answered, of which there are at most `most`
 pub within_quit : (a b c d : Option (List ℕ)) (p q : Point) (most : ℕ) (given bytes left : List ℕ)
     → given ≡ bytes ++ left
     → length bytes ≤ most → Consumes a b given → Went c d bytes p q true
@@ -337,7 +337,7 @@ module _ (a b c d e f : Option (List ℕ)) (p q r : Point) (n : ℕ)
       some_same : {k l : ℕ} → Some k ≡ Some l → k ≡ l
       some_same is = cc
 
-  -- the reader gave so many bytes, and then at most so many more
+  -- the reader gave n bytes, and then at most `most` more
   pub gave_more : (most limit : ℕ) → n + most ≤ limit → GaveAtMost most b c → GaveAtMost limit a c
   gave_more most limit few (bytes, took, short) = (
     u.given ++ bytes,
@@ -357,7 +357,7 @@ module _ (a b c d e f : Option (List ℕ)) (p q r : Point) (n : ℕ)
         u.wrote,
   )
 
-  -- a write failed behind it, or memory was wanting
+  -- a write failed after it, or an allocation did
   pub cut_at : IfSome b (Cuts e f q) → IfSome a (Cuts d f p)
   cut_at = by a b u.took
     where
@@ -386,7 +386,7 @@ module _ (a b c d e f : Option (List ℕ)) (p q r : Point) (n : ℕ)
             (appends-then d e f u.written (coming false q (take m mid)).text u.wrote wrote),
       )
 
-  -- the text ends within what may be answered, or a QUIT does
+  -- the text ends within the limit, or a QUIT does
   pub within_at : (most : ℕ) → IfSome b (IsWithin q most) → IfSome a (IsWithin p (n + most))
   within_at most k = by a b u.took k
     where

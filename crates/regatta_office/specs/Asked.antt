@@ -28,29 +28,29 @@ pub record ReplayAsked : Type 0 where
   pub series : Series
   pub form : Form
 
--- what `serve` is asked for: the series, the path of the socket, how many seats there are, and
--- behind how many clients the door closes (0 is no end)
+-- what `serve` is asked for: the series, the path of the socket, the number of seats, and the
+-- number of clients after which the door closes (0: never)
 pub record ServingAsked : Type 0 where
   pub series : Series
   pub socket : List ℕ
   pub clients : ℕ
   pub sessions : ℕ
 
--- the entries that a journal file gives: those of some text, or none where no file is named; no
--- proof knows what a file holds
+-- the entries of a journal file: those of some text, or none if no file is named; no proof knows
+-- what a file holds
 abbrev pub IsJournalAt : Option (List ℕ) → Journal → Type 0
 IsJournalAt None journal = journal ≡ []
 IsJournalAt (Some path) journal =
     (text : List ℕ) × (length text ≤ FILE_LIMIT) × (journal_of text ≡ Ok journal)
 
--- the sails that an entry list gives, likewise
+-- the sails of an entry list, likewise
 abbrev pub AreSailsAt : Option (List ℕ) → List (List ℕ) → Type 0
 AreSailsAt None sails = sails ≡ []
 AreSailsAt (Some path) sails =
     (text : List ℕ) × (length text ≤ FILE_LIMIT) × (entries_of_text text ≡ Ok sails)
 
--- what a series begins with: the rules that its texts say, and the entries of the journal file and
--- then of the entry list, of which none is refused
+-- what a series starts with: the rules of its texts, and the entries of the journal file followed
+-- by those of the entry list
 pub record Begins (series : Series) (rules : RulesParts) (start : Journal) : Type 0 where
   pub read : rules_of_texts series.absent series.scp series.exclude series.handicap ≡ Ok rules
   pub journal : Journal
@@ -59,8 +59,8 @@ pub record Begins (series : Series) (rules : RulesParts) (start : Journal) : Typ
   pub from_entries : AreSailsAt series.entries sails
   pub both : start ≡ start_of journal sails
 
--- a whole replay was written: under the rules and from the entries that the series begins with, and
--- in the form asked for
+-- a whole replay was written, under the rules and from the entries that the series starts with, in
+-- the form asked for
 pub record IsReplayOf (asked : ReplayAsked) (given old new : Option (List ℕ)) : Type 0 where
   pub rules : RulesParts
   pub start : Journal
@@ -74,8 +74,8 @@ pub record PrintsTable (rules : RulesParts) (old new : Option (List ℕ)) : Type
   pub lawful : is_lawful limits rules journal ≡ true
   pub wrote : Appends old new (final_text rules Table journal)
 
--- clients were served under the rules and from the entries that the series begins with, and the
--- table was written; no type tells what clients did to the journal
+-- clients were served under the rules and from the entries that the series starts with, and the
+-- table was written; no type says what clients did to the journal
 pub record IsServingOf (asked : ServingAsked) (old new : Option (List ℕ)) : Type 0 where
   pub rules : RulesParts
   pub start : Journal

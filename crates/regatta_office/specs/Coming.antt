@@ -8,7 +8,8 @@ use Rattle.regatta_scores.specs.Journal.{Journal}
 use Rattle.regatta_talk.specs.HeardLines.{heard_lines}
 use Rattle.regatta_office.specs.Transcript.{Talk, has_quit, up_to_quit, replies, talk_at_end}
 
--- a point of a run: the series rules, where it stands, and what is heard of the line at hand
+-- a point of a run: the series rules, the state of the run, and the buffered part of the current
+-- line
 pub record Point : Type 0 where
   pub rules : RulesParts
   pub talk : Talk
@@ -20,11 +21,11 @@ pub record Said : Type 0 where
   pub journal : Journal
   pub quit : Bool
 
--- the same, with a text ahead of it
+-- the same, preceded by a text
 abbrev pub ahead : List ℕ → Said → Said
 ahead text said = record { text = text ++ said.text; journal = said.journal; quit = said.quit }
 
--- what is said to these lines
+-- the answers to these lines
 abbrev pub said : RulesParts → Talk → List (List ℕ) → Said
 said rules talk lines = record {
   text = replies rules talk (up_to_quit lines);
@@ -32,7 +33,7 @@ said rules talk lines = record {
   quit = has_quit lines;
 }
 
--- what is still to come, with the rest of the text
+-- what is still to come for the rest of the text
 abbrev pub coming : Bool → Point → List ℕ → Said
 coming counts point text = said point.rules point.talk (heard_lines counts point.line text)
 
@@ -40,12 +41,12 @@ coming counts point text = said point.rules point.talk (heard_lines counts point
 abbrev pub ended : Bool → Point → Said
 ended quit point = record { text = []; journal = point.talk.journal; quit = quit }
 
--- nothing where a QUIT has ended the run, and else what is to come
+-- nothing if a QUIT has ended the run, otherwise what is still to come
 abbrev pub unless : Bool → Bool → Point → List ℕ → Said
 unless quit counts point text = if quit then ended true point else coming counts point text
 
--- what a writer took for some bytes of the text: whatever comes behind them, the rest of the run
--- is as it was to come
+-- what a writer took for some bytes of the text; whatever follows them, the rest of the run is what
+-- was still to come
 pub record Went (old new : Option (List ℕ)) (bytes : List ℕ) (before after : Point)
     (quit : Bool) : Type 0 where
   pub written : List ℕ
@@ -54,13 +55,12 @@ pub record Went (old new : Option (List ℕ)) (bytes : List ℕ) (before after :
   pub goes : (counts : Bool) (rest : List ℕ)
       → coming counts before (bytes ++ rest) ≡ ahead written (unless quit counts after rest)
 
--- what a writer took for the first bytes of a piece, as many as are told, or for all of it where a
--- QUIT ended the run
+-- what a writer took for the first n bytes of a piece, or for all of it if a QUIT ended the run
 abbrev pub Took : Option (List ℕ) → Option (List ℕ) → List ℕ → Point → Point → Option ℕ → Type 0
 Took old new piece before after (Some n) = Went old new (take n piece) before after false
 Took old new piece before after None = Went old new piece before after true
 
--- what a writer took for some first bytes of a piece, behind which the run broke off
+-- what a writer took for some first bytes of a piece, after which the run broke off
 pub record Broke (old new : Option (List ℕ)) (piece : List ℕ) (before : Point) : Type 0 where
   pub count : ℕ
   pub after : Point
@@ -74,8 +74,8 @@ pub record Finished (old new : Option (List ℕ)) (before after : Point) : Type 
   pub quit : Bool
   pub says : coming true before [] ≡ ahead written (ended quit after)
 
--- what a reader gave, and a writer took for it: so many bytes while the run goes on, or all of the
--- text at its end
+-- what a reader gave and a writer took for it: a number of bytes while the run goes on, or all of
+-- the text at its end
 pub record Talked (in-old in-new out-old out-new : Option (List ℕ)) (before after : Point)
     (count : Option ℕ) : Type 0 where
   pub given : List ℕ
@@ -92,19 +92,19 @@ pub record Talked (in-old in-new out-old out-new : Option (List ℕ)) (before af
 abbrev pub Cuts : Option (List ℕ) → Option (List ℕ) → Point → List ℕ → Type 0
 Cuts old new before text = AppendsPrefix old new (coming true before text).text
 
--- a writer took what is due for the lines that end within some first part of a text
+-- a writer took the text for the lines that end within some first part of a text
 abbrev pub Stops : Option (List ℕ) → Option (List ℕ) → Point → List ℕ → Type 0
 Stops old new before text = (n : ℕ) × Appends old new (coming false before (take n text)).text
 
--- a text is longer than is answered: the lines that end within so many bytes of it are answered,
--- and no QUIT is among them
+-- a text is longer than `most` bytes: the lines that end within these are answered, and no QUIT is
+-- among them
 pub record IsTooLong (old new : Option (List ℕ)) (before : Point) (most : ℕ)
     (text : List ℕ) : Type 0 where
   pub long : most < length text
   pub quit : (coming false before (take most text)).quit ≡ false
   pub wrote : Appends old new (coming false before (take most text)).text
 
--- a text ends within so many bytes, or a QUIT does
+-- a text ends within `most` bytes, or a QUIT does
 abbrev pub IsWithin : Point → ℕ → List ℕ → Type 0
 IsWithin before most text =
     (length text ≤ most) ⊎ ((coming false before (take most text)).quit ≡ true)

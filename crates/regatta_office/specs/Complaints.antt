@@ -1,10 +1,10 @@
--- The statuses that the program ends with where it stops short.
+-- The statuses of a program that stops early.
 use Rattle.std.specs.Prelude.{ℕ}
 use Rattle.regatta_office.specs.declared.complaint.Complaint.{Complaint}
 use Rattle.regatta_office.specs.declared.complaint.Complaint.TheVariants as complaint
 
--- 1 where a file, the start or the input is at fault, 2 where the rules are, 3 where a device
--- fails or memory is wanting
+-- 1 if a file, the start or the input is at fault, 2 if the rules are, 3 if a device fails or
+-- memory runs out
 abbrev pub status_of : Complaint → ℕ
 status_of (complaint.Rules number) = 2
 status_of (complaint.Entries number row) = 1

@@ -20,8 +20,8 @@ unfoldable pub start_of : Journal → List (List ℕ) → Journal
 start_of journal [] = journal
 start_of journal (sail ∷ sails) = start_of (journal ++ entering journal sail ∷ []) sails
 
--- what a run may answer that fails, by the first entry of its start that is refused: that entry
--- or want of memory; any other fault comes only where none is refused
+-- the faults of a run by the first refused entry of its start: that entry, or out of memory; any
+-- other fault comes only if no entry is refused
 abbrev pub IsRunFault : Option (ℕ × Refusal) → RunFault → Type 0
 IsRunFault due (fault.Start at why) = due ≡ Some (at, why)
 IsRunFault due fault.NoMemory = Unit {0}

@@ -29,22 +29,22 @@ use Rattle.regatta_office.specs.declared.form.Form.TheVariants as form
 use Rattle.regatta_terms.specs.TextLines.{lines, ended_lines}
 use Rattle.regatta_talk.specs.Replies.{ranked, reply_apart, reply_of}
 
--- where a run stands: the role of the lines to come, and the journal so far
+-- the state of a run: the role of the next lines, and the journal so far
 pub record Talk : Type 0 where
   pub role : Role
   pub journal : Journal
 
--- the first line is taken at this journal, in the role of the scorer
+-- the state before the first line: this journal, and the role of the scorer
 abbrev pub opening : Journal → Talk
 opening start = record { role = Scorer; journal = start }
 
 -- ---- one line
 
--- the entry that a command makes: of the seat of a replay, in the role at hand
+-- the entry that a command makes: from the seat of a replay, in the current role
 abbrev pub entry_of : Talk → Command → EntryParts
 entry_of talk command = sent talk.journal talk.role command
 
--- a run ends where memory is wanting: it isn't answered
+-- running out of memory ends a run: it has no reply
 abbrev pub is_want_of_memory : Refusal → Bool
 is_want_of_memory NoMemory = true
 is_want_of_memory _ = false
@@ -63,7 +63,7 @@ abbrev pub journal_after : RulesParts → Talk → Command → Journal
 journal_after rules talk command =
     journal_by talk.journal (entry_of talk command) (refusal_of rules talk command)
 
--- what is written for what a line reads as
+-- the text to write for a line that can be read
 abbrev pub text_for : RulesParts → Talk → Line → List ℕ
 text_for rules talk (Do command) = reply_text (reply_to rules talk command)
 text_for rules talk (SetRole role) = reply_text (reply_apart (Ok (SetRole role)))
@@ -71,7 +71,7 @@ text_for rules talk (Rank sail) = reply_text (ranked (rank_of rules talk.journal
 text_for rules talk Show = sheet_text talk.journal (standing rules talk.journal)
 text_for rules talk Quit = reply_text (reply_apart (Ok Quit))
 
--- where the run stands after it
+-- the state of the run after it
 abbrev pub talk_for : RulesParts → Talk → Line → Talk
 talk_for rules talk (Do command) = record talk { journal = journal_after rules talk command }
 talk_for rules talk (SetRole role) = record talk { role = role }
@@ -79,12 +79,12 @@ talk_for rules talk (Rank sail) = talk
 talk_for rules talk Show = talk
 talk_for rules talk Quit = talk
 
--- the same of a line that may have a fault
+-- the same for a line that may have a fault
 abbrev pub text_after : RulesParts → Talk → Result Line LineFault → List ℕ
 text_after rules talk (Ok line) = text_for rules talk line
 text_after rules talk (Err fault) = reply_text (reply_apart (Err fault))
 
--- where the run stands after it
+-- the state of the run after it
 abbrev pub talk_after : RulesParts → Talk → Result Line LineFault → Talk
 talk_after rules talk (Ok line) = talk_for rules talk line
 talk_after rules talk (Err fault) = talk
@@ -106,26 +106,26 @@ unfoldable pub has_quit : List (List ℕ) → Bool
 has_quit [] = false
 has_quit (line ∷ rest) = if is_quit (line_of line) then true else has_quit rest
 
--- what is written for these lines, one after another
+-- the text to write for these lines, one after another
 unfoldable pub replies : RulesParts → Talk → List (List ℕ) → List ℕ
 replies rules talk [] = []
 replies rules talk (line ∷ rest) =
     text_after rules talk (line_of line) ++ replies rules
     (talk_after rules talk (line_of line)) rest
 
--- where the run stands after them
+-- the state of the run after them
 unfoldable pub talk_at_end : RulesParts → Talk → List (List ℕ) → Talk
 talk_at_end rules talk [] = talk
 talk_at_end rules talk (line ∷ rest) =
     talk_at_end rules (talk_after rules talk (line_of line)) rest
 
--- ---- a whole text, taken at a journal
+-- ---- a whole text, from a journal on
 
 -- the replies to the lines of the text
 abbrev pub transcript : RulesParts → Journal → List ℕ → List ℕ
 transcript rules start text = replies rules (opening start) (up_to_quit (lines text))
 
--- the replies to the lines that have ended, where the text isn't at its end
+-- the replies to the lines that have ended, if more of the text may come
 abbrev pub transcript_so_far : RulesParts → Journal → List ℕ → List ℕ
 transcript_so_far rules start text =
     replies rules (opening start) (up_to_quit (ended_lines text))
@@ -146,7 +146,7 @@ abbrev pub run_text : RulesParts → Journal → Form → List ℕ → List ℕ
 run_text rules start form text =
     transcript rules start text ++ final_text rules form (final_journal rules start text)
 
--- a text is no longer than so many bytes, or a QUIT is among the lines that end within them
+-- a text is no longer than `most` bytes, or a QUIT is among the lines that end within them
 abbrev pub EndsWithin : ℕ → List ℕ → Type 0
 EndsWithin most text = (length text ≤ most) ⊎ (has_quit (ended_lines (take most text)) ≡ true)
 

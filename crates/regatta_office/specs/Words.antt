@@ -28,11 +28,11 @@ flag name = record (new_rule name) { long = Some name; action = Some SetTrue }
 abbrev pub option : Text → Rule
 option name = record (new_rule name) { long = Some name; value_names = 1 }
 
--- the same, with the value that it has where the words don't give one
+-- the same, with a default
 abbrev pub option_or : Text → Text → Rule
 option_or name value = record (option name) { defaults = value ∷ [] }
 
--- an option that takes a number from the least to the most
+-- an option that takes a number from `least` to `most`, with a default
 abbrev pub number_option : Text → Text → ℕ → ℕ → Rule
 number_option name value least most =
     record (option_or name value) { parser = Some (Unsigned least most) }
@@ -58,8 +58,8 @@ with_rules app =
 unfoldable pub with_start : App → App
 with_start app = with_rule (with_rule app (option (codes "journal"))) (option (codes "entries"))
 
--- the options of the socket and its clients: the path has to be given, 4 seats are the default,
--- and no end
+-- the options of the socket and its clients: the path is required; by default there are 4 seats and
+-- no end
 unfoldable pub with_seats : App → App
 with_seats app =
     with_rule (with_rule (with_rule app (record (option (codes "socket")) { required = true }))
@@ -71,11 +71,11 @@ abbrev pub replay : ValueParser → App
 replay forms =
     with_rule (with_start (with_rules (new_app (codes "replay")))) (form_option forms)
 
--- `serve`, likewise, with those of the socket in place of the final part
+-- the subcommand `serve`: the options of the series, of its start and of the socket
 abbrev pub serve : App
 serve = with_seats (with_start (with_rules (new_app (codes "serve"))))
 
--- the program has no option of its own, and wants a subcommand
+-- the program has no option of its own, and needs a subcommand
 abbrev pub bare_program : App
 bare_program =
     let app = new_app (codes "regatta") in
@@ -87,12 +87,12 @@ regatta forms = with_subcommand (with_subcommand bare_program (replay forms).top
 
 -- ---- what words ask for
 
--- whether a flag is given, by the text that `clap` has for it
+-- whether a flag is given, from the text that `clap` has for it
 abbrev pub is_given : Option Text → Bool
 is_given (Some word) = bytes_eq word (codes "true")
 is_given None = false
 
--- the series, by what the words or the defaults give
+-- the series, from the values that the arguments or the defaults give
 abbrev pub series_by : Option Text → Option Text → Option Text → Bool → Option Text → Option Text
     → Option Series
 series_by (Some absent) scp (Some exclude) handicap journal entries = Some (record {
@@ -106,13 +106,13 @@ series_by (Some absent) scp (Some exclude) handicap journal entries = Some (reco
 series_by (Some absent) scp None handicap journal entries = None
 series_by None scp exclude handicap journal entries = None
 
--- the same, where this gives the value of each option by its name
+-- the same, from a function that gives the value of each option by its name
 abbrev pub series_with : (Text → Option Text) → Option Series
 series_with value =
     series_by (value (codes "absent")) (value (codes "scp")) (value (codes "exclude"))
     (is_given (value (codes "handicap"))) (value (codes "journal")) (value (codes "entries"))
 
--- the form of that word
+-- the form that this word names, a table without one
 abbrev pub form_by : Option Text → Form
 form_by (Some word) = if bytes_eq word (codes "csv") then Csv
     else if bytes_eq word (codes "journal") then Journal else Table
@@ -124,11 +124,11 @@ replay_with value = option_map
     (λ series. record { series = series; form = form_by (value (codes "print")) })
     (series_with value)
 
--- the number that a text of decimal digits says
+-- the number that a text of decimal digits names
 abbrev pub number_by : Option Text → Option ℕ
 number_by = option_map (λ text. digits_value 10 (without_leading_plus text))
 
--- what `serve` is asked for, by what the words or the defaults give
+-- what `serve` is asked for, from the values that the arguments or the defaults give
 abbrev pub serving_by : Option Series → Option Text → Option ℕ → Option ℕ → Option ServingAsked
 serving_by (Some series) (Some socket) (Some clients) (Some sessions) = Some (record {
   series = series;
@@ -144,7 +144,7 @@ serving_with value =
     serving_by (series_with value) (value (codes "socket")) (number_by (value (codes "clients")))
     (number_by (value (codes "sessions")))
 
--- what the subcommand asks for, by its name and its options
+-- what the subcommand asks for, from its name and its options
 abbrev pub asked_by : Option (Text × List Row) → Option Asked
 asked_by (Some (name, rows)) =
     let value = λ (option : Text). first_of option rows in
@@ -156,7 +156,7 @@ asked_by None = None
 abbrev pub asked_of : ValueParser → List Text → Option Asked
 asked_of forms words = asked_by (subcommand_of (regatta forms) words)
 
--- words ask for this run: `clap` finds no fault in them, and their options say it
+-- words ask for this run: `clap` finds no fault in them, and their options mean this run
 pub record AskRun (forms : ValueParser) (words : List Text) (asked : Asked) : Type 0 where
   pub faultless : fault_of (regatta forms) words ≡ []
   pub asks : asked_of forms words ≡ Some asked

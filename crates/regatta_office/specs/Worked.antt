@@ -25,7 +25,7 @@ by_times = record default_rules { handicap = true }
 abbrev run : List ℕ → List ℕ
 run text = run_text default_rules [] Table text
 
--- how many bytes of an input are answered, and how many a start file may have
+-- the limits: the bytes of an input that are answered, and the bytes of a start file
 pub bytes_at_most : (INPUT_LIMIT ≡ 1048576) × (FILE_LIMIT ≡ 1048576)
 bytes_at_most = (refl, refl)
 
@@ -47,7 +47,7 @@ pub one_race : run (codes "ENTER A\nENTER B\nFINISH 1 B\nFINISH 1 A\nSCORE 1\n")
 unfolding digits replies talk_at_end up_to_quit line_of line_of_words command_of_words command_after
 one_race = refl
 
--- a boat of a tie is disqualified, and the role at hand decides who may (A6.1, A7, A5.1)
+-- a boat of a tie is disqualified, and the current role decides who may do so (A6.1, A7, A5.1)
 pub a_tie_and_a_disqualification : run
     (codes "ENTER A\nENTER B\nENTER C\nFINISH 1 A\nTIE 1 B A\nFINISH 1 C\nSCORE 1\n"
     ++ codes "ROLE JURY\nMARK 1 A DSQ\nROLE FINISH\nMARK 1 B DSQ\nROLE SCORER\n"
@@ -68,7 +68,7 @@ pub redress : run_text no_exclusions [] Table
 unfolding digits replies talk_at_end up_to_quit line_of line_of_words command_of_words command_after
 redress = refl
 
--- equal seconds tie (A3, A7); a time is struck and handed in anew, and a finish is refused
+-- equal seconds tie (A3, A7); a time is struck and given again, and a finish is refused
 pub corrected_times : run_text by_times [] Table
     (codes "ENTER A\nENTER B\nENTER C\nTIME 1 A 3605\nTIME 1 B 3600\nTIME 1 C 3605\nSCORE 1\n"
     ++ codes "RANK C\nSTRIKE 1 A\nTIME 1 A 3599\nFINISH 1 B\nTIME 1 B 1\nTIME 1 X 1\n"
@@ -85,7 +85,7 @@ pub no_corrected_times : run (codes "ENTER A\nTIME 1 A 5\n")
 unfolding digits replies talk_at_end up_to_quit line_of line_of_words command_of_words command_after
 no_corrected_times = refl
 
--- lines behind QUIT aren't answered, and the last line needs no LF
+-- lines after QUIT aren't answered, and the last line needs no LF
 pub the_end_of_a_talk : run_text default_rules [] Journal
     (codes "ENTER A\nRANK A\nRANK B\nQUIT\nENTER C\n")
     ≡ codes "OK 1 1 0.0\nRANK 1 0.0\nNO 7\nBYE\nREGATTA 2\n1 1 SCORER ENTER A\n"

@@ -1,4 +1,4 @@
--- Worked examples of the program's words, by computation.
+-- Worked examples of command-line arguments, by computation.
 use Rattle.std.specs.Prelude.{◌≡◌, [], ◌∷◌, Some, None, refl, codes, true, false}
 use Rattle.std.proofs.Common.{inl}
 use Rattle.clap.proofs.OnLiterals.{clap_on_literals}
@@ -103,7 +103,7 @@ pub serving_times : (forms : ValueParser) → asked_of forms
 unfolding clap_on_literals regatta with_rules with_start with_seats
 serving_times forms = refl
 
--- help, and words that aren't enough
+-- help, and arguments that aren't enough
 pub help : (forms : ValueParser) → AskHelp forms (codes "--help" ∷ [])
 unfolding clap_on_literals regatta with_rules with_start with_seats
 help forms = inl refl
@@ -116,7 +116,7 @@ pub no_words : (forms : ValueParser) → fault_of (regatta forms) [] ≡ Missing
 unfolding clap_on_literals regatta with_rules with_start with_seats
 no_words forms = refl
 
--- an option that isn't the program's, and one that is given twice, are faults
+-- an unknown option and one that is given twice are faults
 pub unknown_option : (forms : ValueParser)
     → fault_of (regatta forms) (codes "replay" ∷ codes "--speed" ∷ []) ≡ UnknownArgument ∷ []
 unfolding clap_on_literals regatta with_rules with_start with_seats

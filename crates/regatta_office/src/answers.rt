@@ -1,4 +1,4 @@
-//! What a line of a replay asks for, done and answered.
+//! Carries out the lines of a replay, and answers them.
 ghost use Rattle.std.specs.Prelude.{◌≡◌, ◌++◌, IfOk, OnOk, OnErr};
 ghost use Rattle.regatta_board.specs.Answers.{rank_of};
 ghost use Rattle.regatta_tables.specs.ReplyTexts.{reply_text};
@@ -14,7 +14,6 @@ use regatta_talk::{answer_apart, make_room, ranked, reply_of, write_fitting};
 use regatta_terms::{Command, Entry, Line, LineFault, Refusal, Reply, Role, Sail};
 use std::alloc::AllocError;
 
-/// The entry that a command makes on this board, in this role.
 fn entry_of(board: &Shown, role: Role, command: Command) -> Entry
     ensures { result
         ≡ entry_by (record { role = role; journal = board.now.entries }) command }
@@ -22,14 +21,13 @@ fn entry_of(board: &Shown, role: Role, command: Command) -> Entry
     next_entry(REPLAY_SEAT, board.last_of(REPLAY_SEAT), role, command)
 }
 
-/// Whether a refusal is want of memory.
 fn is_want_of_memory(why: Refusal) -> bool
     ensures { result ≡ is_want_of_memory_by why }
 {
     matches!(why, Refusal::NoMemory)
 }
 
-/// Does a command, and gives its reply. Want of memory is no reply: the run ends by it.
+/// Does a command, and returns its reply. Out of memory is no reply: it ends the run.
 fn do_command(board: &mut Shown, role: Role, command: Command) -> Result<Reply, AllocError>
     ensures reply { IfOk result (λ reply. reply ≡ reply_to board.old.rules
         (record { role = role; journal = board.old.entries }) command) }
@@ -50,7 +48,7 @@ fn do_command(board: &mut Shown, role: Role, command: Command) -> Result<Reply, 
     }
 }
 
-/// Does a command, once there is room for its reply, and appends that.
+/// Makes room for the reply first, so that no command takes effect without one.
 fn answer_command(
     board: &mut Shown,
     role: Role,
@@ -72,7 +70,6 @@ fn answer_command(
     Ok(())
 }
 
-/// Appends the reply to a boat's rank.
 fn answer_rank(board: &Shown, sail: Sail, out: &mut Vec<u8>) -> Result<(), AllocError>
     ensures text { OnOk result (out.new.items ≡ out.old.items
         ++ reply_text (ranked_by (rank_of board.now.rules board.now.entries sail))) }
@@ -83,7 +80,7 @@ fn answer_rank(board: &Shown, sail: Sail, out: &mut Vec<u8>) -> Result<(), Alloc
     Ok(())
 }
 
-/// Does what a line asks for, and appends what is written for it.
+/// Does what a line asks for, and appends the text to write for it.
 fn answer_line(
     board: &mut Shown,
     role: &mut Role,
@@ -108,7 +105,7 @@ fn answer_line(
     }
 }
 
-/// Does what a line asks for, if it can be read, and appends what is written for it.
+/// Does what a line asks for, if it can be read, and appends the text to write for it.
 pub(crate) fn answer(
     board: &mut Shown,
     role: &mut Role,
@@ -130,7 +127,6 @@ pub(crate) fn answer(
     }
 }
 
-/// Whether a line ends the run.
 pub(crate) fn is_quit(asked: &Result<Line, LineFault>) -> bool
     ensures { result ≡ is_quit_of asked.now }
 {

@@ -1,4 +1,4 @@
-//! A series that is served to clients at a socket.
+//! Serves a series to clients at a socket.
 ghost use Rattle.std.specs.Prelude.{◌≡◌, IfOk, OnOk};
 ghost use Rattle.regatta_service.specs.Doors.{streams_asked};
 ghost use Rattle.regatta_office.specs.Asked.{IsServingOf, PrintsTable};
@@ -18,7 +18,6 @@ use std::net::Net;
 use std::sync::Wait;
 use std::thread::Threads;
 
-/// The door that the options ask for.
 fn door_of<R: Files + Net>(rt: &R, options: &ServeOptions<'_>) -> Result<SocketDoor, DoorFault>
     ensures { IfOk result (λ door. door.left ≡ streams_asked options.now.sessions) }
 {
@@ -26,8 +25,8 @@ fn door_of<R: Files + Net>(rt: &R, options: &ServeOptions<'_>) -> Result<SocketD
     Ok(door)
 }
 
-/// Serves the clients who come by the socket at the seats of this office. Once the door is closed
-/// and all have gone, prints the table of the office's journal.
+/// Serves the socket's clients at the seats of this office. When the door is closed and all clients
+/// have gone, prints the table of the office's journal.
 fn serve_office<N, H, R, W>(
     rt: &R,
     alloc: Global,
@@ -53,13 +52,13 @@ where
     Ok(())
 }
 
-/// Serves the series that the options ask for: opens its office, lets in the clients who come by a
-/// new socket, and prints the table at the end.
+/// Serves the series that the options ask for: opens its office, serves clients at a new socket,
+/// and prints the table at the end.
 ///
 /// # Errors
 ///
-/// What is at fault of the rules or the start, before anybody is let in; a socket, a thread or a
-/// write that fails; or want of memory.
+/// The fault of the rules or the start, before any client is served. `Device` if a socket, a thread
+/// or a write fails, and `NoMemory` if an allocation fails.
 pub(crate) fn serve_series<R, W>(
     rt: &R,
     options: &ServeOptions<'_>,

@@ -1,4 +1,4 @@
-//! The program: from the words of its command line to its status.
+//! The program, from its command line to its status.
 ghost use Rattle.std.specs.Prelude.{◌≡◌, ◌≢◌, ◌⊎◌, ℕ, List, OnOk, map};
 ghost use Rattle.std.specs.Io.KnownBytes.{Appends};
 ghost use Rattle.clap.specs.Words.{kind_of};
@@ -20,10 +20,10 @@ use std::net::Net;
 use std::sync::Wait;
 use std::thread::Threads;
 
-/// The status of words that aren't the program's.
+/// The status for arguments that the program doesn't take.
 const BAD_WORDS: u8 = 2;
 
-/// Says on standard error why the program stops short. The status that it ends with.
+/// Writes to standard error why the program stops, and returns its status.
 fn complain<E: Sink>(alloc: Global, errors: &mut E, complaint: Complaint) -> u8
     ensures { result ≢ 0 }
 {
@@ -37,7 +37,7 @@ fn complain<E: Sink>(alloc: Global, errors: &mut E, complaint: Complaint) -> u8
     }
 }
 
-/// Writes the help that words ask for. The status that the program ends with.
+/// Writes the help that was asked for, and returns the program's status.
 fn help<W: Sink, E: Sink>(alloc: Global, error: &clap::Error, output: &mut W, errors: &mut E) -> u8
     ensures { result ≡ 0 → (text : List ℕ)
         × Appends (W.contents output.old) (W.contents output.new) text }
@@ -51,7 +51,7 @@ fn help<W: Sink, E: Sink>(alloc: Global, error: &clap::Error, output: &mut W, er
     }
 }
 
-/// Says on standard error why words aren't taken. The status that the program ends with.
+/// Writes to standard error why the arguments aren't taken, and returns the program's status.
 fn refuse<E: Sink>(alloc: Global, error: &clap::Error, errors: &mut E) -> u8
     ensures { result ≢ 0 }
 {
@@ -64,8 +64,8 @@ fn refuse<E: Sink>(alloc: Global, error: &clap::Error, errors: &mut E) -> u8
     }
 }
 
-/// Answers words that ask for no run: with the help that they ask for, or with what `clap` says of
-/// words that it doesn't take.
+/// Answers arguments that ask for no run: with the help that they ask for, or with what `clap` says
+/// of arguments that it doesn't take.
 fn answer_words<W: Sink, E: Sink>(
     alloc: Global,
     error: &clap::Error,
@@ -82,7 +82,7 @@ fn answer_words<W: Sink, E: Sink>(
     }
 }
 
-/// Replays the input: a run of that series, with its final part in that form.
+/// Replays the input as a run of the series, with the final part in the form asked for.
 fn replay_series<H: Files + AllocGlobal, R: Source, W: Sink>(
     rt: &H,
     options: &ReplayOptions<'_>,
@@ -99,7 +99,6 @@ fn replay_series<H: Files + AllocGlobal, R: Source, W: Sink>(
     Ok(())
 }
 
-/// The run that the words ask for.
 fn run<H, R, W>(rt: &H, asked: &Asked<'_>, input: &mut R, output: &mut W) -> Result<(), Complaint>
 where
     H: Files + AllocGlobal + Threads + Wait + Net + Sync,
@@ -114,18 +113,20 @@ where
     }
 }
 
-/// The whole program, from the words after its name to its status.
+/// The whole program, from the arguments after its name to its status.
 ///
-/// `replay` answers the lines that the input gives and prints the final table, CSV or journal;
-/// `serve` answers those of clients at a new Unix socket, side by side, and prints the final table
-/// once the door is closed. `--absent`, `--scp`, `--exclude` and `--handicap` are the series rules
-/// (RRS A5.2 and A5.3, 44.3(c), A2.1, A3), `--journal` and `--entries` name files to start from.
-/// `--print` is the form of a replay's final part; `--socket`, `--clients` and `--sessions` are the
-/// path of the socket, how many seats there are, and behind how many clients the door closes.
+/// `replay` answers the lines of the input and prints the final table, CSV or journal. `serve`
+/// answers the lines of clients at a new Unix socket, side by side. It prints the final table after
+/// the door has closed.
 ///
-/// The status is 0 once all is written, 1 where a file, the start or the input is at fault, 2
-/// where the words or the rules are, and 3 where a device fails or memory is wanting. All but 0 say
-/// why on `errors`.
+/// `--absent`, `--scp`, `--exclude` and `--handicap` are the series rules (RRS A5.2 and A5.3,
+/// 44.3(c), A2.1, A3). `--journal` and `--entries` name files to start from. `--print` is the form
+/// of a replay's final part. `--socket` is the path of the socket, `--clients` the number of seats,
+/// and `--sessions` the number of clients after which the door closes.
+///
+/// The status is 0 if everything was written, 1 if a file, the start or the input is at fault, 2 if
+/// the arguments or the rules are, and 3 if a device fails or memory runs out. If the status isn't
+/// 0, the program says why on `errors`.
 pub fn program<H, R, W, E>(
     rt: &H,
     words: &[&str],
@@ -138,8 +139,8 @@ where
     R: Source,
     W: Sink,
     E: Sink,
-    // The words ask for help, and it is written; or `clap` finds no fault in them, and all is
-    // written of the run that they ask for, with the defaults for what they leave out.
+    // At status 0 the arguments ask for help, and it is written. Or `clap` finds no fault in them,
+    // and the whole run that they ask for is written, with the defaults for what they leave out.
     ensures done { result ≡ 0 → (forms : ValueParser) × TakesForms forms
         × ((AskHelp forms (map (λ word. word.now) words.now) × (input.new ≡ input.old)
         × ((text : List ℕ) × Appends (W.contents output.old) (W.contents output.new) text))

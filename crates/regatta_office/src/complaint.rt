@@ -1,4 +1,4 @@
-//! Why the program stops short, and what it says of it.
+//! Why the program stops early, and what it says about it.
 ghost use Rattle.std.specs.Prelude.{◌≡◌, ◌≢◌};
 ghost use Rattle.regatta_office.specs.Complaints.{status_of};
 
@@ -13,10 +13,10 @@ use std::alloc::AllocError;
 use std::io::ErrorKind;
 use thiserror::Error;
 
-/// Why the program stops short. Its text is what the program says on standard error.
+/// Why the program stops early. Its text is what the program says on standard error.
 #[derive(Clone, Copy, Debug, PartialEq, Eq, Error)]
 pub enum Complaint {
-    /// The texts of the series rules aren't rules.
+    /// The options of the series rules aren't valid.
     #[error("regatta: rules fault {number}")]
     Rules { number: u8 },
     /// The entry list can't be read.
@@ -25,16 +25,16 @@ pub enum Complaint {
     /// The journal file can't be read.
     #[error("regatta: journal fault {number} line {line}")]
     Journal { number: u8, line: usize },
-    /// An entry of the start is refused by those before it.
+    /// The entries before it refuse an entry of the start.
     #[error("regatta: start refused {number} at {at}")]
     Start { number: u8, at: u32 },
     /// The input or a start file is too long.
     #[error("regatta: input too long")]
     TooLong,
-    /// A file, a stream or a socket fails, or a thread or a reader isn't given.
+    /// A file, a stream or a socket fails, or no thread or reader is available.
     #[error("regatta: device fault")]
     Device,
-    /// Memory is wanting.
+    /// An allocation failed.
     #[error("regatta: no memory")]
     NoMemory,
 }
@@ -62,7 +62,7 @@ impl From<AllocError> for Complaint {
     }
 }
 
-/// Of a file that can't be opened.
+/// The complaint about a file that can't be opened.
 impl From<ErrorKind> for Complaint {
     fn from(kind: ErrorKind) -> Complaint {
         match kind {
@@ -156,7 +156,7 @@ impl From<ServeFault> for Complaint {
     }
 }
 
-/// Of the final part.
+/// The complaint about a final part that can't be written.
 impl From<ScribeFault> for Complaint {
     fn from(fault: ScribeFault) -> Complaint {
         match fault {

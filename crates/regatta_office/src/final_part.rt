@@ -11,7 +11,6 @@ use regatta_streams::{Sink, write_all};
 use regatta_tables::{write_csv, write_journal, write_table};
 use std::alloc::{AllocError, Global};
 
-/// Appends the journal of the board in the form asked for.
 fn write_final(
     alloc: Global,
     board: &Board,
@@ -28,12 +27,12 @@ fn write_final(
     }
 }
 
-/// Prints the journal of the board in the form asked for: it is made whole, and then written.
+/// Prints the journal of the board in the form asked for. The text is made whole and then written.
 ///
 /// # Errors
 ///
-/// `Write` where the write fails: some first part of it stands there then. `NoMemory` where memory
-/// is wanting to make it: nothing is written then.
+/// `Write` if the write fails: some first part of the text is written then. `NoMemory` if there is
+/// no memory for the text: nothing is written then.
 pub(crate) fn print_final<W: Sink>(
     alloc: Global,
     board: &Board,

@@ -1,4 +1,4 @@
-//! How a run ends.
+//! The forms of a run's final part.
 
 /// What a run prints at its end.
 #[derive(Clone, Copy, Debug, PartialEq, Eq)]
@@ -7,6 +7,6 @@ pub enum Form {
     Table,
     /// The standing as CSV, for a spreadsheet.
     Csv,
-    /// The journal, as a later run can start from it.
+    /// The journal, from which a later run can start.
     Journal,
 }

@@ -1,5 +1,5 @@
-//! The race office: it answers the lines of a scorer over any streams, and of clients side by side,
-//! whose seats share a desk under a lock and watch without it.
+//! The race office. It answers the lines of a scorer over any streams. It also serves clients side
+//! by side: their seats share a desk under a lock, and watch without the lock.
 #![tactic(auto)]
 
 mod answers;

@@ -25,14 +25,14 @@ use regatta_terms::MAX_SEATS;
 use std::alloc::{AllocError, Global};
 use std::marker::Model;
 
-/// The most clients behind whom serving may be asked to end.
+/// The greatest number of clients for `--sessions`.
 const MOST_SESSIONS: u64 = 1_000_000;
 
-/// What the run is to print at its end, by the option's word.
+/// The values of `--print`.
 static FORMS: [&str; 3] = ["table", "csv", "journal"];
 
-/// The series that the words ask for: texts of its rules, whether places follow corrected times,
-/// and paths of its start files.
+/// The series that the arguments ask for: texts of its rules, whether places follow corrected
+/// times, and paths of its start files.
 #[derive(Drop)]
 pub(crate) struct SeriesOptions<'a> {
     pub(crate) absent: &'a str,
@@ -74,8 +74,8 @@ impl<'a> Model for ReplayOptions<'a> {
     ghost view = { λ options. record { series = options.series; form = options.form } };
 }
 
-/// What `regatta serve` is asked for: the series, the path of the socket, how many seats there are,
-/// and behind how many clients the door closes, where 0 is no end.
+/// What `regatta serve` is asked for: the series, the path of the socket, the number of seats, and
+/// the number of clients after which the door closes (0: never).
 #[derive(Drop)]
 pub(crate) struct ServeOptions<'a> {
     pub(crate) series: SeriesOptions<'a>,
@@ -97,12 +97,12 @@ impl<'a> Model for ServeOptions<'a> {
     } };
 }
 
-/// What the words ask for.
+/// What the arguments ask for.
 #[derive(Drop)]
 pub(crate) enum Asked<'a> {
-    /// That the lines of the input are answered.
+    /// To answer the lines of the input.
     Replay(ReplayOptions<'a>),
-    /// That clients at a socket are served.
+    /// To serve clients at a socket.
     Serve(ServeOptions<'a>),
 }
 
@@ -183,7 +183,7 @@ fn option<'a>(alloc: Global, name: &'a str, value: &'a str, help: &'a str) -> Ar
         .help(help)
 }
 
-/// The same, with the value that it has where the words don't give one.
+/// An option that takes one value and has a default.
 fn option_or<'a>(
     alloc: Global,
     name: &'a str,
@@ -206,8 +206,7 @@ fn form_option<'a>(alloc: Global) -> Arg<'a>
     option_or(alloc, "print", "FORM", "table", PRINT).value_parser(FORMS.as_slice())
 }
 
-/// An option that takes a number from the least to the most, with the one that it has where the
-/// words don't give one.
+/// An option that takes a number from `least` to `most` and has a default.
 fn number_option<'a>(
     alloc: Global,
     name: &'a str,
@@ -299,7 +298,7 @@ fn regatta<'a>(alloc: Global) -> Result<Command<'a>, AllocError>
     Ok(command)
 }
 
-/// The form of that word.
+/// The form named by the value of `--print`, a table without one.
 fn form_of(word: Option<&str>) -> Form
     ensures { result ≡ form_by (option_copied word.entry) }
 {
@@ -317,7 +316,7 @@ fn form_of(word: Option<&str>) -> Form
     }
 }
 
-/// Whether a flag is given, by what `clap` says of it.
+/// Whether a flag is given: `clap` has the text `true` for it then.
 fn is_given(flag: Option<&str>) -> bool
     ensures { result ≡ is_given_by (option_copied flag.entry) }
 {
@@ -327,9 +326,9 @@ fn is_given(flag: Option<&str>) -> bool
     }
 }
 
-/// The series by the values of its options: those of `--absent`, `--scp`, `--exclude` and
-/// `--handicap`, and those of `--journal` and `--entries`. None where there is no value for one of
-/// the two that have defaults, `--absent` and `--exclude`.
+/// The series, from the values of `--absent`, `--scp`, `--exclude` and `--handicap`, and those of
+/// `--journal` and `--entries`. `None` if `--absent` or `--exclude`, which have defaults, has no
+/// value.
 fn series_given<'a>(
     rules: (Option<&'a str>, Option<&'a str>, Option<&'a str>, bool),
     files: (Option<&'a str>, Option<&'a str>),
@@ -374,7 +373,7 @@ fn replay_asked<'a>(options: &ArgMatches<'a>) -> Option<ReplayOptions<'a>>
     })
 }
 
-/// The number of an option. `clap` lets no other text pass.
+/// The number that an option has. `clap` accepts no other text.
 fn number_of(options: &ArgMatches<'_>, name: &str) -> Option<u32>
     ensures { IfSome result (λ number.
         number_by (first_value (found_of options.now) name.now) ≡ Some number) }
@@ -400,7 +399,7 @@ fn serving_asked<'a>(options: &ArgMatches<'a>) -> Option<ServeOptions<'a>>
     })
 }
 
-/// What the subcommand asks for, by its name and its options.
+/// What the subcommand asks for, from its name and its options.
 fn run_asked<'a>(matches: &ArgMatches<'a>) -> Option<Asked<'a>>
     ensures { IfSome result (λ asked. asked_by (subcommand_rows_of matches.now) ≡ Some asked) }
 {
@@ -413,11 +412,12 @@ fn run_asked<'a>(matches: &ArgMatches<'a>) -> Option<Asked<'a>>
     Some(Asked::Serve(serving))
 }
 
-/// What the words ask for. `clap` lets no words pass that have no subcommand.
+/// What the arguments ask for. `clap` accepts none without a subcommand.
 ///
 /// # Errors
 ///
-/// What `clap` says of words that it doesn't take, the help that they ask for, or want of memory.
+/// What `clap` says of arguments that it doesn't take, the help that they ask for, or out of
+/// memory.
 pub(crate) fn options_of<'a>(
     alloc: Global,
     words: &'a [&'a str],

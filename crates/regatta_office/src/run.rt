@@ -1,4 +1,4 @@
-//! A run over two streams.
+//! A run, from an input stream to an output stream.
 ghost use Rattle.std.specs.Prelude.{◌≡◌, ◌≢◌, ◌+◌, ◌<◌, ◌≤◌, ℕ, List, length, take, None};
 ghost use Rattle.std.specs.Prelude.{OnOk, IfOk, IfErr, IfSome, IsErrOf, false, true};
 ghost use Rattle.std.specs.Io.KnownBytes.{Appends, Keeps};
@@ -29,13 +29,13 @@ use thiserror::Error;
 /// The most bytes of an input whose lines are answered.
 pub const INPUT_LIMIT: u32 = 1_048_576;
 
-/// The bytes that one read asks for at most.
+/// The most bytes that one read asks for.
 const PIECE: usize = 4096;
 
 /// Why a run stopped.
 #[derive(Clone, Copy, Debug, PartialEq, Eq, Error)]
 pub enum RunFault {
-    /// The entry of the start at this place, counted from 1, is refused by those before it.
+    /// The entry of the start at place `at`, counted from 1, is refused by those before it.
     #[error("entry {at} of the start: {refusal}")]
     Start { at: u32, refusal: Refusal },
     /// A read of the input failed.
@@ -44,15 +44,14 @@ pub enum RunFault {
     /// A write to the output failed.
     #[error("a write failed")]
     Write,
-    /// A byte past the limit came, and no QUIT before it.
+    /// A byte past the limit came, without a QUIT before it.
     #[error("the input is longer than 1,048,576 bytes")]
     InputTooLong,
-    /// Memory was wanting.
+    /// An allocation failed.
     #[error("no memory")]
     NoMemory,
 }
 
-/// The fault of a start.
 fn start_fault(fault: ReplayFault) -> RunFault
     ensures { result ≡ start_fault_of fault }
 {
@@ -62,7 +61,6 @@ fn start_fault(fault: ReplayFault) -> RunFault
     }
 }
 
-/// The fault of a run that writes no more.
 fn scribe_fault(fault: ScribeFault) -> RunFault
     ensures { result ≡ scribe_fault_of fault }
 {
@@ -72,8 +70,8 @@ fn scribe_fault(fault: ScribeFault) -> RunFault
     }
 }
 
-/// Reads a piece of the input, and writes what is due for the lines that end in it: at most `most`
-/// bytes are answered. How many bytes came, or `None` at the end of the run.
+/// Reads a piece of the input, and writes the text for the lines that end in it. At most `most`
+/// bytes are answered. Returns the number of bytes read, or `None` at the end of the run.
 fn turn<R: Source, W: Sink>(
     scribe: &mut Scribe,
     input: &mut R,
@@ -166,19 +164,18 @@ fn answer_all<R: Source, W: Sink>(
     }
 }
 
-/// Answers the lines of a text, as seat 1 and first in the role of the scorer, on a board that
-/// holds the start: the writer gets what is due for each line up to QUIT or the end of the text,
-/// and then the final journal in the form asked for. The series is scored under the rules handed
-/// in.
+/// Answers the lines of a text as seat 1, at first in the role of the scorer, on a board with the
+/// entries of `start`, under the given rules. The writer gets the text for each line, up to QUIT or
+/// the end of the text, and then the final journal in the form asked for.
 ///
 /// The text is read in pieces and answered line by line: it is never held whole.
 ///
 /// # Errors
 ///
-/// `Start` where an entry of the start is refused by those before it: nothing is written then.
-/// `Read` and `Write` where the device fails, `InputTooLong` where a byte past `INPUT_LIMIT` comes
-/// and no QUIT before it, `NoMemory` where memory is wanting. Lines before the fault were answered,
-/// and the final part isn't written, but for some first part of it where its own write fails.
+/// `Start` if an entry of the start is refused by those before it: nothing is written then. `Read`
+/// or `Write` if the device fails, `InputTooLong` if a byte past [`INPUT_LIMIT`] comes without a
+/// QUIT before it, `NoMemory` if an allocation fails. Lines before the fault were answered. The
+/// final part isn't written, except for some first part of it if its own write fails.
 pub fn replay<R: Source, W: Sink>(
     alloc: Global,
     input: &mut R,
@@ -187,32 +184,33 @@ pub fn replay<R: Source, W: Sink>(
     start: &[Entry],
     form: Form,
 ) -> Result<(), RunFault>
-    // The lines of the text that the reader gives are answered, however its bytes are cut, and
-    // then the final journal is written, and nothing else.
+    // The lines of the text that the reader gives are answered, however its bytes are cut. Then the
+    // final journal is written, and nothing else.
     ensures answered { OnOk result (IfSome (R.remaining input.old) (λ text. Appends
         (W.contents output.old) (W.contents output.new)
         (run_text rules.now start.now form text))) }
-    // A run that ends well has answered no more than the limit; none takes more than tells that.
+    // A run that returns `Ok` has answered no more bytes than the limit. Every run reads at most
+    // one byte more.
     ensures within { OnOk result (IfSome (R.remaining input.old) (EndsWithin INPUT_LIMIT)) }
     ensures taken { GaveAtMost (INPUT_LIMIT + 1) (R.remaining input.old)
         (R.remaining input.new) }
 
-    // A start that isn't lawful: the first entry refused, or want of memory, and nothing is read
-    // or written.
+    // If an entry of the start is refused, the result is the first of them, or `NoMemory`. Nothing
+    // is read or written then.
     ensures lawful { OnOk result (is_lawful limits rules.now start.now ≡ true) }
     ensures start { IfErr result (IsRunFault (first_refused rules.now start.now)) }
     ensures unread { first_refused rules.now start.now ≢ None → input.new ≡ input.old }
     ensures silent { first_refused rules.now start.now ≢ None → output.new ≡ output.old }
 
-    // A device that failed is told by its own fault, and by no other.
+    // A failed device is reported as its own fault and as nothing else.
     ensures well { OnOk result ((R.failures input.new ≡ R.failures input.old)
         × (W.failures output.new ≡ W.failures output.old)) }
     ensures fault { IfErr result (IsRunFaultOf (R.failures input.old) (R.failures input.new)
         (W.failures output.old) (W.failures output.new)) }
 
-    // What is written by then: replies to the lines that had ended, as far as they count; of a
-    // failed write some first part of the whole text, and of want of memory the replies to some
-    // first lines.
+    // A run that fails has written the replies to the lines that had ended, within the limit. After
+    // a failed write it is some first part of the whole text. Out of memory, it is the replies to
+    // some first lines.
     ensures read { IsErrOf result RunFault.Read → ReadSome (R.remaining input.old)
         (R.remaining input.new) (W.contents output.old) (W.contents output.new)
         (transcript_so_far rules.now start.now) }

@@ -1,4 +1,4 @@
-//! A run so far: it takes pieces of a text, and writes what is due for the lines that have ended.
+//! A run in progress: it takes pieces of a text, and writes the text for the lines that have ended.
 ghost use Rattle.std.specs.Prelude.{◌≡◌, ◌≢◌, ◌+◌, ◌++◌, ◌∷◌, [], true, false, ℕ, List, IfOk, OnOk};
 ghost use Rattle.std.specs.Prelude.{OnErr, IsErrOf, IfSome, Some, ◌<◌, ◌≤◌, length};
 ghost use Rattle.std.specs.Io.KnownBytes.{Appends};
@@ -17,19 +17,19 @@ use regatta_talk::Cutter;
 use regatta_terms::{Role, read_line};
 use std::alloc::{AllocError, Global};
 
-/// How many bytes may be due, and not yet written, before one more line is answered.
+/// The number of unwritten bytes from which on they are written before another line is answered.
 const DUE_LIMIT: usize = 4096;
 
-/// Why no more is written.
+/// Why a scribe stops writing.
 #[derive(Clone, Copy, Debug, PartialEq, Eq)]
 pub(crate) enum ScribeFault {
     /// A write failed.
     Write,
-    /// Memory was wanting.
+    /// An allocation failed.
     NoMemory,
 }
 
-/// The board, the role of the lines to come, the line at hand, and what is due and not yet written.
+/// The board, the role of the next lines, the current line, and the text not written yet.
 #[derive(Drop)]
 pub(crate) struct Scribe {
     board: Shown,
@@ -39,7 +39,7 @@ pub(crate) struct Scribe {
 }
 
 impl Scribe {
-    /// The first line is taken in the role of the scorer.
+    /// A run on this board, at first in the role of the scorer.
     pub(crate) fn new(alloc: Global, board: Board) -> Scribe
         ensures { point result ≡ record {
           rules = board.rules;
@@ -63,8 +63,8 @@ impl Scribe {
         self.board.board()
     }
 
-    /// Does what the line at hand asks for; what is due for it joins what is due already. True
-    /// where it ends the run.
+    /// Does what the current line asks for, and appends its text to the unwritten one. Returns
+    /// whether it ends the run.
     fn end_line(&mut self) -> Result<bool, AllocError>
         ensures quit { IfOk result (λ quit. quit ≡ is_quit_of (line_of (point self.old).line)) }
         ensures due { OnOk result (self.new.due.items ≡ self.old.due.items
@@ -84,7 +84,7 @@ impl Scribe {
         Ok(is_quit(&asked))
     }
 
-    /// Takes a byte of the text. True where it ends the run.
+    /// Takes a byte of the text, and returns whether it ends the run.
     fn take(&mut self, byte: u8) -> Result<bool, AllocError>
         ensures went { IfOk result (λ quit. Went (Some self.old.due.items)
             (Some self.new.due.items) (byte ∷ []) (point self.old) (point self.new) quit) }
@@ -96,12 +96,12 @@ impl Scribe {
         self.end_line()
     }
 
-    /// Takes a piece of the text, up to the end of the run or to a line behind which much is due.
-    /// How many bytes it took, or `None` at the end of the run.
+    /// Takes a piece of the text, up to the end of the run or to a line after which [`DUE_LIMIT`]
+    /// is reached. Returns the number of bytes taken, or `None` at the end of the run.
     ///
     /// # Errors
     ///
-    /// Where memory is wanting: what is due for the lines before it is still due.
+    /// If an allocation fails. The text for the lines before it is still to be written.
     fn gather(&mut self, piece: &[u8]) -> Result<Option<usize>, AllocError>
         requires { 0 < length piece.now }
         ensures count { IfOk result (λ count. IfSome count
@@ -125,8 +125,8 @@ impl Scribe {
         Ok(Some(piece.len()))
     }
 
-    /// Takes a piece of the text, as far as it gathers what is due, and writes that. How many bytes
-    /// it took, or `None` at the end of the run.
+    /// Takes as much of a piece as `gather` does, and writes the text for it. Returns the number of
+    /// bytes taken, or `None` at the end of the run.
     fn take_some<W: Sink>(
         &mut self,
         piece: &[u8],
@@ -158,7 +158,7 @@ impl Scribe {
         }
     }
 
-    /// Takes a piece of the text, up to the end of the run. True where that came.
+    /// Takes a piece of the text, up to the end of the run. Returns whether the run ended.
     pub(crate) fn take_all<W: Sink>(
         &mut self,
         piece: &[u8],
@@ -189,7 +189,7 @@ impl Scribe {
         Ok(false)
     }
 
-    /// Ends the text: a last line without LF is a line where it isn't empty.
+    /// Ends the text: a last line without LF counts as a line unless it is empty.
     pub(crate) fn finish<W: Sink>(&mut self, output: &mut W) -> Result<(), ScribeFault>
         ensures finished { OnOk result (Finished (W.contents output.old) (W.contents output.new)
             (point self.old) (point self.new)) }

@@ -1,4 +1,4 @@
-//! What a series begins with.
+//! What a series starts with.
 ghost use Rattle.std.specs.Prelude.{IfOk};
 ghost use Rattle.regatta_office.specs.Asked.{Begins};
 
@@ -10,7 +10,7 @@ use regatta_tables::Journal;
 use regatta_terms::Rules;
 use std::fs::Files;
 
-/// The rules of a series, and the entries that it begins with.
+/// The rules of a series, and the entries that it starts with.
 #[derive(Drop)]
 pub(crate) struct Beginning {
     pub(crate) rules: Rules,
@@ -21,7 +21,7 @@ pub(crate) struct Beginning {
 ///
 /// # Errors
 ///
-/// The first of these that is at fault.
+/// The fault of the first of these that has one.
 pub(crate) fn beginning_of<H: Files + AllocGlobal>(
     rt: &H,
     series: &SeriesOptions<'_>,

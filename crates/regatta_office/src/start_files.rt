@@ -14,7 +14,6 @@ use std::fs::{self, Files};
 /// The most bytes of a start file.
 const FILE_LIMIT: u32 = 1_048_576;
 
-/// The whole text of the file at that path.
 fn text_at<H: Files + AllocGlobal>(rt: &H, path: &str) -> Result<Vec<u8>, Complaint>
     ensures { IfOk result (λ text. length text.items ≤ FILE_LIMIT) }
 {
@@ -24,7 +23,7 @@ fn text_at<H: Files + AllocGlobal>(rt: &H, path: &str) -> Result<Vec<u8>, Compla
     }
 }
 
-/// The entries of the journal file, or none where no file is named.
+/// The entries of the journal file, or none if no file is named.
 pub(crate) fn journal_at<H: Files + AllocGlobal>(
     rt: &H,
     path: Option<&str>,
@@ -37,7 +36,7 @@ pub(crate) fn journal_at<H: Files + AllocGlobal>(
     }
 }
 
-/// The sails of the entry list, or none where no file is named.
+/// The sails of the entry list, or none if no file is named.
 pub(crate) fn sails_at<H: Files + AllocGlobal>(
     rt: &H,
     path: Option<&str>,

@@ -8,12 +8,12 @@ use regatta_tables::Journal;
 use regatta_terms::{Command, Entry, Role, Sail};
 use std::alloc::{AllocError, Global};
 
-/// The entries, and then an Enter for each sail, sent by seat 1 as scorer and numbered on: so a
-/// series may start from a journal, an entry list, or both.
+/// The entries, followed by an Enter for each sail. Seat 1 sends these as scorer, and its numbers
+/// continue. So a series may start from a journal, an entry list, or both.
 ///
 /// # Errors
 ///
-/// Where the memory for them is wanting.
+/// If an allocation fails.
 pub fn start_of(alloc: Global, entries: &[Entry], sails: &[Sail]) -> Result<Journal, AllocError>
     ensures { IfOk result (λ start. start ≡ start_of_both entries.now sails.now) }
 {

@@ -68,8 +68,8 @@ at_next x y xs ys e rest =
       lower = rest.lower;
     }
 
--- where two lists have one sum of weights, and each weight of the second is above zero, the first
--- doesn't end inside the second
+-- if two lists have the same sum of weights, and each weight of the second is above zero, the first
+-- isn't a proper beginning of the second
 first_lower_by : (w : ℕ → ℕ) (x y : ℕ) (xs ys : List ℕ) (r : Ordering) →
     All (λ z. 1 ≤ w z) (y ∷ ys) → sum_by w (x ∷ xs) ≡ sum_by w (y ∷ ys) → nat_cmp x y ≡ r →
     ordering_then r (slice_cmp nat_cmp xs ys) ≡ Less →

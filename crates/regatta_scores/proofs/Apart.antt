@@ -55,7 +55,6 @@ enters_none race (Clear r sail) h = refl
 enters_none race (Score r) h = refl
 enters_none race (Unscore r) h = refl
 
--- the commands of a race after one more entry
 pub race_commands_more : (journal : Journal) (entry : EntryParts) (race : ℕ) →
     race_commands (journal ++ entry ∷ []) race
     ≡ race_commands journal race ++ cond (names_race race entry.command) (entry.command ∷ []) []
@@ -78,7 +77,7 @@ pub same_entered : (journal : Journal) (entry : EntryParts) → sail_entered ent
     entered (journal ++ entry ∷ []) ≡ entered journal
 same_entered journal entry h = entered_more journal entry ∙ rw h (append-nil _)
 
--- an order that the command leaves as it is
+-- a command that places no boat leaves each order as it is
 pub order_stays : (rules : RulesParts) (journal : Journal) (entry : EntryParts) →
     places entry.command ≡ false → (race : ℕ) →
     order rules (journal ++ entry ∷ []) race ≡ order rules journal race
@@ -91,7 +90,7 @@ order_stays rules journal entry same race =
     by true = order_by_stays rules (race_commands journal race) entry.command same
     by false = ap (order_by rules) (append-nil (race_commands journal race))
 
--- what a boat holds whom the command is no decision about
+-- a command that is no decision on a boat leaves what she holds as it is
 pub held_stays : (journal : Journal) (entry : EntryParts) (boat : Sail) →
     is_decision_on boat entry.command ≡ false → (race : ℕ) →
     held (journal ++ entry ∷ []) race boat ≡ held journal race boat
@@ -109,7 +108,7 @@ held_stays journal entry boat out race =
         ∙ ap (λ ds. filter (is_decision_on boat) (race_commands journal race) ++ ds) none ∙ append-nil _
     by false = ap (filter (is_decision_on boat)) (append-nil (race_commands journal race))
 
--- a race is made of the entry list and its own commands
+-- a race depends only on the entry list and its own commands
 pub same_race : (rules : RulesParts) (old new : Journal) (race : ℕ) → entered new ≡ entered old →
     race_commands new race ≡ race_commands old race →
     journal_race rules new race ≡ journal_race rules old race

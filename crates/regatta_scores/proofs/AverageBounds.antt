@@ -1,4 +1,4 @@
--- Where an average lies.
+-- The bounds of an average.
 use Rattle.std.proofs.Common.{◌≡◌, ℕ, zero, suc, Bool, true, false, ◌+◌, ◌*◌, ◌/◌, ◌<◌, ◌≤◌, List}
 use Rattle.std.proofs.Common.{[], ◌∷◌, refl, arith, length, All, cond, nat_eq}
 use Rattle.std.proofs.lemmas.List.Sums.{sum_by-cons}
@@ -9,7 +9,7 @@ use Rattle.regatta_scores.specs.declared.boats.RowItem.{RowItem}
 use Rattle.regatta_scores.specs.Averages.{own_points, average, average_or, counted, total}
 use Rattle.regatta_scores.specs.RedressLaws.{AveragesLieBetween, AveragesAreNearest}
 
--- points of at least so much have a sum of at least n times as much
+-- if each of n points is at least `low`, their sum is at least n times `low`
 pub total_least : (xs : List RowItem) (low : ℕ) →
     All (λ item. low ≤ own_points item) xs → low * length xs ≤ total xs
 total_least [] low each = omega arith

@@ -27,7 +27,7 @@ use Rattle.regatta_scores.proofs.Apart.{race_commands_more, order_stays, held_st
 use Rattle.regatta_scores.proofs.LastingTimes.{places}
 use Rattle.regatta_scores.proofs.Counts.{count_split, sum_split, count_one, sum_one, found_le}
 
--- what stands after the last element that passes, where one more comes that doesn't
+-- appending an element that fails the test adds it to those after the last that passes
 pub after_last_push : {X : Type 0} (p : X → Bool) (xs : List X) (x : X) → p x ≡ false →
     after_last p (xs ++ x ∷ []) ≡ after_last p xs ++ x ∷ []
 after_last_push p xs x h =

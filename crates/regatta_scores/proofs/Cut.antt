@@ -1,4 +1,4 @@
--- Groups cut out of one list of boats.
+-- Groups as parts of one list of boats.
 use Rattle.std.proofs.Common.{◌≡◌, ℕ, zero, suc, ◌+◌, ◌-◌, ◌<◌, ◌≤◌, Bool, true, false, ◌||◌, List}
 use Rattle.std.proofs.Common.{[], ◌∷◌, ◌++◌, refl, ap, ◌∙◌, sym, arith, length, get_or, drop}
 use Rattle.std.proofs.Common.{nat_eq}
@@ -24,7 +24,7 @@ upto_last start (end ∷ ends) last rises =
     let rest = upto_last end ends last rises.1 in
     omega (arith, first, rest)
 
--- what comes after the boats of a group doesn't change it
+-- appending boats after a group doesn't change it
 between_append : (start end : ℕ) (xs ys : List ℕ) → end ≤ length xs →
     between start end (xs ++ ys) ≡ between start end xs
 between_append start end xs ys within =
@@ -114,7 +114,7 @@ group_bounds ends last at rises within =
     let same = begin_is ends at in
     (omega (arith, both.0, same), both.1)
 
--- ---- who stands in the order
+-- ---- the boats in the order
 
 drop_none : (n : ℕ) → ◌≡◌ {A = List ℕ} (drop n []) []
 drop_none zero = refl

@@ -16,7 +16,7 @@ use Rattle.regatta_scores.specs.ExclusionLaws.{WorstAreExcluded}
 use Rattle.regatta_scores.proofs.Counts.{count_cons, count_by-map}
 use Rattle.regatta_scores.proofs.Members.{lt_false, lt_same, le_by, count_le}
 
--- excludable scores that are worse than some points, and those that are as bad
+-- whether an excludable score is worse than some points, or at least as bad
 abbrev worse : ℕ → Scored → Bool
 worse mine s = not s.dne && nat_lt mine s.points
 
@@ -71,8 +71,8 @@ worse_from_worse low high upto s =
 read : {X : Type 0} (x y d : X) → Some x ≡ Some y → x ≡ y
 read x y d e = ap (λ o. unwrap_or o d) e
 
--- ahead of a score that is worse than some points stand fewer than the scores that are worse than
--- those
+-- fewer scores are excluded before one that is worse than some points than there are scores worse
+-- than those points
 pub few_ahead : (ys : List Scored) (k : ℕ) (s : Scored) (mine : ℕ) → slice_get ys k ≡ Some s →
     s.dne ≡ false → mine < s.points → excluded_ahead ys k s.points + 1 ≤ count_by (worse mine) ys
 few_ahead [] k s mine at excludable apart = cc
@@ -93,7 +93,7 @@ few_ahead (y ∷ ys) (suc k) s mine at excludable apart =
       few_ahead ys k s mine at excludable apart,
     )
 
--- ahead of a score that is no worse than some points stand all the scores that are worse than those
+-- all scores worse than some points are excluded before a score that is no worse than those
 many_ahead : (ys : List Scored) (k : ℕ) (s : Scored) (top mine : ℕ) → slice_get ys k ≡ Some s →
     s.points ≤ top → mine ≤ top → count_by (worse top) ys ≤ excluded_ahead ys k mine
 many_ahead [] k s top mine at upto least = cc
@@ -117,7 +117,7 @@ many_ahead (y ∷ ys) (suc k) s top mine at upto least =
       many_ahead ys k s top mine at upto least,
     )
 
--- of equal scores a later one has more ahead of it
+-- of equal scores, more are excluded before the later one
 more_ahead : (ys : List Scored) (i j : ℕ) (s : Scored) (mine : ℕ) → slice_get ys i ≡ Some s →
     s.points ≤ mine → j ≤ i → excluded_ahead ys j mine ≤ excluded_ahead ys i mine
 more_ahead [] i j s mine at upto order = cc
@@ -203,14 +203,14 @@ one_at_most : (b : Bool) → cond b 1 0 ≤ 1
 one_at_most true = omega arith
 one_at_most false = omega arith
 
--- what stands ahead of a score with one more at the front
+-- the number excluded before a score, after a score is added at the front
 ahead_behind : (x : Scored) (ys : List Scored) (j mine : ℕ) →
     excluded_ahead (x ∷ ys) (j + 1) mine ≡ cond (as_bad mine x) 1 0 + excluded_ahead ys j mine
 ahead_behind x ys j mine =
     let index : j + 1 ≡ suc j = omega arith in
     ap (λ n. excluded_ahead (x ∷ ys) n mine) index ∙ ahead_later x ys j mine
 
--- a DNE at the front changes nothing behind it
+-- a DNE at the front doesn't change which later scores are excluded
 behind_dne : (d : ℕ) (x : Scored) (ys : List Scored) → x.dne ≡ true → (j : ℕ) (y : Scored) →
     is_excluded d (x ∷ ys) (j + 1) y ≡ is_excluded d ys j y
 behind_dne d x ys dne j y =
@@ -219,7 +219,7 @@ behind_dne d x ys dne j y =
     omega (arith, ahead_behind x ys j y.points, uncounted) in
     ap (λ n. not y.dne && nat_lt n d) ahead
 
--- a score at the front that isn't excluded changes nothing behind it
+-- nor does a score at the front that isn't excluded
 counting_by : (d : ℕ) (x : Scored) (ys : List Scored) (j : ℕ) (y : Scored) (b : Bool) →
     nat_le y.points x.points ≡ b → d ≤ count_by (worse x.points) ys → slice_get ys j ≡ Some y →
     excluded_ahead ys j y.points < d →
@@ -245,7 +245,7 @@ behind_counting d x ys many j y at =
     omega (arith, ahead, more)) in
     ap (λ b. not y.dne && b) same
 
--- behind a score at the front that is excluded, one fewer is
+-- if a score at the front is excluded, one fewer of the later ones is
 excluded_by : (e : ℕ) (x : Scored) (ys : List Scored) (j : ℕ) (y : Scored) (b : Bool) →
     nat_le y.points x.points ≡ b → x.dne ≡ false → y.dne ≡ false →
     count_by (worse x.points) ys ≤ e → slice_get ys j ≡ Some y →

@@ -9,7 +9,7 @@ use Rattle.std.proofs.lemmas.Cmp.{ranked}
 use Rattle.std.proofs.lemmas.List.{get_or-reverse, length-reverse}
 use Rattle.std.proofs.Math.ListN.{drop_of_length-le}
 
--- lists compared from their elements k on
+-- the comparison of two lists from their elements k on
 from : ℕ → List ℕ → List ℕ → Ordering
 from k xs ys = slice_cmp nat_cmp (drop k xs) (drop k ys)
 
@@ -21,7 +21,7 @@ from_step xs ys k h w =
     let f : drop k ys ≡ get_or ys k 0 ∷ drop (k + 1) ys = rw add-one (drop-cons ys k 0 w) in
     rw (e, f) refl
 
--- where one list ends, the shorter one is the lesser
+-- if one list ends, the shorter is the lesser
 from_end : (xs ys : List ℕ) (k : ℕ) → k ≡ min (length xs) (length ys) →
     from k xs ys ≡ nat_cmp (length xs) (length ys)
 unfolding from

@@ -1,4 +1,4 @@
--- The times that stand, and the finishing order, after one more command of a race.
+-- The times in force, and the finishing order, after one more command of a race.
 use Rattle.std.proofs.Common.{◌≡◌, ℕ, Bool, true, false, cond, not, ◌||◌, List, [], ◌∷◌, ◌++◌, refl}
 use Rattle.std.proofs.Common.{ap, ◌∙◌, sym, filter, fold, append_assoc, Option, Some, None}
 use Rattle.std.specs.List.{list_any, AllByRecursion}
@@ -21,7 +21,7 @@ use Rattle.regatta_scores.proofs.Members.{all_passed}
 use Rattle.regatta_scores.proofs.RisingNumbers.{or_false}
 use Rattle.regatta_scores.proofs.TimedOrders.{order_with_time, order_without, stays_by}
 
--- the time of the boat after these commands of a race, if one of hers stands
+-- the boat's time after these commands of a race, if one is in force
 abbrev pub time_by : List Command → Sail → Option ℕ
 time_by commands boat = time_in same_sail (lasting_times commands) boat
 
@@ -68,7 +68,7 @@ all_left : {X : Type 0} (p : X → Bool) → ((x : X) → p x ≡ true) → (xs 
 all_left p each [] = refl
 all_left p each (x ∷ xs) = rw (each x) (ap (λ ys. x ∷ ys) (all_left p each xs))
 
--- a command that times and strikes nobody
+-- a command without a time or strike leaves the times as they are
 pub times_stay : (cs : List Command) (c : Command) → time_given c ≡ None →
     ((boat : Sail) → ends_time boat c ≡ false) →
     lasting_times (cs ++ c ∷ []) ≡ lasting_times cs
@@ -240,7 +240,7 @@ module _ (cs : List Command) (race : ℕ) (boat : Sail) where
 
 -- ---- the order after one more command
 
--- whether a command is one of those that change a finishing order
+-- whether a command can change a finishing order
 abbrev pub places : Command → Bool
 places (Enter sail) = false
 places (Finish race sail) = true
@@ -255,7 +255,7 @@ places (Clear race sail) = false
 places (Score race) = false
 places (Unscore race) = false
 
--- the order that one more command makes of one, by the times that stand
+-- the order after one more command, given the times in force
 abbrev pub order_with : (Sail → Option ℕ) → List (List Sail) → Command → List (List Sail)
 order_with time order (Enter sail) = order
 order_with time order (Finish race sail) = order_after order (Finish race sail)
@@ -286,7 +286,7 @@ no_time (Clear race sail) h = (refl, λ boat. refl, λ order. refl)
 no_time (Score race) h = (refl, λ boat. refl, λ order. refl)
 no_time (Unscore race) h = (refl, λ boat. refl, λ order. refl)
 
--- a command that changes no order
+-- a command that places no boat leaves the order as it is
 pub order_by_stays : (rules : RulesParts) (cs : List Command) (c : Command) → places c ≡ false →
     order_by rules (cs ++ c ∷ []) ≡ order_by rules cs
 order_by_stays rules cs c h =
@@ -311,12 +311,12 @@ struck_by rules cs race sail = by rules.handicap
     by true = timed
     by false = fold_push order_after [] cs (Strike race sail)
 
--- by the order of finishing
+-- without corrected times, a command changes the order of finishing
 finished_by : (rules : RulesParts) (cs : List Command) (c : Command) → rules.handicap ≡ false →
     order_by rules (cs ++ c ∷ []) ≡ order_after (order_by rules cs) c
 finished_by rules cs c h = rw h (fold_push order_after [] cs c)
 
--- the order is made by times where none of its groups is empty
+-- with corrected times, a time is added to an order without empty groups
 timed_by : (rules : RulesParts) (cs : List Command) (race : ℕ) (sail : Sail) (seconds : ℕ) →
     rules.handicap ≡ true → HasNoEmptyGroup (order_by rules cs) →
     stands_in same_sail sail (order_by rules cs) ≡ false →
@@ -348,7 +348,7 @@ apart_back x y h = by (same_sail y x) refl
         sym (is_same x) ∙ ap (same_sail x) (sym (same_is y x e)) ∙ h in cc
     by false e = refl
 
--- the time of a boat that a command doesn't end
+-- a command leaves a boat's time as it is unless it ends it
 pub time_of_others : (cs : List Command) (c : Command) (boat : Sail) → ends_time boat c ≡ false →
     time_by (cs ++ c ∷ []) boat ≡ time_by cs boat
 time_of_others cs (Time race sail seconds) boat h =
@@ -377,8 +377,8 @@ time_of_others cs (Score race) boat h =
 time_of_others cs (Unscore race) boat h =
     ap (λ ts. time_in same_sail ts boat) (times_stay cs (Unscore race) refl (λ x. refl))
 
--- what a command asks of the order that it changes: it belongs to the system of the rules, and who
--- is timed doesn't stand in the order
+-- what a command requires of the order that it changes: the rules use its system, and a boat that
+-- is timed isn't in the order
 abbrev pub Suits : RulesParts → List (List Sail) → Command → Type 0
 Suits rules order (Time race sail seconds) =
     (rules.handicap ≡ true) × (stands_in same_sail sail order ≡ false)
@@ -394,7 +394,7 @@ Suits rules order (Clear race sail) = Unit {0}
 Suits rules order (Score race) = Unit {0}
 Suits rules order (Unscore race) = Unit {0}
 
--- the order of the whole journal is the last one, changed by the new command
+-- the order of the whole journal is the previous order, changed by the new command
 pub order_by_more : (rules : RulesParts) (cs : List Command) (c : Command) →
     HasNoEmptyGroup (order_by rules cs) → Suits rules (order_by rules cs) c →
     order_by rules (cs ++ c ∷ []) ≡ order_with (time_by cs) (order_by rules cs) c

@@ -79,7 +79,7 @@ count_all p (x ∷ xs) each =
       count_all p xs (λ y has. each y (member_cons x xs y has)),
     )
 
--- a test that passes only where another does counts no more
+-- a test that passes only if another does counts no more
 pub le_by : (a b : Bool) → (a ≡ true → b ≡ true) → cond a 1 0 ≤ cond b 1 0
 le_by true b h = rw (h refl) (omega arith)
 le_by false b h = omega arith
@@ -111,9 +111,9 @@ some_or_none {X} p (x ∷ xs) = by (p x) refl (some_or_none p xs)
     by false e (inl found) = inl (found.0, member_cons x xs found.0 found.1, found.2)
     by false e (inr none) = inr (λ y has. not_at p x xs e none y has.0 has.1 has.2)
 
--- ---- what a test lets through
+-- ---- filtering
 
--- it has what each element has
+-- filtering keeps what holds for each element
 pub all_passed : {X : Type 0} (P : X → Type 0) (p : X → Bool) (xs : List X) →
     AllByRecursion P xs → AllByRecursion P (filter p xs)
 all_passed P p [] all = tt
@@ -124,7 +124,7 @@ all_passed P p (x ∷ xs) all = by (p x) (all_passed P p xs all.1)
     by true rest = (all.0, rest)
     by false rest = rest
 
--- and what follows from the test
+-- and each element left has what follows from the test
 pub those_passed : {X : Type 0} (P : X → Type 0) (p : X → Bool) → ((x : X) → p x ≡ true → P x) →
     (xs : List X) → AllByRecursion P (filter p xs)
 those_passed P p holds [] = tt

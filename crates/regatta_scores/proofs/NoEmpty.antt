@@ -90,7 +90,6 @@ module _ {B : Type 0} (same : B → B → Bool) where
       All-from_recursion HasBoats (without same order boat)
       (with_boats (map (λ group. filter (λ other. not (same other boat)) group) order))
 
--- one more boat by her time
 module _ {B : Type 0} (time : B → Option ℕ) where
   between : (groups : List (List B)) (group : List B) (rest : List (List B)) →
       AllByRecursion HasBoats groups → HasBoats group → AllByRecursion HasBoats rest →
@@ -146,7 +145,7 @@ times_have_none times =
     (with_boats {B = CorrectedTime Sail} (λ a b. true)
     (map (times_behind times) (range_with_len 0 (length times)))))
 
--- no order that commands of a race make has an empty group
+-- no order after commands of a race has an empty group
 pub order_has_none : (rules : RulesParts) (commands : List Command) →
     HasNoEmptyGroup (order_by rules commands)
 order_has_none rules commands = by rules.handicap
@@ -159,7 +158,7 @@ order_has_none rules commands = by rules.handicap
 pub orders_have_no_empty_group : OrdersHaveNoEmptyGroup
 orders_have_no_empty_group rules journal race = order_has_none rules (race_commands journal race)
 
--- ---- an order in which nobody stands
+-- ---- an order without boats
 
 first_stands : (first : ℕ) (group : List ℕ) (groups : List (List ℕ)) →
     stands_in nat_eq first ((first ∷ group) ∷ groups) ≡ true
@@ -174,7 +173,7 @@ nobody_by ((first ∷ group) ∷ groups) each none =
     let out = none first in
     cc
 
--- in an order without an empty group nobody stands exactly where there is no group
+-- an order without empty groups has no boat if and only if it has no group
 pub nobody_stands : (order : List (List ℕ)) → HasNoEmptyGroup order →
     (order ≡ []) ↔ ((boat : ℕ) → stands_in nat_eq boat order ≡ false)
 nobody_stands order each = (

@@ -1,5 +1,5 @@
--- The points for each boat's place make the definitions' number of boats that came, and their
--- points.
+-- The points for each boat's place give the number of boats that came, and the points of the
+-- definitions.
 use Rattle.std.proofs.Common.{◌≡◌, ℕ, Bool, true, false, cond, List, refl, ap, ◌∙◌, sym, length}
 use Rattle.std.proofs.Common.{[], ◌∷◌, map, count_by, Option, Some, None, is_some, unwrap_or}
 use Rattle.std.proofs.Common.{nat_eq, get_or}
@@ -60,7 +60,7 @@ module _ (order : List (List ℕ)) (held : List Held) (placed : List (Option ℕ
       by_place ∙ sym (λ i. plain_with rules hers (is.by_number boat i) (length held)
       (dnf_by rules.absent (length held) (number_came_is i)))
 
-  -- her points for a place tell whether she stands in the order
+  -- she has points for a place if and only if she is in the order
   stands_is : (boat : ℕ) → stands_in nat_eq boat order ≡ is_some (get_or placed boat None)
   stands_is boat =
       sym (ap is_some (is.by_number boat)
@@ -73,7 +73,7 @@ module _ (order : List (List ℕ)) (held : List Held) (placed : List (Option ℕ
   score_is rules seconds boat i =
       record { plain = plain_is rules boat i; placed = stands_is boat i }
 
--- the points of the scores are those of the race
+-- the points in the scores are those of the race
 pub points_are : (rules : RulesParts) (sheet : Sheet) →
     map (λ score. score.plain) (race_scores rules sheet) ≡ race_points rules sheet
 points_are rules sheet = map_parts (range_with_len 0 (boats sheet))

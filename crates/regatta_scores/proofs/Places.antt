@@ -1,4 +1,4 @@
--- Where a boat's group stands in an order in which she stands once, and the points that this gives
+-- The position of a boat's group in an order in which she occurs once, and the points that it gives
 -- her.
 use Rattle.std.proofs.Common.{◌≡◌, ℕ, suc, ◌+◌, ◌<◌, ◌≤◌, Bool, true, false, List, [], ◌∷◌, ◌++◌}
 use Rattle.std.proofs.Common.{refl, ap, ◌∙◌, sym, arith, take, drop, get_or, length, sum_by}
@@ -51,7 +51,7 @@ group_of same boat (first ∷ ahead) group behind once here =
       rw not_first found.2,
     )
 
--- the points for her place are made of what stands ahead of her group, and of her group
+-- the points for her place depend on the groups ahead of hers, and on her group
 pub place_points_at : {B : Type 0} (same : B → B → Bool) (race : Race B) (ahead : List (List B))
     (group : List B) (behind : List (List B)) (boat : B) → race.order ≡ ahead ++ group ∷ behind →
     times_placed same race.order boat ≤ 1 → in_group same boat group ≡ true
@@ -69,7 +69,7 @@ place_points_at same race ahead group behind boat split once here =
       ap (stands_in same boat) split ∙ found.2,
     )
 
--- the same at a position of the order
+-- a list split at a position
 split_at : {A : Type 0} (xs : List A) (i : ℕ) (d : A) → i < length xs →
     xs ≡ take i xs ++ get_or xs i d ∷ drop (suc i) xs
 split_at xs i d h = sym (take-append-drop i xs) ∙ ap (λ ys. take i xs ++ ys) (drop-cons xs i d h)
@@ -122,7 +122,7 @@ pub few_more : (t : Bool) (points : ℕ) (old new : Option ℕ) → new ≡ cond
 few_more true points old new e few before = rw e few
 few_more false points old new e few before = rw e before
 
--- what a whole slice was written to
+-- overwriting a whole slice leaves what was written
 pub written_whole : {X : Type 0} (new items : List X) (len : ℕ) → length new ≡ len →
     take len (new ++ drop (length new) items) ≡ new
 written_whole new items len e = rw (← e) (take-append_seam new (drop (length new) items))

@@ -29,7 +29,7 @@ use Rattle.regatta_scores.proofs.Apart.{held_stays}
 use Rattle.regatta_scores.proofs.LastingTimes.{places}
 use Rattle.regatta_scores.proofs.Coded.{after_last_push}
 
--- ---- a score before redress reads no redress
+-- ---- a score before redress doesn't depend on redress
 
 abbrev with_redress : Race Sail → (Sail → Option redress_type.Redress) → Race Sail
 with_redress race redress =
@@ -79,7 +79,7 @@ module _ (rules : RulesParts) (journal : Journal) (entry : EntryParts) (race : �
   scored_stays : scored (journal ++ entry ∷ []) ≡ scored journal
   scored_stays i = filter (λ r. is_scored_stays r i) (range_with_len 1 MAX_RACES)
 
-  -- what stands of the decisions about a boat: the same, or the redress too
+  -- the decisions in force: those before, and the redress if the boat is the same
   decisions_by : (other : Sail) (cs : List Command) (b s : Bool) → same_sail other boat ≡ s →
       lasting_decisions (cs ++ cond b (Redress race boat redress ∷ []) []) other
       ≡ lasting_decisions cs other ++ cond (b && s) (Redress race boat redress ∷ []) []
@@ -148,7 +148,7 @@ module _ (rules : RulesParts) (journal : Journal) (entry : EntryParts) (race : �
       ∙ scp_by (lasting_decisions (race_commands journal r) other)
       (nat_eq r race && same_sail other boat)
 
-  -- the race is what it was but for redress
+  -- the race is the same apart from redress
   race_after : (r : ℕ) → journal_race rules (journal ++ entry ∷ []) r
       ≡ with_redress (journal_race rules journal r)
       (λ o. (held (journal ++ entry ∷ []) r o).redress)
@@ -172,7 +172,6 @@ module _ (rules : RulesParts) (journal : Journal) (entry : EntryParts) (race : �
       ∙ plain_reads_none (journal_race rules journal r)
       (λ o. (held (journal ++ entry ∷ []) r o).redress) rules other
 
-  -- another boat
   module _ (other : Sail) (another : same_sail other boat ≡ false) where
     held_is : (r : ℕ) → held (journal ++ entry ∷ []) r other ≡ held journal r other
     held_is = held_stays journal entry other (ap (is_decision_on other) is ∙ another)

@@ -1,4 +1,4 @@
--- Scores do not depend on what boats are called.
+-- Scores do not depend on the names of the boats.
 use Rattle.std.proofs.Common.{◌≡◌, ℕ, zero, suc, ◌+◌, Bool, true, false, cond, not, ◌||◌, List, []}
 use Rattle.std.proofs.Common.{◌∷◌, refl, ap, ◌∙◌, sym, map, take, length, count_by, sum_by, find}
 use Rattle.std.proofs.Common.{unwrap_or, Some, is_none}
@@ -137,7 +137,6 @@ module _ {B C : Type 0} (same_b : B → B → Bool) (same_c : C → C → Bool) 
       (shared_points (place_same boat known i) (sharing_same boat known i)) (entered_same i)
       (dnf_same rules i)
 
-  -- a boat scores the same under her other name
   pub plain_same : (rules : RulesParts) (boat : B) → Known boat →
       plain same_c rules renamed (name boat) ≡ plain same_b rules race boat
   plain_same rules boat known i =

@@ -1,4 +1,4 @@
--- Rising numbers: a list of them is told by its members.
+-- A list of rising numbers is determined by its members.
 use Rattle.std.proofs.Common.{◌≡◌, ℕ, zero, suc, ◌+◌, ◌<◌, ◌≤◌, Bool, true, false, cond, ◌&&◌}
 use Rattle.std.proofs.Common.{◌||◌, List, [], ◌∷◌, ◌++◌, refl, ap, ◌∙◌, sym, arith, filter}
 use Rattle.std.proofs.Common.{nat_eq, nat_lt}
@@ -26,7 +26,6 @@ is_itself x = eq-eqb x x refl
 
 -- ---- rising numbers
 
--- whether the number is in the list
 abbrev pub among : ℕ → List ℕ → Bool
 among r xs = list_any (λ x. nat_eq x r) xs
 
@@ -63,7 +62,7 @@ least x r xs rises h = by (nat_eq x r) refl h
 first_among : (x : ℕ) (xs : List ℕ) → among x (x ∷ xs) ≡ true
 first_among x xs = rw (is_itself x) refl
 
--- two lists of rising numbers with the same members are one
+-- two lists of rising numbers with the same members are equal
 pub told_by_members : (xs ys : List ℕ) → Rises xs → Rises ys →
     ((r : ℕ) → among r xs ≡ among r ys) → xs ≡ ys
 told_by_members [] [] a b same = refl
@@ -118,7 +117,6 @@ among_some p r (x ∷ xs) = by (p x) refl (nat_eq x r) refl (among_some p r xs)
         rest ∙ none ∙ sym here
     by false e false f rest = rest
 
--- a range
 range_above : (x a n : ℕ) → x < a → AllByRecursion (λ y. x < y) (range_with_len a n)
 range_above x a zero h = tt
 range_above x a (suc n) h = (h, range_above x (a + 1) n (omega arith))
@@ -140,7 +138,7 @@ among_range r a (suc n) h = by (nat_eq a r) refl (among_range r (a + 1) n)
         let longer : (a + 1) + n ≡ a + suc n = omega arith in
         rest (omega (arith, apart)) ∙ ap (nat_lt r) longer
 
--- each member, told by all of them
+-- a property of all members holds for each
 pub all_among : (xs : List ℕ) (P : ℕ → Type 0) → ((r : ℕ) → among r xs ≡ true → P r) →
     AllByRecursion P xs
 all_among [] P each = tt
@@ -151,7 +149,7 @@ all_among (x ∷ xs) P each = (
 
 -- ---- one more number
 
--- the number after those below it and ahead of those above it, once
+-- the number, inserted once after those below it and before those above it
 abbrev pub put : ℕ → List ℕ → List ℕ
 put s xs =
     filter (λ x. nat_lt x s) xs ++ s ∷ filter (λ x. nat_lt s x) xs
@@ -208,7 +206,7 @@ among_put r s xs =
         let high = ltb-false s r g in
         let apart : false ≡ true = sym e ∙ eq-eqb s r (omega (arith, low, high)) in cc
 
--- the numbers that equal one of rising numbers: it alone, or none
+-- of rising numbers, one or none equals a number
 pub equal_one : (s : ℕ) (xs : List ℕ) → Rises xs →
     filter (λ x. nat_eq x s) xs ≡ cond (among s xs) (s ∷ []) []
 equal_one s [] rises = refl
@@ -225,7 +223,7 @@ equal_one s (x ∷ xs) rises = by (nat_eq x s) refl (equal_one s xs rises.1)
         λ i. same i ∷ empty i
     by false e rest = rest
 
--- any list of numbers has one of rising numbers with its members
+-- for any list of numbers there are rising numbers with the same members
 pub risen : (ys : List ℕ) →
     (xs : List ℕ) × Rises xs × ((r : ℕ) → among r xs ≡ among r ys)
 risen [] = ([], tt, λ r. refl)

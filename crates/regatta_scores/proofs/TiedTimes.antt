@@ -135,7 +135,6 @@ module _ {X : Type 0} (key : X → ℕ) where
   in_groups xs =
       filter (λ group. not (is_empty group)) (map (behind xs) (range_with_len 0 (length xs)))
 
-  -- the elements with this key
   abbrev pub those : List X → ℕ → List X
   those xs r = filter (has r) xs
 
@@ -170,7 +169,7 @@ module _ {X : Type 0} (key : X → ℕ) where
       count_le (λ x. nat_lt (key x) r) (λ x. nat_lt (key x) s)
       (λ x e. (let below = ltb-true (key x) r e in lt-ltb (key x) s (omega (arith, below, h)))) xs
 
-  -- fewer are lower than a key than than a greater number
+  -- fewer elements are lower than a key than are lower than a greater number
   pub lower_lt : (xs : List X) (r s : ℕ) → r < s → list_any (has r) xs ≡ true →
       lower xs r < lower xs s
   lower_lt [] r s h is = cc
@@ -204,7 +203,7 @@ module _ {X : Type 0} (key : X → ℕ) where
       let most = count_by-le-length (λ x. nat_lt (key x) (suc r)) xs in
       omega (arith, more, most)
 
-  -- among the keys, as many are lower than one as than another only where they are equal
+  -- two keys are equal if and only if equally many elements are lower
   lower_tells : (xs : List X) (r s : ℕ) → list_any (has r) xs ≡ true →
       list_any (has s) xs ≡ true → nat_eq (lower xs r) (lower xs s) ≡ nat_eq r s
   lower_tells xs r s in_r in_s =
@@ -221,7 +220,7 @@ module _ {X : Type 0} (key : X → ℕ) where
       by same false e false f =
           let a = ltb-false r s e in let b = ltb-false s r f in eq-eqb r s (omega (arith, a, b))
 
-  -- those with as many lower ones as a key has are those with that key
+  -- the elements with as many lower ones as a key has are those with that key
   those_behind : (xs : List X) (r : ℕ) → list_any (has r) xs ≡ true →
       behind xs (lower xs r) ≡ those xs r
   those_behind xs r is =
@@ -229,7 +228,7 @@ module _ {X : Type 0} (key : X → ℕ) where
       (λ x. nat_eq (lower xs (key x)) (lower xs r)) (has r)
       (λ x known. lower_tells xs (key x) r known is) xs (own_key xs)
 
-  -- the numbers of lower ones rise with the keys
+  -- the numbers of lower elements rise with the keys
   lowers_above : (xs : List X) (r : ℕ) (rs : List ℕ) → list_any (has r) xs ≡ true →
       AllByRecursion (λ s. r < s) rs →
       AllByRecursion (λ k. lower xs r < k) (map (lower xs) rs)
@@ -264,7 +263,7 @@ module _ {X : Type 0} (key : X → ℕ) where
       k < length xs
   within xs k h = within_some xs xs k (own_key xs) h
 
-  -- the numbers of lower ones for which there is a group
+  -- the numbers of lower elements that have a group
   abbrev counts : List X → List ℕ
   counts xs = filter (λ k. not (is_empty (behind xs k))) (range_with_len 0 (length xs))
 
@@ -295,7 +294,7 @@ module _ {X : Type 0} (key : X → ℕ) where
           ∙ sym (any_map (lower xs) (λ j. nat_eq j k) rs
           ∙ keys_any (λ r. nat_eq (lower xs r) k) rs xs are)
 
-  -- by the rising keys of all elements, each group is those with one key
+  -- by the rising keys of all elements, each group has the elements with one key
   pub groups_are : (xs : List X) (rs : List ℕ) → Rises rs → AreKeys rs xs →
       in_groups xs ≡ map (those xs) rs
   groups_are xs rs rises are =
@@ -306,7 +305,7 @@ module _ {X : Type 0} (key : X → ℕ) where
       (those_behind xs) rs
       (all_among rs (λ r. list_any (has r) xs ≡ true) (λ r h. sym (are r) ∙ h))
 
-  -- there are such keys
+  -- such keys exist
   pub keys_of : (xs : List X) → (rs : List ℕ) × Rises rs × AreKeys rs xs
   keys_of xs =
       let found = risen (map key xs) in
@@ -372,7 +371,8 @@ module _ {X : Type 0} (key : X → ℕ) where
           λ i. same i ∷ rest i
       by false e u f rest = rest
 
-  -- the groups with lower keys, those with its key and the element itself, the other groups
+  -- the groups with lower keys, the group with its key and the element itself, then the other
+  -- groups
   pub groups_of_more : (xs : List X) (x : X) (rs : List ℕ) → Rises rs → AreKeys rs xs →
       in_groups (xs ++ x ∷ [])
       ≡ map (those xs) (filter (λ r. nat_lt r (key x)) rs)

@@ -1,4 +1,4 @@
--- Scores as plain numbers, by which those that go ahead of another are counted (RRS A2.1).
+-- Scores as plain numbers, for counting those that are excluded before another (RRS A2.1).
 use Rattle.std.proofs.Common.{◌≡◌, ℕ, ◌+◌, Bool, true, false, cond, not, ◌&&◌, List, ap, ◌∙◌, arith}
 use Rattle.std.proofs.Common.{take, drop, map, count_by, nat_lt, nat_le}
 use Rattle.std.proofs.lemmas.List.{take-map, drop-map}
@@ -10,7 +10,7 @@ use Rattle.regatta_scores.specs.Weights.{weight, heavier_ahead}
 use Rattle.regatta_scores.proofs.Counts.{count_by-map}
 use Rattle.regatta_scores.proofs.Members.{lt_false, lt_same, count_members}
 
--- a score of these points or worse weighs more than they
+-- the weight of a score is above these points if and only if it is excludable and at least as bad
 heavier : (mine : ℕ) (s : Scored) → nat_lt mine (weight s) ≡ (not s.dne && nat_le mine s.points)
 heavier mine s = by s.dne
   where
@@ -27,7 +27,7 @@ heavier mine s = by s.dne
           most,
         )))
 
--- a worse score than these points weighs more than one more than they
+-- the weight is above one more than these points if and only if it is excludable and worse
 heavier_still : (mine : ℕ) (s : Scored)
     → nat_lt (mine + 1) (weight s) ≡ (not s.dne && nat_lt mine s.points)
 heavier_still mine s = by s.dne
@@ -55,7 +55,7 @@ ahead_is scores i mine =
     (drop (i + 1) scores) (λ s has. heavier_still mine s) in
     omega (arith, front, back)
 
--- a flag by weights is that by scores
+-- the flag by weights is the flag by scores
 pub flag_is : (limit : ℕ) (weights : List ℕ) (scores : List Scored) (i : ℕ) (s : Scored)
     → weights ≡ map weight scores
     → (not s.dne && nat_lt (heavier_ahead weights i s.points) limit) ≡ is_excluded limit scores i s

@@ -7,7 +7,7 @@ use Rattle.regatta_scores.specs.declared.table.Abbrev.{Abbrev}
 use Rattle.regatta_scores.specs.declared.table.Abbrev.TheVariants.{Dnc, Dns, Ocs, Ufd, Bfd, Dnf}
 use Rattle.regatta_scores.specs.declared.table.Abbrev.TheVariants.{Ret, Dsq, Dne, Zfp, Scp, Rdg}
 
--- the three letters that stand for each: those of its code or kind of penalty
+-- the three letters of each: those of its code or kind of penalty
 abbrev pub abbrev_text : Abbrev → List ℕ
 abbrev_text Dnc = code_text code.Dnc
 abbrev_text Dns = code_text code.Dns

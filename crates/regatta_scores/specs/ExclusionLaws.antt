@@ -4,9 +4,8 @@ use Rattle.std.specs.Prelude.{count_by, Some}
 use Rattle.regatta_scores.specs.declared.boats.Scored.{Scored}
 use Rattle.regatta_scores.specs.Exclusions.{excluded}
 
--- of d exclusions: as many scores are excluded as may be, none is a DNE, and a score that is
--- excluded is worse than each that counts and might have been excluded, or equal and of a race
--- sailed earlier (A2.1, 90.3(b))
+-- with d exclusions: as many scores are excluded as may be, and no DNE is. An excluded score is
+-- worse than each excludable one that counts, or equal and of a race sailed earlier (A2.1, 90.3(b))
 pub record ExcludesTheWorst (d : ℕ) (scores : List Scored) : Type 0 where
   pub one_for_each : length (excluded d scores) ≡ length scores
   pub as_many :

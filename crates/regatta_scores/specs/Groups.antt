@@ -3,16 +3,15 @@ use Rattle.std.specs.Prelude.{◌≡◌, ℕ, ◌-◌, ◌≤◌, nat_eq, List, 
 use Rattle.std.specs.Prelude.{if◌then◌else◌}
 use Rattle.std.specs.List.{between}
 
--- the groups of boats that end at these positions, the first of which begins at this one (A3, A7)
+-- the groups of boats that end at these positions, if the first begins at `start` (A3, A7)
 abbrev pub cut : List ℕ → ℕ → List ℕ → List (List ℕ)
 cut boats start [] = []
 cut boats start (end ∷ ends) = between start end boats ∷ cut boats end ends
 
--- the ends rise, from the start to the last of the boats
+-- the ends rise, from the start to the number of boats
 abbrev pub Rises : ℕ → List ℕ → ℕ → Type 0
 Rises start [] last = start ≡ last
 Rises start (end ∷ ends) last = (start ≤ end) × Rises end ends last
 
--- where the group of this number begins
 abbrev pub begin : List ℕ → ℕ → ℕ
 begin ends at = if nat_eq at 0 then 0 else slice_index_or ends (at - 1) 0

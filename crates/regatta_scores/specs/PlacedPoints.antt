@@ -13,16 +13,16 @@ use Rattle.regatta_scores.specs.Sheet.{nothing_held}
 use Rattle.regatta_scores.specs.RacePoints.{Race, race_of, status_by, came, place_points, dnf_by}
 use Rattle.regatta_scores.specs.RacePoints.{base_by, penalised, penalty_points}
 
--- the points for a place are no more, in tenths: those of the place behind all boats, shared by all
+-- the most points for a place, in tenths: those of the place after all boats, shared by all
 abbrev pub most_place_points : ℕ
 most_place_points = 10 * (MAX_BOATS + 1) + 5 * MAX_BOATS
 
--- the points for her finishing place, or none where she has no place in the order (A4, A7)
+-- the points for her finishing place, or none if she isn't in the order (A4, A7)
 abbrev pub placed_points : Race ℕ → ℕ → Option ℕ
 placed_points race boat =
     if stands_in nat_eq boat race.order then Some (place_points nat_eq race boat) else None
 
--- the points are those of each boat of the sheet, and each boat's stand at her number
+-- the list has the points of each boat of the sheet, at her number
 pub record HasPlacedPoints
     (order : List (List ℕ)) (held : List Held) (points : List (Option ℕ)) : Type 0 where
   pub one_each : length points ≡ length held
@@ -30,14 +30,14 @@ pub record HasPlacedPoints
       slice_index_or points boat None ≡ placed_points (race_of order held) boat
   pub few : (boat : ℕ) → unwrap_or (slice_index_or points boat None) 0 ≤ most_place_points
 
--- each boat of the group has these points now, and every other boat what she had (A7)
+-- each boat of the group has these points now, and every other boat has her old ones (A7)
 pub record GivesPoints (old new : List (Option ℕ)) (group : List ℕ) (points : ℕ) : Type 0 where
   pub one_each : length new ≡ length old
   pub given : (boat : ℕ) →
       slice_index_or new boat None
       ≡ (if in_group nat_eq boat group then Some points else slice_index_or old boat None)
 
--- how many boats of the group finished: a boat with a code is taken out (A6.1)
+-- the number of boats of the group that finished; boats with a code don't count (A6.1)
 abbrev pub number_finished : List Held → List ℕ → ℕ
 number_finished held group =
     count_by (λ boat. is_none (slice_index_or held boat nothing_held).code) group
@@ -68,7 +68,7 @@ abbrev pub plain_with : RulesParts → Held → Option ℕ → ℕ → ℕ → �
 plain_with rules held placed entered dnf =
     penalised (base_with held.code placed entered dnf) (penalty_points rules dnf held) dnf
 
--- the same score, and whether she has points for a place
+-- that score, and whether she has points for a place
 abbrev pub score_with : RulesParts → Held → Option ℕ → ℕ → ℕ → RaceScore
 score_with rules held placed entered dnf =
     record { plain = plain_with rules held placed entered dnf; placed = is_some placed }

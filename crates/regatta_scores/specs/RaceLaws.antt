@@ -13,7 +13,7 @@ use Rattle.regatta_scores.specs.RacePoints.{Race, Status, Finished, Coded, journ
 use Rattle.regatta_scores.specs.RacePoints.{shared_points, groups_ahead, her_group, finishing_place}
 use Rattle.regatta_scores.specs.RacePoints.{sharing, dnf, plain}
 
--- under the rules of the series two journals say the same of a race
+-- two journals say the same about a race, under the rules of the series
 pub record SaysTheSame (rules : RulesParts) (old new : Journal) (race : ℕ) : Type 0 where
   pub same_order : order rules new race ≡ order rules old race
   pub same_held : (boat : Sail) → held new race boat ≡ held old race boat
@@ -27,30 +27,30 @@ pub record SaysTheSame (rules : RulesParts) (old new : Journal) (race : ℕ) : T
       plain same_sail rules (journal_race rules new race) boat
       ≡ plain same_sail rules (journal_race rules old race) boat
 
--- Under whatever rules, a command of one race changes no other race.
+-- Under any rules, a command of one race changes no other race.
 abbrev pub RacesAreApart : Type 0
 RacesAreApart = (rules : RulesParts) (journal : Journal) (entry : EntryParts) (race other : ℕ) →
     names_race race entry.command ≡ true → other ≢ race →
     SaysTheSame rules journal (journal ++ entry ∷ []) other
 
--- Under whatever rules, Enter changes no finishing order and nothing that is held.
+-- Under any rules, Enter changes no finishing order and nothing that a boat holds.
 abbrev pub EnterKeepsRaces : Type 0
 EnterKeepsRaces = (rules : RulesParts) (journal : Journal) (entry : EntryParts) (sail : Sail) →
     entry.command ≡ Enter sail → (race : ℕ) →
     (order rules (journal ++ entry ∷ []) race ≡ order rules journal race)
     × ((boat : Sail) → held (journal ++ entry ∷ []) race boat ≡ held journal race boat)
 
--- Under whatever rules and for whatever journal, no finishing order has an empty group (A3, A7).
+-- Under any rules and for any journal, no finishing order has an empty group (A3, A7).
 abbrev pub OrdersHaveNoEmptyGroup : Type 0
 OrdersHaveNoEmptyGroup = (rules : RulesParts) (journal : Journal) (race : ℕ) →
     HasNoEmptyGroup (order rules journal race)
 
--- no boat stands twice in the race's order (A3)
+-- no boat is in the race's order twice (A3)
 abbrev pub NobodyTwice : Race Sail → Type 0
 NobodyTwice race = (boat : Sail) → times_placed same_sail race.order boat ≤ 1
 
--- A boat leaves the order (A6.1): she is scored by her code and every other boat's status stays;
--- each boat in a later group moves up one place, each in her group shares with one less, and every
+-- A boat leaves the order (A6.1): she is scored by her code, and every other boat's status stays.
+-- Each boat in a later group moves up one place, each in her group shares with one fewer, and every
 -- other place and number of sharers stays.
 abbrev pub LeavesTheOrder : Race Sail → Race Sail → Sail → Code → Type 0
 LeavesTheOrder old new coded code =
@@ -74,8 +74,7 @@ CodedBoatsLeaveTheOrder =
     LeavesTheOrder (journal_race rules journal race)
     (journal_race rules (journal ++ entry ∷ []) race) coded code
 
--- The points of so many places from one place on, in tenths: 1 point for first, 2 for second, and
--- so on (A4).
+-- The points of consecutive places, in tenths: 1 point for first, 2 for second, and so on (A4).
 abbrev pub points_of_places : ℕ → ℕ → ℕ
 points_of_places first number = sum_by (λ place. 10 * place) (range_with_len first number)
 
@@ -84,25 +83,24 @@ points_of_places first number = sum_by (λ place. 10 * place) (range_with_len fi
 abbrev pub TiesShareEqually : Type 0
 TiesShareEqually = (place tied : ℕ) → tied * shared_points place tied ≡ points_of_places place tied
 
--- whether a boat of this status finished: she has a place and no code (A4)
 abbrev pub is_finished : Status → Bool
 is_finished Finished = true
 is_finished _ = false
 
--- what a boat has for finishing: the points for her place if she finished (A4, A7)
+-- the points for her place if she finished, else 0 (A4, A7)
 abbrev pub finish_points : Race Sail → Sail → ℕ
 finish_points race boat =
     if is_finished (status same_sail race boat)
     then shared_points (finishing_place same_sail race boat) (sharing same_sail race boat)
     else 0
 
--- the points for the places of the boats that finished, ties shared, are those of places 1 to their
--- number (A4, A7)
+-- if n boats finished, their points for places, ties shared, add up to those of places 1 to n (A4,
+-- A7)
 abbrev pub IsSharedOut : Race Sail → Type 0
 IsSharedOut race =
     let number = sum_by (count_by (λ boat. is_finished (status same_sail race boat))) race.order in
     sum_by (sum_by (finish_points race)) race.order ≡ points_of_places 1 number
 
--- The places of a race in which nobody stands twice are shared out (A4, A7).
+-- The places of a race in which no boat is placed twice are shared out (A4, A7).
 abbrev pub PlacesAreSharedOut : Type 0
 PlacesAreSharedOut = (race : Race Sail) → NobodyTwice race → IsSharedOut race

@@ -1,5 +1,5 @@
 -- The points of one race before redress (RRS A4, A5, A6, A7, 30.2, 44.3).
--- Points are tenths, but for what is said to be whole points.
+-- Points are in tenths, unless they are called whole points.
 use Rattle.std.specs.Prelude.{ℕ, ◌+◌, ◌-◌, ◌*◌, ◌/◌, min, max, Bool, true, false, List, [], length}
 use Rattle.std.specs.Prelude.{map, sum_by, count_by, find, unwrap_or, Option, Some, None, is_none}
 use Rattle.std.specs.Prelude.{nat_eq, slice_index_or}
@@ -22,18 +22,18 @@ pub record Race (B : Type 0) : Type 0 where
   pub order : List (List B)
   pub held : B → Held
 
--- how a boat is scored in a race: she finished, or has a code
+-- how a boat is scored in a race: as finished, or by a code
 pub data Status : Type 0 where
   Finished : Status
   Coded : Code → Status
 
--- her code if she has one; else she finished if she stands in the order; else she did not come (A5)
+-- her code if she has one; else she finished if she is in the order; else she did not come (A5)
 abbrev pub status_by : Option Code → Bool → Status
 status_by (Some code) placed = Coded code
 status_by None true = Finished
 status_by None false = Coded Dnc
 
--- every boat whose status isn't DNC came to the starting area (A5.3)
+-- whether a boat of this status came to the starting area: all but DNC (A5.3)
 abbrev pub came : Status → Bool
 came (Coded Dnc) = false
 came _ = true
@@ -51,25 +51,24 @@ abbrev pub penalty_points : RulesParts → ℕ → Held → ℕ
 penalty_points rules dnf held =
     held.zfp * twenty_percent dnf + held.scp * unwrap_or rules.scp (twenty_percent dnf)
 
--- a score made worse by penalties, to the DNF score at most; a score at or above that stays
+-- a score made worse by penalties, up to the DNF score; a score that is no better than that stays
 -- (44.3(c))
 abbrev pub penalised : ℕ → ℕ → ℕ → ℕ
 penalised base penalty dnf = max base (min (base + 10 * penalty) (10 * dnf))
 
--- how many boats of a group of the order finished: a boat with a code is taken out of the finishing
--- order (A6.1)
+-- the number of boats of a group that finished; boats with a code don't count (A6.1)
 abbrev pub finishers : {B : Type 0} → Race B → List B → ℕ
 finishers race group = count_by (λ boat. is_none (race.held boat).code) group
 
--- the race's DNF score in whole points: one more than the number of boats entered (A5.2),
--- or than the number of those that came to the starting area (A5.3)
+-- the race's DNF score in whole points: one more than the number of boats entered (A5.2), or than
+-- the number of those that came to the starting area (A5.3)
 abbrev pub dnf_by : Absent → ℕ → ℕ → ℕ
 dnf_by A52 entered came = entered + 1
 dnf_by A53 entered came = came + 1
 
--- the score of a boat of this status: for her place if she finished (A4, A7), one more than the
--- boats entered where she did not come to the starting area, the DNF score for every other code
--- (A5.2, A5.3)
+-- the score of a boat of this status: for her place if she finished (A4, A7); one more than the
+-- boats entered if she did not come to the starting area; the DNF score for every other code (A5.2,
+-- A5.3)
 abbrev pub base_by : Status → ℕ → ℕ → ℕ → ℕ
 base_by Finished place_points entered dnf = place_points
 base_by (Coded Dnc) place_points entered dnf = 10 * (entered + 1)
@@ -84,7 +83,7 @@ module _ {B : Type 0} (same : B → B → Bool) where
   abbrev pub groups_ahead : Race B → B → List (List B)
   groups_ahead race boat = before_first (in_group same boat) race.order
 
-  -- her group: she and the boats tied with her (A7)
+  -- her group: her and the boats tied with her (A7)
   abbrev pub her_group : Race B → B → List B
   her_group race boat = unwrap_or (find (in_group same boat) race.order) []
 
@@ -101,7 +100,7 @@ module _ {B : Type 0} (same : B → B → Bool) where
   abbrev pub place_points : Race B → B → ℕ
   place_points race boat = shared_points (finishing_place race boat) (sharing race boat)
 
-  -- how many boats entered came to the starting area (A5.3)
+  -- how many of the boats entered came to the starting area (A5.3)
   abbrev pub number_came : Race B → ℕ
   number_came race = count_by (λ boat. came (status race boat)) race.entered
 
@@ -122,7 +121,7 @@ module _ {B : Type 0} (same : B → B → Bool) where
 
 -- ---- the race on a sheet, and in the journal
 
--- on a sheet the boats are numbers, in the order of the entry list
+-- the race on a sheet, where boats are numbered in the order of the entry list
 abbrev pub race_of : List (List ℕ) → List Held → Race ℕ
 race_of order held =
     record {
@@ -136,7 +135,7 @@ abbrev pub race_points : RulesParts → Sheet → List ℕ
 race_points rules sheet =
     map (plain nat_eq rules (race_of sheet.order sheet.held)) (range_with_len 0 (boats sheet))
 
--- a boat's points on the sheet before redress, and whether she stands in the order (A3)
+-- a boat's points on the sheet before redress, and whether she is in the order (A3)
 abbrev pub race_score : RulesParts → Sheet → ℕ → RaceScore
 race_score rules sheet boat =
     record {
@@ -144,7 +143,6 @@ race_score rules sheet boat =
       placed = stands_in nat_eq boat sheet.order;
     }
 
--- the same of each boat on the sheet
 abbrev pub race_scores : RulesParts → Sheet → List RaceScore
 race_scores rules sheet = map (race_score rules sheet) (range_with_len 0 (boats sheet))
 

@@ -17,13 +17,13 @@ use Rattle.regatta_scores.specs.Standing.{line, lines, row, comes_first, standin
 
 -- ---- the comparison of boats
 
--- The comparison (A2.1, A8) is a total order: it answers the other way round when the boats are
--- swapped, it chains, and boats that it doesn't tell apart compare alike with each other boat.
+-- The comparison (A2.1, A8) is a total order: swapping two boats reverses it, it is transitive, and
+-- boats that compare as equal compare in the same way with each other boat.
 abbrev pub ComparisonIsTotal : Type 0
 ComparisonIsTotal = IsTotalOrder comparison
 
--- What that says of beating (A8): no boat beats herself, no two beat each other, and who beats one
--- that beats another beats that one too; so do ties chain.
+-- The same for beating (A8): no boat beats herself, no two boats beat each other, and beating and
+-- ties are transitive.
 pub record BeatingIsAnOrder : Type 0 where
   pub itself : (a : BoatScores) → comparison a a ≡ Equal
   pub one_way : (a b : BoatScores) → beats a b ≡ true → beats b a ≡ false
@@ -32,7 +32,7 @@ pub record BeatingIsAnOrder : Type 0 where
       comparison a b ≡ Equal → comparison b c ≡ Equal → comparison a c ≡ Equal
   pub tied : (a b : BoatScores) → beats a b ≡ false → beats b a ≡ false → comparison a b ≡ Equal
 
--- From best to worst the scores that count rise, and are those that count in another order (A8.1).
+-- The counting scores sorted from best to worst rise, and are the same scores (A8.1).
 abbrev pub CountingScoresRise : Type 0
 CountingScoresRise = (line : BoatScores) →
     IsNonDecreasing (best_to_worst line)
@@ -40,7 +40,7 @@ CountingScoresRise = (line : BoatScores) →
 
 -- ---- ties
 
--- Two boats share a rank exactly where their series scores, their scores that count from best to
+-- Two boats share a rank if and only if their series scores, their scores that count from best to
 -- worst and their points in each race are equal (A8).
 abbrev pub TiesAreComplete : Type 0
 TiesAreComplete = (rules : RulesParts) (journal : Journal) (a b : Sail) →
@@ -59,7 +59,7 @@ cell_points cells = map (λ cell. cell.points) cells
 abbrev pub counting_points : List Cell → List ℕ
 counting_points cells = cell_points (filter (λ cell. not cell.dropped) cells)
 
--- The same, read off the rows of the standing (A8).
+-- The same for the rows of the standing (A8).
 abbrev pub RowsTieCompletely : Type 0
 RowsTieCompletely = (rules : RulesParts) (journal : Journal) (a b : Row) →
     Contains (standing rules journal).rows a → Contains (standing rules journal).rows b →
@@ -70,7 +70,7 @@ RowsTieCompletely = (rules : RulesParts) (journal : Journal) (a b : Row) →
 
 -- ---- the rows of the standing
 
--- each boat entered has one row, which is hers, and the rows stand in order of rank and then sail
+-- each boat entered has one row, which is hers, and the rows are in order of rank and then sail
 -- (A2.2)
 pub record RowsAreTheEntered (rules : RulesParts) (journal : Journal) : Type 0 where
   pub each_once : IsPermutation (entered journal) (map (λ r. r.sail) (standing rules journal).rows)
@@ -78,18 +78,18 @@ pub record RowsAreTheEntered (rules : RulesParts) (journal : Journal) : Type 0 w
       All (λ r. r ≡ row rules journal (lines rules journal) r.sail) (standing rules journal).rows
   pub in_order : AllPairs (λ a b. comes_first a b ≡ true) (standing rules journal).rows
 
--- So it is under whatever rules and for whatever journal (A2.2).
+-- This holds for any rules and any journal (A2.2).
 abbrev pub StandingHasTheEntered : Type 0
 StandingHasTheEntered = (rules : RulesParts) (journal : Journal) → RowsAreTheEntered rules journal
 
 -- ---- ranks
 
--- how many boats share a boat's rank, herself included: those tied with her after A8
+-- the number of boats with a boat's rank, herself included: those tied with her after A8
 abbrev pub sharers : List BoatScores → BoatScores → ℕ
 sharers lines line = count_by (λ other. nat_eq (rank lines other) (rank lines line)) lines
 
--- ranks begin at 1, a boat has as many boats ranked above her as her rank says, and after k boats
--- that share rank r the next rank is r + k (A8)
+-- ranks start at 1; a boat's rank is one more than the number of boats ranked above her; after k
+-- boats that share rank r the next rank is r + k (A8)
 pub record RanksFollow (lines : List BoatScores) : Type 0 where
   pub above : (a : BoatScores) → Contains lines a →
       rank lines a ≡ 1 + count_by (λ other. nat_lt (rank lines other) (rank lines a)) lines
@@ -99,13 +99,13 @@ pub record RanksFollow (lines : List BoatScores) : Type 0 where
   pub next : (a : BoatScores) → Contains lines a → rank lines a + sharers lines a ≤ length lines →
       Any (λ b. rank lines b ≡ rank lines a + sharers lines a) lines
 
--- So it is of any boats (A2.1, A8).
+-- This holds for any boats (A2.1, A8).
 abbrev pub RanksFollowEachOther : Type 0
 RanksFollowEachOther = (lines : List BoatScores) → RanksFollow lines
 
 -- ---- the three cases of A8
 
--- two lists are equal up to a position, where both go on and the first has the lower number: the
+-- the lists are equal up to a position where both continue and the first has the lower number: the
 -- first difference of A8.1 and A8.2
 pub record IsLowerAtFirst (xs ys : List ℕ) : Type 0 where
   pub at : ℕ
@@ -114,9 +114,9 @@ pub record IsLowerAtFirst (xs ys : List ℕ) : Type 0 where
   pub same : take at xs ≡ take at ys
   pub lower : slice_index xs at < slice_index ys at
 
--- a boat is better by her series score; or, where those are equal, by the first difference of the
--- scores that count from best to worst (A8.1); or, where those are equal too, by the first
--- difference from the last race back, excluded scores included (A8.2)
+-- a boat is better by her series score. If those are equal, the first difference of the scores that
+-- count from best to worst decides (A8.1). If those are equal too, the first difference from the
+-- last race back does, excluded scores included (A8.2)
 abbrev pub IsBetter : BoatScores → BoatScores → Type 0
 IsBetter a b =
     (net a < net b)
@@ -124,8 +124,8 @@ IsBetter a b =
     ⊎ ((net a ≡ net b) × (best_to_worst a ≡ best_to_worst b)
     × IsLowerAtFirst (last_to_first a) (last_to_first b))
 
--- Boats with equally many races and no score below 1.0 beat each other in these three cases and no
--- other (A2.1, A8.1, A8.2).
+-- If boats have equally many races and no score below 1.0, they beat each other in these three
+-- cases and no other (A2.1, A8.1, A8.2).
 abbrev pub BeatsInThreeCases : Type 0
 BeatsInThreeCases = (a b : BoatScores) →
     All (λ p. 10 ≤ p) a.points → All (λ p. 10 ≤ p) b.points → length a.points ≡ length b.points →

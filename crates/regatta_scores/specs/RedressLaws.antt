@@ -19,20 +19,19 @@ RedressLeavesOthers = (rules : RulesParts) (journal : Journal) (entry : EntryPar
     (points rules (journal ++ entry ∷ []) other ≡ points rules journal other)
     × (excluded rules (journal ++ entry ∷ []) other ≡ excluded rules journal other)
 
--- her points in a race that an average counts are from low to high (A9)
+-- if an average counts the race, her points in it are from low to high (A9)
 abbrev pub IsWithin : ℕ → ℕ → RowItem → Type 0
 IsWithin low high item =
     (low ≤ own_points item) × (own_points item ≤ high)
 
--- An average is no less than the least and no more than the greatest of the points that it counts
--- (A9).
+-- An average is at least the lowest and at most the highest of the points that it counts (A9).
 abbrev pub AveragesLieBetween : Type 0
 AveragesLieBetween = (races : List RowItem) (plain low high : ℕ) →
     0 < length (counted races) → All (IsWithin low high) (counted races) →
     (low ≤ average_over races plain) × (average_over races plain ≤ high)
 
--- An average is the nearest tenth: it is at most half a tenth above the true average, and less than
--- half a tenth below (A9).
+-- An average is rounded to the nearest tenth: it is at most half a tenth above the true average,
+-- and less than half a tenth below (A9).
 abbrev pub AveragesAreNearest : Type 0
 AveragesAreNearest = (n s : ℕ) → 0 < n →
     (2 * n * average n s ≤ 2 * s + n) × (2 * s < 2 * n * average n s + n)

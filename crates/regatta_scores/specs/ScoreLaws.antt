@@ -1,4 +1,4 @@
--- Laws of all scores of a series: none is below 1.0, so boats beat each other in three cases alone.
+-- Laws of all scores of a series: none is below 1.0, so boats beat each other only in three cases.
 use Rattle.std.specs.Prelude.{◌≡◌, ◌↔◌, ◌≤◌, true, All}
 use Rattle.regatta_terms.specs.Entries.{IsEntry}
 use Rattle.regatta_terms.specs.Rules.{RulesParts}
@@ -10,25 +10,26 @@ use Rattle.regatta_scores.specs.Ranking.{beats}
 use Rattle.regatta_scores.specs.RankLaws.{IsBetter}
 use Rattle.regatta_scores.specs.Standing.{points, line, standing}
 
--- under these rules no boat has a score below 1.0 by the journal, and no cell of its standing has
+-- under these rules no score of a boat by the journal is below 1.0, and none in a cell of the
+-- standing
 pub record HasNoScoreBelowOne (rules : RulesParts) (journal : Journal) : Type 0 where
   pub of_boats : (boat : Sail) → All (λ points. 10 ≤ points) (points rules journal boat)
   pub in_cells :
       All (λ (row : Row). All (λ (cell : Cell). 10 ≤ cell.points) row.cells)
       (standing rules journal).rows
 
--- Whatever the rules, no score is below 1.0 in a journal of entries whose parts are in range.
+-- Under any rules, no score of a journal is below 1.0 if the parts of its entries are in range.
 abbrev pub NoScoreIsBelowOne : Type 0
 NoScoreIsBelowOne = (rules : RulesParts) (journal : Journal) → All IsEntry journal →
     HasNoScoreBelowOne rules journal
 
--- of any two boats one beats the other by the journal exactly in the three cases (A2.1, A8.1, A8.2)
+-- by the journal, one boat beats another in the three cases and in no other (A2.1, A8.1, A8.2)
 abbrev pub BoatsBeatInThreeCases : RulesParts → Journal → Type 0
 BoatsBeatInThreeCases rules journal = (a b : Sail) →
     (beats (line rules journal a) (line rules journal b) ≡ true)
     ↔ IsBetter (line rules journal a) (line rules journal b)
 
--- Whatever the rules, so it is in a journal of entries whose parts are in range.
+-- Under any rules, this holds for a journal if the parts of its entries are in range.
 abbrev pub EntriesBeatInThreeCases : Type 0
 EntriesBeatInThreeCases = (rules : RulesParts) (journal : Journal) → All IsEntry journal →
     BoatsBeatInThreeCases rules journal

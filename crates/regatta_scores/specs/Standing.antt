@@ -1,4 +1,4 @@
--- The standing of a series: Appendix A of the racing rules read on the journal.
+-- The standing of a series: Appendix A of the racing rules, applied to the journal.
 use Rattle.std.specs.Prelude.{ℕ, zero, suc, Bool, true, false, List, [], ◌∷◌, length, map, zip}
 use Rattle.std.specs.Prelude.{Option, Some, None, if◌then◌else◌}
 use Rattle.std.specs.Ordering.{nat_cmp, ordering_then, is_le}
@@ -56,7 +56,7 @@ abbrev pub line : RulesParts → Journal → Sail → BoatScores
 line rules journal boat =
     record { points = points rules journal boat; excluded = excluded rules journal boat }
 
--- the same of each boat entered in the series, in the order of the entry list (A2.2, A8)
+-- the lines of all boats entered in the series, in the order of the entry list (A2.2, A8)
 abbrev pub lines : RulesParts → Journal → List BoatScores
 lines rules journal = map (line rules journal) (entered journal)
 
@@ -74,13 +74,14 @@ code_mark code.Ret = abbreviation.Ret
 code_mark code.Dsq = abbreviation.Dsq
 code_mark code.Dne = abbreviation.Dne
 
--- the abbreviation of a boat with so many ZFP and so many SCP: ZFP goes first (A10, 30.2, 44.3(c))
+-- the abbreviation of a boat by the numbers of her ZFP and SCP: ZFP takes precedence (A10, 30.2,
+-- 44.3(c))
 abbrev pub penalty_mark : ℕ → ℕ → Option Abbrev
 penalty_mark zero zero = None
 penalty_mark zero (suc scp) = Some abbreviation.Scp
 penalty_mark (suc zfp) scp = Some abbreviation.Zfp
 
--- the abbreviation without redress: that of her code, DNC too, else that of her penalties (A10)
+-- the abbreviation without redress: that of her code or of DNC, else that of her penalties (A10)
 abbrev pub status_mark : Status → Held → Option Abbrev
 status_mark (Coded code) held = Some (code_mark code)
 status_mark Finished held = penalty_mark held.zfp held.scp
@@ -121,16 +122,16 @@ row rules journal lines boat =
       cells = cells rules journal boat;
     }
 
--- whether a row comes first of two, by rank and then by sail: true, too, of a row and itself (A8)
+-- whether the first row comes no later than the second, by rank and then by sail (A8)
 abbrev pub comes_first : Row → Row → Bool
 comes_first a b = is_le (ordering_then (nat_cmp a.rank b.rank) (slice_cmp nat_cmp a.sail b.sail))
 
--- a row put among sorted ones, ahead of the first that it comes before
+-- a row inserted into sorted ones, before the first that doesn't come before it
 abbrev pub with_row : Row → List Row → List Row
 with_row r [] = r ∷ []
 with_row r (x ∷ xs) = if comes_first r x then r ∷ x ∷ xs else x ∷ with_row r xs
 
--- rows in the order in which the standing lists them: by rank, then by sail
+-- the rows in the order of the standing: by rank, then by sail
 abbrev pub sorted_rows : List Row → List Row
 sorted_rows [] = []
 sorted_rows (x ∷ xs) = with_row x (sorted_rows xs)

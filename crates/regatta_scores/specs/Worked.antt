@@ -21,7 +21,7 @@ score points = record { points = points; dne = false }
 abbrev pub dne : ℕ → Scored
 dne points = record { points = points; dne = true }
 
--- which scores are excluded, where one is from so many races on
+-- which scores are excluded, if one is from `threshold` races on
 abbrev pub flags : ℕ → List Scored → List Bool
 flags threshold scores = exclusion.excluded (exclusions_of (threshold ∷ []) (length scores)) scores
 
@@ -56,11 +56,11 @@ nothing_of_no_race = refl
 
 -- ---- ties (A8)
 
--- a boat's scores, where nothing is excluded
+-- a boat's scores, if nothing is excluded
 abbrev pub all_counting : List ℕ → BoatScores
 all_counting points = record { points = points; excluded = map (λ _. false) points }
 
--- a boat's scores, where one is excluded from three races on
+-- a boat's scores, if one is excluded from three races on
 abbrev pub one_excluded : List ℕ → BoatScores
 one_excluded points = record { points = points; excluded = flags 3 (map score points) }
 
@@ -104,7 +104,7 @@ first_rank_is_shared_without_a_race = refl
 abbrev pub item : ℕ → RowItem
 item plain = record { plain = plain; redress = None }
 
--- a score with points handed in as redress (A9 (c))
+-- a score with points given as redress (A9 (c))
 abbrev pub handed_in : ℕ → ℕ → RowItem
 handed_in plain award = record { plain = plain; redress = Some (Points award) }
 

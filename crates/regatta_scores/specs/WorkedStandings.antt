@@ -32,30 +32,30 @@ c = 67 ∷ []
 abbrev pub d : Sail
 d = 68 ∷ []
 
--- a command that the scorer gives
+-- a command of the scorer
 abbrev pub scorer : Command → Role × Command
 scorer command = (Scorer, command)
 
--- a command that the protest committee gives
+-- a command of the protest committee
 abbrev pub jury : Command → Role × Command
 jury command = (Jury, command)
 
--- the commands as one seat's entries, numbered on from a number
+-- the commands as one seat's entries, numbered from `nth`
 abbrev pub entries_from : ℕ → List (Role × Command) → Journal
 entries_from nth [] = []
 entries_from nth (given ∷ rest) =
     record { seat = 1; nth = nth; role = given.0; command = given.1 }
     ∷ entries_from (nth + 1) rest
 
--- the same, numbered from 1
+-- the commands as one seat's entries, numbered from 1
 abbrev pub journal : List (Role × Command) → Journal
 journal given = entries_from 1 given
 
--- one score is excluded from two races on
+-- rules by which one score is excluded from two races on
 abbrev pub default_rules : RulesParts
 default_rules = record { absent = A52; scp = None; thresholds = 2 ∷ []; handicap = false }
 
--- no score is excluded
+-- rules by which no score is excluded
 abbrev pub no_exclusions : RulesParts
 no_exclusions = record { absent = A52; scp = None; thresholds = []; handicap = false }
 
@@ -71,18 +71,16 @@ marked points mark = record { points = points; mark = Some mark; dropped = false
 abbrev pub excluded : ℕ → Cell
 excluded points = record { points = points; mark = None; dropped = true }
 
--- a row of the standing
 abbrev pub row : Sail → ℕ → Bool → ℕ → List Cell → Row
 row sail rank tied net cells =
     record { sail = sail; rank = rank; tied = tied; net = net; cells = cells }
 
--- a standing of these races and rows
 abbrev pub table : List ℕ → List Row → Standing
 table races rows = record { races = races; rows = rows }
 
 -- ---- one race
 
--- three boats, A and B tied for first
+-- of three boats A and B are tied for first
 abbrev pub tie_for_first : List (Role × Command)
 tie_for_first =
     scorer (Enter a) ∷ scorer (Enter b) ∷ scorer (Enter c)
@@ -93,7 +91,7 @@ pub tied_boats_share_a_rank : standing default_rules (journal tie_for_first)
     ∷ row c 3 false 30 (plain 30 ∷ []) ∷ [])
 tied_boats_share_a_rank = refl
 
--- then A is disqualified (A5.2, A6.1)
+-- when A is then disqualified, she falls behind (A5.2, A6.1)
 pub disqualified_boats_fall_behind :
     standing default_rules (journal (tie_for_first ++ jury (Mark 1 a code.Dsq) ∷ []))
     ≡ table (1 ∷ []) (row b 1 false 10 (plain 10 ∷ []) ∷ row c 2 false 20 (plain 20 ∷ [])
@@ -111,7 +109,7 @@ pub boats_that_did_not_finish : standing default_rules (journal two_of_three)
     ∷ row c 3 false 40 (marked 40 abbreviation.Dnf ∷ []) ∷ [])
 boats_that_did_not_finish = refl
 
--- a late entry is scored DNC in the race, and every code scores one more (A2.2, A5.2)
+-- a late entry is scored DNC in the race, and every code costs a point more (A2.2, A5.2)
 pub late_entries_change_earlier_races :
     standing default_rules (journal (two_of_three ++ scorer (Enter d) ∷ []))
     ≡ table (1 ∷ []) (row a 1 false 10 (plain 10 ∷ []) ∷ row b 2 false 20 (plain 20 ∷ [])
@@ -138,13 +136,13 @@ pub averages_follow_the_other_race : standing no_exclusions (journal average_in_
     ∷ row b 2 false 30 (plain 20 ∷ plain 10 ∷ []) ∷ [])
 averages_follow_the_other_race = refl
 
--- the same with one exclusion: of A's equal scores the earlier is excluded (A2.1)
+-- the same with one exclusion: the earlier of A's equal scores is excluded (A2.1)
 pub earlier_of_equal_scores_excluded : standing default_rules (journal average_in_the_second)
     ≡ table (1 ∷ 2 ∷ []) (row a 1 false 10 (excluded 10 ∷ marked 10 abbreviation.Rdg ∷ [])
     ∷ row b 2 false 10 (excluded 20 ∷ plain 10 ∷ []) ∷ [])
 earlier_of_equal_scores_excluded = refl
 
--- A has her average in race 1, made of race 2 alone, where a late entry costs her a point more
+-- A's average in race 1 is over race 2 alone, in which a late entry costs her a point
 pub late_entries_change_averages :
     standing no_exclusions
     (journal (two_races ++ jury (Redress 1 a AllRaces) ∷ scorer (Enter c) ∷ []))

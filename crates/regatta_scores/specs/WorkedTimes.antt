@@ -17,7 +17,7 @@ use Rattle.regatta_scores.specs.Standing.{standing}
 use Rattle.regatta_scores.specs.WorkedStandings.{a, b, c, scorer, jury, journal, default_rules}
 use Rattle.regatta_scores.specs.WorkedStandings.{plain, marked, row, table}
 
--- places by corrected times
+-- rules by which corrected times determine the places
 abbrev pub by_times : RulesParts
 by_times = record { absent = A52; scp = None; thresholds = 2 ∷ []; handicap = true }
 
@@ -41,11 +41,10 @@ equal_times_share_their_places = refl
 
 -- ---- a boat struck, and timed again
 
--- A is struck out
 abbrev pub struck : List (Role × Command)
 struck = three_timed ++ scorer (Strike 1 a) ∷ []
 
--- who is struck has no time
+-- a boat that is struck has no time
 pub struck_boats_have_no_time : time (journal struck) 1 a ≡ None
 struck_boats_have_no_time = refl
 
@@ -55,11 +54,11 @@ pub struck_boats_leave_the_order : standing by_times (journal struck)
     ∷ row a 3 false 40 (marked 40 abbreviation.Dnc ∷ []) ∷ [])
 struck_boats_leave_the_order = refl
 
--- and is timed again
+-- A is timed again
 abbrev pub timed_again : List (Role × Command)
 timed_again = struck ++ scorer (Time 1 a 3599) ∷ []
 
--- who is timed again is placed by the new time alone
+-- a boat that is timed again is placed by her new time alone
 pub boats_timed_again_have_the_new_time : time (journal timed_again) 1 a ≡ Some 3599
 boats_timed_again_have_the_new_time = refl
 
@@ -68,7 +67,7 @@ pub boats_timed_again_are_placed_anew : standing by_times (journal timed_again)
     ∷ row c 3 false 30 (plain 30 ∷ []) ∷ [])
 boats_timed_again_are_placed_anew = refl
 
--- within a group the times that stand are in the order in which they were handed in: A's came last
+-- equal times are in the order in which they were given: A's came last
 pub equal_times_are_in_the_order_of_hand_in :
     order by_times (journal (struck ++ scorer (Time 1 a 3605) ∷ [])) 1
     ≡ (b ∷ []) ∷ (c ∷ a ∷ []) ∷ []
@@ -76,14 +75,14 @@ equal_times_are_in_the_order_of_hand_in = refl
 
 -- ---- two times after a strike
 
--- of two times of a boat after a strike the last one stands, as no board would take it
+-- of two times of a boat after a strike the last is in force; no board would accept the second
 pub last_time_stands :
     order by_times
     (journal (struck ++ scorer (Time 1 a 3500) ∷ scorer (Time 1 a 3602) ∷ [])) 1
     ≡ (b ∷ []) ∷ (a ∷ []) ∷ (c ∷ []) ∷ []
 last_time_stands = refl
 
--- a strike after the first of two times takes that time away, and the other stands
+-- a strike after the first of two times ends that one, and leaves the other in force
 pub strike_takes_the_first_time :
     order by_times
     (journal (struck ++ scorer (Time 1 a 3500) ∷ scorer (Strike 1 a) ∷ scorer (Time 1 a 3700) ∷ []))
@@ -107,8 +106,8 @@ coded_boats_with_a_time_leave_their_place = refl
 
 -- ---- which commands place boats
 
--- a place by finishing is none where corrected times determine the places, and a time is none where
--- they don't (A3)
+-- Finish gives no place if corrected times determine the places, and Time gives none if they don't
+-- (A3)
 pub places_by_finishing_are_none : order by_times (journal (scorer (Finish 1 a) ∷ [])) 1 ≡ []
 places_by_finishing_are_none = refl
 
@@ -131,7 +130,7 @@ pub sheets_keep_times :
     timed_sheet.seconds ≡ Some 3605 ∷ Some 3600 ∷ Some 3605 ∷ Some 3601 ∷ []
 sheets_keep_times = refl
 
--- who goes out has no time, and another time places her anew
+-- a boat that goes out has no time, and another time places her again
 pub out_takes_the_time : (after timed_sheet (Out 0)).seconds
     ≡ None ∷ Some 3600 ∷ Some 3605 ∷ Some 3601 ∷ []
 out_takes_the_time = refl

@@ -1,13 +1,13 @@
-//! One boat's race scores, and her rank in the series.
+//! One boat's race scores, and her place in the series.
 use crate::items::Items;
 use regatta_terms::{Redress, Tenths};
 
-/// A boat's score in one race before redress, and whether she stands in its finishing order.
+/// A boat's score in one race before redress, and whether she is in its finishing order.
 #[derive(Clone, Copy, Debug, PartialEq, Eq)]
 pub struct RaceScore {
     /// The points without redress, in tenths.
     pub plain: Tenths,
-    /// Whether she stands in the finishing order, with a code or without.
+    /// Whether she is in the finishing order, with or without a code.
     pub placed: bool,
 }
 
@@ -19,7 +19,7 @@ pub type RaceScores = Items<RaceScore>;
 pub struct RowItem {
     /// The points without redress, in tenths.
     pub plain: Tenths,
-    /// What she is given as redress, if anything.
+    /// Her redress in the race, if any.
     pub redress: Option<Redress>,
 }
 
@@ -28,7 +28,7 @@ pub struct RowItem {
 pub struct Scored {
     /// The points, in tenths.
     pub points: Tenths,
-    /// A disqualification that is not excludable (RRS 90.3(b)).
+    /// Whether the score is a disqualification that is not excludable (RRS 90.3(b)).
     pub dne: bool,
 }
 
@@ -44,5 +44,5 @@ pub struct Place {
     pub tied: bool,
 }
 
-/// The ranks of some boats, in their order, each with whether it is shared.
+/// The places of some boats, in their order.
 pub type Places = Items<Place>;

@@ -3,7 +3,7 @@ ghost use Rattle.std.specs.Prelude.{◌≡◌, ◌<◌, ◌++◌, ◌∷◌, [],
 
 use std::alloc::{AllocError, Global};
 
-/// The items with one more, last.
+/// Copies the items and appends one.
 pub(crate) fn with_one_more<T: Copy>(
     alloc: Global,
     items: &[T],
@@ -16,7 +16,7 @@ pub(crate) fn with_one_more<T: Copy>(
     Ok(new)
 }
 
-/// The items with this one at position `at`.
+/// Copies the items, with this one at position `at`.
 pub(crate) fn with_changed<T: Copy>(
     alloc: Global,
     items: &[T],

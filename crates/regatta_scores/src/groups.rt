@@ -1,4 +1,4 @@
-//! A finishing order as one list of boats, and where each group of it ends (RRS A3, A7).
+//! A finishing order as one list of boats and the position where each group ends (RRS A3, A7).
 ghost use Rattle.std.specs.Prelude.{◌≡◌, ◌<◌, ◌++◌, ◌∷◌, [], length, nat_eq, slice_index_or};
 ghost use Rattle.std.specs.Prelude.{IsTrue, ◌↔◌, IfOk, OnOk, if◌then◌else◌};
 ghost use Rattle.regatta_scores.specs.Order.{stands_in};
@@ -7,7 +7,7 @@ ghost use Rattle.regatta_scores.specs.Groups.{begin, cut, Rises};
 use std::alloc::{AllocError, Global};
 use std::marker::Model;
 
-/// A finishing order: groups of tied boats, best first.
+/// A finishing order: groups of tied boats, the best first.
 #[derive(Drop)]
 pub struct Groups {
     boats: Vec<u16>,
@@ -25,7 +25,7 @@ impl Model for Groups {
     ghost invariant = { λ g. Rises 0 g.ends.items (length g.boats.items) };
 }
 
-/// Where the group begins among the boats, by the ends of the groups.
+/// The position of the group's first boat, by the ends of the groups.
 fn begin(ends: &[usize], at: usize) -> usize
     requires { at < length ends.now }
     ensures { result ≡ begin ends.now at }
@@ -33,7 +33,6 @@ fn begin(ends: &[usize], at: usize) -> usize
     if at == 0 { 0 } else { ends[at - 1] }
 }
 
-/// The boats of a group.
 #[tactic(auto, using(crate::proofs::Cut::group_is, crate::proofs::Cut::group_bounds))]
 fn group_in<'a>(boats: &'a [u16], ends: &[usize], at: usize) -> &'a [u16]
     requires rises { Rises 0 ends.now (length boats.now) }
@@ -44,7 +43,6 @@ fn group_in<'a>(boats: &'a [u16], ends: &[usize], at: usize) -> &'a [u16]
 }
 
 impl Groups {
-    /// Nobody.
     pub(crate) fn new(alloc: Global) -> Groups
         ensures { result ≡ [] }
     {
@@ -54,7 +52,6 @@ impl Groups {
         }
     }
 
-    /// How many groups there are.
     #[tactic(auto, using(crate::proofs::Cut::many_groups))]
     pub(crate) fn len(&self) -> usize
         ensures { result ≡ length self.now }
@@ -62,7 +59,6 @@ impl Groups {
         self.ends.len()
     }
 
-    /// Whether there is no group.
     #[tactic(auto, using(crate::proofs::Cut::no_groups))]
     pub(crate) fn is_empty(&self) -> bool
         ensures { IsTrue result ↔ (self.now ≡ []) }
@@ -70,7 +66,6 @@ impl Groups {
         self.len() == 0
     }
 
-    /// The boats of a group.
     #[tactic(auto, using(crate::proofs::Cut::many_groups))]
     pub(crate) fn group(&self, at: usize) -> &[u16]
         requires { at < length self.now }
@@ -79,14 +74,13 @@ impl Groups {
         group_in(&self.boats, &self.ends, at)
     }
 
-    /// Whether the boat stands in the order.
     pub(crate) fn contains(&self, boat: u16) -> bool
         ensures { result ≡ stands_in nat_eq boat self.now }
     {
         self.boats.contains(&boat)
     }
 
-    /// One more group, last.
+    /// Appends a group.
     pub(crate) fn push(&mut self, group: &[u16]) -> Result<(), AllocError>
         ensures { OnOk result (self.new ≡ self.old ++ group.now ∷ []) }
     {
@@ -96,7 +90,7 @@ impl Groups {
         Ok(())
     }
 
-    /// One more group, last, where it is wanted.
+    /// Appends a group if it is `wanted`.
     pub(crate) fn push_if(&mut self, group: &[u16], wanted: bool) -> Result<(), AllocError>
         ensures { OnOk result (self.new ≡ self.old ++ (if wanted then group.now ∷ [] else [])) }
     {
@@ -108,7 +102,6 @@ impl Groups {
         }
     }
 
-    /// A copy.
     pub(crate) fn copy(&self, alloc: Global) -> Result<Groups, AllocError>
         ensures { IfOk result (λ copy. copy ≡ self.now) }
     {

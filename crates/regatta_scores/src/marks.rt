@@ -15,7 +15,7 @@ pub fn is_dne(code: Option<Code>) -> bool
     matches!(code, Some(Code::Dne))
 }
 
-/// The abbreviation of a code (RRS A10).
+/// The abbreviation of a code in a cell (RRS A10).
 pub fn code_mark(code: Code) -> Abbrev
     ensures { result ≡ code_mark_of code }
 {
@@ -32,9 +32,9 @@ pub fn code_mark(code: Code) -> Abbrev
     }
 }
 
-/// The abbreviation in the cell of a boat that holds this in a race, and stands in its finishing
-/// order or doesn't (RRS A10): RDG with redress, else the code, or DNC where she has neither a code
-/// nor a place, else ZFP, else SCP, else none.
+/// The abbreviation in the cell of a boat with these decisions (RRS A10); `placed` is whether she
+/// is in the finishing order. It is RDG with redress, else her code, or DNC if she has neither a
+/// code nor a place, else ZFP, else SCP, else none.
 pub fn mark(held: &Held, placed: bool) -> Option<Abbrev>
     ensures { result ≡ mark_by held.now.redress (status_by held.now.code placed) held.now }
 {

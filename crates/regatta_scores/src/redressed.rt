@@ -10,14 +10,13 @@ use crate::points::tenths;
 use regatta_terms::{Redress, Tenths};
 use std::alloc::{AllocError, Global};
 
-/// Whether she has an average as redress.
 fn has_average(redress: Option<Redress>) -> bool
     ensures { result ≡ has_average redress }
 {
     matches!(redress, Some(Redress::AllRaces | Redress::RacesBefore))
 }
 
-/// Her points in a race where she has no average.
+/// Her points in a race in which her redress isn't an average.
 fn own_points(item: &RowItem) -> Tenths
     ensures { result ≡ own_points item.now }
 {
@@ -27,7 +26,7 @@ fn own_points(item: &RowItem) -> Tenths
     }
 }
 
-/// How many races an average counts.
+/// The number of races that an average counts.
 #[tactic(auto, using(crate::proofs::Counted::number_more))]
 fn number_counted(items: &[RowItem]) -> u32
     requires { length items.now ≤ MAX_RACES }
@@ -41,7 +40,7 @@ fn number_counted(items: &[RowItem]) -> u32
     number
 }
 
-/// Her points in the races that an average counts, added up.
+/// The sum of her points in the races that an average counts.
 #[tactic(auto, using(crate::proofs::Counted::number_more, crate::proofs::Counted::total_more))]
 fn total_counted(items: &[RowItem]) -> u32
     requires { length items.now ≤ MAX_RACES }
@@ -59,7 +58,7 @@ fn total_counted(items: &[RowItem]) -> u32
     total
 }
 
-/// The average of some points, to the nearest tenth.
+/// The average of some points, rounded to the nearest tenth.
 #[tactic(auto, using(crate::proofs::Counted::average_small))]
 fn average(number: u32, sum: u32) -> Tenths
     requires some { 0 < number }
@@ -70,7 +69,7 @@ fn average(number: u32, sum: u32) -> Tenths
     tenths((2 * sum + number) / (2 * number))
 }
 
-/// The average, or her score without redress where no race is counted.
+/// The average, or her score without redress if no race is counted.
 fn average_or(plain: Tenths, number: u32, sum: u32) -> Tenths
     requires few { number ≤ 2 * MAX_RACES }
     requires small { sum ≤ 65535 * number }
@@ -95,7 +94,6 @@ fn average_over(before: &[RowItem], after: &[RowItem], plain: Tenths) -> Tenths
     average_or(plain, number, sum)
 }
 
-/// Her points in race `i`, by her redress there.
 fn redressed(row: &[RowItem], i: usize, item: &RowItem) -> Tenths
     requires few { length row.now ≤ MAX_RACES }
     requires i { i < length row.now }
@@ -110,12 +108,12 @@ fn redressed(row: &[RowItem], i: usize, item: &RowItem) -> Tenths
     }
 }
 
-/// One boat's points with redress, over the scored races in order (RRS A9).
+/// Returns one boat's points with redress, over the scored races in order (RRS A9).
 ///
-/// An award is taken as it is. An average is over her points in the other races, or in the races
-/// before, to the nearest tenth with 0.05 upward; races in which she has an average herself don't
-/// count, and where none is left her points are those without redress. At most
-/// [`MAX_RACES`](regatta_terms::MAX_RACES) races. It takes no memory.
+/// Points given as redress are taken as they are. An average is over her points in the other races,
+/// or in the races before, rounded to the nearest tenth with 0.05 upward. Races in which her
+/// redress is an average don't count; if no race is left, her points are those without redress. At
+/// most [`MAX_RACES`](regatta_terms::MAX_RACES) races. It doesn't allocate.
 pub fn redressed_points(row: &[RowItem]) -> PerRace<Tenths>
     requires { length row.now ≤ MAX_RACES }
     ensures { result.items ≡ points row.now }
@@ -127,9 +125,10 @@ pub fn redressed_points(row: &[RowItem]) -> PerRace<Tenths>
     found
 }
 
-/// One boat's points with redress, as [`redressed_points`] gives them, in a list of their own.
+/// Returns one boat's points with redress, as [`redressed_points`] does, in a list that it
+/// allocates.
 ///
-/// At most [`MAX_RACES`](regatta_terms::MAX_RACES) races; the one error is want of memory.
+/// At most [`MAX_RACES`](regatta_terms::MAX_RACES) races. The only error is a failed allocation.
 pub fn averages(alloc: Global, row: &[RowItem]) -> Result<Points, AllocError>
     requires { length row.now ≤ MAX_RACES }
     ensures { IfOk result (λ found. found ≡ points row.now) }

@@ -1,4 +1,4 @@
-//! One race: who finished in which order, and what each boat holds.
+//! One race: the finishing order, and each boat's code, penalties and redress.
 ghost use Rattle.std.specs.Prelude.{◌≡◌, ◌<◌, ◌≤◌, ◌↔◌, ℕ, [], nat_eq, slice_get, Some, IsTrue};
 ghost use Rattle.std.specs.Prelude.{IfOk, false};
 ghost use Rattle.regatta_terms.specs.declared.limits.TheConstants.{MAX_BOATS, MAX_PENALTIES};
@@ -14,22 +14,22 @@ use regatta_terms::{Code, Redress, Seconds};
 use std::alloc::{AllocError, Global};
 use std::marker::Model;
 
-/// What a boat holds in one race.
+/// A boat's code, penalties and redress in one race.
 #[derive(Clone, Copy, Debug, Default, PartialEq, Eq)]
 pub struct Held {
-    /// The code by which she is scored in place of a finishing place, if any (RRS A10).
+    /// The code by which she is scored instead of her finishing place, if any (RRS A10).
     pub code: Option<Code>,
-    /// How many 20% penalties for breaking rule 30.2 she holds, at most
+    /// The number of her 20% penalties for breaking RRS 30.2, at most
     /// [`MAX_PENALTIES`](regatta_terms::MAX_PENALTIES).
     pub zfp: u8,
-    /// How many Scoring Penalties (RRS 44.3) she holds, at most
+    /// The number of her Scoring Penalties (RRS 44.3), at most
     /// [`MAX_PENALTIES`](regatta_terms::MAX_PENALTIES).
     pub scp: u8,
     /// The redress that replaces her score, if any (RRS A9).
     pub redress: Option<Redress>,
 }
 
-/// What a boat holds about which nothing was decided: no code, no penalty, no redress.
+/// No code, no penalty and no redress.
 pub const NOTHING_HELD: Held = Held {
     code: None,
     zfp: 0,
@@ -38,9 +38,8 @@ pub const NOTHING_HELD: Held = Held {
 };
 
 /// One race: the finishing order, in groups of tied boats (RRS A3, A7), what each boat holds, and
-/// the corrected time of each boat that was placed by one.
-/// Boats are numbers from 0, in the order of the entry list, and at most
-/// [`MAX_BOATS`](regatta_terms::MAX_BOATS).
+/// the corrected time of each boat that was placed by one. Boats are numbered from 0, in the order
+/// of the entry list. There are at most [`MAX_BOATS`](regatta_terms::MAX_BOATS).
 #[derive(Drop)]
 pub struct RaceSheet {
     order: Groups,
@@ -65,10 +64,10 @@ impl Model for RaceSheet {
 }
 
 impl RaceSheet {
-    /// A sheet of at most [`MAX_BOATS`](regatta_terms::MAX_BOATS) boats, on which nobody is placed
-    /// and nothing is held.
+    /// Makes a sheet of at most [`MAX_BOATS`](regatta_terms::MAX_BOATS) boats, on which no boat is
+    /// placed or holds anything.
     ///
-    /// The one error is want of memory.
+    /// The only error is a failed allocation.
     #[tactic(auto, using(crate::proofs::Fresh::fresh_whole))]
     pub fn new(alloc: Global, boats: u16) -> Result<RaceSheet, AllocError>
         requires { boats ≤ MAX_BOATS }
@@ -81,7 +80,7 @@ impl RaceSheet {
         })
     }
 
-    /// Whether the boat, one of the sheet's, stands in the finishing order, with a code or without.
+    /// Whether the boat, one of the sheet's, is in the finishing order, with or without a code.
     pub fn placed(&self, boat: u16) -> bool
         requires { boat < boats self.now }
         ensures { result ≡ stands_in nat_eq boat self.now.order }
@@ -89,7 +88,7 @@ impl RaceSheet {
         self.order.contains(boat)
     }
 
-    /// What the boat, one of the sheet's, holds.
+    /// The code, penalties and redress of the boat, one of the sheet's.
     pub fn held(&self, boat: u16) -> Held
         requires { boat < boats self.now }
         ensures value { slice_get self.now.held boat ≡ Some result }
@@ -98,7 +97,7 @@ impl RaceSheet {
         self.held[boat as usize]
     }
 
-    /// The corrected time by which the boat, one of the sheet's, was placed, if she was.
+    /// The corrected time by which the boat, one of the sheet's, was placed, if any.
     pub fn seconds(&self, boat: u16) -> Option<Seconds>
         requires { boat < boats self.now }
         ensures { result ≡ time_of self.now.seconds boat }
@@ -106,7 +105,7 @@ impl RaceSheet {
         self.seconds[boat as usize]
     }
 
-    /// Whether nobody stands in the finishing order.
+    /// Whether the finishing order is empty.
     pub fn is_empty(&self) -> bool
         ensures order { IsTrue result ↔ (self.now.order ≡ []) }
         ensures nobody { IsTrue result
@@ -115,14 +114,16 @@ impl RaceSheet {
         self.order.is_empty()
     }
 
-    /// A copy of the sheet after a change that the sheet allows.
+    /// Returns a copy of the sheet after a change that the sheet allows:
     ///
-    /// A boat is added where there are fewer than [`MAX_BOATS`](regatta_terms::MAX_BOATS). Boats
-    /// that the change names are among the sheet's. Who is placed, last, tied, ahead or by her
-    /// time, doesn't stand in the order yet; the other boat that she joins or goes ahead of, and a
-    /// boat that goes out, stand in it. What a boat holds from now on has at most
-    /// [`MAX_PENALTIES`](regatta_terms::MAX_PENALTIES) penalties of each kind. The one error is
-    /// want of memory.
+    /// - A boat may be added below [`MAX_BOATS`](regatta_terms::MAX_BOATS) boats.
+    /// - The boats that a change names are on the sheet.
+    /// - A boat that is placed (last, tied, ahead or by her time) isn't in the order yet.
+    /// - The boat that she joins or goes ahead of, and a boat that goes out, are in the order.
+    /// - A boat holds at most [`MAX_PENALTIES`](regatta_terms::MAX_PENALTIES) penalties of each
+    /// kind.
+    ///
+    /// The only error is a failed allocation.
     pub fn after(&self, change: Change) -> Result<RaceSheet, AllocError>
         requires { Allows self.now change }
         ensures { IfOk result (λ sheet. sheet ≡ after self.now change) }
@@ -138,7 +139,6 @@ impl RaceSheet {
         })
     }
 
-    /// The finishing order after the change.
     fn order_after(&self, alloc: Global, change: &Change) -> Result<Groups, AllocError>
         ensures { IfOk result (λ order. order ≡ (after self.now change.now).order) }
     {
@@ -154,7 +154,6 @@ impl RaceSheet {
         }
     }
 
-    /// What each boat holds after the change.
     fn held_after(&self, alloc: Global, change: &Change) -> Result<Vec<Held>, AllocError>
         requires { Allows self.now change.now }
         ensures { IfOk result (λ held. held.items ≡ (after self.now change.now).held) }
@@ -166,7 +165,6 @@ impl RaceSheet {
         }
     }
 
-    /// The corrected time of each boat after the change.
     fn seconds_after(
         &self,
         alloc: Global,
@@ -185,7 +183,6 @@ impl RaceSheet {
         }
     }
 
-    /// The finishing order.
     pub(crate) fn order(&self) -> &Groups
         ensures value { result.now ≡ self.now.order }
         ensures sheet { IsSheet self.now.order self.now.held }
@@ -193,7 +190,6 @@ impl RaceSheet {
         &self.order
     }
 
-    /// What each boat holds.
     pub(crate) fn all_held(&self) -> &[Held]
         ensures { result.now ≡ self.now.held }
     {
@@ -201,22 +197,22 @@ impl RaceSheet {
     }
 }
 
-/// One change of a sheet.
+/// One change of a sheet. A boat that is placed has no place before.
 #[derive(Clone, Copy, Debug, PartialEq, Eq)]
 pub enum Change {
-    /// One more boat, with the next number: unplaced, and holding nothing.
+    /// Adds a boat with the next number, without a place, that holds nothing.
     AddBoat,
-    /// The boat, unplaced so far, in a group of her own, last.
+    /// Places the boat last, in a group of her own.
     Last { boat: u16 },
-    /// The boat, unplaced so far, in the group of the other (RRS A7).
+    /// Places the boat in the group of the other (RRS A7).
     Join { boat: u16, other: u16 },
-    /// The boat, unplaced so far, in a group of her own directly ahead of the other's group.
+    /// Places the boat directly ahead of the other's group, in a group of her own.
     Ahead { boat: u16, other: u16 },
-    /// The boat, unplaced so far, at the place of this corrected time (RRS A3), in one group with
-    /// those of the same time (RRS A7).
+    /// Places the boat by this corrected time (RRS A3), in one group with those of the same time
+    /// (RRS A7).
     Timed { boat: u16, seconds: Seconds },
-    /// The boat out of the order; a group that this leaves empty goes.
+    /// Takes the boat out of the order; an empty group goes.
     Out { boat: u16 },
-    /// What the boat holds from now on, in place of what she held.
+    /// Replaces what the boat holds.
     Hold { boat: u16, held: Held },
 }

@@ -35,7 +35,7 @@ pub enum Abbrev {
 }
 
 impl Abbrev {
-    /// The three letters of RRS A10.
+    /// The three letters that RRS A10 uses.
     pub fn text(self) -> &'static str
         ensures { result.now ≡ abbrev_text self }
     {
@@ -61,9 +61,9 @@ impl Abbrev {
 pub struct Cell {
     /// The points, in tenths, with penalties and redress.
     pub points: Tenths,
-    /// Why she scores so, where it isn't for her place alone.
+    /// Why she has these points, unless they are for her place alone.
     pub mark: Option<Abbrev>,
-    /// Whether the score is excluded.
+    /// Whether the score is excluded from the series score.
     pub dropped: bool,
 }
 
@@ -73,7 +73,7 @@ pub type Cells = Items<Cell>;
 /// One boat's row of the standing.
 #[derive(Drop)]
 pub struct Row {
-    /// The boat's sail, as it was entered.
+    /// The boat's sail number.
     pub sail: Sail,
     /// One more than the number of boats that beat her.
     pub rank: u16,
@@ -88,13 +88,13 @@ pub struct Row {
 /// The rows of a standing, in order of rank and then sail.
 pub type Rows = Items<Row>;
 
-/// Race numbers, rising.
+/// Race numbers, in rising order.
 pub type Races = Items<RaceNo>;
 
 /// The standing: the scored races, and one row for each boat entered.
 #[derive(Drop)]
 pub struct Standing {
-    /// The races that are scored, in order.
+    /// The scored races, in order of number.
     pub races: Races,
     /// One row for each boat entered, in order of rank and then sail.
     pub rows: Rows,

@@ -1,4 +1,4 @@
--- The lowest of the passes in so many slots, and in one more.
+-- The lowest of the passes in some slots, and in one more.
 use Rattle.std.proofs.Common.{◌≡◌, ◌≤◌, ◌<◌, ◌+◌, ◌++◌, ◌∷◌, ◌∙◌, [], ℕ, List, Option, Some, None}
 use Rattle.std.proofs.Common.{IfSome, All, length, take, slice_get, get_or, arith, refl, sym, ap}
 use Rattle.std.proofs.Common.{subst, map, append_assoc}
@@ -10,7 +10,7 @@ use Rattle.std.proofs.lemmas.Option.{get_or_from_slice_get, slice_get-get_or, sl
 use Rattle.regatta_desk.specs.Passes.{PassValue}
 use Rattle.regatta_service.specs.Pools.{Finds, IsLowest}
 
--- slots, each with its pass where nobody has it
+-- slots, each with its pass unless that is lent
 abbrev Slots : Type 0
 Slots = List (Option PassValue)
 
@@ -24,7 +24,7 @@ kept xs y k x is =
     ∙ ap Some (get_or_append_left xs (y ∷ []) None k within
     ∙ get_or_from_slice_get xs k x None is)
 
--- and stands behind them
+-- and comes after them
 behind : (xs : Slots) (y : Option PassValue) → slice_get (xs ++ y ∷ []) (length xs) ≡ Some y
 behind xs y =
     let within : length xs < length (xs ++ y ∷ []) = omega (arith, length-append xs (y ∷ [])) in
@@ -36,13 +36,13 @@ empty_has_none : (seat : ℕ) (x : Option PassValue) → x ≡ None → IfSome x
 empty_has_none seat None is = tt
 empty_has_none seat (Some p) is = absurd (cc is)
 
--- what has no pass of a seat below this has none below a lower one
+-- a slot without a pass below a seat has none below a lower seat
 lower_has_none : (low high : ℕ) → low ≤ high → (x : Option PassValue)
     → IfSome x (λ p. high ≤ p.seat) → IfSome x (λ p. low ≤ p.seat)
 lower_has_none low high le None is = tt
 lower_has_none low high le (Some p) is = omega (arith, le, is)
 
--- behind an empty slot the lowest is the same
+-- after an empty slot the lowest is the same
 finds_empty : (xs : Slots) (found : Option (ℕ × ℕ)) → Finds xs found → Finds (xs ++ None ∷ []) found
 finds_empty xs None all = All-push (λ slot. slot ≡ None) xs None all refl
 finds_empty xs (Some found) low = record {
@@ -52,7 +52,7 @@ finds_empty xs (Some found) low = record {
   lowest = All-push (λ other. IfSome other (λ p. found.1 ≤ p.seat)) xs None low.lowest tt;
 }
 
--- and so it is behind a pass of no lower seat
+-- and so it is after a pass of no lower seat
 finds_same : (xs : Slots) (slot seat : ℕ) (pass : PassValue) → IsLowest xs slot seat
     → seat ≤ pass.seat → IsLowest (xs ++ Some pass ∷ []) slot seat
 finds_same xs slot seat pass low le = record {
@@ -89,7 +89,7 @@ finds_lower xs slot seat pass low le = finds_new xs pass
     (λ other. IfSome other (λ p. pass.seat ≤ p.seat))
     (lower_has_none pass.seat seat le) xs low.lowest)
 
--- ---- the same of the first so many slots of a list
+-- ---- the same for the first slots of a list
 
 -- the slots up to this one
 front : (xs : Slots) (i : ℕ) (y : Option PassValue) → i < length xs → get_or xs i None ≡ y
@@ -129,7 +129,7 @@ more_lower xs i slot seat pass within is low le =
 
 pub ruleset one_more = (more_empty, more_same, more_first, more_lower)
 
--- so it is of all, once all were looked at
+-- the lowest of all, once all were checked
 pub finds_all : (xs : Slots) (n : ℕ) (found : Option (ℕ × ℕ)) → length xs ≤ n
     → Finds (take n xs) found → Finds xs found
 finds_all xs n found short at = subst (λ (w : Slots). Finds w found) (take_all n xs short) at

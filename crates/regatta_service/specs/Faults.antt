@@ -2,8 +2,8 @@
 use Rattle.std.specs.Prelude.{ℕ, Result, Ok, Err}
 use Rattle.regatta_service.specs.declared.serving.ServeFault.{ServeFault}
 
--- how many calls of the door failed in a serving that ended so: one that failed ends it, and is
--- told as what it is
+-- the number of failed calls of the door if serving ended so: a failed call ends serving and is
+-- reported as what it is
 abbrev pub door_failures_in : {A : Type 0} → Result A ServeFault → ℕ
 door_failures_in (Ok _) = 0
 door_failures_in (Err ServeFault.Door) = 1

@@ -1,4 +1,4 @@
--- What the lines of a session are answered.
+-- The replies to the lines of a session.
 use Rattle.std.specs.Prelude.{◌≡◌, ℕ, Bool, true, false, List, [], ◌++◌, Option, Some, None}
 use Rattle.std.specs.Prelude.{Result, Ok, Err, All}
 use mathlib.Core.List.{IsPrefix}
@@ -31,8 +31,8 @@ pub record DeskAnswers (rules : RulesParts) (line : Line) (role : Role) (before 
   pub replied : DeskReplies rules line role found left before after reply
   pub text : new ≡ old ++ reply_text reply
 
--- what is appended for a line of a session, and what it leaves of the pass: a desk answers a
--- command or a rank, and the pass alone the others
+-- the text appended for a line of a session, and what the line changes of the pass: a desk answers
+-- commands and RANK, and the pass alone answers the others
 abbrev pub Answers : RulesParts → Result Line LineFault → Role → PassValue → PassValue → List ℕ
     → List ℕ → Type 0
 Answers rules (Ok (Do command)) role before after old new =
@@ -46,7 +46,7 @@ Answers rules (Ok Quit) role before after old new = PassReplies rules (Ok Quit) 
 Answers rules (Err fault) role before after old new =
     PassReplies rules (Err fault) before after old new
 
--- whether the reply to the last line was written whole, where its session ended so or goes on
+-- whether the reply to the last line was written whole, if the session ended so or goes on (`None`)
 abbrev pub is_replied : Option End → Bool
 is_replied None = true
 is_replied (Some End.Quit) = true
@@ -56,8 +56,8 @@ is_replied (Some End.WriteFault) = false
 is_replied (Some End.Stopped) = false
 is_replied (Some End.NoMemory) = false
 
--- a line that was answered in this role, and what it leaves: the role of the lines behind it, the
--- pass, and the stream, to which just its reply was written
+-- a line that was answered in this role, and the state after it: the role of the next lines, the
+-- pass, and the stream, to which exactly the reply was written
 pub record Replied (rules : RulesParts) (asked : Result Line LineFault) (role later : Role)
     (before after : PassValue) (old new : Option (List ℕ)) : Type 0 where
   pub text : List ℕ

@@ -14,13 +14,12 @@ use Rattle.regatta_desk.specs.declared.answers.Next.{Next}
 use Rattle.regatta_service.specs.Lines.{CutOff, Replied}
 use Rattle.regatta_service.specs.declared.sessions.End.{End}
 
--- where a session stands: the role of the lines to come, the pass, and what was written
+-- the state of a session: the role of the next lines, the pass, and what was written
 pub record Point : Type 0 where
   pub role : Role
   pub pass : PassValue
   pub written : Option (List ℕ)
 
--- one, by its parts
 abbrev pub point : Role → PassValue → Option (List ℕ) → Point
 point role pass written = record { role = role; pass = pass; written = written }
 

@@ -5,20 +5,19 @@ use std::io::{Read, Write};
 use std::net::Shutdown;
 use std::os::unix::net::UnixStream;
 
-/// The bytes that one read asks for at most.
+/// The most bytes that one read asks for.
 const PIECE: usize = 4096;
 
 /// The office's end of a client's socket.
 ///
-/// A Unix socket that is closed with bytes unread resets the client, which may then lose sight of
-/// how its session ended. So when this is dropped, nothing more is let in, what came is read, and
-/// the client finds the replies that it is owed and then the end of the stream.
+/// If a Unix socket is closed with unread bytes, the client's connection is reset, and the client
+/// may not see how its session ended. So when a connection is dropped, the socket is shut and what
+/// came before is read. The client then reads its replies and the end of the stream.
 pub struct Connection {
     stream: UnixStream,
 }
 
 impl Connection {
-    /// The connection that was accepted.
     pub(crate) fn new(stream: UnixStream) -> Connection {
         Connection { stream }
     }
@@ -49,7 +48,7 @@ impl Drop for Connection {
     }
 }
 
-/// Reads what came before the stream was shut. It waits for nothing, since no more can come.
+/// Reads what came before the stream was shut. It never waits, since no more can come.
 fn read_rest(stream: &mut UnixStream) {
     let mut unread = [0; PIECE];
     for _ in 0..u64::MAX {

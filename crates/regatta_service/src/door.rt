@@ -17,30 +17,30 @@ use thiserror::Error;
 #[error("the door failed")]
 pub struct DoorFault;
 
-/// What gives the stream of one client after another. It is seen with the number of its calls that
-/// failed.
+/// What gives the streams of clients, one after another. It is seen with the number of its calls
+/// that have failed.
 pub trait Door: Device {
     /// What a client's lines come from, and what their replies go to.
     type Stream: Source + Sink + Send + Drop + 'static;
 
-    /// The next client's stream, for which it may wait; none once the door is closed.
+    /// Waits for the next client and returns the stream, or `None` if the door is closed.
     ///
     /// # Errors
     ///
-    /// Where the door failed, which is counted.
+    /// If the door fails. The failure is counted.
     fn next<R: Wait>(&mut self, rt: &R) -> Result<Option<Self::Stream>, DoorFault>
         ensures well { OnOk result (Self.failures self.new ≡ Self.failures self.old) }
         ensures failed { OnErr result (Self.failures self.new ≡ Self.failures self.old + 1) };
 }
 
-/// A door over a new Unix socket. It closes behind the last stream that it gives, or where it
-/// fails: who comes then is refused by the system, and doesn't wait for the sessions that run.
+/// A door over a new Unix socket. It closes after the last stream that it gives, or when it fails.
+/// The system then refuses a client at once, even if sessions are still running.
 ///
-/// It is seen as how many streams it still gives, where that has an end, and the number of its
-/// calls that failed.
+/// It is seen as the number of streams that it still gives, `None` for no limit, and the number of
+/// its calls that have failed.
 #[derive(Drop)]
 pub struct SocketDoor {
-    /// None once the door is closed.
+    /// `None` if the door is closed.
     listener: Option<UnixListener>,
     left: Option<u32>,
     failures: Failures,
@@ -58,12 +58,14 @@ impl Model for SocketDoor {
 }
 
 impl SocketDoor {
-    /// Binds a new socket at this path. The door closes after `sessions` streams; 0 is no end.
+    /// Binds a new socket at this path. The door closes after `sessions` streams, or never if
+    /// `sessions` is 0.
     ///
     /// # Errors
     ///
-    /// Where the path is empty (Linux would make a socket of it that no client can name), the
-    /// system gives no such socket, as where the path is there already, or memory is wanting.
+    /// If the path is empty: Linux would bind an abstract name of its own choice, and no file would
+    /// show clients where to connect. If the system gives no such socket, for example because the
+    /// path exists already. If an allocation fails.
     pub fn bind<R: Files + Net>(rt: &R, path: &str, sessions: u32) -> Result<SocketDoor, DoorFault>
         ensures door { IfOk result (λ door. door
             ≡ record { left = streams_asked sessions; failures = 0 }) }
@@ -82,7 +84,6 @@ impl SocketDoor {
         })
     }
 
-    /// Closes the door.
     fn close(&mut self)
         ensures { self.new ≡ record self.old { left = Some 0 } }
     {
@@ -90,7 +91,7 @@ impl SocketDoor {
         self.left = Some(0);
     }
 
-    /// Counts a stream that is given, and closes the door behind the last.
+    /// Counts a stream that is given, and closes the door after the last.
     fn count_given(&mut self)
         requires open { self.old.left ≢ Some 0 }
         ensures { self.new ≡ record self.old { left = one_fewer self.old.left } }
@@ -115,13 +116,13 @@ impl Door for SocketDoor {
         ensures well { OnOk result (self.new.failures ≡ self.old.failures) }
         ensures failed { OnErr result (self.new.failures ≡ self.old.failures + 1) }
 
-        // It closes once as many streams were given as it was bound for, and no sooner.
+        // The result is `None` exactly when no stream is left to give.
         ensures closed { (result ≡ Ok None) ↔ (self.old.left ≡ Some 0) }
         ensures shut { result ≡ Ok None → self.new ≡ self.old }
         ensures given { IfOk result (λ stream. OnSome stream
             (self.new.left ≡ one_fewer self.old.left)) }
 
-        // A door that failed gives no more.
+        // A door that has failed gives no more streams.
         ensures err { OnErr result (self.new.left ≡ Some 0) }
     {
         let Some(listener) = &self.listener else {

@@ -1,22 +1,22 @@
-//! What sessions ask before they answer.
+//! The gate that each session asks before it answers a line.
 
 use crate::sessions::End;
 
-/// Asked ahead of each line of a session, and told where its reply was written. The lines of a
-/// session count from 1, those that can't be read included; at the greatest `u64` the number stays.
+/// Asked before each line of a session is answered, and told when its reply was written. The lines
+/// of a session count from 1, unreadable ones included; the count stops at the greatest `u64`.
 pub trait Gate {
-    /// Whether the line is answered. It may keep the session waiting; where it says no, the session
-    /// ends as stopped.
+    /// Returns whether the line may be answered; if not, the session ends as `Stopped`. The call
+    /// may keep the session waiting.
     fn before(&self, seat: u8, line: u64) -> bool;
 
     /// Told when the line's reply was written.
     fn after(&self, seat: u8, line: u64);
 
-    /// Told when a session has ended, behind its last reply: one time for each that began.
+    /// Told when a session has ended, after its last reply: once for each session that began.
     fn ended(&self, seat: u8, end: End);
 }
 
-/// Holds nobody back.
+/// A gate that stops no line.
 #[derive(Clone, Copy, Debug)]
 pub struct OpenGate;
 

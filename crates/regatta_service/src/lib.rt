@@ -1,4 +1,4 @@
-//! An office that serves clients: each on a thread of its own, line by line.
+//! Serves an office to clients: each on a thread of its own, line by line.
 #![tactic(auto)]
 
 mod connection;

@@ -6,8 +6,8 @@ ghost use Rattle.regatta_service.specs.Pools.{Finds, IsLowest};
 use regatta_desk::{OfficeName, Pass};
 use std::alloc::{AllocError, Global};
 
-/// The passes, each in a slot of its own, which is empty while a session has the pass. So a pass
-/// comes back without a growth.
+/// The passes, each in a slot of its own. The slot is empty while a session has the pass, so taking
+/// the pass back allocates nothing.
 #[derive(Drop)]
 pub(crate) struct Pool<N: OfficeName> {
     slots: Vec<Option<Pass<N>>>,
@@ -20,8 +20,8 @@ pub(crate) struct Lent<N: OfficeName> {
     pub(crate) pass: Pass<N>,
 }
 
-/// The lowest of the passes in the slots up to this one, with its seat, where `found` is that of
-/// those before it.
+/// The slot of the pass with the lowest seat, with that seat, among the slots up to `slot`. `found`
+/// is the same for the slots before it.
 #[tactic(auto, using(crate::proofs::Lowest::one_more))]
 fn lowest_to<N: OfficeName>(
     slots: &[Option<Pass<N>>],
@@ -47,11 +47,11 @@ fn lowest_to<N: OfficeName>(
 }
 
 impl<N: OfficeName> Pool<N> {
-    /// A pool of these passes. Nobody has one yet.
+    /// A pool of these passes. None is lent yet.
     ///
     /// # Errors
     ///
-    /// Where memory is wanting for it.
+    /// If an allocation fails.
     #[tactic(auto, using(crate::proofs::Lowest::slot_more))]
     pub(crate) fn new(alloc: Global, passes: Vec<Pass<N>>) -> Result<Pool<N>, AllocError>
         ensures { IfOk result (λ pool. pool.slots.items ≡ map Some passes.items) }
@@ -63,7 +63,7 @@ impl<N: OfficeName> Pool<N> {
         Ok(Pool { slots })
     }
 
-    /// The slot of the pass with the lowest seat, of those that nobody has, and that seat.
+    /// The slot of the free pass with the lowest seat, and that seat.
     #[tactic(auto, using(crate::proofs::Lowest::finds_all))]
     fn lowest(&self) -> Option<(usize, u8)>
         ensures { Finds self.now.slots.items result }
@@ -100,8 +100,8 @@ impl<N: OfficeName> Pool<N> {
         }
     }
 
-    /// The passes in the order of their slots, once all are back: appended to a list that has room
-    /// for them.
+    /// Appends the passes, in the order of their slots, to a list that has room for them. `None` if
+    /// one is still lent.
     #[tactic(auto, using(crate::proofs::Lowest::pass_more))]
     pub(crate) fn into_passes(self, mut passes: Vec<Pass<N>>) -> Option<Vec<Pass<N>>>
         ensures { IfSome result (λ back. map Some back.items

@@ -19,16 +19,16 @@ use std::thread;
 use std::thread::{Scope, Threads};
 use thiserror::Error;
 
-/// Why serving ended ahead of its time.
+/// Why serving ended early.
 #[derive(Clone, Copy, Debug, PartialEq, Eq, Error)]
 pub enum ServeFault {
     /// The door failed.
     #[error("the door failed")]
     Door,
-    /// A thread wasn't given, or a seat didn't come back.
+    /// No thread was available, or a seat didn't come back.
     #[error("no thread, or a seat didn't come back")]
     Thread,
-    /// Memory was wanting.
+    /// An allocation failed.
     #[error("no memory")]
     NoMemory,
 }
@@ -36,7 +36,7 @@ pub enum ServeFault {
 /// The reply to a client who finds no seat.
 const BUSY: &[u8] = b"BUSY\n";
 
-/// Tells a client that there is no seat for her. Whether she reads it changes nothing.
+/// Tells a client that no seat is free. Whether the client reads it changes nothing.
 fn turn_away<S: Sink>(stream: &mut S)
     ensures { S.failures stream.new ≡ S.failures stream.old →
         Appends (S.contents stream.old) (S.contents stream.new) (reply_text Busy) }
@@ -77,8 +77,8 @@ where
         let started = scope.spawn(move || {
             let end = session(rt, alloc, &mut stream, office, &mut lent.pass, gate);
             gate.ended(lent.pass.seat(), end);
-            // the seat is free before the stream is closed, so that a client who sees the end of
-            // her session may come again at once
+            // The seat is free before the stream is closed, so a client who sees the end of their
+            // session may come again at once.
             pool.lock(rt).give(lent);
         });
         if started.is_err() {
@@ -88,7 +88,7 @@ where
     unreachable!()
 }
 
-/// Does nothing, but this use of a returned reference ties it to the parameter that lent it.
+/// Does nothing, but this use of a returned reference ties it to the parameter that it borrows.
 fn take_back<T>(x: &mut T)
     ensures { x.new ≡ x.old }
 {}
@@ -107,14 +107,14 @@ fn seats_of<N: OfficeName>(alloc: Global, passes: &[Pass<N>]) -> Result<Vec<u8>,
     Ok(seats)
 }
 
-/// Whether these are the passes of just these seats, in this order.
+/// Whether these are the passes of exactly these seats, in this order.
 fn are_seated<N: OfficeName>(passes: &[Pass<N>], seats: &[u8]) -> bool
     ensures { IsTrue result → map (λ p. p.seat) passes.now ≡ seats.now }
 {
     passes.iter().map(|p| p.seat()).eq(seats.iter().copied())
 }
 
-/// The passes, once all of these seats are back in the pool. The empty list has room for them.
+/// The passes, if all of these seats are back in the pool. `empty` has room for them.
 fn passes_back<N: OfficeName>(
     pool: Pool<N>,
     empty: Vec<Pass<N>>,
@@ -132,14 +132,14 @@ fn passes_back<N: OfficeName>(
     Ok(passes)
 }
 
-/// Serves the clients that come by the door, until it closes: each on a thread of its own, at the
-/// lowest seat that is free. A client who finds none is answered `BUSY`, and turned away. All
-/// sessions have ended when this does, and the passes come back in order of seat.
+/// Serves the door's clients until it closes, each on a thread of its own, at the lowest free seat.
+/// A client who finds no free seat gets `BUSY` and is turned away. When this returns, all sessions
+/// have ended. The passes come back in order of seat.
 ///
 /// # Errors
 ///
-/// `Door` where the door failed, `Thread` where a thread wasn't given or a seat didn't come back,
-/// and `NoMemory` where memory is wanting. What was committed stays, and the passes are gone.
+/// `Door` if the door fails, `Thread` if no thread is available or a seat doesn't come back, and
+/// `NoMemory` if an allocation fails. What was committed stays. The passes are gone.
 pub fn serve<N, H, R, D, G>(
     rt: &R,
     alloc: Global,
@@ -154,18 +154,18 @@ where
     R: Threads + Wait + Sync,
     D: Door,
     G: Gate + Sync,
-    // The seats that were handed in, each as often as it was, and the lowest first.
+    // The seats given come back, each as often as it was given, the lowest first.
     ensures seats { IfOk result (λ back.
         IsPermutation (map (λ p. p.seat) passes.items) (map (λ p. p.seat) back.items)) }
     ensures sorted { IfOk result (λ back. IsSorted nat_cmp (map (λ p. p.seat) back.items)) }
 
-    // A call of the door that fails ends the serving, which tells it; none failed elsewhere.
+    // A failed call of the door ends serving and is reported as `Door`; otherwise no call failed.
     ensures door { D.failures door.new ≡ D.failures door.old + door_failures_in result }
 {
     let Ok(seats) = seats_of(alloc, &passes) else {
         return Err(ServeFault::NoMemory);
     };
-    // asked for now, so that nothing is wanting once clients were served
+    // Allocated now, so that no allocation is left to fail after clients were served.
     let Ok(empty) = Vec::with_capacity(alloc, passes.len()) else {
         return Err(ServeFault::NoMemory);
     };

@@ -1,4 +1,4 @@
-//! One client's lines, answered one after another.
+//! The session of one client, whose lines are answered one after another.
 ghost use Rattle.std.specs.Prelude.{◌≡◌, ◌≢◌, ◌+◌, [], true, Ok, Some, None, IfSome, IfOk, OnOk};
 ghost use Rattle.std.specs.Prelude.{◌<◌, ◌≤◌, IsOk, OnErr, vec_capacity, vec_len};
 ghost use Rattle.std.specs.Io.KnownBytes.{IsAtEnd, Keeps};
@@ -20,30 +20,30 @@ use std::alloc::{AllocError, Global};
 use std::sync::Wait;
 use std::thread;
 
-/// The bytes that one read asks for at most.
+/// The most bytes that one read asks for.
 const PIECE: usize = 512;
 
-/// How often a session whose line asked for a sheet lets others go first.
+/// How often a session yields to others after it has answered SHOW.
 const TURNS: u32 = 16;
 
 /// How a session ended.
 #[derive(Clone, Copy, Debug, PartialEq, Eq)]
 pub enum End {
-    /// By a QUIT, which was answered.
+    /// QUIT came and was answered.
     Quit,
-    /// The client's lines are at their end.
+    /// The client's stream has ended.
     Closed,
     /// A read of the stream failed.
     ReadFault,
     /// A write to the stream failed.
     WriteFault,
-    /// The gate didn't let a line through.
+    /// The gate stopped a line.
     Stopped,
-    /// Memory was wanting for a reply.
+    /// There was no memory for a reply.
     NoMemory,
 }
 
-/// The line as one that the desk answers, if it is one.
+/// The line, if the desk answers it.
 fn for_desk(asked: &Result<Line, LineFault>) -> Option<Line>
     ensures some { IfSome result (λ line.
         (asked.now ≡ Ok line) × (is_for_desk line ≡ true)) }
@@ -58,7 +58,7 @@ fn for_desk(asked: &Result<Line, LineFault>) -> Option<Line>
     }
 }
 
-/// Lets others go first behind a line that asked for a sheet: a watcher who asks without a pause
+/// Yields to other threads after a SHOW, so that a client who asks for sheets without a pause
 /// leaves the processors to those who send commands.
 fn make_way(asked: &Result<Line, LineFault>) {
     if let Ok(Line::Show) = asked {
@@ -101,13 +101,14 @@ impl<N: OfficeName, H: Wait + Drop, G: Gate> Talk<'_, N, H, G> {
         ensures ended { self.new.ended ≡ self.old.ended }
     {
         let mut desk = self.office.desk(rt);
-        // read for what it promises: the journal is lawful
+        // Called for its contract: the journal is lawful.
         let _ = desk.board();
         desk.answer(rt, pass, self.role, line, &mut self.reply)?;
         Ok(())
     }
 
-    /// Does what a line asks for, and makes its reply. Room for it is made ahead of the lock.
+    /// Does what a line asks for, and makes its reply. It makes room for the reply before it takes
+    /// the lock.
     fn answer<R: Wait>(
         &mut self,
         rt: &R,
@@ -144,19 +145,19 @@ impl<N: OfficeName, H: Wait + Drop, G: Gate> Talk<'_, N, H, G> {
         ensures failures { S.failures stream.new
             ≡ S.failures stream.old + failures_so_far self.new.ended }
 
-        // It ends as quit exactly by a QUIT, and behind that it doesn't go on.
+        // The session ends as `Quit` only by a QUIT, and never goes on after one.
         ensures goes_on { self.new.ended ≡ None → next_after (line_of self.old.cutter) ≡ Next.Go }
         ensures quit { self.new.ended ≡ Some End.Quit →
             next_after (line_of self.old.cutter) ≡ Next.End }
 
-        // The line is answered in the session's role, and just its reply is written; the next line
-        // begins anew.
+        // The line is answered in the session's role, and exactly its reply is written. The next
+        // line starts empty.
         ensures replied { is_replied self.new.ended ≡ true →
             Replied N.rules (line_of self.old.cutter) self.old.role self.new.role pass.old pass.new
             (S.contents stream.old) (S.contents stream.new) }
         ensures cut { is_replied self.new.ended ≡ true → self.new.cutter ≡ [] }
 
-        // A line that isn't let through, or whose reply has no room and gets none, does nothing.
+        // A line has no effect if the gate stops it, or if there is no memory for its reply.
         ensures stopped { self.new.ended ≡ Some End.Stopped → (stream.new ≡ stream.old)
             × (pass.new ≡ pass.old) × (self.new.role ≡ self.old.role)
             × (self.new.cutter ≡ self.old.cutter) }
@@ -164,7 +165,7 @@ impl<N: OfficeName, H: Wait + Drop, G: Gate> Talk<'_, N, H, G> {
             × (pass.new ≡ pass.old) × (self.new.role ≡ self.old.role)
             × (vec_capacity self.old.reply < REPLY_ROOM) }
 
-        // A line whose reply met a write that failed was answered all the same.
+        // If the write of the reply fails, the line still took effect.
         ensures cut_off { self.new.ended ≡ Some End.WriteFault →
             CutOff N.rules (line_of self.old.cutter) self.old.role self.new.role pass.old pass.new
             (S.contents stream.old) (S.contents stream.new) }
@@ -235,9 +236,9 @@ impl<N: OfficeName, H: Wait + Drop, G: Gate> Talk<'_, N, H, G> {
     }
 }
 
-/// Serves one client: each line that ends in LF is answered, up to QUIT. A line that is too long is
-/// answered once, as such. The first line is sent as the scorer. What was committed stays, however
-/// the session ends.
+/// Serves one client: answers each line that ends in LF, up to QUIT. A line that is too long gets
+/// one reply, which says so. The session starts in the scorer's role. What was committed stays,
+/// however the session ends.
 pub fn session<N: OfficeName, H: Wait + Drop, R: Wait, S: Source + Sink, G: Gate>(
     rt: &R,
     alloc: Global,
@@ -246,7 +247,8 @@ pub fn session<N: OfficeName, H: Wait + Drop, R: Wait, S: Source + Sink, G: Gate
     pass: &mut Pass<N>,
     gate: &G,
 ) -> End
-    // A call of the stream that fails ends the session, which tells it; none failed elsewhere.
+    // A failed call of the stream ends the session and is reported as what it is. Otherwise no call
+    // failed.
     ensures failures { S.failures stream.new ≡ S.failures stream.old + failures_in result }
     ensures closed { result ≡ End.Closed → IsAtEnd (S.remaining stream.new) }
 

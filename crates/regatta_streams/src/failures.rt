@@ -4,7 +4,7 @@ ghost use Rattle.std.specs.Borrow.{ftrue};
 
 use std::marker::Model;
 
-/// How many calls of a device have failed. It takes no bytes: only contracts read the number, so it
+/// The number of a device's calls that have failed. Only contracts read it: it takes no bytes and
 /// can't overflow.
 #[derive(Drop)]
 pub struct Failures {
@@ -19,14 +19,14 @@ impl Model for Failures {
 unsafe impl Send for Failures {}
 
 impl Failures {
-    /// No call has failed yet.
+    /// The count of a device without a failed call.
     pub fn none() -> Failures
         ensures { result.count ≡ 0 }
     {
         Failures {}
     }
 
-    /// The number with one more call that failed.
+    /// The count after one more failed call.
     pub fn one_more(&self) -> Failures
         ensures { result.count ≡ self.now.count + 1 }
     {

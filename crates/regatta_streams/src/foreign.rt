@@ -6,18 +6,19 @@ use crate::failures::Failures;
 use crate::stream::{Device, Sink, Source, StreamFault};
 use std::io::{Read, Write};
 
-/// A reader or writer of std, such as standard input or a socket, whose bytes it hands on as they
-/// are. It tells nothing of them by itself: no contract knows what a file or a socket holds.
+/// A reader or writer of std as a stream, for example standard input or a socket. Its bytes pass
+/// through unchanged. They are unknown (`None`): no contract knows what a file or a socket holds.
 #[derive(Drop)]
 pub struct Foreign<X> {
     inner: X,
     failures: Failures,
+    failed_reads: Failures,
 }
 
 impl<X> Foreign<X> {
     ghost use Rattle.regatta_streams.specs.Foreigns.{failed_calls};
 
-    /// The stream over `inner`, of which no call has failed yet.
+    /// A stream over `inner`. None of its calls has failed yet.
     pub fn new(inner: X) -> Foreign<X>
         ensures over { result.inner ≡ inner }
         ensures well { failed_calls result ≡ 0 }
@@ -25,18 +26,21 @@ impl<X> Foreign<X> {
         Foreign {
             inner,
             failures: Failures::none(),
+            failed_reads: Failures::none(),
         }
     }
 }
 
 impl<X> Device for Foreign<X> {
-    ghost use Rattle.regatta_streams.specs.Foreigns.{failed_calls};
+    ghost use Rattle.regatta_streams.specs.Foreigns.{failed_calls, failed_reads};
 
     ghost failures = { failed_calls };
+
+    ghost failed_reads = { failed_reads };
 }
 
 impl<X: Read> Source for Foreign<X> {
-    ghost use Rattle.regatta_streams.specs.Foreigns.{failed_calls, inner_bytes};
+    ghost use Rattle.regatta_streams.specs.Foreigns.{failed_calls, failed_reads, inner_bytes};
 
     fn read(&mut self, buf: &mut [u8]) -> Result<usize, StreamFault>
         ensures bound { IfOk result (λ n. n ≤ length buf.new) }
@@ -44,8 +48,10 @@ impl<X: Read> Source for Foreign<X> {
         ensures keeps { Keeps None None }
         ensures well { OnOk result (failed_calls self.new ≡ failed_calls self.old) }
         ensures failed { OnErr result (failed_calls self.new ≡ failed_calls self.old + 1) }
+        ensures reads_well { OnOk result (failed_reads self.new ≡ failed_reads self.old) }
+        ensures read_failed { OnErr result (failed_reads self.new ≡ failed_reads self.old + 1) }
 
-        // What the reader gives is handed on as it is, and its end and its faults as what they are.
+        // The reader's bytes, its end and its faults pass through as they are.
         ensures handed_on { ReadConsumes (inner_bytes X.remaining self.old)
             (inner_bytes X.remaining self.new) result buf.new }
     {
@@ -53,6 +59,7 @@ impl<X: Read> Source for Foreign<X> {
             Ok(n) => Ok(n),
             Err(_) => {
                 self.failures = self.failures.one_more();
+                self.failed_reads = self.failed_reads.one_more();
                 Err(StreamFault)
             }
         }
@@ -60,7 +67,7 @@ impl<X: Read> Source for Foreign<X> {
 }
 
 impl<X: Write> Sink for Foreign<X> {
-    ghost use Rattle.regatta_streams.specs.Foreigns.{failed_calls, inner_bytes};
+    ghost use Rattle.regatta_streams.specs.Foreigns.{failed_calls, failed_reads, inner_bytes};
 
     fn write(&mut self, buf: &[u8]) -> Result<usize, StreamFault>
         ensures bound { IfOk result (λ n. n ≤ length buf.now) }
@@ -69,8 +76,9 @@ impl<X: Write> Sink for Foreign<X> {
         ensures keeps { Keeps None None }
         ensures well { OnOk result (failed_calls self.new ≡ failed_calls self.old) }
         ensures failed { OnErr result (failed_calls self.new ≡ failed_calls self.old + 1) }
+        ensures no_read { failed_reads self.new ≡ failed_reads self.old }
 
-        // The writer is handed these bytes, and as many count as taken as it took.
+        // The writer gets these bytes, and the result is the number that it took.
         ensures handed_on { WriteAppends (inner_bytes X.contents self.old)
             (inner_bytes X.contents self.new) result buf.now }
     {

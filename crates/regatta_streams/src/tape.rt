@@ -8,8 +8,9 @@ use crate::stream::{Device, Sink, Source, StreamFault};
 use std::alloc::{AllocError, Global};
 use std::marker::Model;
 
-/// A stream over memory: it gives an input in pieces, keeps what it takes, and fails where it is
-/// told to. So a test sees what a run reads and writes, and what it does when a device fails.
+/// A stream over memory. It gives an input in pieces, keeps what is written, and fails after chosen
+/// numbers of bytes. So a test sees what a run reads and writes, and what it does when a device
+/// fails.
 #[derive(Drop)]
 pub struct Tape {
     input: Vec<u8>,
@@ -19,6 +20,7 @@ pub struct Tape {
     output: Vec<u8>,
     takes: usize,
     failures: Failures,
+    failed_reads: Failures,
 }
 
 impl Model for Tape {
@@ -34,6 +36,7 @@ impl Model for Tape {
       gives = t.gives;
       takes = t.takes;
       failures = t.failures.count;
+      failed_reads = t.failed_reads.count;
     } };
 
     ghost invariant = { λ t. (t.at ≤ vec_len t.input) × (0 < t.piece)
@@ -43,13 +46,13 @@ impl Model for Tape {
 impl Tape {
     ghost use Rattle.regatta_streams.specs.Tapes.{piece_len};
 
-    /// A tape that gives `input` in pieces of `piece` bytes. A read fails once `give` bytes were
-    /// given, also where the input ends just there, and a write of some bytes fails once `take`
-    /// bytes were taken. Room for these is made here: the tape takes no memory afterwards.
+    /// A tape that gives `input` in pieces of at most `piece` bytes. A read fails once `give` bytes
+    /// were given, even if the input ends just there. A write of some bytes fails once `take` bytes
+    /// were taken. Room for these is allocated here; no later call allocates.
     ///
     /// # Errors
     ///
-    /// Where the memory for the input and for that room is wanting.
+    /// If an allocation fails.
     pub fn new(
         alloc: Global,
         input: &[u8],
@@ -65,6 +68,7 @@ impl Tape {
           gives = give;
           takes = take;
           failures = 0;
+          failed_reads = 0;
         }) }
     {
         Ok(Tape {
@@ -75,10 +79,10 @@ impl Tape {
             output: Vec::with_capacity(alloc, take)?,
             takes: take,
             failures: Failures::none(),
+            failed_reads: Failures::none(),
         })
     }
 
-    /// How many bytes the next read gives where there is this room.
     fn next_len(&self, room: usize) -> usize
         ensures { result ≡ piece_len self.now room }
     {
@@ -86,7 +90,7 @@ impl Tape {
         self.piece.min(self.gives.min(left.min(room)))
     }
 
-    /// What was written so far.
+    /// The bytes written so far.
     pub fn written(&self) -> &[u8]
         ensures { result.now ≡ self.now.written }
     {
@@ -97,13 +101,15 @@ impl Tape {
 impl Device for Tape {
     ghost failures = { λ tape. tape.failures };
 
+    ghost failed_reads = { λ tape. tape.failed_reads };
+
     ghost remaining = { λ tape. Some tape.rest };
 
     ghost contents = { λ tape. Some tape.written };
 }
 
 impl Source for Tape {
-    ghost use Rattle.regatta_streams.specs.Tapes.{piece_len, after_read, after_fault};
+    ghost use Rattle.regatta_streams.specs.Tapes.{piece_len, after_read, after_failed_read};
 
     fn read(&mut self, buf: &mut [u8]) -> Result<usize, StreamFault>
         ensures bound { IfOk result (λ n. n ≤ length buf.new) }
@@ -111,16 +117,19 @@ impl Source for Tape {
         ensures keeps { Keeps (Some self.old.written) (Some self.new.written) }
         ensures well { OnOk result (self.new.failures ≡ self.old.failures) }
         ensures failed { OnErr result (self.new.failures ≡ self.old.failures + 1) }
+        ensures reads_well { OnOk result (self.new.failed_reads ≡ self.old.failed_reads) }
+        ensures read_failed { OnErr result (self.new.failed_reads ≡ self.old.failed_reads + 1) }
 
-        // It fails exactly where nothing is left to give, and else gives all that it may.
+        // It fails exactly when it has given all that it may. Otherwise it gives as much as it can.
         ensures fails { IsErr result ↔ (self.old.gives ≡ 0) }
         ensures given { IfOk result (λ n. n ≡ piece_len self.old (length buf.old)) }
         ensures buffer { IfOk result (λ n. take n buf.new ≡ take n self.old.rest) }
         ensures ok { IfOk result (λ n. self.new ≡ after_read self.old n) }
-        ensures err { OnErr result (self.new ≡ after_fault self.old) }
+        ensures err { OnErr result (self.new ≡ after_failed_read self.old) }
     {
         if self.gives == 0 {
             self.failures = self.failures.one_more();
+            self.failed_reads = self.failed_reads.one_more();
             return Err(StreamFault);
         }
         let n = self.next_len(buf.len());
@@ -132,7 +141,7 @@ impl Source for Tape {
 }
 
 impl Sink for Tape {
-    ghost use Rattle.regatta_streams.specs.Tapes.{taken_len, after_write, after_fault};
+    ghost use Rattle.regatta_streams.specs.Tapes.{taken_len, after_write, after_failed_write};
 
     fn write(&mut self, buf: &[u8]) -> Result<usize, StreamFault>
         ensures bound { IfOk result (λ n. n ≤ length buf.now) }
@@ -142,12 +151,13 @@ impl Sink for Tape {
         ensures keeps { Keeps (Some self.old.rest) (Some self.new.rest) }
         ensures well { OnOk result (self.new.failures ≡ self.old.failures) }
         ensures failed { OnErr result (self.new.failures ≡ self.old.failures + 1) }
+        ensures no_read { self.new.failed_reads ≡ self.old.failed_reads }
 
-        // It fails exactly where there are bytes and no room, and else takes all that it may.
+        // It fails exactly when there are bytes and no room. Otherwise it takes as many as fit.
         ensures fails { IsErr result ↔ ((self.old.takes ≡ 0) × (0 < length buf.now)) }
         ensures taken { IfOk result (λ n. n ≡ taken_len self.old buf.now) }
         ensures ok { IfOk result (λ n. self.new ≡ after_write self.old (take n buf.now)) }
-        ensures err { OnErr result (self.new ≡ after_fault self.old) }
+        ensures err { OnErr result (self.new ≡ after_failed_write self.old) }
     {
         let n = buf.len().min(self.takes);
         if n == 0 && !buf.is_empty() {

@@ -16,20 +16,20 @@ pub enum ReadFault {
     /// The stream gave a byte past the limit.
     #[error("the text is too long")]
     TooLong,
-    /// The memory for the text was wanting.
+    /// An allocation for the text failed.
     #[error("no memory")]
     NoMemory,
 }
 
-/// The bytes that one read asks for at most.
+/// The most bytes that one read asks for.
 const PIECE: usize = 4096;
 
-/// Reads all that the stream gives, `limit` bytes at most.
+/// Reads the whole stream, `limit` bytes at most.
 ///
 /// # Errors
 ///
-/// `Stream` where a read fails, `TooLong` once a byte past the limit came (no further byte is
-/// taken), `NoMemory` where the memory for the text is wanting.
+/// `Stream` if a read fails, `NoMemory` if an allocation fails. `TooLong` if a byte past the limit
+/// comes: no further byte is read.
 pub fn read_text<R: Source>(alloc: Global, input: &mut R, limit: u32) -> Result<Vec<u8>, ReadFault>
     ensures text { IfOk result (λ text.
         IfSome (R.remaining input.old) (λ given. text.items ≡ given)) }
@@ -42,7 +42,7 @@ pub fn read_text<R: Source>(alloc: Global, input: &mut R, limit: u32) -> Result<
     // What was written stays.
     ensures keeps { Keeps (R.contents input.old) (R.contents input.new) }
 
-    // A failed read is told by its own fault, and by no other.
+    // A failed read is reported as `Stream` and as nothing else.
     ensures failed { IsErrOf result ReadFault.Stream →
         R.failures input.new ≡ R.failures input.old + 1 }
     ensures well { OnOk result (R.failures input.new ≡ R.failures input.old) }
@@ -73,7 +73,7 @@ pub fn read_text<R: Source>(alloc: Global, input: &mut R, limit: u32) -> Result<
 ///
 /// # Errors
 ///
-/// Where a write fails: the first bytes are written then, as many as the stream took.
+/// If a write fails. Some first part of the bytes is written then, perhaps none, never all.
 pub fn write_all<W: Sink>(output: &mut W, bytes: &[u8]) -> Result<(), StreamFault>
     ensures ok { OnOk result
         (Appends (W.contents output.old) (W.contents output.new) bytes.now) }
@@ -81,6 +81,7 @@ pub fn write_all<W: Sink>(output: &mut W, bytes: &[u8]) -> Result<(), StreamFaul
         (AppendsPrefix (W.contents output.old) (W.contents output.new) bytes.now) }
     ensures well { OnOk result (W.failures output.new ≡ W.failures output.old) }
     ensures failed { OnErr result (W.failures output.new ≡ W.failures output.old + 1) }
+    ensures no_read { W.failed_reads output.new ≡ W.failed_reads output.old }
 
     // What is still to be read stays.
     ensures keeps { Keeps (W.remaining output.old) (W.remaining output.new) }

@@ -116,7 +116,7 @@ rest_of_record cfg s fields field (c ∷ rest) p h =
         (omega arith, (step_closes cfg s c).closed e)
     by false e more h = (omega (arith, (more h).0), (more h).1)
 
--- a record that begins at a byte takes that byte at least
+-- a record that begins at a byte takes at least that byte
 shorter : (cfg : Config) (s : State) (xs : List ℕ) (p : Read) → ends_at_end s ≡ false
     → next_record cfg s [] [] xs ≡ Some p → (length p.2 < length xs) × (ends_at_end p.1 ≡ false)
 unfolding next_record
@@ -152,7 +152,7 @@ counted cfg s s2 xs ys (r ∷ rows) closed h =
     let next = shorter cfg s xs h.0 closed h.1 in
     omega (arith, next.0, counted cfg h.0.1 s2 h.0.2 ys rows next.1 h.3)
 
--- the records in turn are the first n, where they are fewer
+-- the records in turn are the first n, if there are fewer
 in_turn : (n : ℕ) (cfg : Config) (s s2 : State) (xs ys : List ℕ) (rows : List (List (List ℕ)))
     → length rows < n → Reached cfg s xs rows s2 ys → next_record cfg s2 [] [] ys ≡ None
     → rows ≡ records_from cfg n s xs

@@ -6,16 +6,17 @@ use Rattle.std.proofs.Math.Seq.{take-append_seam}
 use Rattle.std.proofs.lemmas.List.{map_more, flat_map_more, take_more, take-take}
 use Rattle.std.proofs.lemmas.List.Folds.{length-flat_map-take}
 use Rattle.regatta_terms.specs.Words.{spaced}
+use Rattle.regatta_terms.proofs.TextFacts.{no_room_for_words}
 use Rattle.regatta_tables.specs.Lines.{line}
 use denote.Ref.{Bor}
 
--- joined words are the first, and each other behind a space
+-- joined words are the first, and each other one after a space
 pub joined : (first : List ℕ) (words : List (List ℕ))
     → join_with_byte 32 (first ∷ words) ≡ first ++ spaced words
 joined first [] = sym (append-nil first)
 joined first (w ∷ ws) = ap (λ (t : List ℕ). first ++ 32 ∷ t) (joined w ws)
 
--- where the next piece has no room, there was none for all of them
+-- if the next piece has no room, there was none for all of them
 pub no_room : (pieces : List (Bor (List ℕ))) (i : ℕ) (d : Bor (List ℕ)) (before text : List ℕ)
     (room cap old len : ℕ) → i < length pieces
     → text ≡ before ++ flat_map (λ piece. piece.now) (take i pieces) → old ≡ length before
@@ -28,6 +29,53 @@ no_room pieces i d before text room cap old len below so_far start end grown ful
       ap length so_far,
       length-append before (flat_map (λ piece. piece.now) (take i pieces)),
     )
+
+-- if the text of the next thing has no room, there was none for the texts of all of them
+pub no_room_for_texts : {X : Type 0} (f : X → List ℕ) (xs : List X) (i : ℕ) (x : X)
+    (before text : List ℕ) (room cap old len : ℕ) → i < length xs → x ≡ get_or xs i x
+    → text ≡ before ++ flat_map f (take i xs) → old ≡ length before → len ≡ length text
+    → room ≤ cap → cap < len + length (f x) → room < old + length (flat_map f xs)
+no_room_for_texts f xs i x before text room cap old len below item so_far start end grown full =
+    omega (
+      arith,
+      length-flat_map-take f xs i x below,
+      ap (λ y. length (f y)) item,
+      ap length so_far,
+      length-append before (flat_map f (take i xs)),
+    )
+
+-- if the next word has no room, there was none for all of them
+pub no_room_for_cells : {X : Type 0} (f : X → List ℕ) (xs : List X) (i : ℕ) (x : X)
+    (before text : List ℕ) (room cap old len : ℕ) → i < length xs → x ≡ get_or xs i x
+    → text ≡ before ++ spaced (map f (take i xs)) → old ≡ length before → len ≡ length text
+    → room ≤ cap → cap < len + length (32 ∷ f x) → room < old + length (spaced (map f xs))
+no_room_for_cells f xs i x before text room cap old len below item so_far start end grown full =
+    no_room_for_words f xs i x before text room cap old len below so_far start end grown
+    (omega (arith, ap (λ y. length (f y)) item))
+
+-- the length of a line whose first three words are pieces
+pub length_line : (a b c : List ℕ) (words : List (List ℕ))
+    → length (line (a ∷ b ∷ c ∷ words))
+    ≡ length a + length b + length c + length (spaced words) + 3
+length_line a b c words = omega (
+  arith,
+  ap length (joined c words),
+  length-append a (32 ∷ (b ++ 32 ∷ join_with_byte 32 (c ∷ words))),
+  length-append b (32 ∷ join_with_byte 32 (c ∷ words)),
+  length-append c (spaced words),
+  length-append (join_with_byte 32 (a ∷ b ∷ c ∷ words)) (10 ∷ []),
+)
+
+-- the length of those pieces
+pub length_pieces : (a b c : List ℕ)
+    → length (a ++ (codes " " ++ (b ++ (codes " " ++ (c ++ [])))))
+    ≡ length a + length b + length c + 2
+length_pieces a b c = omega (
+  arith,
+  length-append a (codes " " ++ (b ++ (codes " " ++ (c ++ [])))),
+  length-append b (codes " " ++ (c ++ [])),
+  length-append c [],
+)
 
 -- what has no room doesn't fit
 pub never_both : {X : Type 0} (room need : ℕ) → room < need → need ≤ room → X
@@ -46,7 +94,7 @@ pushed_piece pieces i d before text new below so_far pushed =
     ∙ ap (λ (ps : List (Bor (List ℕ))). before ++ flat_map (λ piece. piece.now) ps)
     (sym (take_more pieces i d below))
 
--- where all pieces have room the next one has, so that it takes no memory
+-- if all pieces have room the next one has, so that the capacity stays
 pub stays_more : (pieces : List (Bor (List ℕ))) (i : ℕ) (d : Bor (List ℕ)) (before text : List ℕ)
     (first cap new old len : ℕ) → i < length pieces
     → text ≡ before ++ flat_map (λ piece. piece.now) (take i pieces) → old ≡ length before
@@ -82,7 +130,7 @@ text_more f xs i x start text new below item so_far pushed =
     ∙ ap (λ y. start ++ flat_map f (take i xs ++ y ∷ [])) item
     ∙ ap (λ ys. start ++ flat_map f ys) (sym (take_more xs i x below))
 
--- the next word behind a space makes the text of one word more
+-- a space and the next word make the text of one word more
 pub spaced_more : {X : Type 0} (f : X → List ℕ) (xs : List X) (i : ℕ) (x : X)
     (start text new : List ℕ) → i < length xs → x ≡ get_or xs i x
     → text ≡ start ++ spaced (map f (take i xs)) → new ≡ text ++ 32 ∷ f x
@@ -93,7 +141,7 @@ spaced_more f xs i x start text new below item so_far word =
     ∙ ap (λ (w : List ℕ). start ++ spaced (map f (take i xs) ++ w ∷ [])) (ap f item)
     ∙ ap (λ (ws : List (List ℕ)). start ++ spaced ws) (sym (map_more f xs i x below))
 
--- a first text, words behind spaces, and a line feed
+-- a first text, words that are each preceded by a space, and a line feed
 ended : (old first start text new : List ℕ) (words : List (List ℕ)) → start ≡ old ++ first
     → text ≡ start ++ spaced words → new ≡ text ++ 10 ∷ []
     → new ≡ ((old ++ first) ++ spaced words) ++ 10 ∷ []
@@ -107,3 +155,34 @@ pub line_of_pieces : (old a b c start text new : List ℕ) (words : List (List �
 line_of_pieces old a b c start text new words begins goes ends =
     rw (joined c words) (ended old _ start text new words begins goes ends
     ∙ simp (append_assoc, append-nil))
+
+-- if the words after those pieces have no room, there was none for the line
+pub no_room_for_rest : (old a b c start : List ℕ) (words : List (List ℕ))
+    (room cap first len : ℕ)
+    → start ≡ old ++ (a ++ (codes " " ++ (b ++ (codes " " ++ (c ++ [])))))
+    → first ≡ length old → len ≡ length start → room ≤ cap → cap < len + length (spaced words)
+    → room < first + length (line (a ∷ b ∷ c ∷ words))
+no_room_for_rest old a b c start words room cap first len begins before so_far grown full = omega (
+  arith,
+  ap length begins,
+  length-append old (a ++ (codes " " ++ (b ++ (codes " " ++ (c ++ []))))),
+  length_pieces a b c,
+  length_line a b c words,
+)
+
+-- if the line feed has no room, there was none for the line
+pub no_room_for_end : (old a b c start text : List ℕ) (words : List (List ℕ))
+    (room cap first len : ℕ)
+    → start ≡ old ++ (a ++ (codes " " ++ (b ++ (codes " " ++ (c ++ [])))))
+    → text ≡ start ++ spaced words → first ≡ length old → len ≡ length text → room ≤ cap
+    → cap ≤ len → room < first + length (line (a ∷ b ∷ c ∷ words))
+no_room_for_end old a b c start text words room cap first len begins goes before so_far grown full =
+    omega (
+      arith,
+      ap length begins,
+      ap length goes,
+      length-append start (spaced words),
+      length-append old (a ++ (codes " " ++ (b ++ (codes " " ++ (c ++ []))))),
+      length_pieces a b c,
+      length_line a b c words,
+    )

@@ -53,7 +53,7 @@ blank_fields fields = list_all-map (list_all is_space) (λ field. field.now) fie
 
 -- ---- faults in turn
 
--- the record of a row, and those behind it
+-- the record of a row, and those after it
 rows_from : (rows : List Row) (i : ℕ) (row : Row) → i < length rows → row ≡ get_or rows i row
     → drop i (map fields_of rows) ≡ fields_of row ∷ drop (i + 1) (map fields_of rows)
 rows_from rows i row below here =
@@ -71,7 +71,7 @@ rows_to rows i row below here =
     ∙ ap (λ (fields : Record). take i (map fields_of rows) ++ fields ∷ [])
     (get_or-map fields_of rows i row (fields_of row) below ∙ sym (ap fields_of here))
 
--- the sails of records, and of those behind them
+-- the sails of records, and of those after them
 pub sails-append : (column : ℕ) (before after : List Record)
     → sails_in column (before ++ after) ≡ sails_in column before ++ sails_in column after
 sails-append column before after =
@@ -100,7 +100,7 @@ fault_here column rows i number row sails below counts so_far =
     (arith, length-take i (map fields_of rows), length-map rows fields_of) in
     λ j. fault_in column (same j) (so_far j) (fields_of row)
 
--- the first fault is that of the row in turn, or of those behind it
+-- the first fault is that of the current row, or of those after it
 in_turn : (column : ℕ) (rows : List Row) (i : ℕ) (row : Row) → i < length rows
     → row ≡ get_or rows i row → first_fault column (take i (map fields_of rows))
     (drop i (map fields_of rows)) ≡ option_or (fault_of column (take i (map fields_of rows))
@@ -142,7 +142,7 @@ faulty_row column rows i number row sails fault below here counts so_far all fau
     (drop (i + 1) (map fields_of rows)))) (sym
     (fault_here column rows i number row sails below counts so_far) ∙ faulty))
 
--- the same, where memory may have been wanting
+-- the same, if an allocation may have failed
 pub told_fault : (column : ℕ) (rows : List Row) (i number : ℕ) (row : Row) (sails : List Sail)
     (fault : EntriesFault) → i < length rows → row ≡ get_or rows i row → number ≡ i + 2
     → sails ≡ sails_in column (take i (map fields_of rows))

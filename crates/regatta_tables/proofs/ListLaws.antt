@@ -1,5 +1,5 @@
--- What holds of every entry list that is read: no sail stands twice, and there are no more than may
--- be.
+-- What holds of every entry list that is read: no sail is in it twice, and there are at most as
+-- many as may be entered.
 use Rattle.std.proofs.Common.{◌≡◌, ℕ, ◌+◌, ◌≤◌, Bool, true, false, not, cond, ◌||◌, List, [], ◌∷◌}
 use Rattle.std.proofs.Common.{◌++◌, length, filter_map, Option, Some, None, refl, sym, subst, arith}
 use Rattle.std.proofs.Common.{append_assoc, length-append}

@@ -17,8 +17,8 @@ header_fields races = codes "rank" ∷ codes "sail" ∷ codes "net" ∷ map race
 abbrev pub csv_records : Standing → List (List (List ℕ))
 csv_records standing = header_fields standing.races ∷ map row_words standing.rows
 
--- the settings of `csv`: the default ones, but that records may have any lengths: commas, a line
--- feed behind each, quotes where needed
+-- the settings of `csv`: the default ones (commas, a line feed after each record, quotes if
+-- needed), except that records may have any length
 abbrev pub any_lengths : WriterBuilder
 any_lengths = record default_writer { flexible = true }
 

@@ -23,7 +23,7 @@ Field = List ℕ
 abbrev pub Record : Type 0
 Record = List Field
 
--- spaces don't matter, wherever they stand in a field
+-- a field without its spaces, wherever they are
 abbrev pub without_spaces : Field → List ℕ
 without_spaces field = filter (λ b. not (is_space b)) field
 
@@ -33,7 +33,7 @@ is_sail_heading field =
     says (without_spaces field) (codes "SAIL") || says (without_spaces field) (codes "SAILNO")
     || says (without_spaces field) (codes "SAILNUMBER")
 
--- whether a record is passed over: all of its fields are empty, but for spaces
+-- whether a record is blank and so skipped: each of its fields is empty or spaces
 abbrev pub is_blank : Record → Bool
 is_blank fields = list_all (list_all is_space) fields
 
@@ -48,7 +48,7 @@ sails_in column records =
     filter_map (sail_in column) (filter (λ fields. not (is_blank fields)) records)
 
 -- what is wrong with the sail in that row, given the sails of the rows before it: it can't be read,
--- it stands among them, or there are as many of them as may be; the first of these counts
+-- it is among them, or there are as many of them as may be; the first of these counts
 abbrev pub fault_of_sail : ℕ → List Sail → Option Sail → Option EntriesFault
 fault_of_sail row sails None = Some (BadSail row)
 fault_of_sail row sails (Some sail) =
@@ -56,12 +56,12 @@ fault_of_sail row sails (Some sail) =
     else if nat_le MAX_BOATS (length sails) then Some (TooMany row)
     else None
 
--- what is wrong with what stands in the column of sails
+-- what is wrong with the field in the column of sails
 abbrev pub fault_of_field : ℕ → List Sail → Option Field → Option EntriesFault
 fault_of_field row sails None = Some (BadRow row)
 fault_of_field row sails (Some field) = fault_of_sail row sails (sail_of (without_spaces field))
 
--- what is wrong with a record in that row: the first that applies, and nothing where it is blank
+-- what is wrong with a record in that row: the first that applies, and nothing if it is blank
 abbrev pub fault_in : ℕ → ℕ → List Sail → Record → Option EntriesFault
 fault_in column row sails fields =
     if is_blank fields then None else fault_of_field row sails (slice_get fields column)
@@ -71,7 +71,7 @@ abbrev pub fault_of : ℕ → List Record → Record → Option EntriesFault
 fault_of column before fields =
     fault_in column (length before + 2) (sails_in column before) fields
 
--- the first fault of the records behind those before them
+-- the first fault of records, given the records between the header and them
 abbrev pub first_fault : ℕ → List Record → List Record → Option EntriesFault
 first_fault column before [] = None
 first_fault column before (fields ∷ records) =
@@ -82,7 +82,7 @@ abbrev pub unless_faulty : Option EntriesFault → List Sail → Result (List Sa
 unless_faulty None sails = Ok sails
 unless_faulty (Some fault) sails = Err fault
 
--- what the records behind the header read as, given the column of sails
+-- what the records after the header read as, given the column of sails
 abbrev pub entries_under : Option ℕ → List Record → Result (List Sail) EntriesFault
 entries_under None records = Err NoColumn
 entries_under (Some column) records =
@@ -93,12 +93,12 @@ abbrev pub entries_of : List Record → Result (List Sail) EntriesFault
 entries_of [] = Err NoColumn
 entries_of (header ∷ records) = entries_under (position is_sail_heading header) records
 
--- what an entry list reads as: its records are those that `csv` reads by default in the text
--- behind a byte order mark, if it begins with one
+-- what an entry list reads as: its records are those that `csv` reads by default in the text, after
+-- a byte order mark if it begins with one
 abbrev pub entries_of_text : List ℕ → Result (List Sail) EntriesFault
 entries_of_text text = entries_of (records default_config (strip_bom text))
 
--- the number by which a fault is told
+-- the number that the program prints for a fault
 abbrev pub number_of_entries_fault : EntriesFault → ℕ
 number_of_entries_fault NoColumn = 1
 number_of_entries_fault (BadRow row) = 2
@@ -107,7 +107,7 @@ number_of_entries_fault (Twice row) = 4
 number_of_entries_fault (TooMany row) = 5
 number_of_entries_fault NoMemory = 6
 
--- the row of a fault: without a column of sails the header's
+-- the row of a fault: the header's if there is no column of sails
 abbrev pub row_of_entries_fault : EntriesFault → Option ℕ
 row_of_entries_fault NoColumn = Some 1
 row_of_entries_fault (BadRow row) = Some row

@@ -15,7 +15,7 @@ use Rattle.regatta_tables.specs.TableTexts.{rank_text}
 abbrev pub touched_words : Touched → List (List ℕ)
 touched_words touched = rank_text touched.rank touched.tied ∷ points_text touched.net ∷ []
 
--- the boat that a command names, where it names one
+-- the boat that a command names, if it names one
 abbrev pub named_words : Option Touched → List (List ℕ)
 named_words None = []
 named_words (Some touched) = touched_words touched

@@ -18,12 +18,12 @@ tie_sign false = []
 abbrev pub rank_text : ℕ → Bool → List ℕ
 rank_text rank tied = decimal rank ++ tie_sign tied
 
--- an abbreviation behind a slash
+-- an abbreviation after a slash
 abbrev pub mark_text : Option Abbrev → List ℕ
 mark_text None = []
 mark_text (Some mark) = codes "/" ++ abbrev_text mark
 
--- an excluded score (A2.1) stands in parentheses
+-- an excluded score (A2.1) is in parentheses
 abbrev pub shown : Bool → List ℕ → List ℕ
 shown true score = codes "(" ++ score ++ codes ")"
 shown false score = score

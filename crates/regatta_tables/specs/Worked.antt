@@ -18,7 +18,7 @@ use Rattle.regatta_tables.specs.ReplyTexts.{reply_text}
 use Rattle.regatta_tables.specs.TableTexts.{table_text}
 use Rattle.regatta_tables.specs.declared.replies.TheConstants.{REPLY_ROOM}
 
--- texts, each with a line feed behind it
+-- texts, each followed by a line feed
 abbrev pub lines : List (List ℕ) → List ℕ
 lines texts = flat_map (λ text. text ++ 10 ∷ []) texts
 

@@ -50,8 +50,7 @@ no_column = refl
 
 -- ---- rows
 
--- a line without a byte is no record; records of spaces, quotes and commas are passed over, and
--- count
+-- a line without a byte is no record; records of spaces, quotes and commas are skipped, and count
 pub blank_records : entries_of_text (codes "Boat,Sail\n\n  \n\"\"\n , \nX,A\nY,a") ≡ Err (Twice 6)
 unfolding next_record records_from strip_bom
 blank_records = refl

@@ -41,25 +41,25 @@ pub enum EntriesFault {
         /// The row of the field.
         row: usize,
     },
-    /// The sail stood in an earlier row.
+    /// The sail is in an earlier row, too.
     #[error("entries fault 4: sail in row {row} for the second time")]
     Twice {
-        /// The row where it stands again.
+        /// The row of the second one.
         row: usize,
     },
-    /// [`MAX_BOATS`](regatta_terms::MAX_BOATS) sails stood in earlier rows.
+    /// [`MAX_BOATS`](regatta_terms::MAX_BOATS) sails are in earlier rows.
     #[error("entries fault 5: more than {most} sails, from row {row}", most = MAX_BOATS)]
     TooMany {
         /// The row of the first sail too many.
         row: usize,
     },
-    /// Memory was refused.
+    /// An allocation failed.
     #[error("entries fault 6: no memory")]
     NoMemory,
 }
 
 impl EntriesFault {
-    /// The number by which the program tells the fault.
+    /// The number that the program prints for the fault.
     pub fn number(self) -> u8
         ensures { result ≡ number_of_entries_fault self }
     {
@@ -73,8 +73,8 @@ impl EntriesFault {
         }
     }
 
-    /// The row where the fault stands, the header's where no column was found; `None` where memory
-    /// was refused.
+    /// The row of the fault: the header's if there is no column of sails, `None` if an allocation
+    /// failed.
     pub fn row(self) -> Option<usize>
         ensures { result ≡ row_of_entries_fault self }
     {
@@ -89,13 +89,14 @@ impl EntriesFault {
     }
 }
 
-/// The sails that an entry list names, as many as may be entered: those in the first column headed
-/// `Sail`, `SailNo` or `SailNumber`, in letters of either case. Spaces don't matter, and blank
-/// records are passed over. The records are those that `csv` reads by default, so any bytes do.
+/// Reads the sails that an entry list names, at most as many as may be entered. They are those in
+/// the first column headed `Sail`, `SailNo` or `SailNumber`, in letters of either case. Spaces
+/// don't matter, and blank records are skipped. The records are those that `csv` reads by default,
+/// so the text may be any bytes.
 ///
 /// # Errors
 ///
-/// The first fault of the list, or `NoMemory` where memory is wanting.
+/// The first fault of the list, or `NoMemory` if an allocation fails.
 pub fn read_entries(alloc: Global, text: &[u8]) -> Result<Sails, EntriesFault>
     ensures ok { IfOk result (λ sails. entries_of_text text.now ≡ Ok sails) }
     ensures few { IfOk result (λ sails. length sails ≤ MAX_BOATS) }
@@ -118,7 +119,7 @@ pub fn read_entries(alloc: Global, text: &[u8]) -> Result<Sails, EntriesFault>
     read_sails(alloc, column, records)
 }
 
-/// The number of the first column that is headed as one of sails, counted from 0.
+/// The number of the first column with a heading of sails, counted from 0.
 fn sail_column(alloc: Global, header: &ByteRecord) -> Result<Option<usize>, AllocError>
     ensures { IfOk result (λ column.
         column ≡ position is_sail_heading (fields_of header.now)) }
@@ -146,7 +147,7 @@ fn is_sail_heading(alloc: Global, field: &[u8]) -> Result<bool, AllocError>
     )
 }
 
-/// The sails of the records behind the header, from the fields of that column.
+/// The sails of the records after the header, from the fields of that column.
 fn read_sails(alloc: Global, column: usize, records: &[ByteRecord]) -> Result<Sails, EntriesFault>
     ensures ok { IfOk result (λ sails.
         entries_under (Some column) (map fields_of records.now) ≡ Ok sails) }
@@ -165,8 +166,8 @@ fn read_sails(alloc: Global, column: usize, records: &[ByteRecord]) -> Result<Sa
     Ok(Items::new(sails))
 }
 
-/// Adds the sail of the boat in that row, or none where the record is blank. `sails` are
-/// those of the rows before it; they may be more after an `Err`.
+/// Adds the sail of the boat in that row, or none if the record is blank. `sails` are those of the
+/// rows before it. An `Err` may leave more of them.
 fn add_sail(
     alloc: Global,
     column: usize,
@@ -216,7 +217,7 @@ fn add_named(
     Ok(())
 }
 
-/// Whether all fields are empty, but for spaces.
+/// Whether all fields are empty or spaces.
 fn is_blank(fields: &[&[u8]]) -> bool
     ensures { result ≡ is_blank (map (λ field. field.now) fields.now) }
 {

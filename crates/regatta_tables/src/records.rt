@@ -19,9 +19,9 @@ fn set_up(settings: &mut ReaderBuilder) -> &mut ReaderBuilder
     settings.has_headers(false).flexible(true)
 }
 
-/// Every record of a text, of any lengths and with no header set apart. A byte order mark at the
-/// very start is dropped. An error is of the device or of memory: neither the lengths of records
-/// nor bytes that are no text are one.
+/// Every record of a text, of any length and with no header set apart. A byte order mark at the
+/// very start is dropped. An error is the device's or a failed allocation. Records of different
+/// lengths and bytes that aren't text are no error.
 pub(crate) fn records_of(alloc: Global, text: &[u8]) -> Result<Vec<ByteRecord>, ErrorKind>
     ensures ok { IfOk result (λ rows.
         map fields_of rows.items ≡ records default_config (strip_bom text.now)) }
@@ -54,7 +54,7 @@ pub(crate) fn fields_in(alloc: Global, row: &ByteRecord) -> Result<Vec<&[u8]>, A
     Ok(fields)
 }
 
-/// A field without its spaces, wherever they stand.
+/// A field without its spaces, wherever they are.
 pub(crate) fn without_spaces(alloc: Global, field: &[u8]) -> Result<Vec<u8>, AllocError>
     ensures { IfOk result (λ rest. rest.items ≡ without_spaces field.now) }
 {

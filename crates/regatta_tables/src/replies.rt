@@ -11,11 +11,11 @@ use itoa::Buffer;
 use regatta_terms::{Answer, Reply, Role, Touched, points_word};
 use std::alloc::AllocError;
 
-/// The bytes that a reply has at most, with its LF.
+/// The most bytes that a reply has, with its line feed.
 pub const REPLY_ROOM: usize = 64;
 
-/// Appends a reply, a line that ends in a line feed. Where [`REPLY_ROOM`] bytes of room are free it
-/// never fails and takes no memory.
+/// Appends a reply, a line that ends in a line feed. If the capacity has [`REPLY_ROOM`] bytes left,
+/// it never fails and the capacity stays.
 pub fn write_reply(reply: &Reply, out: &mut Vec<u8>) -> Result<(), AllocError>
     ensures ok { OnOk result (out.new.items ≡ out.old.items ++ reply_text reply.now) }
     ensures err { OnErr result (out.new.items ≡ out.old.items) }
@@ -36,7 +36,7 @@ pub fn write_reply(reply: &Reply, out: &mut Vec<u8>) -> Result<(), AllocError>
     }
 }
 
-/// Appends a short text as it stands.
+/// Appends a short text unchanged.
 fn write_text(text: &[u8], out: &mut Vec<u8>) -> Result<(), AllocError>
     requires { length text.now ≤ REPLY_ROOM }
     ensures ok { OnOk result (out.new.items ≡ out.old.items ++ text.now) }

@@ -20,7 +20,8 @@ use std::alloc::{AllocError, Global};
 ///
 /// # Errors
 ///
-/// Where memory is wanting. `out` then holds what it held; its room is never less.
+/// `AllocError` if an allocation fails, also one of the `csv` writer's own. `out` then has its old
+/// contents, and its capacity is never less.
 pub fn write_csv(alloc: Global, standing: &Standing, out: &mut Vec<u8>) -> Result<(), AllocError>
     ensures ok { OnOk result (out.new.items ≡ out.old.items ++ csv_text standing.now) }
     ensures err { OnErr result (out.new.items ≡ out.old.items) }
@@ -32,12 +33,11 @@ pub fn write_csv(alloc: Global, standing: &Standing, out: &mut Vec<u8>) -> Resul
     out.extend_from_slice(text.as_slice())
 }
 
-/// The text of the results, as `csv` writes it.
+/// The text of the standing, as `csv` writes it.
 fn results(alloc: Global, standing: &Standing) -> Result<Vec<u8>, Error>
     ensures { IfOk result (λ text. text.items ≡ csv_text standing.now) }
 {
-    // Records of other lengths than the header's are written, too, so that want of memory is the
-    // one error.
+    // A flexible writer takes records of any length, so that the only error is a failed allocation.
     let mut writer = WriterBuilder::new()
         .flexible(true)
         .from_writer(Vec::new(alloc));
@@ -89,7 +89,6 @@ fn write_rows(alloc: Global, writer: &mut Writer<Vec<u8>>, rows: &[Row]) -> Resu
     Ok(())
 }
 
-/// Writes one record.
 fn write_record(alloc: Global, writer: &mut Writer<Vec<u8>>, texts: &[Vec<u8>]) -> Result<(), Error>
     requires fields { written.fields_written writer.old ≡ 0 }
     requires wrote { written.has_written writer.old ≡ false }

@@ -1,4 +1,4 @@
--- What is heard of each line tells as much as the line: its lines are the text's.
+-- The buffered lines are those of the text, and each reads as its whole line.
 use Rattle.std.proofs.Common.{◌≡◌, ℕ, ◌+◌, ◌-◌, ◌<◌, ◌≤◌, Bool, true, false, cond, List, []}
 use Rattle.std.proofs.Common.{◌∷◌, ◌++◌}
 use Rattle.std.proofs.Common.{length, take, map, Err, refl, sym, ap, ◌∙◌, arith, append-nil}
@@ -18,7 +18,7 @@ use Rattle.regatta_talk.specs.declared.cutter.TheConstants.{MAX_HEARD}
 use Rattle.regatta_terms.specs.TextLines.{is_line_end, last_line, lines_of_pieces, lines_by}
 use Rattle.regatta_talk.specs.HeardLines.{heard_with, heard_lines}
 
--- ---- a line of more bytes than a line may have, and a CR, is too long, and so is what is heard
+-- ---- a line longer than the limit and a CR is too long, and so is its buffered part
 
 stays_long : (ends : Bool) (line : List ℕ) → MAX_LINE + 1 < length line
     → MAX_LINE < length (cond ends (take (length line - 1) line) line)
@@ -48,7 +48,7 @@ heard_reads line = by (nat_lt MAX_HEARD (length line)) refl
         ∙ sym (too_long line (omega (arith, long)))
     by false is = ap line_of (take_all MAX_HEARD line (ltb-false MAX_HEARD (length line) is))
 
--- ---- what is heard, byte by byte
+-- ---- the buffered part, byte by byte
 
 heard_more : (line : List ℕ) (byte : ℕ)
     → heard_with (take MAX_HEARD line) byte ≡ take MAX_HEARD (line ++ byte ∷ [])
@@ -70,7 +70,7 @@ heard_more line byte = by (nat_lt (length line) MAX_HEARD) refl
         (le-ltb (length (take MAX_HEARD line)) MAX_HEARD (omega (arith, size)))
         ∙ sym (take-append-le MAX_HEARD line (byte ∷ []) full)
 
--- the pieces of a text that goes on from a line at hand
+-- the pieces of a text that continues the line so far
 abbrev onto : List ℕ → List (List ℕ) → List (List ℕ)
 onto line [] = line ∷ []
 onto line (piece ∷ pieces) = (line ++ piece) ∷ pieces
@@ -154,7 +154,7 @@ heard_from counts line (byte ∷ text) = by (is_line_end byte) refl (heard_from 
         (onto-more line byte pieces ∙ ap (onto line)
         (sym (slice_split-cons_no is_line_end byte text is)))
 
--- the lines of a whole text, of each what is heard
+-- the buffered lines of a whole text
 pub heard_of_text : (counts : Bool) (text : List ℕ)
     → heard_lines counts [] text ≡ map (take MAX_HEARD) (lines_by counts text)
 heard_of_text counts text =

@@ -12,12 +12,12 @@ use Rattle.regatta_terms.specs.declared.reply.Reply.{Reply}
 use Rattle.regatta_terms.specs.declared.reply.Reply.TheVariants.{Done, Refused, Fault, RoleSet}
 use Rattle.regatta_terms.specs.declared.reply.Reply.TheVariants.{Ranked, Bye, Closed}
 
--- the reply to a command, by what the board answers to its entry
+-- the reply to a command, from the board's answer to its entry
 abbrev pub reply_of : Result Answer Refusal → Reply
 reply_of (Ok answer) = Done answer
 reply_of (Err why) = Refused why
 
--- the reply to RANK: a boat that has no row isn't entered
+-- the reply to RANK: a boat without a row isn't entered
 abbrev pub ranked : Option Touched → Reply
 ranked (Some touched) = Ranked touched
 ranked None = Refused NotEntered
@@ -31,7 +31,8 @@ asks_board (Ok (SetRole role)) = false
 asks_board (Ok Quit) = false
 asks_board (Err fault) = false
 
--- the reply to a line that asks nothing of the board; nobody asks for that of other lines
+-- the reply to a line that asks nothing of the board; for other lines the value is arbitrary and
+-- never used
 abbrev pub reply_apart : Result Line LineFault → Reply
 reply_apart (Ok (SetRole role)) = RoleSet role
 reply_apart (Ok Quit) = Bye
@@ -40,7 +41,7 @@ reply_apart (Ok (Do command)) = Closed
 reply_apart (Ok (Rank sail)) = Closed
 reply_apart (Ok Show) = Closed
 
--- the role of the lines behind a line
+-- the role of the lines after a line
 abbrev pub role_after : Result Line LineFault → Role → Role
 role_after (Ok (SetRole next)) role = next
 role_after (Ok (Do command)) role = role

@@ -7,12 +7,12 @@ use arrayvec::ArrayVec;
 use regatta_terms::MAX_LINE;
 use std::marker::Model;
 
-/// How many bytes of a line are heard: as many as a line may have, a CR, and one byte more, by
-/// which a line that is too long is known for one.
+/// The most bytes of a line that are buffered: a line's limit, a CR, and one more byte, which shows
+/// that the line is too long.
 const MAX_HEARD: usize = MAX_LINE + 2;
 
-/// The line at hand, seen as the bytes that are heard of it. No more than [`MAX_HEARD`] are, so
-/// that a line takes no memory however long it is.
+/// The current line, seen as its buffered bytes. At most [`MAX_HEARD`] bytes are buffered, so a
+/// line allocates nothing, however long it is.
 #[derive(Drop)]
 pub struct Cutter {
     heard: ArrayVec<u8, MAX_HEARD>,
@@ -27,7 +27,7 @@ impl Model for Cutter {
 }
 
 impl Cutter {
-    /// No byte of a line has come.
+    /// A cutter at the start of a line.
     pub fn new() -> Cutter
         ensures { result ≡ [] }
     {
@@ -36,7 +36,7 @@ impl Cutter {
         }
     }
 
-    /// Takes a byte of the text, and tells whether it ends the line.
+    /// Takes the next byte of the text, and returns whether it ends the line.
     pub fn take(&mut self, byte: u8) -> bool
         ensures ended { result ≡ is_line_end byte }
         ensures heard { self.new
@@ -51,14 +51,14 @@ impl Cutter {
         false
     }
 
-    /// What is heard of the line at hand.
+    /// The buffered bytes of the current line, without its LF.
     pub fn line(&self) -> &[u8]
         ensures { result.now ≡ self.now }
     {
         self.heard.as_slice()
     }
 
-    /// Goes on to the next line.
+    /// Starts the next line.
     pub fn clear(&mut self)
         ensures { self.new ≡ [] }
     {

@@ -1,5 +1,5 @@
-//! Lines and replies, apart from who runs them: the lines of a text that comes in pieces, room for
-//! a reply, and replies.
+//! What a run and a session share: cutting a text that comes in pieces into lines, room for a
+//! reply, and the replies to lines.
 #![tactic(auto)]
 
 mod cutter;

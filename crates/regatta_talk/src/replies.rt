@@ -1,4 +1,4 @@
-//! Replies, made apart from the doing of what a line asks for.
+//! The replies to lines.
 ghost use Rattle.std.specs.Prelude.{◌≡◌, ◌+◌, ◌≤◌, ◌++◌, false, IsOk, OnOk, OnErr, vec_len};
 ghost use Rattle.std.specs.Prelude.{vec_capacity};
 ghost use Rattle.regatta_tables.specs.ReplyTexts.{reply_text};
@@ -11,7 +11,7 @@ use crate::room::{make_room, write_fitting};
 use regatta_terms::{Answer, Line, LineFault, Refusal, Reply, Role, Touched};
 use std::alloc::AllocError;
 
-/// The reply to a command, by what the board answers to its entry.
+/// The reply to a command, from the board's answer to its entry.
 pub fn reply_of(answered: Result<Answer, Refusal>) -> Reply
     ensures { result ≡ reply_by answered }
 {
@@ -21,7 +21,7 @@ pub fn reply_of(answered: Result<Answer, Refusal>) -> Reply
     }
 }
 
-/// The reply to RANK, by the boat's row of the standing: a boat that has none isn't entered.
+/// The reply to RANK, from the boat's row of the standing. A boat without a row isn't entered.
 pub fn ranked(row: Option<Touched>) -> Reply
     ensures { result ≡ ranked_by row }
 {
@@ -32,13 +32,12 @@ pub fn ranked(row: Option<Touched>) -> Reply
 }
 
 /// Answers a line that asks nothing of the board: a role, QUIT, or a line with a fault. The role
-/// of the lines to come changes only once there is room for the reply. Where there is room it takes
-/// no memory.
+/// changes only once there is room for the reply. If `out` has room already, nothing is allocated.
 ///
 /// # Errors
 ///
-/// Where memory is wanting for the reply, never where there is room for one. The role, what is
-/// written and the room are then as they were.
+/// If the allocation for the reply fails; never if `out` has room already. The role, the bytes and
+/// the room then stay as they were.
 pub fn answer_apart(
     role: &mut Role,
     asked: Result<Line, LineFault>,
@@ -60,7 +59,7 @@ pub fn answer_apart(
     Ok(())
 }
 
-/// Does what a line that asks nothing of the board asks for, and makes its reply.
+/// Sets the role if the line asks for that, and returns the reply.
 fn reply_apart(role: &mut Role, asked: Result<Line, LineFault>) -> Reply
     requires { asks_board asked ≡ false }
     ensures reply { result ≡ apart asked }

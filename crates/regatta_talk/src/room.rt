@@ -8,12 +8,12 @@ use regatta_tables::{REPLY_ROOM, write_reply};
 use regatta_terms::Reply;
 use std::alloc::AllocError;
 
-/// Makes room for a reply behind what is written already. Where there is room it takes no memory,
+/// Makes room for a reply after the bytes of `out`. If there is room already, it allocates nothing
 /// and never fails.
 ///
 /// # Errors
 ///
-/// Where memory is wanting. The bytes and the room are then as they were.
+/// If the allocation fails. The bytes and the room then stay as they were.
 pub fn make_room(out: &mut Vec<u8>) -> Result<(), AllocError>
     ensures room { OnOk result (vec_len out.new + REPLY_ROOM ≤ vec_capacity out.new) }
     ensures same { out.new.items ≡ out.old.items }
@@ -28,7 +28,7 @@ pub fn make_room(out: &mut Vec<u8>) -> Result<(), AllocError>
     out.reserve(REPLY_ROOM)
 }
 
-/// Appends a reply where there is room for it. It takes no memory.
+/// Appends a reply to bytes that have room for it. It allocates nothing.
 pub fn write_fitting(reply: &Reply, out: &mut Vec<u8>)
     requires { vec_len out.old + REPLY_ROOM ≤ vec_capacity out.old }
     ensures text { out.new.items ≡ out.old.items ++ reply_text reply.now }

@@ -1,6 +1,5 @@
--- What two tests say that hold together.
+-- The two tests of a conjunction.
 use Rattle.std.proofs.Common.{◌≡◌, Bool, true, ◌&&◌, arith}
 
--- where both hold, each does
 pub both : (a b : Bool) → (a && b) ≡ true → (a ≡ true) × (b ≡ true)
 both a b h = grind arith

@@ -15,11 +15,11 @@ use Rattle.regatta_terms.specs.declared.line.LineFault.TheVariants.{BadCode, Bad
 use Rattle.regatta_terms.specs.Lines.{line_of, line_of_words, command_of_words, command_after}
 use Rattle.regatta_terms.specs.Replies.{number_of_fault}
 
--- a line, after which come so many bytes of one kind
+-- a line, followed by n bytes of one kind
 abbrev pub line_and : List ℕ → ℕ → ℕ → List ℕ
 line_and line n byte = line ++ replicate n byte
 
--- ---- faults, each ahead of those that stand below it
+-- ---- each fault takes precedence over those below it
 
 pub empty_line_has_no_word : line_of [] ≡ Err NoSuchWord
 unfolding line_of line_of_words command_of_words command_after
@@ -142,11 +142,11 @@ quit = refl
 
 -- ---- points of redress
 
--- what REDRESS 1 A and a last word ask for
+-- what REDRESS 1 A and one more word ask for
 abbrev pub redress_line : List ℕ → Result Line LineFault
 redress_line how = line_of (codes "REDRESS 1 A " ++ how)
 
--- what a line asks for that gives redress to A in race 1
+-- the line that gives A this redress in race 1
 abbrev pub redress : Redress → Line
 redress r = Do (command.Redress 1 (codes "A") r)
 
@@ -196,11 +196,11 @@ another_word_for_points = refl
 
 -- ---- seconds of a corrected time
 
--- what TIME 1 A and a last word ask for
+-- what TIME 1 A and one more word ask for
 abbrev pub time_line : List ℕ → Result Line LineFault
 time_line seconds = line_of (codes "TIME 1 A " ++ seconds)
 
--- what a line asks for that gives A this corrected time in race 1
+-- the line that gives A this corrected time in race 1
 abbrev pub time : ℕ → Line
 time seconds = Do (command.Time 1 (codes "A") seconds)
 

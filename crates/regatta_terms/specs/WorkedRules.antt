@@ -9,7 +9,6 @@ use Rattle.regatta_terms.specs.declared.rules.RulesFault.TheVariants.{NotRising,
 use Rattle.regatta_terms.specs.declared.rules.RulesFault.TheVariants.{AboveForty, BadText}
 use Rattle.regatta_terms.specs.Rules.{RulesParts, rules_of, rules_of_texts, exclusions_of}
 
--- rules of a series without corrected times, by their other parts
 abbrev pub rules : Absent → Option ℕ → List ℕ → Result RulesParts RulesFault
 rules absent scp thresholds = Ok (record {
   absent = absent;
@@ -18,11 +17,11 @@ rules absent scp thresholds = Ok (record {
   handicap = false;
 })
 
--- what the texts a52 and 2 read as with this amount
+-- the rules of the texts a52 and 2, with this amount
 abbrev pub with_amount : List ℕ → Result RulesParts RulesFault
 with_amount scp = rules_of_texts (codes "a52") (Some scp) (codes "2") false
 
--- what the text a52 reads as with these thresholds
+-- the rules of the text a52, with these thresholds
 abbrev pub with_thresholds : List ℕ → Result RulesParts RulesFault
 with_thresholds exclude = rules_of_texts (codes "a52") None exclude false
 
@@ -92,7 +91,7 @@ text_ahead_of_amount = refl
 pub amount_ahead_of_thresholds : rules_of A52 (Some 100) (3 ∷ 3 ∷ []) false ≡ Err ScpOutOfRange
 amount_ahead_of_thresholds = refl
 
--- ---- how many scores are excluded, by the thresholds 2 and 5
+-- ---- how many scores are excluded with the thresholds 2 and 5
 
 pub none_of_one_race : exclusions_of (2 ∷ 5 ∷ []) 1 ≡ 0
 none_of_one_race = refl

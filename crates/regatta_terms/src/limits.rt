@@ -1,4 +1,4 @@
-//! How large a series may grow, and how long a line may be: each limit once, for all crates.
+//! How large a series may grow, and how long a line may be. All crates take their limits from here.
 
 /// How many boats may be entered in a series.
 pub const MAX_BOATS: usize = 500;

@@ -1,13 +1,13 @@
-//! Each growth refused in turn: calls that take memory, on a short input, with more and more bytes
-//! left to them until they meet no refusal. A call is a line of a list, with how often it is refused
-//! at least before that: no more often than `bench/growths.py` counted. Only serving has no line,
-//! since it is refused its thread as well.
+//! Each allocation refused in turn: calls that allocate, on a short input, with more and more bytes
+//! left to them until none is refused. A call is a line of a list. It is refused at least once, and
+//! each time it answers as out of memory and as nothing else.
 
 use super::*;
-use hoard::{Caller, FINE_RUNS, Hoard, MOST_RUNS, Told, are_refused, bytes_left};
+use hoard::{Caller, FINE_RUNS, Hoard, MOST_RUNS, Outcome, are_refused, bytes_left, is_sanitized};
 use regatta_scores::Standing;
 use regatta_tables::{Journal, read_journal};
 use std::alloc::AllocError;
+use std::fs::Files;
 
 mod boards;
 mod hoard;
@@ -16,30 +16,38 @@ mod runs;
 mod scoring;
 mod texts;
 
-/// What a call tells that didn't answer as wanting memory.
-fn ordinary_if(is_due: bool) -> Told {
-    if is_due { Told::Ordinary } else { Told::Other }
-}
-
-/// What a call tells that answered as wanting memory.
-fn wanting_if(stands: bool) -> Told {
-    if stands { Told::Wanting } else { Told::Other }
-}
-
-/// What a call told, if what it leaves is as it is to be. Whoever holds much calls this rather than
-/// branch, since each branch is proved to give all of it back.
-fn told_if(is_due: bool, told: Told) -> Told {
-    if is_due { told } else { Told::Other }
-}
-
-/// What a call tells that has no other error than want of memory.
-fn tells(answer: Result<bool, AllocError>) -> Told {
-    match answer {
-        Ok(is_due) => ordinary_if(is_due),
-        Err(_) => Told::Wanting,
+/// The outcome of a call that didn't answer as out of memory.
+fn ordinary_if(is_right: bool) -> Outcome {
+    if is_right {
+        Outcome::Ordinary
+    } else {
+        Outcome::Other
     }
 }
 
-/// What a text begins with that a call appends to: as long as the least block that the heap gives,
-/// so that whatever is appended asks for more.
+/// The outcome of a call that answered as out of memory.
+fn out_of_memory_if(is_kept: bool) -> Outcome {
+    if is_kept {
+        Outcome::OutOfMemory
+    } else {
+        Outcome::Other
+    }
+}
+
+/// The outcome of a call, if what it leaves is as it should be. Whoever holds much calls this rather
+/// than branch, since each branch is proved to give all of it back.
+fn outcome_if(is_kept: bool, outcome: Outcome) -> Outcome {
+    if is_kept { outcome } else { Outcome::Other }
+}
+
+/// The outcome of a call whose only error is out of memory.
+fn outcome_of(answer: Result<bool, AllocError>) -> Outcome {
+    match answer {
+        Ok(is_right) => ordinary_if(is_right),
+        Err(_) => Outcome::OutOfMemory,
+    }
+}
+
+/// The beginning of a text that a call appends to: as long as the least block that the heap gives,
+/// so that appending anything asks for more.
 const BEFORE: &[u8] = b"what stood there before.";

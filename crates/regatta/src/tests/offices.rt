@@ -40,7 +40,7 @@ fn entered<N: OfficeName, H: Wait + Drop, R: Wait>(
     answered(rt, office, pass, enter(sail)?).ok()
 }
 
-/// An office of so many seats in which nothing was entered. It has no contract, so that its callers
+/// An office with `seats` seats in which nothing was entered. It has no contract, so that its callers
 /// are proved quickly.
 pub(crate) fn opened_office<R: Wait>(rt: &R, alloc: Global, seats: u8) -> Option<Opened<&R>> {
     Office::open(rt, alloc, &default_rules(), seats, &[]).ok()
@@ -208,7 +208,7 @@ fn shows_beside_a_guard<N: OfficeName, H: Wait + Drop, R: Wait>(
     }
 }
 
-/// The same, behind the command of this receipt: the desk is held until both have shown.
+/// The same, after the command of this receipt: the desk is held until both have shown.
 fn shows_at<N: OfficeName, H: Wait + Drop, R: Wait>(
     rt: &R,
     alloc: Global,
@@ -276,7 +276,7 @@ fn is_shown_with<N: OfficeName>(
     }
 }
 
-/// Whether SHOW is answered `CLOSED`.
+/// Whether the answer to SHOW is `CLOSED`.
 fn answers_closed<N: OfficeName>(alloc: Global, pass: &mut Pass<N>) -> bool {
     let mut role = Role::Scorer;
     let mut out = Vec::new(alloc);
@@ -498,20 +498,20 @@ fn check_board<R: Abort>(rt: &R, alloc: Global, board: &Board) -> Option<()> {
     is_replayed(rt, alloc, entries, &standing)
 }
 
-/// Asserts that the standing is what these entries give anew.
+/// Asserts that the standing is the one computed from these entries.
 fn is_replayed<R: Abort>(
     rt: &R,
     alloc: Global,
     entries: &[Entry],
     standing: &Standing,
 ) -> Option<()> {
-    let anew = standing_of(alloc, &default_rules(), entries).ok()?;
-    let (table, replayed) = (table_of(alloc, standing)?, table_of(alloc, &anew)?);
+    let recomputed = standing_of(alloc, &default_rules(), entries).ok()?;
+    let (table, replayed) = (table_of(alloc, standing)?, table_of(alloc, &recomputed)?);
     assert_eq!(rt; table.as_slice(), replayed.as_slice());
     Some(())
 }
 
-/// Whether each of so many shows is let in.
+/// Whether each of this many shows is let in.
 fn are_let_in<N: OfficeName>(mut pass: Pass<N>, shows: u32) -> bool {
     let mut all = true;
     for _show in 0..shows {
@@ -538,7 +538,7 @@ fn show_at_once<N: OfficeName + Send + Sync, H: Wait + Drop, R: Threads + Abort 
 /// The seats from 1 that write; the others watch.
 const WRITERS: u8 = 4;
 
-/// Runs as many commands as fill a quarter of the journal, and tells the last number: the seat
+/// Runs as many commands as fill a quarter of the journal, and returns the last number: the seat
 /// enters a boat, places her in race 1 and strikes her out again, by turns.
 fn write_a_quarter<N: OfficeName, H: Wait + Drop, R: Wait>(
     rt: &R,
@@ -559,7 +559,7 @@ fn write_a_quarter<N: OfficeName, H: Wait + Drop, R: Wait>(
     Some(pass.last() as usize)
 }
 
-/// The next sheet, where its journal begins with that of the last one.
+/// The next sheet, if its journal begins with that of the last one.
 fn next_sheet<N: OfficeName>(pass: &mut Pass<N>, last: &Option<Sheet>) -> Option<Sheet> {
     let sheet = pass.show().ok()?;
     let before = match last {
@@ -573,7 +573,7 @@ fn next_sheet<N: OfficeName>(pass: &mut Pass<N>, last: &Option<Sheet>) -> Option
         .then_some(sheet)
 }
 
-/// Shows until the journal is full, and tells how many entries it has then: each sheet goes on from
+/// Shows until the journal is full, and returns how many entries it has then: each sheet goes on from
 /// the one before, and the last has the standing of its journal.
 fn watch_until_full<N: OfficeName, R: Wait + Abort>(
     rt: &R,

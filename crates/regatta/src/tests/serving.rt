@@ -2,22 +2,24 @@ ghost use Rattle.std.specs.Prelude.{◌≡◌};
 
 use super::offices::opened_office;
 use super::sessions::has_journal;
-use super::wires::{Hold, count, door_of, door_of_two, was_sent};
+use super::wires::{
+    Hold, connected, count, door_of, door_of_two, has_asked, is_answered, was_sent,
+};
 use super::*;
 use regatta_office::{
     Door, Gate, Office, OfficeName, OpenGate, Opened, Pass, ServeFault, SocketDoor, serve,
 };
+use std::fs;
 use std::io::{Read, Write};
 use std::marker::Brand;
 use std::net::Net;
 use std::os::unix::net::UnixStream;
 use std::sync::Wait;
-use std::thread::Threads;
-use std::{fs, thread};
+use std::thread::{self, Threads};
 
-/// What serving is to leave: how many passes come back, and the journal.
+/// What serving should leave: how many passes come back, and the journal.
 #[derive(Drop)]
-pub(crate) struct Left {
+pub(crate) struct Served {
     pub(crate) back: Result<usize, ServeFault>,
     pub(crate) journal: &'static [u8],
 }
@@ -52,7 +54,7 @@ fn leaves_at<N, H, R, D, G>(
     opened: Opened<H>,
     doors: &mut [D],
     gate: &G,
-    left: &Left,
+    left: &Served,
 ) -> bool
 where
     N: OfficeName + Send + Sync,
@@ -64,7 +66,7 @@ where
 {
     match opened.split::<N>() {
         Ok((office, mut passes)) => {
-            // the lowest seat is lent first, and they come back in order, however they are handed in
+            // the lowest seat is lent first, and they come back in order, whatever their order was
             passes.reverse();
             let back = serve_doors(rt, alloc, &office, passes, doors, gate);
             back == left.back && has_journal(rt, alloc, &office, left.journal)
@@ -73,7 +75,7 @@ where
     }
 }
 
-/// Whether serving these doors, at an office of so many seats in which nothing was entered, leaves
+/// Whether serving these doors, at an office with `seats` seats in which nothing was entered, leaves
 /// this.
 pub(crate) fn leaves<R, D, G>(
     rt: &R,
@@ -81,7 +83,7 @@ pub(crate) fn leaves<R, D, G>(
     seats: u8,
     doors: &mut [D],
     gate: &G,
-    left: &Left,
+    left: &Served,
 ) -> bool
 where
     R: Threads + Wait + Sync,
@@ -101,7 +103,7 @@ fn two_clients_side_by_side(rt: HostRuntime) -> Result<(), Fail> {
     let (second, writes) = (count(alloc)?, count(alloc)?);
     let gate = Hold::new(Some(&second), &second)?;
     let (door, mut ends) = door_of_two(&rt, alloc, b"ENTER B\n", [&writes, &writes])?;
-    let left = Left {
+    let left = Served {
         back: Ok(2),
         journal: b"2 1 SCORER ENTER B\n1 1 SCORER ENTER A\n",
     };
@@ -119,7 +121,7 @@ fn a_client_finds_no_seat(rt: HostRuntime) -> Result<(), Fail> {
     let (first, second) = (count(alloc)?, count(alloc)?);
     let gate = Hold::new(Some(&second), &first)?;
     let (door, mut ends) = door_of_two(&rt, alloc, b"", [&first, &second])?;
-    let left = Left {
+    let left = Served {
         back: Ok(1),
         journal: b"1 1 SCORER ENTER A\n",
     };
@@ -138,7 +140,7 @@ fn a_pass_serves_again(rt: HostRuntime) -> Result<(), Fail> {
     let gate = Hold::new(None, &writes)?;
     let (first, mut first_end) = door_of(&rt, alloc, b"ENTER A\n", true, &writes)?;
     let (second, mut second_end) = door_of(&rt, alloc, b"ENTER B\n", false, &writes)?;
-    let left = Left {
+    let left = Served {
         back: Ok(1),
         journal: b"1 1 SCORER ENTER A\n1 2 SCORER ENTER B\n",
     };
@@ -155,7 +157,7 @@ fn a_door_fails(rt: HostRuntime) -> Result<(), Fail> {
     let alloc = rt.alloc();
     let (mut door, mut end) = door_of(&rt, alloc, b"ENTER A\n", false, &count(alloc)?)?;
     door.fails_at_end = true;
-    let left = Left {
+    let left = Served {
         back: Err(ServeFault::Door),
         journal: b"1 1 SCORER ENTER A\n",
     };
@@ -167,46 +169,33 @@ fn a_door_fails(rt: HostRuntime) -> Result<(), Fail> {
 /// Where the socket of the test is bound.
 const SOCKET: &str = "regatta_test.socket";
 
-/// Whether a client who sends this text is sent these replies, up to the end of the stream.
-fn is_answered(alloc: Global, stream: &mut UnixStream, text: &[u8], replies: &[u8]) -> bool {
-    stream.write_all(text).is_ok() && was_sent(alloc, stream, replies)
-}
-
-/// Whether a client at the socket who sends this text is sent these replies.
-fn has_asked<R: Net>(rt: &R, alloc: Global, text: &[u8], replies: &[u8]) -> bool {
-    match UnixStream::connect(rt, SOCKET) {
-        Ok(mut stream) => is_answered(alloc, &mut stream, text, replies),
-        Err(_) => false,
-    }
-}
-
 /// A client's lines up to QUIT, and much that nobody reads.
 fn with_unread(alloc: Global) -> Result<Vec<u8>, AllocError> {
     let unread = repeated(alloc, b'X', 2000)?;
     joined(alloc, &[b"ENTER A\nQUIT\nENTER B\n", unread.as_slice()])
 }
 
-/// Whether a client is answered who enters a boat, sends lines behind QUIT, and comes again.
+/// Whether a client is answered who enters a boat, sends lines after QUIT, and comes again.
 fn has_asked_twice<R: Net>(rt: &R, alloc: Global) -> bool {
     match with_unread(alloc) {
         Ok(text) => {
-            has_asked(rt, alloc, &text, b"OK 1 1 0.0\nBYE\n")
-                && has_asked(rt, alloc, b"ENTER B\nQUIT\n", b"OK 2 1= 0.0\nBYE\n")
+            has_asked(rt, alloc, SOCKET, &text, b"OK 1 1 0.0\nBYE\n")
+                && has_asked(rt, alloc, SOCKET, b"ENTER B\nQUIT\n", b"OK 2 1= 0.0\nBYE\n")
         }
         Err(_) => false,
     }
 }
 
-/// The client finds her replies and the end of the stream, whatever she sent behind QUIT. When she
-/// comes again, she is given the lowest seat once more. The door was bound for these two streams
-/// alone, so who comes then is let in no more.
+/// The client finds the replies and the end of the stream, whatever they sent after QUIT. When they
+/// come again, they get the lowest seat once more. The door was bound for these two streams alone, so
+/// nobody who comes then is let in.
 #[test]
 fn a_client_at_a_socket(rt: HostRuntime) -> Result<(), Fail> {
     let alloc = rt.alloc();
     let _ = fs::remove_file(&rt, SOCKET);
     let door = SocketDoor::bind(&rt, SOCKET, 2)?;
     let client = thread::spawn(&rt, move || has_asked_twice(&rt, alloc))?;
-    let left = Left {
+    let left = Served {
         back: Ok(2),
         journal: b"1 1 SCORER ENTER A\n1 2 SCORER ENTER B\n",
     };
@@ -218,22 +207,9 @@ fn a_client_at_a_socket(rt: HostRuntime) -> Result<(), Fail> {
     Ok(())
 }
 
-/// How often a client tries to come before anybody listens.
-const MOST_TRIES: u32 = 10_000_000;
-
-/// The stream of a client, once she is let in.
-fn connected<R: Net>(rt: &R) -> Option<UnixStream> {
-    for _ in 0..MOST_TRIES {
-        if let Ok(stream) = UnixStream::connect(rt, SOCKET) {
-            return Some(stream);
-        }
-    }
-    None
-}
-
-/// Whether a client who enters a boat, once she is let in, is answered.
+/// Whether a client who enters a boat, once they are let in, is answered.
 fn has_entered<R: Net>(rt: &R, alloc: Global) -> bool {
-    match connected(rt) {
+    match connected(rt, SOCKET) {
         Some(mut stream) => {
             is_answered(alloc, &mut stream, b"ENTER A\nQUIT\n", b"OK 1 1 0.0\nBYE\n")
         }
@@ -263,11 +239,11 @@ fn the_program_serves_a_client(rt: HostRuntime) -> Result<(), Fail> {
     assert!(rt; client.join(&rt));
     let _ = fs::remove_file(&rt, SOCKET);
     assert_eq!(rt; status, 0);
-    assert!(rt; streams.has_told("TABLE 1 RACES\n1 A 0.0\n", ""));
+    assert!(rt; streams.has_written("TABLE 1 RACES\n1 A 0.0\n", ""));
     Ok(())
 }
 
-/// Where the table can't be printed, that is a device fault.
+/// A table that can't be printed is a device fault.
 #[test]
 fn a_served_table_is_not_printed(rt: HostRuntime) -> Result<(), Fail> {
     let alloc = rt.alloc();
@@ -278,7 +254,7 @@ fn a_served_table_is_not_printed(rt: HostRuntime) -> Result<(), Fail> {
     assert!(rt; client.join(&rt));
     let _ = fs::remove_file(&rt, SOCKET);
     assert_eq!(rt; status, 3);
-    assert!(rt; streams.has_told("TABLE 1 RA", "regatta: device fault\n"));
+    assert!(rt; streams.has_written("TABLE 1 RA", "regatta: device fault\n"));
     Ok(())
 }
 
@@ -290,7 +266,7 @@ fn a_path_is_there_already(rt: HostRuntime) -> Result<(), Fail> {
     let status = status_of(&rt, &ONE_CLIENT, &mut streams);
     let _ = fs::remove_file(&rt, SOCKET);
     assert_eq!(rt; status, 3);
-    assert!(rt; streams.has_told("", "regatta: device fault\n"));
+    assert!(rt; streams.has_written("", "regatta: device fault\n"));
     Ok(())
 }
 
@@ -310,9 +286,9 @@ const ONE_SEAT: [&str; 9] = [
     START,
 ];
 
-/// The stream of a client who has her seat, and is answered.
+/// The stream of a client who has a seat, and is answered.
 fn seated<R: Net>(rt: &R, alloc: Global) -> Option<UnixStream> {
-    let mut stream = connected(rt)?;
+    let mut stream = connected(rt, SOCKET)?;
     let wanted = b"OK 2 1= 0.0\n".as_slice();
     let mut reply = vec![in alloc; 0; wanted.len()].ok()?;
     stream.write_all(b"ENTER B\n").ok()?;
@@ -320,20 +296,20 @@ fn seated<R: Net>(rt: &R, alloc: Global) -> Option<UnixStream> {
     (reply.as_slice() == wanted).then_some(stream)
 }
 
-/// Three clients: the first has her seat while the second comes, and has said goodbye when the
-/// third does. The second finds no seat, and what she sent is never read. Both keep their ends of
-/// the stream, so that nobody waits for them to go. None where one is answered otherwise.
+/// Three clients: the first has a seat while the second comes, and has said goodbye when the third
+/// does. The second finds no seat, and what they sent is never read. Both keep their ends of the
+/// stream, so that nobody waits for them to go. None if one is answered otherwise.
 fn three_in_turn<R: Net>(rt: &R, alloc: Global) -> Option<[UnixStream; 2]> {
     let mut first = seated(rt, alloc)?;
-    let mut second = connected(rt)?;
+    let mut second = connected(rt, SOCKET)?;
     let _ = second.write_all(b"SHOW\n");
     let are_answered = was_sent(alloc, &mut second, b"BUSY\n")
         && is_answered(alloc, &mut first, b"QUIT\n", b"BYE\n")
-        && has_asked(rt, alloc, b"ENTER C\nQUIT\n", b"OK 3 1= 0.0\nBYE\n");
+        && has_asked(rt, alloc, SOCKET, b"ENTER C\nQUIT\n", b"OK 3 1= 0.0\nBYE\n");
     are_answered.then_some([first, second])
 }
 
-/// The program has as many seats, and ends behind as many clients, as it is told.
+/// The program has as many seats, and ends after as many clients, as it was asked for.
 #[test]
 fn the_program_serves_three_at_one_seat(rt: HostRuntime) -> Result<(), Fail> {
     let alloc = rt.alloc();
@@ -348,6 +324,6 @@ fn the_program_serves_three_at_one_seat(rt: HostRuntime) -> Result<(), Fail> {
     let _ = fs::remove_file(&rt, SOCKET);
     let _ = fs::remove_file(&rt, START);
     let table = "TABLE 3 RACES\n1= A 0.0\n1= B 0.0\n1= C 0.0\n";
-    assert!(rt; streams.has_told(table, ""));
+    assert!(rt; streams.has_written(table, ""));
     Ok(())
 }

@@ -1,20 +1,17 @@
 ghost use Rattle.std.specs.Prelude.{◌≡◌};
 
-use super::offices::{answered, one_seat};
+use super::offices::{answered, enter, one_seat};
 use super::wires::{Count, count, wire_of};
 use super::*;
 use regatta_office::{
     End, Gate, Office, OfficeName, OpenGate, Opened, Pass, Sink, Source, session,
 };
 use regatta_tables::write_entries;
-use regatta_terms::{Command, Refusal, Sail};
+use regatta_terms::{Command, Refusal};
 use std::marker::Brand;
 use std::process::Abort;
 use std::sync::Wait;
 use std::sync::atomic::{AtomicU64, Ordering};
-
-/// More bytes than any session here gives or takes.
-const PLENTY: usize = 100_000;
 
 /// Whether the entries of the office's journal are this text.
 pub(crate) fn has_journal<N: OfficeName, H: Wait + Drop, R: Wait>(
@@ -29,12 +26,15 @@ pub(crate) fn has_journal<N: OfficeName, H: Wait + Drop, R: Wait>(
     is_written && text.as_slice() == journal
 }
 
+/// The most bytes that a session here writes.
+const MOST_WRITTEN: usize = 100_000;
+
 /// A tape that gives all of this text, in small pieces, and takes whatever comes.
 fn client(alloc: Global, text: &[u8]) -> Result<Tape, AllocError> {
-    failing(alloc, text, 7, PLENTY, PLENTY)
+    Tape::new(alloc, text, 7, PLENTY, MOST_WRITTEN)
 }
 
-/// What sessions on one pass are to leave: how each ended, the pass's last number, and the journal.
+/// What sessions on one pass should leave: how each ended, the pass's last number, and the journal.
 #[derive(Drop)]
 struct Left<'a> {
     ends: &'a [End],
@@ -134,14 +134,9 @@ fn two_sessions_on_one_pass(rt: HostRuntime) -> Result<(), Fail> {
 }
 
 #[test]
-fn the_desk_goes_on_behind_two_sessions(rt: HostRuntime) -> Result<(), Fail> {
+fn the_desk_goes_on_after_two_sessions(rt: HostRuntime) -> Result<(), Fail> {
     let opened = Office::open(&rt, rt.alloc(), &default_rules(), 1, &[])?;
     go_on::<Brand, _, _>(&rt, rt.alloc(), opened)
-}
-
-fn enter(sail: &[u8]) -> Result<Command, Fail> {
-    let sail = Sail::read(sail).ok_or("a sail")?;
-    Ok(Command::Enter { sail })
 }
 
 /// The place in the journal of a command as scorer through the lock, or its refusal.
@@ -158,7 +153,7 @@ pub(crate) fn place_of<N: OfficeName, H: Wait + Drop, R: Wait>(
 /// What a watcher sends who comes to enter a boat, and goes in mid-line.
 const LOOKS_FIRST: &[u8] = b"SHOW\r\nENTER A\nRANK A\nROLE JURY\nNOPE\nENT";
 
-/// What she is sent.
+/// The replies to it.
 const FIRST_REPLIES: &[u8] = b"JOURNAL 0\nTABLE 0 RACES\nEND\nOK 1 1 0.0\nRANK 1 0.0\nROLE JURY\n\
     NO 21\n";
 
@@ -193,8 +188,8 @@ fn enter_next<N: OfficeName, H: Wait + Drop, R: Wait + Abort>(
     Ok(())
 }
 
-/// Behind two sessions, one after the other, the pass runs commands by the guard, and shows what
-/// they made.
+/// After two sessions, one after the other, the pass runs commands by the guard, and shows what they
+/// made.
 fn go_on<N: OfficeName, H: Wait + Drop, R: Wait + Abort>(
     rt: &R,
     alloc: Global,
@@ -223,10 +218,16 @@ fn run_by_guard<N: OfficeName, H: Wait + Drop, R: Wait + Abort>(
     office: &Office<N, H>,
     pass: &mut Pass<N>,
 ) -> Result<(), Fail> {
-    let refused = place_of(rt, office, pass, enter(b"A")?);
+    let refused = place_of(rt, office, pass, enter(b"A").ok_or("a sail")?);
     assert_eq!(rt; refused, Err(Refusal::AlreadyEntered));
-    assert_eq!(rt; place_of(rt, office, pass, enter(b"C")?), Ok(3));
-    assert_eq!(rt; place_of(rt, office, pass, enter(b"D")?), Ok(4));
+    assert_eq!(rt;
+        place_of(rt, office, pass, enter(b"C").ok_or("a sail")?),
+        Ok(3)
+    );
+    assert_eq!(rt;
+        place_of(rt, office, pass, enter(b"D").ok_or("a sail")?),
+        Ok(4)
+    );
     let sheet = pass.show().ok().ok_or("a sheet")?;
     assert_eq!(rt; sheet.journal.as_slice().len(), 4);
     Ok(())
@@ -262,9 +263,20 @@ fn lines_that_cannot_be_read(rt: HostRuntime) -> Result<(), Fail> {
     Ok(())
 }
 
-/// The default rules, with places by corrected time.
-fn handicap_rules() -> Rules {
-    Rules::new(Absent::A52, None, &[2], true).unwrap()
+/// A session answers as many lines as its client sends.
+#[test]
+fn a_long_session(rt: HostRuntime) -> Result<(), Fail> {
+    let lines = repeated_line(rt.alloc(), b"ENTER A\n", b"NOPE\n", 2000)?;
+    let replies = repeated_line(rt.alloc(), b"OK 1 1 0.0\n", b"NO 21\n", 2000)?;
+    let mut tapes = [client(rt.alloc(), &lines)?];
+    let left = Left {
+        ends: &[End::Closed],
+        last: 1,
+        journal: b"1 1 SCORER ENTER A\n",
+    };
+    assert!(rt; leave(&rt, &default_rules(), &mut tapes, &OpenGate, &left));
+    assert_eq!(rt; tapes[0].written(), replies.as_slice());
+    Ok(())
 }
 
 /// Three boats, of which two have equal seconds.
@@ -274,7 +286,7 @@ const TIMES: &[u8] = b"ENTER A\nENTER B\nENTER C\nTIME 1 A 3605\nTIME 1 B 3600\n
 const TIMES_REPLIES: &[u8] = b"OK 1 1 0.0\nOK 2 1= 0.0\nOK 3 1= 0.0\nOK 4 1= 0.0\nOK 5 1= 0.0\n\
     OK 6 1= 0.0\nOK 7\n";
 
-/// The journal behind them, and behind one boat's time taken back and given anew.
+/// The journal after them, and after one boat's time is struck out and handed in again.
 const TIMES_JOURNAL: &[u8] = b"1 1 SCORER ENTER A\n1 2 SCORER ENTER B\n1 3 SCORER ENTER C\n\
     1 4 SCORER TIME 1 A 3605\n1 5 SCORER TIME 1 B 3600\n1 6 SCORER TIME 1 C 3605\n\
     1 7 SCORER SCORE 1\n1 8 SCORER STRIKE 1 A\n1 9 SCORER TIME 1 A 3599\n";
@@ -309,7 +321,7 @@ const THREE_BOATS: &[u8] = b"1 1 SCORER ENTER A\n1 2 SCORER ENTER B\n1 3 SCORER 
 #[test]
 fn a_write_that_fails(rt: HostRuntime) -> Result<(), Fail> {
     let mut tapes = [
-        failing(rt.alloc(), b"ENTER A\nENTER B\nENTER C\n", 7, PLENTY, 16)?,
+        Tape::new(rt.alloc(), b"ENTER A\nENTER B\nENTER C\n", 7, PLENTY, 16)?,
         client(rt.alloc(), b"ENTER C\n")?,
     ];
     let left = Left {
@@ -326,7 +338,7 @@ fn a_write_that_fails(rt: HostRuntime) -> Result<(), Fail> {
 /// A read fails in mid-line.
 #[test]
 fn a_read_that_fails(rt: HostRuntime) -> Result<(), Fail> {
-    let mut tapes = [failing(rt.alloc(), b"ENTER A\nENT", 7, 11, PLENTY)?];
+    let mut tapes = [Tape::new(rt.alloc(), b"ENTER A\nENT", 7, 11, MOST_WRITTEN)?];
     let left = Left {
         ends: &[End::ReadFault],
         last: 1,
@@ -398,8 +410,8 @@ impl Gate for Notes {
     fn ended(&self, _seat: u8, _end: End) {}
 }
 
-/// The gate is told of each line behind its reply, and not where that can't be written: the second
-/// client has gone.
+/// The gate is told of each line after its reply, but not if that can't be written: the second client
+/// has gone.
 #[test]
 fn a_gate_is_told_of_replies(rt: HostRuntime) -> Result<(), Fail> {
     let writes = count(rt.alloc())?;

@@ -11,7 +11,7 @@ use std::os::unix::net::UnixStream;
 use std::sync::atomic::{AtomicU64, Ordering};
 use std::sync::{Arc, Wait};
 
-/// How often a line that is held back is looked at before it is given up.
+/// How often a line that is held back is checked before it is given up.
 const MOST_TURNS: u64 = 500_000_000;
 
 /// A number that threads share.
@@ -21,7 +21,7 @@ pub(crate) fn count(alloc: Global) -> Result<Count, Fail> {
     Ok(Arc::new(alloc, AtomicU64::new(0))?)
 }
 
-/// The office's end of a client. It counts its writes, and may fail where its lines end.
+/// The office's end of a client. It counts its writes, and may fail at the end of its lines.
 #[derive(Drop)]
 pub(crate) struct Wire {
     stream: Foreign<UnixStream>,
@@ -78,6 +78,43 @@ pub(crate) fn wire_of<R: Net>(
         failures: Failures::none(),
     };
     Ok((wire, theirs))
+}
+
+/// How often a client tries to come before anybody listens.
+const MOST_TRIES: u32 = 10_000_000;
+
+/// The stream of a client at the socket at this path, once somebody listens there.
+pub(crate) fn connected<R: Net>(rt: &R, path: &str) -> Option<UnixStream> {
+    for _ in 0..MOST_TRIES {
+        if let Ok(stream) = UnixStream::connect(rt, path) {
+            return Some(stream);
+        }
+    }
+    None
+}
+
+/// Whether a client who sends this text is sent these replies, up to the end of the stream.
+pub(crate) fn is_answered(
+    alloc: Global,
+    stream: &mut UnixStream,
+    text: &[u8],
+    replies: &[u8],
+) -> bool {
+    stream.write_all(text).is_ok() && was_sent(alloc, stream, replies)
+}
+
+/// Whether a client at the socket at this path who sends this text is sent these replies.
+pub(crate) fn has_asked<R: Net>(
+    rt: &R,
+    alloc: Global,
+    path: &str,
+    text: &[u8],
+    replies: &[u8],
+) -> bool {
+    match UnixStream::connect(rt, path) {
+        Ok(mut stream) => is_answered(alloc, &mut stream, text, replies),
+        Err(_) => false,
+    }
 }
 
 /// Whether a client was sent this text, and then the end of the stream.
@@ -160,8 +197,8 @@ pub(crate) struct Hold {
 }
 
 impl Hold {
-    /// Holds line 1 of seat 1 until the first count isn't 0, where there is one. The second counts
-    /// once line 1 of seat 2 was answered.
+    /// Holds line 1 of seat 1 until the first count isn't 0, if there is one. The second counts once
+    /// line 1 of seat 2 was answered.
     pub(crate) fn new(until: Option<&Count>, second: &Count) -> Result<Hold, Fail> {
         let until = match until {
             Some(until) => Some(Arc::try_clone(until)?),
@@ -192,7 +229,7 @@ fn digit(end: End) -> u64 {
     }
 }
 
-/// Whether the count stops being 0, looked at for so long and no longer.
+/// Whether the count stops being 0, within as many looks as there may be.
 fn comes(count: &Count) -> bool {
     for _ in 0..MOST_TURNS {
         if count.load(Ordering::SeqCst) != 0 {

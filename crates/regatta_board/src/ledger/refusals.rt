@@ -1,4 +1,4 @@
-//! Which command is refused, and why.
+//! Which commands are refused, and why.
 ghost use Rattle.std.specs.Prelude.{◌≡◌, length, nat_le, true};
 ghost use Rattle.regatta_scores.specs.Journal.{entered, order, is_of_other_system};
 ghost use Rattle.regatta_scores.specs.Journal.{is_scored as is_scored_in, held as held_in};
@@ -13,14 +13,13 @@ use regatta_terms::{
     Role, Sail, may,
 };
 
-/// Whether she holds a decision of the protest committee.
+/// Whether she has a decision of the protest committee.
 fn is_decided(held: &Held) -> bool
     ensures { result ≡ refusals.is_decided held.now }
 {
     matches!(held.code, Some(Code::Dsq | Code::Dne)) || held.redress.is_some()
 }
 
-/// How many penalties of this kind she holds.
 fn penalties(kind: PenaltyKind, held: &Held) -> u8
     ensures { result ≡ refusals.penalties kind held.now }
 {
@@ -30,7 +29,6 @@ fn penalties(kind: PenaltyKind, held: &Held) -> u8
     }
 }
 
-/// Whether she holds no code, penalty or redress.
 fn holds_nothing(held: &Held) -> bool
     ensures { result ≡ refusals.holds_nothing held.now }
 {
@@ -38,21 +36,19 @@ fn holds_nothing(held: &Held) -> bool
 }
 
 impl Ledger {
-    /// Whether the boat is entered.
     fn is_entered(&self, boat: Sail) -> bool
         ensures { result ≡ refusals.is_entered self.now.entries boat }
     {
         self.kept.is_entered(boat)
     }
 
-    /// Whether the list of boats is full.
     fn is_full(&self) -> bool
         ensures { result ≡ nat_le limits.boats (length (entered self.now.entries)) }
     {
         self.kept.boats() >= MAX_BOATS
     }
 
-    /// Whether an entered boat stands in the race's finishing order.
+    /// Whether an entered boat is in the race's finishing order.
     fn is_placed(&self, race: RaceNo, boat: Sail) -> bool
         requires { refusals.is_entered self.now.entries boat ≡ true }
         ensures { result ≡ refusals.is_placed self.now.rules self.now.entries race boat }
@@ -60,7 +56,7 @@ impl Ledger {
         self.kept.is_placed(race, boat)
     }
 
-    /// What an entered boat holds in the race.
+    /// The code, penalties and redress of an entered boat in the race.
     fn held(&self, race: RaceNo, boat: Sail) -> Held
         requires { refusals.is_entered self.now.entries boat ≡ true }
         ensures { result ≡ held_in self.now.entries race boat }
@@ -68,21 +64,19 @@ impl Ledger {
         self.kept.held(race, boat)
     }
 
-    /// Whether the race counts.
     fn is_scored(&self, race: RaceNo) -> bool
         ensures { result ≡ is_scored_in self.now.entries race }
     {
         self.kept.is_scored(race)
     }
 
-    /// Whether nobody stands in the race's finishing order.
+    /// Whether the race's finishing order is empty.
     fn has_no_finisher(&self, race: RaceNo) -> bool
         ensures { result ≡ is_empty (order self.now.rules self.now.entries race) }
     {
         self.kept.has_no_finisher(race)
     }
 
-    /// Of Enter.
     fn enter_refusal(&self, boat: Sail) -> Option<Refusal>
         ensures { result ≡ refusals.enter_refusal limits self.now.entries boat }
     {
@@ -95,7 +89,7 @@ impl Ledger {
         }
     }
 
-    /// Of Finish and Time.
+    /// Why Finish or Time is refused, apart from the system of the series.
     fn place_refusal(&self, race: RaceNo, boat: Sail) -> Option<Refusal>
         ensures { result ≡ refusals.place_refusal self.now.rules self.now.entries race boat }
     {
@@ -108,7 +102,7 @@ impl Ledger {
         }
     }
 
-    /// Of Tie and Before.
+    /// Why Tie or Before is refused, apart from the system of the series.
     fn place_by_refusal(&self, race: RaceNo, boat: Sail, other: Sail) -> Option<Refusal>
         ensures { result
             ≡ refusals.place_by_refusal self.now.rules self.now.entries race boat other }
@@ -124,7 +118,6 @@ impl Ledger {
         }
     }
 
-    /// Of Strike.
     fn strike_refusal(&self, race: RaceNo, boat: Sail) -> Option<Refusal>
         ensures { result ≡ refusals.strike_refusal self.now.rules self.now.entries race boat }
     {
@@ -137,7 +130,7 @@ impl Ledger {
         }
     }
 
-    /// Of Mark and Redress.
+    /// Why Mark or Redress is refused.
     fn decision_refusal(&self, race: RaceNo, boat: Sail) -> Option<Refusal>
         ensures { result ≡ refusals.decision_refusal self.now.entries race boat }
     {
@@ -150,7 +143,6 @@ impl Ledger {
         }
     }
 
-    /// Of Penalise.
     fn penalty_refusal(&self, race: RaceNo, boat: Sail, kind: PenaltyKind) -> Option<Refusal>
         ensures { result ≡ refusals.penalty_refusal self.now.entries race boat kind }
     {
@@ -167,7 +159,6 @@ impl Ledger {
         }
     }
 
-    /// Of Clear.
     fn clear_refusal(&self, role: Role, race: RaceNo, boat: Sail) -> Option<Refusal>
         ensures { result ≡ refusals.clear_refusal self.now.entries role race boat }
     {
@@ -184,7 +175,6 @@ impl Ledger {
         }
     }
 
-    /// Of Score.
     fn score_refusal(&self, race: RaceNo) -> Option<Refusal>
         ensures { result ≡ refusals.score_refusal self.now.rules self.now.entries race }
     {
@@ -197,7 +187,6 @@ impl Ledger {
         }
     }
 
-    /// Of Unscore.
     fn unscore_refusal(&self, race: RaceNo) -> Option<Refusal>
         ensures { result ≡ refusals.unscore_refusal self.now.entries race }
     {
@@ -208,7 +197,7 @@ impl Ledger {
         }
     }
 
-    /// Why a command that the role may give is refused, or nothing.
+    /// Why a command that the role may give is refused, or `None`.
     fn command_refusal(&self, role: Role, command: Command) -> Option<Refusal>
         ensures { result
             ≡ refusals.command_refusal limits self.now.rules self.now.entries role command }
@@ -229,7 +218,7 @@ impl Ledger {
         }
     }
 
-    /// Whether the command belongs to the system that the rules of the series don't use.
+    /// Whether the rules of the series use the other system for places (RRS A3).
     fn is_of_other_system(&self, command: Command) -> bool
         ensures { result ≡ is_of_other_system self.now.rules command }
     {
@@ -249,7 +238,7 @@ impl Ledger {
         }
     }
 
-    /// Why the entry is refused, or nothing.
+    /// Why the entry is refused, or `None`.
     pub(crate) fn refusal(&self, entry: &Entry) -> Option<Refusal>
         ensures { result ≡ refusals.refusal limits self.now.rules self.now.entries entry.now }
     {

@@ -6,8 +6,8 @@ ghost use Rattle.regatta_scores.specs.RankLaws.{RowsTieCompletely};
 ghost use Rattle.regatta_scores.specs.RankLaws.{StandingHasTheEntered, RanksFollowEachOther};
 ghost use Rattle.regatta_scores.specs.RankLaws.{BeatsInThreeCases};
 
-/// The excluded scores are as many as the rules say or all that may be excluded, and none that
-/// counts and may be excluded is worse than one that is excluded (RRS A2.1, 90.3(b)).
+/// As many scores are excluded as the rules say, or all that may be excluded if those are fewer. No
+/// excludable score that counts is worse than an excluded one (RRS A2.1, 90.3(b)).
 pub fn worst_are_excluded()
     ensures { WorstAreExcluded }
 {}
@@ -18,31 +18,31 @@ pub fn comparison_is_total()
     ensures beating { BeatingIsAnOrder }
 {}
 
-/// From best to worst the scores that count rise, and are those that count in another order (RRS
+/// The scores of a boat that count, sorted from best to worst, rise and are the same scores (RRS
 /// A8.1).
 pub fn counting_scores_rise()
     ensures { CountingScoresRise }
 {}
 
-/// Boats with equally many races, and no score below 1.0, beat each other in the three cases of the
-/// rules, and in no other (RRS A2.1, A8.1, A8.2).
+/// If boats have equally many races and no score below 1.0, they beat each other in the three cases
+/// of the rules, and in no other (RRS A2.1, A8.1, A8.2).
 pub fn boats_are_beaten_in_three_cases()
     ensures { BeatsInThreeCases }
 {}
 
-/// Two boats share a rank exactly where no rule of A8 breaks their tie: their series scores, their
+/// Two boats share a rank if and only if no rule of A8 breaks their tie: their series scores, their
 /// scores that count from best to worst and their points in every scored race are equal.
 pub fn ties_are_complete()
     ensures boats { TiesAreComplete }
     ensures rows { RowsTieCompletely }
 {}
 
-/// The rows of the standing are the boats entered, each once, in order of rank and then sail.
+/// The standing has one row for each boat entered, in order of rank and then sail.
 pub fn standing_has_the_entered()
     ensures { StandingHasTheEntered }
 {}
 
-/// Ranks begin at 1, and after k boats that share rank r the next rank is r + k.
+/// Ranks start at 1, and after k boats that share rank r the next rank is r + k.
 pub fn ranks_follow_each_other()
     ensures { RanksFollowEachOther }
 {}

@@ -8,7 +8,7 @@ pub fn redress_leaves_others()
     ensures { RedressLeavesOthers }
 {}
 
-/// An average lies between the least and the greatest of the points that it counts, and is the
+/// An average is between the lowest and the highest of the points that it counts, rounded to the
 /// nearest tenth (RRS A9).
 pub fn averages_lie_between()
     ensures between { AveragesLieBetween }

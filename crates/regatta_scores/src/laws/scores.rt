@@ -1,4 +1,4 @@
-//! Laws of all scores by a journal.
+//! Laws of all scores of a journal.
 ghost use Rattle.std.specs.Prelude.{All};
 ghost use Rattle.regatta_terms.specs.Entries.{IsEntry};
 ghost use Rattle.regatta_terms.specs.Rules.{RulesParts};
@@ -8,7 +8,7 @@ ghost use Rattle.regatta_scores.specs.ScoreLaws.{BoatsBeatInThreeCases, EntriesB
 use regatta_terms::Entry;
 use regatta_terms::laws::parts_are_in_range;
 
-/// No score by a journal is below 1.0 point, whatever the rules: no boat's in a scored race, and
+/// No score of a journal is below 1.0 point, whatever the rules: no boat's in a scored race, and
 /// none in a cell of the standing.
 pub fn no_score_is_below_one(journal: &[Entry])
     ensures here { (rules : RulesParts) → HasNoScoreBelowOne rules journal.now }
@@ -17,8 +17,8 @@ pub fn no_score_is_below_one(journal: &[Entry])
     entries_are_in_range(journal);
 }
 
-/// Of any two boats one beats the other by a journal exactly in the three cases of the rules,
-/// whatever the rules of the series (RRS A2.1, A8.1, A8.2).
+/// By a journal, one boat beats another in the three cases of the rules and in no other, whatever
+/// the rules of the series (RRS A2.1, A8.1, A8.2).
 pub fn boats_of_a_journal_are_beaten_in_three_cases(journal: &[Entry])
     ensures here { (rules : RulesParts) → BoatsBeatInThreeCases rules journal.now }
     ensures everywhere { EntriesBeatInThreeCases }
@@ -26,7 +26,6 @@ pub fn boats_of_a_journal_are_beaten_in_three_cases(journal: &[Entry])
     entries_are_in_range(journal);
 }
 
-/// The parts of each entry are within their ranges.
 fn entries_are_in_range(journal: &[Entry])
     ensures { All IsEntry journal.now }
 {

@@ -1,11 +1,11 @@
-//! What a board tells, and that its standing is that of its entries taken anew: contracts say so,
-//! and here is shown that the calls do answer.
+//! A board's calls, and its standing beside the one computed from its entries: contracts say that
+//! they agree, and these tests that the calls do answer.
 
 use super::*;
 use regatta_board::{Board, ReplayFault, next_entry, standing_of};
 use regatta_scores::Standing;
 use regatta_tables::{Journal, read_journal, write_table};
-use regatta_terms::{Answer, Code, Command, RaceNo, Refusal, Role, Sail, Touched};
+use regatta_terms::{Absent, Answer, Code, Command, RaceNo, Refusal, Role, Sail, Touched};
 
 /// A and B tie for first, and C is third. Then A is disqualified.
 static DISQUALIFIED: &[u8] = b"1 1 SCORER ENTER A\n1 2 SCORER ENTER B\n1 3 SCORER ENTER C\n\
@@ -32,7 +32,7 @@ static DECIDED: &[u8] = b"1 1 SCORER ENTER A\n1 2 SCORER FINISH 1 A\n1 3 SCORER 
     1 4 JURY MARK 1 A DSQ\n1 5 JURY CLEAR 1 A\n1 6 JURY REDRESS 1 A 2.5\n";
 
 /// Three boats by corrected times, two of them equal, in a race that counts: A is struck, timed as
-/// before, struck and timed anew, and then disqualified (RRS A3, A6.1, A7).
+/// before, struck and timed again, and then disqualified (RRS A3, A6.1, A7).
 static TIMED: &[u8] = b"1 1 SCORER ENTER A\n1 2 SCORER ENTER B\n1 3 SCORER ENTER C\n\
     1 4 FINISH TIME 1 A 3605\n1 5 FINISH TIME 1 B 3600\n1 6 FINISH TIME 1 C 3605\n\
     1 7 SCORER SCORE 1\n1 8 SCORER STRIKE 1 A\n1 9 SCORER TIME 1 A 3605\n\
@@ -56,10 +56,10 @@ fn have_one_table(alloc: Global, one: &Standing, other: &Standing) -> Result<boo
     Ok(first.as_slice() == second.as_slice())
 }
 
-/// Whether the board's standing is that of its entries taken anew.
+/// Whether the board's standing is the one computed from its entries.
 fn is_of_its_entries(alloc: Global, board: &Board) -> Result<bool, Fail> {
-    let anew = standing_of(alloc, board.rules(), board.entries());
-    match (board.standing(), anew) {
+    let recomputed = standing_of(alloc, board.rules(), board.entries());
+    match (board.standing(), recomputed) {
         (Ok(kept), Ok(made)) => have_one_table(alloc, &kept, &made),
         _ => Ok(false),
     }
@@ -73,7 +73,7 @@ fn is_taken(alloc: Global, board: &mut Board, entry: Entry) -> Result<bool, Fail
     is_of_its_entries(alloc, board)
 }
 
-/// Whether the board takes these entries one by one, and its standing is that of its entries behind
+/// Whether the board takes these entries one by one, and its standing is that of its entries after
 /// each of them.
 fn are_taken(alloc: Global, board: &mut Board, entries: &[Entry]) -> Result<bool, Fail> {
     for entry in entries {
@@ -84,7 +84,7 @@ fn are_taken(alloc: Global, board: &mut Board, entries: &[Entry]) -> Result<bool
     Ok(true)
 }
 
-/// Whether the standing is that of the entries behind each entry of this journal.
+/// Whether the standing is that of the entries after each entry of this journal.
 fn is_so_throughout(alloc: Global, rules: Rules, text: &[u8]) -> Result<bool, Fail> {
     let journal = journal_of(alloc, text)?;
     match Board::open(alloc, rules) {
@@ -117,23 +117,23 @@ fn sail(text: &str) -> Result<Sail, Fail> {
     Ok(sail)
 }
 
-/// What is told of A while she is tied for first (RRS A7).
+/// Where A is while she is tied for first (RRS A7).
 const TIED: Touched = Touched {
     rank: 1,
     tied: true,
     net: 15,
 };
 
-/// What is told of her once she is disqualified (RRS A5.2).
+/// Where she is once she is disqualified (RRS A5.2).
 const LAST: Touched = Touched {
     rank: 3,
     tied: false,
     net: 40,
 };
 
-/// Whether the board tells its rules and its length, the last numbers of two seats, and where the
-/// first boat is, but not where the other is, who isn't entered.
-fn tells_what_it_took(board: &Board, tied: Sail, unknown: Sail) -> bool {
+/// Whether the board returns its rules and its length, the last numbers of two seats, and where the
+/// first boat is, but nothing of the other, who isn't entered.
+fn has_what_it_took(board: &Board, tied: Sail, unknown: Sail) -> bool {
     board.rank(tied) == Some(TIED)
         && board.rank(unknown).is_none()
         && *board.rules() == default_rules()
@@ -143,20 +143,19 @@ fn tells_what_it_took(board: &Board, tied: Sail, unknown: Sail) -> bool {
 }
 
 #[test]
-fn a_board_tells_what_it_took(rt: HostRuntime) -> Result<(), Fail> {
+fn a_board_has_what_it_took(rt: HostRuntime) -> Result<(), Fail> {
     let (tied, unknown) = (sail("A")?, sail("D")?);
     let board = board_of(rt.alloc(), TIED_FIRST)?;
-    assert!(rt; tells_what_it_took(&board, tied, unknown));
+    assert!(rt; has_what_it_took(&board, tied, unknown));
     Ok(())
 }
 
-/// The place of a prepared command, which holds this entry, and for which one race was scored at
-/// most.
+/// The place of a prepared command, which holds this entry, and for which one race was scored.
 fn prepared(board: &Board, entry: Entry) -> Option<u32> {
     match board.prepare(entry) {
         Ok(staged) => {
             let (found, rescored, place) = (*staged.entry(), staged.rescored(), staged.place());
-            (found == entry && rescored <= 1).then_some(place)
+            (found == entry && rescored == 1).then_some(place)
         }
         Err(_) => None,
     }
@@ -184,6 +183,59 @@ fn a_prepared_command_is_committed(rt: HostRuntime) -> Result<(), Fail> {
     let answer = Answer { place: 8, touched };
     let mut board = board_of(rt.alloc(), TIED_FIRST)?;
     assert!(rt; is_committed(&mut board, entry, answer) && board.rank(sail) == touched);
+    Ok(())
+}
+
+/// For how many races a command was scored that the board takes.
+fn rescored(board: &mut Board, entry: Entry) -> Option<u32> {
+    match board.prepare(entry) {
+        Ok(staged) => {
+            let rescored = staged.rescored();
+            let _ = board.commit(staged);
+            Some(rescored)
+        }
+        Err(_) => None,
+    }
+}
+
+/// Whether the board takes these entries one by one, and scores as many races for each.
+fn are_rescored(board: &mut Board, entries: &[Entry], counts: &[u32]) -> bool {
+    for (entry, count) in entries.iter().zip(counts) {
+        if rescored(board, *entry) != Some(*count) {
+            return false;
+        }
+    }
+    entries.len() == counts.len()
+}
+
+/// Whether a new board takes the entries of this journal, and scores as many races for each.
+fn scores_races(alloc: Global, text: &[u8], counts: &[u32]) -> Result<bool, Fail> {
+    let journal = journal_of(alloc, text)?;
+    match Board::open(alloc, default_rules()) {
+        Ok(mut board) => Ok(are_rescored(&mut board, journal.as_slice(), counts)),
+        Err(_) => Ok(false),
+    }
+}
+
+/// No race is scored for a command of a race that doesn't count, one for each other command of a
+/// race, and all that count for a late entry.
+#[test]
+fn a_command_scores_few_races(rt: HostRuntime) -> Result<(), Fail> {
+    let counts = [0, 0, 0, 0, 0, 1, 1, 1, 1, 1];
+    assert!(rt; scores_races(rt.alloc(), AVERAGE, &counts)?);
+    let counts = [0, 0, 0, 0, 0, 1, 1, 1, 2];
+    assert!(rt; scores_races(rt.alloc(), LATE_AND_AVERAGE, &counts)?);
+    Ok(())
+}
+
+/// Seat 1 has sent its eighth entry, and sends another under that number.
+#[test]
+fn a_number_of_a_seat_is_used_once(rt: HostRuntime) -> Result<(), Fail> {
+    let mut board = board_of(rt.alloc(), DISQUALIFIED)?;
+    let late = Command::Enter { sail: sail("D")? };
+    let entry = Entry::new(1, 8, Role::Scorer, late).ok_or("an entry")?;
+    let refused = board.apply(entry);
+    assert!(rt; refused == Err(Refusal::OldNumber { last: 8 }) && board.len() == 8);
     Ok(())
 }
 

@@ -7,8 +7,9 @@ fn end_of(alloc: Global, input: &mut Tape, output: &mut Tape) -> Result<(), RunF
     replay(alloc, input, output, &default_rules(), &[], Form::Table)
 }
 
-/// Whether a run over this text, in pieces of so many bytes, ends so and writes this, where a read
-/// fails once so many bytes were given, and a write once so many were taken.
+/// Whether a run over this text, in pieces of `piece` bytes, ends so and writes this. A read fails
+/// once as many bytes were given as the first limit says, and a write once as many were taken as the
+/// second says.
 fn says_within(
     alloc: Global,
     text: &[u8],
@@ -20,13 +21,13 @@ fn says_within(
     requires { 0 < piece }
 {
     let [gives, takes] = limits;
-    let mut input = failing(alloc, text, piece, gives, 0)?;
-    let mut output = taking(alloc, takes)?;
+    let mut input = Tape::new(alloc, text, piece, gives, 0)?;
+    let mut output = Tape::new(alloc, b"", 1, 0, takes)?;
     let found = end_of(alloc, &mut input, &mut output);
     Ok(found == how && output.written() == written)
 }
 
-/// Whether a run over this text, in pieces of so many bytes, ends so and writes this.
+/// Whether a run over this text, in pieces of `piece` bytes, ends so and writes this.
 pub(crate) fn says(
     alloc: Global,
     text: &[u8],
@@ -36,7 +37,7 @@ pub(crate) fn says(
 ) -> Result<bool, Fail>
     requires { 0 < piece }
 {
-    says_within(alloc, text, piece, [4_000_000, 1000], how, written)
+    says_within(alloc, text, piece, [PLENTY, 1000], how, written)
 }
 
 #[test]
@@ -57,41 +58,44 @@ fn a_writer_is_full(rt: HostRuntime) -> Result<(), Fail> {
     Ok(())
 }
 
-/// A line, and then so many bytes `X`.
+/// A line, and then `count` bytes `X`.
 fn long_text(alloc: Global, line: &[u8], count: usize) -> Result<Vec<u8>, Fail> {
     let rest = repeated(alloc, b'X', count)?;
-    joined(alloc, &[line, rest.as_slice()])
+    Ok(joined(alloc, &[line, rest.as_slice()])?)
 }
 
-/// Whether a run over a line that enters a boat, and so many bytes behind it, ends so and writes
-/// this.
+/// Whether a run over a line and `count` bytes after it ends so and writes this.
 fn says_of_long(
     alloc: Global,
+    line: &[u8],
     count: usize,
     how: Result<(), RunFault>,
     written: &[u8],
 ) -> Result<bool, Fail> {
-    let text = long_text(alloc, b"ENTER A\n", count)?;
+    let text = long_text(alloc, line, count)?;
     says(alloc, &text, 4096, how, written)
 }
 
 #[test]
 fn an_input_is_too_long(rt: HostRuntime) -> Result<(), Fail> {
     let fault = Err(RunFault::InputTooLong);
-    assert!(rt; says_of_long(rt.alloc(), 1_048_569, fault, b"OK 1 1 0.0\n")?);
+    let (alloc, line) = (rt.alloc(), b"ENTER A\n");
+    assert!(rt; says_of_long(alloc, line, 1_048_569, fault, b"OK 1 1 0.0\n")?);
     let written = b"OK 1 1 0.0\nNO 20\nTABLE 1 RACES\n1 A 0.0\n";
-    assert!(rt; says_of_long(rt.alloc(), 1_048_568, Ok(()), written)?);
+    assert!(rt; says_of_long(alloc, line, 1_048_568, Ok(()), written)?);
+    let written = b"BYE\nTABLE 0 RACES\n";
+    assert!(rt; says_of_long(alloc, b"QUIT\n", 2_000_000, Ok(()), written)?);
     Ok(())
 }
 
-/// So many bytes `X`, and then these lines.
+/// `count` bytes `X`, and then these lines.
 fn long_first_line(alloc: Global, count: usize, lines: &[u8]) -> Result<Vec<u8>, Fail> {
     let first = repeated(alloc, b'X', count)?;
-    joined(alloc, &[first.as_slice(), lines])
+    Ok(joined(alloc, &[first.as_slice(), lines])?)
 }
 
 /// Whether a run over such a text ends so and writes this.
-fn says_behind_long(
+fn says_after_long(
     alloc: Global,
     count: usize,
     lines: &[u8],
@@ -107,8 +111,8 @@ fn quit_ends_within_the_limit(rt: HostRuntime) -> Result<(), Fail> {
     let alloc = rt.alloc();
     let lines = b"\nQUIT\nENTER A\n";
     let written = b"NO 20\nBYE\nTABLE 0 RACES\n";
-    assert!(rt; says_behind_long(alloc, 1_048_570, lines, Ok(()), written)?);
+    assert!(rt; says_after_long(alloc, 1_048_570, lines, Ok(()), written)?);
     let fault = Err(RunFault::InputTooLong);
-    assert!(rt; says_behind_long(alloc, 1_048_571, b"\nQUIT\n", fault, b"NO 20\n")?);
+    assert!(rt; says_after_long(alloc, 1_048_571, b"\nQUIT\n", fault, b"NO 20\n")?);
     Ok(())
 }

@@ -1,65 +1,12 @@
 use super::handicap::{REPLIES, TABLE, TIMES};
 use super::*;
-use regatta_office::program;
+use regatta_fixtures::{Streams, status_of};
 use std::fs::Files;
 use std::net::Net;
 use std::process::Abort;
 use std::sync::Wait;
 use std::thread::Threads;
 use std::{env, fs};
-
-/// More bytes than any input here has.
-const PLENTY: usize = 4_000_000;
-
-/// The streams of a run over memory: what it is given, what it writes, and what it says.
-#[derive(Drop)]
-struct Streams {
-    input: Tape,
-    output: Tape,
-    errors: Tape,
-}
-
-impl Streams {
-    /// An input of this text, and room for all that comes.
-    fn of(alloc: Global, text: &str) -> Result<Streams, Fail> {
-        Streams::failing(alloc, text, PLENTY, 10_000, 10_000)
-    }
-
-    /// An input of this text that fails once it gave so many bytes, an output that fails once it
-    /// took so many, and room to say so many.
-    fn failing(
-        alloc: Global,
-        text: &str,
-        gives: usize,
-        takes: usize,
-        room: usize,
-    ) -> Result<Streams, Fail> {
-        Ok(Streams {
-            input: failing(alloc, text.as_bytes(), 5, gives, 0)?,
-            output: taking(alloc, takes)?,
-            errors: taking(alloc, room)?,
-        })
-    }
-
-    /// Was this said, and no more?
-    fn has_said(&self, text: &str) -> bool {
-        self.errors.written() == text.as_bytes()
-    }
-}
-
-/// The status of a run of the program over these streams. It has no contract, so that its callers
-/// are proved quickly.
-fn status_of<R>(rt: &R, words: &[&str], streams: &mut Streams) -> u8
-where
-    R: Files + AllocGlobal + Threads + Wait + Net + Sync,
-{
-    let Streams {
-        input,
-        output,
-        errors,
-    } = streams;
-    program(rt, words, input, output, errors)
-}
 
 /// How a run is to end: its status, what it writes, and what it says.
 #[derive(Drop)]
@@ -74,18 +21,17 @@ fn ends<R>(rt: &R, words: &[&str], text: &str, ending: &Ending) -> Result<bool, 
 where
     R: Files + AllocGlobal + Threads + Wait + Net + Sync,
 {
-    let mut streams = Streams::of(rt.alloc(), text)?;
+    let mut streams = Streams::new(rt.alloc(), text.as_bytes(), PLENTY)?;
     let status = status_of(rt, words, &mut streams);
-    let is_written = streams.output.written() == ending.written.as_bytes();
-    Ok(status == ending.status && is_written && streams.has_said(ending.said))
+    Ok(status == ending.status && streams.has_written(ending.written, ending.said))
 }
 
-/// Whether a run ends well that prints these replies, and then this.
+/// Whether a run succeeds that prints these replies, and then this.
 fn prints<R>(rt: &R, words: &[&str], text: &str, replies: &str, last: &str) -> Result<bool, Fail>
 where
     R: Files + AllocGlobal + Threads + Wait + Net + Sync,
 {
-    let mut streams = Streams::of(rt.alloc(), text)?;
+    let mut streams = Streams::new(rt.alloc(), text.as_bytes(), PLENTY)?;
     let status = status_of(rt, words, &mut streams);
     let printed = streams.output.written().strip_prefix(replies.as_bytes());
     Ok(status == 0 && printed == Some(last.as_bytes()) && streams.has_said(""))
@@ -207,12 +153,12 @@ fn are_refused<R>(rt: &R, words: &[&str]) -> Result<bool, Fail>
 where
     R: Files + AllocGlobal + Threads + Wait + Net + Sync,
 {
-    let mut streams = Streams::of(rt.alloc(), "ENTER A\n")?;
+    let mut streams = Streams::new(rt.alloc(), b"ENTER A\n", PLENTY)?;
     let status = status_of(rt, words, &mut streams);
     Ok(status == 2 && streams.output.written().is_empty() && !streams.has_said(""))
 }
 
-/// Words in which something is wanting, or that the program doesn't take.
+/// Arguments that lack something, or that the program doesn't know.
 static OTHER_WORDS: [&[&str]; 13] = [
     &[],
     &["serve"],
@@ -245,12 +191,12 @@ fn are_named<R: Abort>(rt: &R, help: &[u8], names: &[&str]) {
     }
 }
 
-/// Asserts that a run of these words ends well, and that all it prints is help with these names.
+/// Asserts that a run of these words succeeds, and that all it prints is help with these names.
 fn helps<R>(rt: &R, words: &[&str], names: &[&str]) -> Result<(), Fail>
 where
     R: Files + AllocGlobal + Threads + Wait + Net + Abort + Sync,
 {
-    let mut streams = Streams::of(rt.alloc(), "ENTER A\n")?;
+    let mut streams = Streams::new(rt.alloc(), b"ENTER A\n", PLENTY)?;
     assert_eq!(rt; status_of(rt, words, &mut streams), 0);
     assert!(rt; streams.has_said(""));
     are_named(rt, streams.output.written(), names);
@@ -463,8 +409,8 @@ where
     ends(rt, &words, "ENTER A\n", &start.ending)
 }
 
-/// Rules, journal file, entry list, start and socket are looked at in this order. A socket without
-/// a path is none.
+/// Rules, journal file, entry list, start and socket are checked in this order. A socket needs a
+/// path.
 #[test]
 fn serving_says_why_it_stops_short(rt: HostRuntime) -> Result<(), Fail> {
     let files = StartFiles::new(&rt)?;
@@ -478,7 +424,7 @@ fn serving_says_why_it_stops_short(rt: HostRuntime) -> Result<(), Fail> {
 
 /// A journal file that isn't there is a device fault.
 #[test]
-fn serving_wants_its_journal_file(rt: HostRuntime) -> Result<(), Fail> {
+fn serving_needs_its_journal_file(rt: HostRuntime) -> Result<(), Fail> {
     let words = ["serve", "--socket", NOWHERE, "--journal", "/no/such/file"];
     assert!(rt; refuses(&rt, &words, 3, "regatta: device fault\n")?);
     Ok(())
@@ -515,23 +461,23 @@ fn starts_of_the_other_system_are_refused(rt: HostRuntime) -> Result<(), Fail> {
     files.remove(&rt)
 }
 
-/// Whether the program has a device fault where its input gives, and its output takes, so many
-/// bytes.
+/// Whether the program has a device fault if its input gives `gives` bytes, and its output takes
+/// `takes`.
 fn has_device_fault<R>(rt: &R, words: &[&str], gives: usize, takes: usize) -> Result<bool, Fail>
 where
     R: Files + AllocGlobal + Threads + Wait + Net + Sync,
 {
-    let mut streams = Streams::failing(rt.alloc(), "ENTER A\n", gives, takes, 100)?;
+    let mut streams = Streams::failing(rt.alloc(), b"ENTER A\n", gives, takes, 100)?;
     let status = status_of(rt, words, &mut streams);
     Ok(status == 3 && streams.has_said("regatta: device fault\n"))
 }
 
-/// The status where so many bytes can be said.
+/// The status if standard error takes `room` bytes.
 fn status_saying<R>(rt: &R, words: &[&str], room: usize) -> Result<u8, Fail>
 where
     R: Files + AllocGlobal + Threads + Wait + Net + Sync,
 {
-    let mut streams = Streams::failing(rt.alloc(), "ENTER A\n", PLENTY, 10, room)?;
+    let mut streams = Streams::failing(rt.alloc(), b"ENTER A\n", PLENTY, 10, room)?;
     Ok(status_of(rt, words, &mut streams))
 }
 
@@ -556,7 +502,7 @@ fn new_folder(rt: &HostRuntime) -> Result<String, Fail> {
             return Ok(folder);
         }
     }
-    Err(Fail::new("no new folder is to be had"))
+    Err(Fail::new("no new folder"))
 }
 
 static STARTS: [Start; 13] = [
@@ -714,16 +660,16 @@ where
     refuses(rt, &["replay", "--journal", journal], 1, said)
 }
 
-/// Whether a start file of so many entries behind a version line is refused so.
+/// Whether a start file of a version line and `count` entries is refused so.
 fn refuses_entries<R>(rt: &R, files: &StartFiles, count: u32, said: &str) -> Result<bool, Fail>
 where
     R: Files + AllocGlobal + Threads + Wait + Net + Sync,
 {
-    let text = with_lines(rt.alloc(), b"REGATTA 2\n", b"1 1 SCORER ENTER A\n", count)?;
+    let text = repeated_line(rt.alloc(), b"REGATTA 2\n", b"1 1 SCORER ENTER A\n", count)?;
     refuses_file(rt, files, &text, said)
 }
 
-/// Whether a start file of so many blank lines is refused so.
+/// Whether a start file of `count` blank lines is refused so.
 fn refuses_blanks<R>(rt: &R, files: &StartFiles, count: usize, said: &str) -> Result<bool, Fail>
 where
     R: Files + AllocGlobal + Threads + Wait + Net + Sync,

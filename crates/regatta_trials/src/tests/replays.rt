@@ -1,5 +1,7 @@
 use super::faults::says;
 use super::*;
+use regatta_tables::read_journal;
+use regatta_terms::Refusal;
 
 /// A run without a start: its text, and what it writes.
 struct Talk {
@@ -76,6 +78,46 @@ fn lines_are_answered_and_the_table_is_printed(rt: HostRuntime) -> Result<(), Fa
                 talk.text
             );
         }
+    }
+    Ok(())
+}
+
+/// A start that replays, under default rules: how the run of one line ends, and what it writes.
+struct Started {
+    start: &'static [u8],
+    how: Result<(), RunFault>,
+    written: &'static str,
+}
+
+/// A seat whose number is the greatest has no next one; a jury may not enter a boat.
+static STARTED: [Started; 2] = [
+    Started {
+        start: b"1 4294967295 SCORER ENTER A\n",
+        how: Ok(()),
+        written: "NO 3\nTABLE 1 RACES\n1 A 0.0\n",
+    },
+    Started {
+        start: b"1 1 JURY ENTER A\n",
+        how: Err(RunFault::Start {
+            at: 1,
+            refusal: Refusal::NotYours,
+        }),
+        written: "",
+    },
+];
+
+/// Whether a run from this start ends so.
+fn starts(alloc: Global, run: &Started) -> Result<bool, Fail> {
+    let start = read_journal(alloc, run.start).ok().ok_or("a journal")?;
+    let entries = start.as_slice();
+    let (output, ended) = replayed(alloc, b"ENTER B\n", &default_rules(), entries, Form::Table)?;
+    Ok(ended == run.how && output.written() == run.written.as_bytes())
+}
+
+#[test]
+fn a_start_is_replayed_or_refused(rt: HostRuntime) -> Result<(), Fail> {
+    for run in &STARTED {
+        assert!(rt; starts(rt.alloc(), run)?);
     }
     Ok(())
 }

@@ -27,7 +27,7 @@ fn readers_and_writers_of_std_hand_their_bytes_on(rt: HostRuntime) -> Result<(),
 
 #[test]
 fn a_full_tape_takes_an_empty_write(rt: HostRuntime) -> Result<(), Fail> {
-    let mut output = taking(rt.alloc(), 5)?;
+    let mut output = Tape::new(rt.alloc(), b"", 1, 0, 5)?;
     assert_eq!(rt; put(&mut output, b"one"), Ok(()));
     assert_eq!(rt; put(&mut output, b"two"), Err(StreamFault));
     assert_eq!(rt; output.written(), b"onetw".as_slice());

@@ -13,13 +13,13 @@ enum Call {
     Prepare,
     /// It is appended.
     Apply,
-    /// The standing of the board behind the last entry.
+    /// The standing of the board after the last entry.
     Standing,
     /// The standing of all entries.
     StandingOf,
 }
 
-/// Every command by finishes, and who is where behind them: A is disqualified, cleared and struck
+/// Every command by finishes: A is disqualified, cleared and struck
 /// out, goes ahead of B and has a penalty of one point, and C is given a score.
 static FINISHES: &[u8] = b"1 1 SCORER ENTER A\n1 2 SCORER ENTER B\n1 3 SCORER ENTER C\n\
     1 4 SCORER FINISH 1 A\n1 5 SCORER TIE 1 B A\n1 6 SCORER FINISH 1 C\n1 7 SCORER SCORE 1\n\
@@ -37,67 +37,11 @@ static TIMES: &[u8] = b"1 1 SCORER ENTER A\n1 2 SCORER ENTER B\n1 3 SCORER ENTER
 
 static TIMES_TABLE: &[u8] = b"TABLE 3 RACES 1\n1 B 1.0 1.0\n2= A 2.5 2.5\n2= C 2.5 2.5\n";
 
-static FINISHES_CALLS: [(Call, u32); 33] = [
-    (Call::Open, 1340),
-    (Call::StandingOf, 1850),
-    (Call::Prepare, 380),
-    (Call::Apply, 380),
-    (Call::Prepare, 415),
-    (Call::Apply, 415),
-    (Call::Prepare, 440),
-    (Call::Apply, 440),
-    (Call::Prepare, 11),
-    (Call::Apply, 11),
-    (Call::Prepare, 11),
-    (Call::Apply, 11),
-    (Call::Prepare, 65),
-    (Call::Apply, 65),
-    (Call::Prepare, 85),
-    (Call::Apply, 85),
-    (Call::Prepare, 95),
-    (Call::Apply, 95),
-    (Call::Prepare, 95),
-    (Call::Apply, 95),
-    (Call::Prepare, 95),
-    (Call::Apply, 95),
-    (Call::Prepare, 95),
-    (Call::Apply, 95),
-    (Call::Prepare, 95),
-    (Call::Apply, 95),
-    (Call::Prepare, 95),
-    (Call::Apply, 95),
-    (Call::Prepare, 80),
-    (Call::Apply, 80),
-    (Call::Prepare, 85),
-    (Call::Apply, 85),
-    (Call::Standing, 20),
-];
-
-static TIMES_CALLS: [(Call, u32); 17] = [
-    (Call::Open, 1340),
-    (Call::StandingOf, 1850),
-    (Call::Prepare, 380),
-    (Call::Apply, 380),
-    (Call::Prepare, 415),
-    (Call::Apply, 415),
-    (Call::Prepare, 440),
-    (Call::Apply, 440),
-    (Call::Prepare, 11),
-    (Call::Apply, 11),
-    (Call::Prepare, 11),
-    (Call::Apply, 11),
-    (Call::Prepare, 11),
-    (Call::Apply, 11),
-    (Call::Prepare, 85),
-    (Call::Apply, 85),
-    (Call::Standing, 20),
-];
-
-/// What opening a board tells.
-fn opens(alloc: Global, rules: Rules) -> Told {
+/// The outcome of opening a board.
+fn open_outcome(alloc: Global, rules: Rules) -> Outcome {
     match Board::open(alloc, rules) {
         Ok(board) => ordinary_if(board.len() == 0),
-        Err(_) => Told::Wanting,
+        Err(_) => Outcome::OutOfMemory,
     }
 }
 
@@ -107,24 +51,24 @@ fn prepared(board: &Board, entry: Entry) -> Result<(Entry, u32), Refusal> {
     Ok((*staged.entry(), staged.place()))
 }
 
-/// What preparing the entry tells.
-fn prepares(board: &Board, entry: Entry) -> Told {
+/// The outcome of preparing the entry.
+fn prepare_outcome(board: &Board, entry: Entry) -> Outcome {
     match prepared(board, entry) {
         Ok((found, place)) => ordinary_if(found == entry && place as usize == board.len() + 1),
-        Err(why) => wanting_if(why == Refusal::NoMemory),
+        Err(why) => out_of_memory_if(why == Refusal::NoMemory),
     }
 }
 
-/// What appending the entry tells. Behind a refusal the journal has no more entries.
-fn applies(board: &mut Board, entry: Entry) -> Told {
+/// The outcome of appending the entry. After a refusal the journal has no more entries.
+fn apply_outcome(board: &mut Board, entry: Entry) -> Outcome {
     let before = board.len();
     match board.apply(entry) {
         Ok(answer) => ordinary_if(board.len() == before + 1 && answer.place as usize == before + 1),
-        Err(why) => wanting_if(why == Refusal::NoMemory && board.len() == before),
+        Err(why) => out_of_memory_if(why == Refusal::NoMemory && board.len() == before),
     }
 }
 
-/// A board, and what it has once all entries of a journal were appended.
+/// A board that takes the entries of a journal, and its table once it has them all.
 #[derive(Drop)]
 struct Clerk<'a> {
     alloc: Global,
@@ -135,17 +79,17 @@ struct Clerk<'a> {
 }
 
 impl Clerk<'_> {
-    /// What a call tells that makes no standing.
-    fn takes(&mut self, call: &Call) -> Told {
+    /// The outcome of a call that makes no standing.
+    fn call_outcome(&mut self, call: &Call) -> Outcome {
         match (call, self.entries.get(self.board.len())) {
-            (Call::Open, _) => opens(self.alloc, self.rules),
-            (Call::Prepare, Some(next)) => prepares(self.board, *next),
-            (Call::Apply, Some(next)) => applies(self.board, *next),
-            _ => Told::Other,
+            (Call::Open, _) => open_outcome(self.alloc, self.rules),
+            (Call::Prepare, Some(next)) => prepare_outcome(self.board, *next),
+            (Call::Apply, Some(next)) => apply_outcome(self.board, *next),
+            _ => Outcome::Other,
         }
     }
 
-    /// The standing of the board, whose one error is want of memory, or of the journal's entries.
+    /// The standing of the board, whose one error is out of memory, or of the journal's entries.
     fn standing(&self, call: &Call) -> Result<Standing, ReplayFault> {
         match call {
             Call::StandingOf => standing_of(self.alloc, &self.rules, self.entries),
@@ -153,76 +97,85 @@ impl Clerk<'_> {
         }
     }
 
-    /// What a standing that is made with so many bytes left tells by its table.
-    fn stands(&self, call: &Call, hoard: &mut Hoard, bytes: usize) -> Told {
+    /// The outcome of making a standing with `bytes` bytes left, by its table.
+    fn standing_outcome(&self, call: &Call, hoard: &mut Hoard, bytes: usize) -> Outcome {
         hoard.leave(bytes);
         let standing = self.standing(call);
         hoard.give_back();
         match standing {
             Ok(standing) => ordinary_if(has_table(self.alloc, &standing, self.table)),
-            Err(why) => wanting_if(why == ReplayFault::NoMemory),
+            Err(why) => out_of_memory_if(why == ReplayFault::NoMemory),
         }
     }
 }
 
 impl Caller<Call> for Clerk<'_> {
-    fn told(&mut self, call: &Call, hoard: &mut Hoard, bytes: usize) -> Told {
+    fn outcome(&mut self, call: &Call, hoard: &mut Hoard, bytes: usize) -> Outcome {
         if let Call::Standing | Call::StandingOf = call {
-            return self.stands(call, hoard, bytes);
+            return self.standing_outcome(call, hoard, bytes);
         }
         hoard.leave(bytes);
-        let told = self.takes(call);
+        let outcome = self.call_outcome(call);
         hoard.give_back();
-        told
+        outcome
     }
 }
 
-/// Whether all calls with these entries are refused first, so often at least, and the table behind
-/// them is this one.
-fn are_calls_refused(
-    alloc: Global,
+/// The calls by which a board takes this many entries one by one.
+fn calls_of(alloc: Global, entries: usize) -> Result<Vec<Call>, AllocError> {
+    let mut calls = vec![in alloc; Call::Open, Call::StandingOf]?;
+    for _ in 0..entries {
+        calls.push(Call::Prepare)?;
+        calls.push(Call::Apply)?;
+    }
+    calls.push(Call::Standing)?;
+    Ok(calls)
+}
+
+/// Whether each of these calls is refused first, on a new board.
+fn are_calls_refused<R: Files + AllocGlobal>(
+    rt: &R,
     rules: Rules,
     entries: &[Entry],
-    calls: &[(Call, u32)],
     table: &'static [u8],
+    calls: &[Call],
 ) -> bool {
-    match Board::open(alloc, rules) {
+    match Board::open(rt.alloc(), rules) {
         Ok(mut board) => {
             let mut clerk = Clerk {
-                alloc,
+                alloc: rt.alloc(),
                 rules,
                 entries,
                 table,
                 board: &mut board,
             };
-            are_refused(alloc, &mut clerk, calls)
+            are_refused(rt, &mut clerk, calls)
         }
         Err(_) => false,
     }
 }
 
-/// The same, with the entries of a journal.
-fn is_refused(
-    alloc: Global,
+/// Whether each call with the entries of this journal is refused first; the table is theirs.
+fn is_board_refused<R: Files + AllocGlobal>(
+    rt: &R,
     rules: Rules,
     text: &[u8],
-    calls: &[(Call, u32)],
     table: &'static [u8],
-) -> bool {
-    match read_journal(alloc, text) {
-        Ok(journal) => are_calls_refused(alloc, rules, journal.as_slice(), calls, table),
-        Err(_) => false,
-    }
+) -> Result<bool, Fail> {
+    let journal = read_journal(rt.alloc(), text).ok().ok_or("a journal")?;
+    let entries = journal.as_slice();
+    let calls = calls_of(rt.alloc(), entries.len())?;
+    Ok(are_calls_refused(rt, rules, entries, table, &calls))
 }
 
 #[test]
-fn a_board_wants_memory(rt: HostRuntime) {
-    let rules = default_rules();
-    assert!(rt; is_refused(rt.alloc(), rules, FINISHES, &FINISHES_CALLS, FINISHES_TABLE));
+fn a_board_runs_out_of_memory(rt: HostRuntime) -> Result<(), Fail> {
+    assert!(rt; is_board_refused(&rt, default_rules(), FINISHES, FINISHES_TABLE)?);
+    Ok(())
 }
 
 #[test]
-fn a_board_by_times_wants_memory(rt: HostRuntime) {
-    let rules = Rules::new(Absent::A52, None, &[2], true).unwrap();
-    assert!(rt; is_refused(rt.alloc(), rules, TIMES, &TIMES_CALLS, TIMES_TABLE));
+fn a_board_by_times_runs_out_of_memory(rt: HostRuntime) -> Result<(), Fail> {
+    assert!(rt; is_board_refused(&rt, handicap_rules(), TIMES, TIMES_TABLE)?);
+    Ok(())
 }

@@ -1,30 +1,41 @@
 //! Memory that runs out, for tests of calls that take the one heap there is.
 //!
 //! A `Hoard` takes all addresses that the process can have, without touching them. A test leaves a
-//! call as many bytes as it likes: one that wants more is refused by the heap itself. Each test is
-//! a process of its own, and makes one hoard.
+//! call as many bytes as it likes: the heap itself refuses a call that asks for more. Each test is a
+//! process of its own, and makes one hoard.
 
 use regatta_terms::{Entry, MAX_ENTRIES};
 use std::alloc::{AllocError, Global};
+use std::fs;
+use std::fs::Files;
 use std::mem::size_of;
 
-/// What a call answered.
+/// What came of a call.
 #[derive(Clone, Copy)]
-pub(crate) enum Told {
-    /// Want of memory, and all that is to stand stands.
-    Wanting,
-    /// What it answers with ample memory.
+pub(crate) enum Outcome {
+    /// It answered as with ample memory.
     Ordinary,
+    /// It answered as out of memory, and left all that it should leave.
+    OutOfMemory,
     /// Anything else.
     Other,
 }
 
-/// What makes calls that take memory. `C` names one of them.
+/// What makes calls that allocate. `C` names one of them.
 pub(crate) trait Caller<C> {
-    /// Makes the call, and tells what it answered. Only while the call runs does the hoard leave it
-    /// so many bytes: whatever else takes memory is done before `leave` or after `give_back`, so that
-    /// its want of memory isn't taken for the call's.
-    fn told(&mut self, call: &C, hoard: &mut Hoard, bytes: usize) -> Told;
+    /// Makes the call with `bytes` bytes left. Only while the call runs does the hoard leave it
+    /// these: whatever else allocates comes before `leave` or after `give_back`, so that its failed
+    /// allocation isn't taken for the call's.
+    fn outcome(&mut self, call: &C, hoard: &mut Hoard, bytes: usize) -> Outcome;
+}
+
+/// Whether the heap is a sanitizer's, as under `rt try --test`: such a process keeps a shadow of its
+/// memory at these addresses, and no other has anything there.
+pub(crate) fn is_sanitized<R: Files + AllocGlobal>(rt: &R) -> bool {
+    match fs::read(rt, "/proc/self/maps") {
+        Ok(maps) => maps.starts_with(b"7fff7000-8fff7000 "),
+        Err(_) => false,
+    }
 }
 
 /// Blocks that no other call gets.
@@ -34,11 +45,11 @@ struct Blocks {
     held: Vec<Vec<u8>>,
 }
 
-/// All of the process's memory, but for what `leave` leaves.
+/// All of the process's memory, except what `leave` leaves.
 ///
 /// The heap keeps a few of the smallest blocks apart when they are freed, and doesn't join them with
-/// their neighbours. In the region they would stand in the way of larger blocks, so that `leave`
-/// hands the heap others to keep, `apart`, which lie elsewhere.
+/// their neighbours. In the region they would be in the way of larger blocks. So `leave` gives the
+/// heap others to keep, `apart`, which lie elsewhere.
 #[derive(Drop)]
 pub(crate) struct Hoard {
     rest: Blocks,
@@ -65,8 +76,8 @@ const HALVINGS: usize = 64;
 /// How many units the largest of the small blocks has.
 const MOST_UNITS: usize = 129;
 
-/// Blocks of this size are taken of what is no region. That the last one which was given back can be
-/// had again tells a plain heap from a sanitizer's.
+/// Blocks of this size are taken outside the region. A plain heap gives the last of them again once
+/// it is given back; a sanitizer's doesn't.
 const WIDE: usize = 0x400_0000;
 
 /// The region is made of pieces that the heap takes from its own pages.
@@ -83,32 +94,32 @@ const KEPT_SIZES: usize = 64;
 const KEPT_OF_EACH: usize = 7;
 
 /// Blocks of these sizes mark where a run begins, and where a call has answered as it does with ample
-/// memory. No other block of a hoard has them, so that `bench/growths.c`, which counts requests,
-/// knows. They are too large for the heap to keep apart.
+/// memory, for `bench/growths.c`, which counts requests. No other block of a hoard has them. They are
+/// too large for the heap to keep apart.
 const BEGIN: usize = 2047;
 
 const END: usize = 2045;
 
-/// The heap gives memory in multiples of so many bytes.
+/// The heap gives memory in multiples of this many bytes.
 const UNIT: usize = 16;
 
-/// How many blocks of the stack are used once ahead of a hoard: some two MiB, a quarter of what a
-/// process has by default. Opening an office takes a little more than one.
+/// How many blocks of the stack are used once before a hoard is made: some two MiB, a quarter of what
+/// a process has by default. Opening an office takes a little more than one.
 const DEPTH: usize = 4096;
 
 /// More runs than any call is made of.
 pub(crate) const MOST_RUNS: usize = 100_000;
 
 /// How many runs go through the bytes by units, before these jump to the next room: 16 KiB, more than
-/// any call but the program's asks for besides its rooms. Of one that asks for more, requests would be
-/// passed over, as `bench/growths.py` tells: it needs more such runs.
+/// any call except the program's asks for besides its rooms. A call that asks for more needs more such
+/// runs, or requests are skipped, as `bench/growths.py` shows.
 pub(crate) const FINE_RUNS: usize = 1024;
 
 /// How many bytes are left to this run of a call, counted from 0: more by a unit each time, so that no
-/// growth that asks for more than the call has freed is passed over.
+/// allocation that asks for more than the call has freed is skipped.
 ///
 /// Some calls ask for rooms for all entries that there may be. At any moment such a call has some of
-/// these rooms, and fewer bytes besides than so many runs go through; so behind them the bytes jump to
+/// these rooms, and fewer bytes besides than this many runs go through; after them the bytes jump to
 /// the next room.
 pub(crate) fn bytes_left(run: usize, fine_runs: usize) -> usize {
     let runs = fine_runs.max(1);
@@ -122,7 +133,7 @@ impl Blocks {
         Ok(Blocks { alloc, held })
     }
 
-    /// Takes one more block, where there is one and the list has room for it.
+    /// Takes one more block, if there is one and the list has room for it.
     fn hold(&mut self, size: usize) -> bool {
         if self.held.len() >= BLOCKS {
             return false;
@@ -133,7 +144,7 @@ impl Blocks {
         }
     }
 
-    /// Takes so many blocks of this size, or all that there are.
+    /// Takes `most` blocks of this size, or all that there are.
     fn fill(&mut self, size: usize, most: usize) {
         for _ in 0..most {
             if !self.hold(size) {
@@ -164,8 +175,8 @@ impl Blocks {
         }
     }
 
-    /// Whether the last block that was taken can be had again once it was given back. It can where
-    /// there was none but the first.
+    /// Whether the heap gives the last block again once it is given back. True also if there was at
+    /// most one.
     fn gives_again(&mut self) -> bool {
         if self.held.len() < 2 {
             return true;
@@ -187,7 +198,7 @@ impl Blocks {
 /// A block of the stack.
 type Depth = [u8; 512];
 
-/// Uses the stack so many blocks deep, each made of the one above. The stack finds no more addresses
+/// Uses the stack `depth` blocks deep, each made of the one above. The stack finds no more addresses
 /// beside a hoard, and keeps those that it once had.
 fn deepest(depth: usize, above: &Depth) -> u8 {
     let mut block = *above;
@@ -199,8 +210,8 @@ fn deepest(depth: usize, above: &Depth) -> u8 {
 }
 
 impl Hoard {
-    /// Takes all memory but for a region of the heap. None at the heap of a sanitizer, which doesn't
-    /// give the same memory twice, and ends the process where it has no more.
+    /// Takes all memory except a region of the heap. None if the heap can't be exhausted: a
+    /// sanitizer's doesn't give the same memory twice, and ends the process if it has no more.
     pub(crate) fn new(alloc: Global) -> Result<Option<Hoard>, AllocError> {
         let depth = deepest(DEPTH, &[0; 512]);
         let mut hoard = Hoard {
@@ -214,7 +225,7 @@ impl Hoard {
         Ok(if is_plain { Some(hoard) } else { None })
     }
 
-    /// Takes all memory but for the region. False at the heap of a sanitizer.
+    /// Takes all memory except the region. False if the heap can't be exhausted.
     fn take_all(&mut self, depth: u8) -> bool {
         self.apart.take_kept();
         self.region.fill(PIECE, PIECES);
@@ -231,8 +242,8 @@ impl Hoard {
         is_plain
     }
 
-    /// Leaves so many bytes to the calls that come, until `give_back`. `has_left` says where there
-    /// weren't so many.
+    /// Leaves this many bytes to the calls that come, until `give_back`. `has_left` is false from then
+    /// on if there were fewer.
     pub(crate) fn leave(&mut self, bytes: usize) {
         // what the heap keeps apart from now on are blocks of `apart`, and none of the region
         self.region.take_kept();
@@ -261,42 +272,42 @@ impl Hoard {
         self.region.held.clear();
     }
 
-    /// Takes in what a run told. None where the call is to be made again, with more bytes; else the
-    /// runs are at their end: whether the call answered as it does with ample memory, was refused
-    /// before that at least so often, and was left its bytes each time.
-    pub(crate) fn verdict(&mut self, told: Told, least: u32) -> Option<bool> {
-        match told {
-            Told::Wanting if self.has_left => {
+    /// Takes in the outcome of a run. None if the call has to be made again, with more bytes. Else the
+    /// runs are at their end: whether the call answered as it does with ample memory, was refused at
+    /// least once before that, and was left its bytes each time.
+    pub(crate) fn verdict(&mut self, outcome: Outcome) -> Option<bool> {
+        match outcome {
+            Outcome::OutOfMemory if self.has_left => {
                 self.refused = self.refused.saturating_add(1);
                 None
             }
-            Told::Ordinary if self.has_left => {
-                let is_due = least <= self.refused;
+            Outcome::Ordinary if self.has_left => {
+                let was_refused = 0 < self.refused;
                 self.refused = 0;
                 self.region.hold(END);
                 self.give_back();
-                Some(is_due)
+                Some(was_refused)
             }
             _ => Some(false),
         }
     }
 
     /// Makes the call with more and more bytes left to it, until it answers as it does with ample
-    /// memory: whether it was refused before that at least so often, and answered nothing else.
-    fn refuses<C, M: Caller<C>>(&mut self, caller: &mut M, call: &C, least: u32) -> bool {
+    /// memory: whether it was refused before that, and answered as out of memory each time.
+    fn refuses<C, M: Caller<C>>(&mut self, caller: &mut M, call: &C) -> bool {
         for run in 0..MOST_RUNS {
-            let told = caller.told(call, self, bytes_left(run, FINE_RUNS));
-            if let Some(passed) = self.verdict(told, least) {
+            let outcome = caller.outcome(call, self, bytes_left(run, FINE_RUNS));
+            if let Some(passed) = self.verdict(outcome) {
                 return passed;
             }
         }
         false
     }
 
-    /// Whether each of these calls is refused first, so often at least, one after another.
-    fn refuses_each<C, M: Caller<C>>(&mut self, caller: &mut M, calls: &[(C, u32)]) -> bool {
-        for (call, least) in calls {
-            if !self.refuses(caller, call, *least) {
+    /// Whether each of these calls is refused first, one after another.
+    pub(crate) fn refuses_each<C, M: Caller<C>>(&mut self, caller: &mut M, calls: &[C]) -> bool {
+        for call in calls {
+            if !self.refuses(caller, call) {
                 return false;
             }
         }
@@ -304,16 +315,17 @@ impl Hoard {
     }
 }
 
-/// Whether each of these calls is made, with each growth refused first, and was refused so often at
-/// least. True, with no call made, at a heap that has no hoard.
-pub(crate) fn are_refused<C, M: Caller<C>>(
-    alloc: Global,
+/// Whether each of these calls is made, with each allocation refused first. With a sanitizer's heap
+/// none is made, and that is right; any other heap has to be exhausted.
+pub(crate) fn are_refused<R: Files + AllocGlobal, C, M: Caller<C>>(
+    rt: &R,
     caller: &mut M,
-    calls: &[(C, u32)],
+    calls: &[C],
 ) -> bool {
-    match Hoard::new(alloc) {
+    let is_sanitized = is_sanitized(rt);
+    match Hoard::new(rt.alloc()) {
         Ok(Some(mut hoard)) => hoard.refuses_each(caller, calls),
-        Ok(None) => true,
+        Ok(None) => is_sanitized,
         Err(_) => false,
     }
 }

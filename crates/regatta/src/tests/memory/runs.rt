@@ -2,11 +2,10 @@
 ghost use Rattle.std.specs.Prelude.{◌≡◌};
 
 use super::super::offices::opened_office;
-use super::super::serving::{Left, leaves};
+use super::super::serving::{Served, leaves};
 use super::super::wires::{Wires, count, door_of, was_sent};
 use super::*;
 use regatta_office::{Form, OfficeName, OpenGate, Opened, RunFault, ServeFault, replay, serve};
-use std::fs::Files;
 use std::io::Read;
 use std::marker::Brand;
 use std::net::Net;
@@ -20,7 +19,7 @@ static REPLIES: &[u8] = b"OK 1 1 0.0\nOK 2 1= 0.0\nOK 3 1= 0.0\nOK 4 1= 0.0\nOK 
 
 static TABLE: &[u8] = b"TABLE 2 RACES 1\n1 B 1.0 1.0\n2 A 2.0 2.0\n";
 
-/// Whether these are whole replies, the first of those that are due.
+/// Whether these are whole replies to some first lines.
 fn are_first_replies(written: &[u8]) -> bool {
     REPLIES.starts_with(written) && (written.is_empty() || written.ends_with(b"\n"))
 }
@@ -32,32 +31,35 @@ fn is_whole(written: &[u8]) -> bool {
         && written.len() == REPLIES.len() + TABLE.len()
 }
 
-/// What a replay over these tapes tells with so many bytes left. Behind a refusal whole replies were
-/// written, and no final part.
-fn replays_over(
+/// The outcome of a replay over these tapes with `bytes` bytes left. After a refusal whole replies
+/// were written, and no final part.
+fn replay_over(
     alloc: Global,
     hoard: &mut Hoard,
     bytes: usize,
     input: &mut Tape,
     output: &mut Tape,
-) -> Told {
+) -> Outcome {
     hoard.leave(bytes);
     let ended = replay(alloc, input, output, &default_rules(), &[], Form::Table);
     hoard.give_back();
     match ended {
         Ok(()) => ordinary_if(is_whole(output.written())),
-        Err(RunFault::NoMemory) => wanting_if(are_first_replies(output.written())),
-        Err(_) => Told::Other,
+        Err(RunFault::NoMemory) => out_of_memory_if(are_first_replies(output.written())),
+        Err(_) => Outcome::Other,
     }
 }
 
 /// The same, over tapes that are made for it.
-pub(super) fn replays(alloc: Global, hoard: &mut Hoard, bytes: usize) -> Told {
-    match (tape(alloc, LINES, 0), tape(alloc, b"", 400)) {
+pub(super) fn replay_outcome(alloc: Global, hoard: &mut Hoard, bytes: usize) -> Outcome {
+    match (
+        Tape::new(alloc, LINES, 7, PLENTY, 0),
+        Tape::new(alloc, b"", 7, 0, 400),
+    ) {
         (Ok(mut input), Ok(mut output)) => {
-            replays_over(alloc, hoard, bytes, &mut input, &mut output)
+            replay_over(alloc, hoard, bytes, &mut input, &mut output)
         }
-        _ => Told::Other,
+        _ => Outcome::Other,
     }
 }
 
@@ -71,11 +73,11 @@ struct Words {
     says: &'static [u8],
 }
 
-/// What a run of the program tells, by its status, what it wrote, and what it said. Behind a refusal
+/// The outcome of a run of the program by its status, what it wrote, and what it said. After a refusal
 /// whole replies were written, and nothing else.
-fn run_tells(call: &Words, status: u8, written: &[u8], said: &[u8]) -> Told {
+fn run_outcome(call: &Words, status: u8, written: &[u8], said: &[u8]) -> Outcome {
     if status == 3 && said == b"regatta: no memory\n".as_slice() {
-        return wanting_if(are_first_replies(written));
+        return out_of_memory_if(are_first_replies(written));
     }
     let is_written = if call.writes {
         is_whole(written)
@@ -85,18 +87,18 @@ fn run_tells(call: &Words, status: u8, written: &[u8], said: &[u8]) -> Told {
     ordinary_if(is_written && status == call.status && said == call.says)
 }
 
-/// What the program tells with so many bytes left.
-fn runs<R>(rt: &R, hoard: &mut Hoard, bytes: usize, call: &Words) -> Told
+/// The outcome of a run of the program with `bytes` bytes left.
+fn program_outcome<R>(rt: &R, hoard: &mut Hoard, bytes: usize, call: &Words) -> Outcome
 where
     R: Files + AllocGlobal + Threads + Wait + Net + Sync,
 {
     let Ok(mut streams) = Streams::new(rt.alloc(), LINES, 4000) else {
-        return Told::Other;
+        return Outcome::Other;
     };
     hoard.leave(bytes);
     let status = status_of(rt, call.words, &mut streams);
     hoard.give_back();
-    run_tells(
+    run_outcome(
         call,
         status,
         streams.output.written(),
@@ -105,40 +107,41 @@ where
 }
 
 /// How many runs of the program go through the bytes by units, before these jump to the next room:
-/// 32 KiB, since reading its words takes memory as well.
+/// 32 KiB, since reading its arguments allocates as well.
 const PROGRAM_FINE_RUNS: usize = 2048;
 
-/// Whether a run of the program is refused first, so often at least. It goes by no `Caller`: behind a
-/// trait no proof knows that threads may share the runtime.
-fn is_run_refused<R>(rt: &R, hoard: &mut Hoard, call: &Words, least: u32) -> bool
+/// Whether a run of the program is refused first. It goes by no `Caller`: of a runtime in a trait no
+/// proof knows that threads may share it.
+fn is_run_refused<R>(rt: &R, hoard: &mut Hoard, call: &Words) -> bool
 where
     R: Files + AllocGlobal + Threads + Wait + Net + Sync,
 {
     for run in 0..MOST_RUNS {
-        let told = runs(rt, hoard, bytes_left(run, PROGRAM_FINE_RUNS), call);
-        if let Some(passed) = hoard.verdict(told, least) {
+        let outcome = program_outcome(rt, hoard, bytes_left(run, PROGRAM_FINE_RUNS), call);
+        if let Some(passed) = hoard.verdict(outcome) {
             return passed;
         }
     }
     false
 }
 
-/// Whether these runs of the program are refused first, so often at least. True, with no run made, at
-/// a heap that has no hoard. It goes on behind a run that fails: a way out of the loop would be one
-/// more that is proved to give the hoard back.
-fn are_runs_refused<R>(rt: &R, calls: &[(Words, u32)]) -> bool
+/// Whether these runs of the program are refused first. With a sanitizer's heap none is made. It goes
+/// on after a run that fails: a way out of the loop would be one more that is proved to give the
+/// hoard back.
+fn are_runs_refused<R>(rt: &R, calls: &[Words]) -> bool
 where
     R: Files + AllocGlobal + Threads + Wait + Net + Sync,
 {
+    let is_sanitized = is_sanitized(rt);
     match Hoard::new(rt.alloc()) {
         Ok(Some(mut hoard)) => {
             let mut passed = true;
-            for (call, least) in calls {
-                passed = is_run_refused(rt, &mut hoard, call, *least) && passed;
+            for call in calls {
+                passed = is_run_refused(rt, &mut hoard, call) && passed;
             }
             passed
         }
-        Ok(None) => true,
+        Ok(None) => is_sanitized,
         Err(_) => false,
     }
 }
@@ -146,35 +149,29 @@ where
 /// A path at which no socket can be made.
 const NOWHERE: &str = "/no/such/folder/race.sock";
 
-/// A replay; and a run that serves, which reads its words, opens and splits an office, and finds that
-/// its socket can't be made.
-static RUNS: [(Words, u32); 2] = [
-    (
-        Words {
-            words: &["replay"],
-            status: 0,
-            writes: true,
-            says: b"",
-        },
-        3520,
-    ),
-    (
-        Words {
-            words: &["serve", "--socket", NOWHERE, "--clients", "2"],
-            status: 3,
-            writes: false,
-            says: b"regatta: device fault\n",
-        },
-        7700,
-    ),
+/// A replay; and a run that serves, which reads its arguments, opens and splits an office, and finds
+/// that its socket can't be made.
+static RUNS: [Words; 2] = [
+    Words {
+        words: &["replay"],
+        status: 0,
+        writes: true,
+        says: b"",
+    },
+    Words {
+        words: &["serve", "--socket", NOWHERE, "--clients", "2"],
+        status: 3,
+        writes: false,
+        says: b"regatta: device fault\n",
+    },
 ];
 
 #[test]
-fn the_program_wants_memory(rt: HostRuntime) {
+fn the_program_runs_out_of_memory(rt: HostRuntime) {
     assert!(rt; are_runs_refused(&rt, &RUNS));
 }
 
-/// The fault by which serving one client ends with so many bytes left.
+/// The fault by which serving one client ends with `bytes` bytes left.
 fn serve_at<N, H, R>(
     rt: &R,
     alloc: Global,
@@ -214,8 +211,8 @@ fn serve_once<R: Threads + Wait + Net + Sync>(
     }
 }
 
-/// The fault by which serving ends with so many bytes left, where its client is sent nothing. Her
-/// line isn't read where no thread is to be had, so that she is cut off.
+/// The fault by which serving ends with `bytes` bytes left, if its client is sent nothing. Their line
+/// isn't read if there is no thread, so they are cut off.
 fn silent_fault<R: Threads + Wait + Net + Sync>(
     rt: &R,
     alloc: Global,
@@ -230,7 +227,7 @@ fn silent_fault<R: Threads + Wait + Net + Sync>(
     Ok(if replies.is_empty() { fault } else { None })
 }
 
-/// Whether serving is refused its memory, and then its thread, with each growth refused first.
+/// Whether serving is refused its memory, and then its thread, with each allocation refused first.
 fn is_serving_refused<R: Threads + Wait + Net + Sync>(
     rt: &R,
     alloc: Global,
@@ -244,25 +241,26 @@ fn is_serving_refused<R: Threads + Wait + Net + Sync>(
             _ => return Ok(false),
         }
     }
-    Ok(hoard.has_left() && 3 < memory && 100 < threads)
+    Ok(hoard.has_left() && 0 < memory && 0 < threads)
 }
 
-/// The same, with a hoard of its own, or at a heap that has none.
-fn is_refused<R: Threads + Wait + Net + Sync>(rt: &R, alloc: Global) -> Result<bool, Fail> {
+/// The same, with a hoard of its own. With a sanitizer's heap it isn't tried.
+fn is_refused<R: Files + AllocGlobal + Threads + Wait + Net + Sync>(rt: &R) -> Result<bool, Fail> {
+    let (alloc, is_sanitized) = (rt.alloc(), is_sanitized(rt));
     match Hoard::new(alloc)? {
         Some(mut hoard) => is_serving_refused(rt, alloc, &mut hoard),
-        None => Ok(true),
+        None => Ok(is_sanitized),
     }
 }
 
-/// Where all memory is taken, no thread is to be had, so that no session begins whose memory could
-/// be wanting. With ample memory the client is served.
+/// If all memory is taken, there is no thread, so no session begins that could run out of memory.
+/// With ample memory the client is served.
 #[test]
-fn serving_wants_memory(rt: HostRuntime) -> Result<(), Fail> {
+fn serving_runs_out_of_memory(rt: HostRuntime) -> Result<(), Fail> {
     let alloc = rt.alloc();
-    assert!(rt; is_refused(&rt, alloc)?);
+    assert!(rt; is_refused(&rt)?);
     let (door, mut end) = door_of(&rt, alloc, b"ENTER A\n", false, &count(alloc)?)?;
-    let left = Left {
+    let left = Served {
         back: Ok(1),
         journal: b"1 1 SCORER ENTER A\n",
     };

@@ -12,7 +12,7 @@ use regatta_scores::{
 };
 use regatta_terms::{Award, Redress, Seconds, Tenths};
 
-/// So many tenths, or ten where there are none such.
+/// `points` tenths, or ten if that is out of range.
 fn tenths(points: u32) -> Tenths {
     Tenths::new(points).unwrap_or(Tenths::new(10).unwrap())
 }
@@ -25,7 +25,6 @@ enum Call {
     Scores,
     Averages,
     Excluded,
-    Line,
     Ranks,
     RanksOf,
     AddBoat,
@@ -37,17 +36,17 @@ enum Call {
     Hold,
 }
 
-/// Whether these are so many tenths each.
+/// Whether these are the points wanted, in tenths.
 fn are_tenths(points: &[Tenths], wanted: &[u32]) -> bool {
-    for (found, due) in points.iter().zip(wanted) {
-        if *found != tenths(*due) {
+    for (found, right) in points.iter().zip(wanted) {
+        if *found != tenths(*right) {
             return false;
         }
     }
     points.len() == wanted.len()
 }
 
-/// Whether these are the points of the sheet's boats, under the default rules. Behind a refusal no
+/// Whether these are the points of the sheet's boats, under the default rules. After a refusal no
 /// race is counted as scored.
 fn are_points(alloc: Global, sheet: &RaceSheet, wanted: &[u32]) -> Result<bool, AllocError> {
     let mut work = Work::new();
@@ -58,7 +57,7 @@ fn are_points(alloc: Global, sheet: &RaceSheet, wanted: &[u32]) -> Result<bool, 
     }
 }
 
-/// Whether three boats have scores of which the first stands in the order, and no other. Behind a
+/// Whether three boats have scores of which the first stands in the order, and no other. After a
 /// refusal no race is counted as scored.
 fn are_scores(alloc: Global, sheet: &RaceSheet) -> Result<bool, AllocError> {
     let mut work = Work::new();
@@ -92,7 +91,7 @@ fn are_averages(alloc: Global) -> Result<bool, AllocError> {
     Ok(are_tenths(averages(alloc, &row)?.as_slice(), &[75, 20, 48]))
 }
 
-/// A score of so many tenths that may be excluded.
+/// A score of `points` tenths that may be excluded.
 fn scored(points: u32) -> Scored {
     Scored {
         points: tenths(points),
@@ -112,8 +111,8 @@ fn line(alloc: Global, points: u32) -> Result<BoatLine, AllocError> {
     BoatLine::new(alloc, &[tenths(points), tenths(points)], &[false, false])
 }
 
-/// Three lines, of which two have the same points, and the third has more. They take no memory, so
-/// that they may be made in the call that is refused.
+/// Three lines, of which two have the same points, and the third has more. They don't allocate, so
+/// they may be made in the call that is refused.
 fn three_lines(alloc: Global) -> Result<[BoatLine; 3], AllocError> {
     Ok([line(alloc, 15)?, line(alloc, 15)?, line(alloc, 30)?])
 }
@@ -122,33 +121,36 @@ fn three_lines(alloc: Global) -> Result<[BoatLine; 3], AllocError> {
 /// is third (RRS A8).
 fn is_first_shared(places: &Places) -> bool {
     match places.as_slice() {
-        [one, two, three] => one.tied && two.rank == 1 && three.rank == 3,
+        [one, two, three] => {
+            (one.tied, two.tied, three.tied) == (true, true, false)
+                && (one.rank, two.rank, three.rank) == (1, 1, 3)
+        }
         _ => false,
     }
 }
 
-/// Whether the ranks of three lines are due.
+/// Whether three lines are ranked.
 fn are_ranked(alloc: Global) -> Result<bool, AllocError> {
     let places = ranks(alloc, &three_lines(alloc)?)?;
     Ok(is_first_shared(&places))
 }
 
-/// Whether the ranks of references to three lines are due.
+/// Whether references to three lines are ranked.
 fn are_references_ranked(alloc: Global) -> Result<bool, AllocError> {
     let [one, two, three] = &three_lines(alloc)?;
     let places = ranks_of(alloc, &[one, two, three])?;
     Ok(is_first_shared(&places))
 }
 
-/// What a change tells with so many bytes left: the boats then have these points.
-fn change_tells(
+/// The outcome of a change with `bytes` bytes left: the boats then have these points.
+fn change_outcome(
     alloc: Global,
     hoard: &mut Hoard,
     bytes: usize,
     sheet: &RaceSheet,
     change: Change,
     wanted: &[u32],
-) -> Told
+) -> Outcome
     requires { Allows sheet.now change }
 {
     hoard.leave(bytes);
@@ -156,7 +158,7 @@ fn change_tells(
     hoard.give_back();
     match changed {
         Ok(next) => ordinary_if(are_points(alloc, &next, wanted) == Ok(true)),
-        Err(_) => Told::Wanting,
+        Err(_) => Outcome::OutOfMemory,
     }
 }
 
@@ -167,7 +169,7 @@ struct Races {
 }
 
 impl Races {
-    /// What a change of a race tells, in which nobody has finished, or the first boat has. One more
+    /// The outcome of a change of a race in which nobody has finished, or the first boat has. One more
     /// boat is added, or one finishes, by her place or by her corrected time (RRS A3). Or a boat ties
     /// with the first or goes ahead of her (RRS A7), or she goes out of the order, or has a penalty
     /// (RRS 44.3(c)).
@@ -178,7 +180,7 @@ impl Races {
         bytes: usize,
         blank: &RaceSheet,
         first: &RaceSheet,
-    ) -> Told
+    ) -> Outcome
         requires blank { blank.now ≡ empty_sheet 3 }
         requires first { first.now ≡ after (empty_sheet 3) (Last 0) }
     {
@@ -195,12 +197,12 @@ impl Races {
             Call::Ahead => (first, Change::Ahead { boat: 1, other: 0 }, &[20, 10, 40]),
             Call::Out => (first, Change::Out { boat: 0 }, &[40, 40, 40]),
             Call::Hold => (first, Change::Hold { boat: 0, held }, &[20, 40, 40]),
-            _ => return Told::Other,
+            _ => return Outcome::Other,
         };
-        change_tells(self.alloc, hoard, bytes, sheet, change, wanted)
+        change_outcome(self.alloc, hoard, bytes, sheet, change, wanted)
     }
 
-    /// Whether a call that changes no sheet answers what is due, of a race in which the first of
+    /// Whether a call that changes no sheet answers as it should, of a race in which the first of
     /// three boats has finished, or of a series.
     fn is_answered(&self, call: &Call, first: &RaceSheet) -> Result<bool, AllocError> {
         let alloc = self.alloc;
@@ -209,7 +211,6 @@ impl Races {
             Call::Scores => are_scores(alloc, first),
             Call::Averages => are_averages(alloc),
             Call::Excluded => is_excluded(alloc),
-            Call::Line => Ok(line(alloc, 15)?.net() == 30),
             Call::Ranks => are_ranked(alloc),
             Call::RanksOf => are_references_ranked(alloc),
             Call::Sheet => {
@@ -220,15 +221,15 @@ impl Races {
         }
     }
 
-    /// What a call tells with so many bytes left.
-    fn told_with(
+    /// The outcome of a call with `bytes` bytes left.
+    fn outcome_with(
         &self,
         call: &Call,
         hoard: &mut Hoard,
         bytes: usize,
         blank: &RaceSheet,
         first: &RaceSheet,
-    ) -> Told
+    ) -> Outcome
         requires blank { blank.now ≡ empty_sheet 3 }
         requires first { first.now ≡ after (empty_sheet 3) (Last 0) }
     {
@@ -244,44 +245,43 @@ impl Races {
                 hoard.leave(bytes);
                 let answer = self.is_answered(call, first);
                 hoard.give_back();
-                tells(answer)
+                outcome_of(answer)
             }
         }
     }
 }
 
 impl Caller<Call> for Races {
-    fn told(&mut self, call: &Call, hoard: &mut Hoard, bytes: usize) -> Told {
+    fn outcome(&mut self, call: &Call, hoard: &mut Hoard, bytes: usize) -> Outcome {
         let Ok(blank) = RaceSheet::new(self.alloc, 3) else {
-            return Told::Other;
+            return Outcome::Other;
         };
         match blank.after(Change::Last { boat: 0 }) {
-            Ok(first) => self.told_with(call, hoard, bytes, &blank, &first),
-            Err(_) => Told::Other,
+            Ok(first) => self.outcome_with(call, hoard, bytes, &blank, &first),
+            Err(_) => Outcome::Other,
         }
     }
 }
 
-static CALLS: [(Call, u32); 15] = [
-    (Call::Sheet, 5),
-    (Call::Points, 4),
-    (Call::Scores, 4),
-    (Call::Averages, 2),
-    (Call::Excluded, 1),
-    (Call::Line, 0),
-    (Call::Ranks, 7),
-    (Call::RanksOf, 5),
-    (Call::AddBoat, 70),
-    (Call::Last, 10),
-    (Call::Timed, 10),
-    (Call::Join, 10),
-    (Call::Ahead, 10),
-    (Call::Out, 5),
-    (Call::Hold, 9),
+static CALLS: [Call; 14] = [
+    Call::Sheet,
+    Call::Points,
+    Call::Scores,
+    Call::Averages,
+    Call::Excluded,
+    Call::Ranks,
+    Call::RanksOf,
+    Call::AddBoat,
+    Call::Last,
+    Call::Timed,
+    Call::Join,
+    Call::Ahead,
+    Call::Out,
+    Call::Hold,
 ];
 
 #[test]
-fn scoring_wants_memory(rt: HostRuntime) {
+fn scoring_runs_out_of_memory(rt: HostRuntime) {
     let alloc = rt.alloc();
-    assert!(rt; are_refused(alloc, &mut Races { alloc }, &CALLS));
+    assert!(rt; are_refused(&rt, &mut Races { alloc }, &CALLS));
 }

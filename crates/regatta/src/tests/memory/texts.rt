@@ -14,7 +14,7 @@ const FILE: &[u8] = b"REGATTA 2\n1 1 SCORER ENTER A\n1 2 SCORER ENTER B\n\
     1 3 SCORER ENTER C\n1 4 SCORER FINISH 1 A\n1 5 SCORER TIE 1 B A\n\
     1 6 SCORER FINISH 1 C\n1 7 SCORER SCORE 1\n1 8 JURY MARK 1 A DSQ\n";
 
-/// The table behind its entries.
+/// The table after its entries.
 const TABLE: &[u8] = b"TABLE 3 RACES 1\n1 B 1.0 1.0\n2 C 2.0 2.0\n3 A 4.0 4.0/DSQ\n";
 
 /// What `SHOW` prints of these entries.
@@ -40,7 +40,7 @@ enum Text {
     Reply,
 }
 
-/// The calls that write, with what is due, that read, and that make a tape.
+/// The calls that write, each with its text, that read, and that make a tape.
 #[derive(Drop)]
 enum Call {
     Write(Text, &'static [u8]),
@@ -50,22 +50,22 @@ enum Call {
     Tape,
 }
 
-/// What reading a journal tells.
-fn reads_journal(alloc: Global) -> Told {
+/// The outcome of reading a journal.
+fn journal_outcome(alloc: Global) -> Outcome {
     match read_journal(alloc, FILE) {
         Ok(journal) => ordinary_if(journal.as_slice().len() == 8),
-        Err(why) => wanting_if(why == JournalFault::NoMemory),
+        Err(why) => out_of_memory_if(why == JournalFault::NoMemory),
     }
 }
 
-/// What reading an entry list tells.
-fn reads_list(alloc: Global) -> Told {
+/// The outcome of reading an entry list.
+fn list_outcome(alloc: Global) -> Outcome {
     match read_entries(alloc, LIST) {
         Ok(sails) => ordinary_if(match sails.as_slice() {
             [one, two] => one.text() == "GBR12" && two.text() == "NED7",
             _ => false,
         }),
-        Err(why) => wanting_if(why == EntriesFault::NoMemory),
+        Err(why) => out_of_memory_if(why == EntriesFault::NoMemory),
     }
 }
 
@@ -82,7 +82,7 @@ fn starts(alloc: Global, sails: &[Sail]) -> Result<bool, AllocError> {
 
 /// Whether a tape is made, with nothing on it.
 fn makes_tape(alloc: Global) -> Result<bool, AllocError> {
-    Ok(tape(alloc, FILE, 100)?.written().is_empty())
+    Ok(Tape::new(alloc, FILE, 7, PLENTY, 100)?.written().is_empty())
 }
 
 /// What the texts are made of.
@@ -111,31 +111,31 @@ impl Texts {
         }
     }
 
-    /// What appending the text tells. Behind a refusal there is what was there, and no less room.
-    fn appends(&self, what: &Text, wanted: &[u8], text: &mut Vec<u8>) -> Told {
+    /// The outcome of appending the text. After a refusal there is what was there, and no less room.
+    fn append_outcome(&self, what: &Text, wanted: &[u8], text: &mut Vec<u8>) -> Outcome {
         let room = text.capacity();
         match self.write(what, text) {
             Ok(()) => ordinary_if(text.strip_prefix(BEFORE) == Some(wanted)),
-            Err(_) => wanting_if(text.as_slice() == BEFORE && room <= text.capacity()),
+            Err(_) => out_of_memory_if(text.as_slice() == BEFORE && room <= text.capacity()),
         }
     }
 }
 
 impl Caller<Call> for Texts {
-    fn told(&mut self, call: &Call, hoard: &mut Hoard, bytes: usize) -> Told {
+    fn outcome(&mut self, call: &Call, hoard: &mut Hoard, bytes: usize) -> Outcome {
         let Ok(mut text) = Vec::from_slice(self.alloc, BEFORE) else {
-            return Told::Other;
+            return Outcome::Other;
         };
         hoard.leave(bytes);
-        let told = match call {
-            Call::Write(what, wanted) => self.appends(what, wanted, &mut text),
-            Call::ReadJournal => reads_journal(self.alloc),
-            Call::ReadEntries => reads_list(self.alloc),
-            Call::Start => tells(starts(self.alloc, self.sails.as_slice())),
-            Call::Tape => tells(makes_tape(self.alloc)),
+        let outcome = match call {
+            Call::Write(what, wanted) => self.append_outcome(what, wanted, &mut text),
+            Call::ReadJournal => journal_outcome(self.alloc),
+            Call::ReadEntries => list_outcome(self.alloc),
+            Call::Start => outcome_of(starts(self.alloc, self.sails.as_slice())),
+            Call::Tape => outcome_of(makes_tape(self.alloc)),
         };
         hoard.give_back();
-        told
+        outcome
     }
 }
 
@@ -154,28 +154,28 @@ fn texts_of(alloc: Global) -> Option<Texts> {
     }
 }
 
-static CALLS: [(Call, u32); 10] = [
-    (Call::Write(Text::Entry, b"1 1 SCORER ENTER A"), 4),
-    (Call::Write(Text::Journal, FILE), 75),
-    (Call::Write(Text::Table, TABLE), 6),
-    (Call::Write(Text::Csv, CSV), 40),
-    (Call::Write(Text::Sheet, SHEET), 75),
-    (Call::Write(Text::Reply, b"BYE\n"), 4),
-    (Call::ReadJournal, 35),
-    (Call::ReadEntries, 55),
-    (Call::Start, 18),
-    (Call::Tape, 18),
+static CALLS: [Call; 10] = [
+    Call::Write(Text::Entry, b"1 1 SCORER ENTER A"),
+    Call::Write(Text::Journal, FILE),
+    Call::Write(Text::Table, TABLE),
+    Call::Write(Text::Csv, CSV),
+    Call::Write(Text::Sheet, SHEET),
+    Call::Write(Text::Reply, b"BYE\n"),
+    Call::ReadJournal,
+    Call::ReadEntries,
+    Call::Start,
+    Call::Tape,
 ];
 
-/// Whether all texts are written and read, and a tape is made, with each growth refused first.
-fn are_texts_refused(alloc: Global) -> bool {
-    match texts_of(alloc) {
-        Some(mut texts) => are_refused(alloc, &mut texts, &CALLS),
+/// Whether all texts are written and read, and a tape is made, with each allocation refused first.
+fn are_texts_refused<R: Files + AllocGlobal>(rt: &R) -> bool {
+    match texts_of(rt.alloc()) {
+        Some(mut texts) => are_refused(rt, &mut texts, &CALLS),
         None => false,
     }
 }
 
 #[test]
-fn texts_and_tapes_want_memory(rt: HostRuntime) {
-    assert!(rt; are_texts_refused(rt.alloc()));
+fn texts_and_tapes_run_out_of_memory(rt: HostRuntime) {
+    assert!(rt; are_texts_refused(&rt));
 }

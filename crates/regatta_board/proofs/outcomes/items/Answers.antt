@@ -4,7 +4,6 @@ use Rattle.regatta_board.specs.declared.outcomes.Outcome.{Outcome}
 use Rattle.regatta_board.proofs.Maps.{pushed_more, pushed_all}
 use Rattle.regatta_board.proofs.outcomes.items.Goals as goal
 
--- what an average is made from
 abbrev item : Outcome → RowItem
 item o = record { plain = o.plain; redress = o.held.redress }
 

@@ -3,7 +3,7 @@ use Rattle.regatta_scores.specs.Ranking.{BoatScores}
 use Rattle.regatta_board.specs.Scoring.{with_changed}
 use Rattle.regatta_board.proofs.scoring.put_changed.Given as goal
 
--- the boats so far are done, and what is new of the others is still there
+-- the lines of the boats so far are moved in, and the new lines of the others are still there
 abbrev pub invariant-loop-boat : goal.invariant-loop-boat
 invariant-loop-boat l = record {
   done : l.lines ≡ with_changed l.initial.lines (take l.boat l.initial.changed.items);

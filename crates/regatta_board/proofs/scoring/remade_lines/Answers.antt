@@ -8,7 +8,7 @@ use Rattle.regatta_board.proofs.ScoringFacts.{old_long, new_long, turned_even, t
 use Rattle.regatta_board.proofs.ScoringFacts.{turned_all}
 use Rattle.regatta_board.proofs.scoring.remade_lines.Goals as goal
 
--- the column that the race had
+-- the race's old column
 was : (c : goal.After-deref-5)
     → c.index-old.result.now ≡ get_or c.args.scoring.now.columns (c.args.race - 1) []
 was c =

@@ -2,7 +2,7 @@ use Rattle.std.proofs.Common.{◌≡◌, ◌≤◌, ◌-◌, length, replicate, 
 use Rattle.regatta_board.proofs.sheets.unchanged.Given as goal
 use Rattle.regatta_terms.specs.declared.limits.TheConstants.{MAX_RACES}
 
--- no sheet so far
+-- no race so far has a sheet of its own
 abbrev pub invariant-loop-changed : goal.invariant-loop-changed
 invariant-loop-changed l =
     (length l.changed.items ≤ MAX_RACES)

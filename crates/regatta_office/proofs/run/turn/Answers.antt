@@ -47,7 +47,7 @@ returns-then-most-count-clause-long g c = λ e.
     talked_long _ _ _ _ _ _ _ _ _ _ (take_front c.min-2.result c.in-Ok.count buf few) full more
     c.in-Ok.ensures.bytes.0 (rw c.in-Ok-false.field-0-test at c.in-Ok-false.ensures.went)
 
--- memory was wanting at the end of the text
+-- an allocation failed at the end of the text
 pub returns-in-Err-clause-stopped : goal.returns-in-Err-clause-stopped
 returns-in-Err-clause-stopped g c = λ is.
     let same = c.in-Err.ensures.silent (ap Err
@@ -66,7 +66,7 @@ returns-in-Err-take_all-clause-cut g c = λ is.
     (c.in-Err-take_all.ensures.cut (ap Err (write_is c.in-Err-take_all.fault
     c.scribe_fault-in-Err-take_all.result c.scribe_fault-in-Err-take_all.ensures is)))
 
--- memory was wanting in the piece
+-- an allocation failed in the piece
 pub returns-in-Err-take_all-clause-stopped : goal.returns-in-Err-take_all-clause-stopped
 returns-in-Err-take_all-clause-stopped g c = λ is.
     let few : c.min-2.result ≤ c.in-Ok.count = omega (arith, c.min-2.ensures) in
@@ -76,7 +76,7 @@ returns-in-Err-take_all-clause-stopped g c = λ is.
     (memory_is c.in-Err-take_all.fault c.scribe_fault-in-Err-take_all.result
     c.scribe_fault-in-Err-take_all.ensures is)))
 
--- a write that failed or wants memory is told as no other fault
+-- a failed write or allocation is reported as no other fault
 pub returns-in-Err-clause-read : goal.returns-in-Err-clause-read
 returns-in-Err-clause-read g c = λ is. read_is_no_write c.in-Err.fault c.scribe_fault.result _
     c.scribe_fault.ensures is

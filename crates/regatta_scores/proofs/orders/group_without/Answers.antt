@@ -2,7 +2,7 @@ use Rattle.std.proofs.Common.{rules, ◌∙◌, ap, filter, nat_eq, not, ℕ}
 use Rattle.std.proofs.lemmas.Fn.{filter_same}
 use Rattle.regatta_scores.proofs.orders.group_without.Goals as goal
 
--- what is kept of the copy is what the closure lets through
+-- retaining items of the copy is filtering by the closure
 pub returns : goal.returns
 returns c =
     let others = λ (other : ℕ). not (nat_eq other c.args.boat) in

@@ -4,7 +4,7 @@ use Rattle.regatta_scores.specs.Sheet.{nothing_held}
 use Rattle.regatta_scores.specs.PlacedPoints.{came_with}
 use Rattle.regatta_scores.proofs.points.number_came.Given as goal
 
--- those so far who came are counted
+-- the boats so far that came are counted
 abbrev pub invariant-loop-boat : goal.invariant-loop-boat
 invariant-loop-boat l = record {
   counted : l.count ≡ count_by (λ boat.

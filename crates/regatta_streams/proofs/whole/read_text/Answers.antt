@@ -3,7 +3,7 @@ use Rattle.std.proofs.lemmas.List.{length-take}
 use Rattle.regatta_streams.proofs.KnownBytes.{consumes-then}
 use Rattle.regatta_streams.proofs.whole.read_text.Goals as goal
 
--- the piece whose room was refused was taken, too
+-- a piece that found no memory was read, too
 pub returns-then-is_err-clause-taken : goal.returns-then-is_err-clause-taken
 returns-then-is_err-clause-taken g c =
     let so_far = c.loop-buffer.text.items in

@@ -3,7 +3,7 @@ use Rattle.std.specs.Io.KnownBytes.{Consumes, Keeps}
 use Rattle.regatta_streams.specs.declared.whole.TheConstants.{PIECE}
 use Rattle.regatta_streams.proofs.whole.read_text.Given as goal
 
--- what is read so far is the text at hand, no call failed, and what was written stays
+-- `text` is what was read so far, no call failed, and what was written stays
 abbrev pub invariant-loop-buffer : goal.invariant-loop-buffer
 invariant-loop-buffer g l = record {
   buffer : length l.buffer ≡ PIECE;

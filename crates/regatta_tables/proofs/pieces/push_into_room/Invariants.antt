@@ -1,7 +1,7 @@
 use Rattle.std.proofs.Common.{◌≡◌, ◌++◌, take, vec_capacity}
 use Rattle.regatta_tables.proofs.pieces.push_into_room.Given as goal
 
--- the bytes so far stand in the text
+-- the text ends in the bytes so far
 abbrev pub invariant-loop-byte : goal.invariant-loop-byte
 invariant-loop-byte l = record {
   text : l.out.items ≡ l.fn.out.items ++ take l.byte-index l.piece;

@@ -2,7 +2,7 @@ use Rattle.std.proofs.Common.{◌≡◌, ◌≤◌, ◌+◌, ◌++◌, take, len
 use Rattle.std.specs.List.{flat_map}
 use Rattle.regatta_tables.proofs.pieces.push_pieces.Given as goal
 
--- the pieces so far stand in the text
+-- the text ends in the pieces so far
 abbrev pub invariant-loop-piece : goal.invariant-loop-piece
 invariant-loop-piece l = record {
   text : l.out.items ≡ l.fn.out.items ++ flat_map (λ piece. piece.now)

@@ -2,7 +2,7 @@ use Rattle.std.proofs.Common.{◌≡◌, map, take}
 use Rattle.csv.specs.Records.{fields_of}
 use Rattle.regatta_tables.proofs.records.fields_in.Given as goal
 
--- the fields so far are those ahead of the one at which the iterator stands
+-- the fields so far are those before the iterator's next one
 abbrev pub invariant-loop-field : goal.invariant-loop-field
 invariant-loop-field l = record {
   one_row : l.field-iterator.row.now ≡ l.row;

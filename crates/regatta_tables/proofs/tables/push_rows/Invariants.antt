@@ -4,7 +4,7 @@ use Rattle.regatta_tables.specs.Lines.{line}
 use Rattle.regatta_tables.specs.TableTexts.{row_words}
 use Rattle.regatta_tables.proofs.tables.push_rows.Given as goal
 
--- the rows so far stand in the text
+-- the text ends in the rows so far
 abbrev pub invariant-loop-row : goal.invariant-loop-row
 invariant-loop-row l = record {
   text : l.out.items ≡ l.fn.out.items

@@ -6,7 +6,7 @@ use Rattle.regatta_office.specs.Scribes.{point}
 use Rattle.regatta_office.proofs.Streams.{went-then, went-quit}
 use Rattle.regatta_office.proofs.scribe.Scribe.gather.Goals as goal
 
--- the bytes so far, that one, and those behind it
+-- the bytes so far, this one, and those after it
 split : (piece : List ℕ) (i : ℕ) → i < length piece
     → (take i piece ++ get_or piece i 0 ∷ []) ++ drop (i + 1) piece ≡ piece
 split piece i h = ap (λ (bytes : List ℕ). bytes ++ drop (i + 1) piece)

@@ -34,7 +34,7 @@ returns-in-Err-clause-cut g c = λ is.
     cut-more _ _ _ _ (point c.loop-taken.self) taken piece _ (slice_behind taken piece)
     c.loop-taken.invariant.went (c.in-Err.ensures.cut (err_as (Option ℕ) _ _ is))
 
--- memory was wanting
+-- an allocation failed
 pub returns-in-Err-clause-stopped : goal.returns-in-Err-clause-stopped
 returns-in-Err-clause-stopped g c = λ is.
     let piece = c.args.piece.now in

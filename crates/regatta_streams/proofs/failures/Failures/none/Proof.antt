@@ -1,4 +1,4 @@
--- `new` picks 0. Assumes `Logic`.
+-- `none` picks 0. Assumes `Logic`.
 use Rattle.std.proofs.Common.{[], ◌∷◌, refl}
 use seplogic.Ra.Ura.{Ura}
 use mir.Syntax.{Fn}

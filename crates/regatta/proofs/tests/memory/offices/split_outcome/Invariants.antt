@@ -1,4 +1,4 @@
-use Rattle.regatta.proofs.tests.memory.offices.splits.Given as goal
+use Rattle.regatta.proofs.tests.memory.offices.split_outcome.Given as goal
 
 -- the office that was just opened
 abbrev pub ghosts-passes_made : goal.ghosts-passes_made

@@ -1,4 +1,4 @@
-use Rattle.regatta.proofs.tests.sessions.the_desk_goes_on_behind_two_sessions.Given as goal
+use Rattle.regatta.proofs.tests.sessions.the_desk_goes_on_after_two_sessions.Given as goal
 
 -- the office that was just opened
 abbrev pub ghosts-go_on : goal.ghosts-go_on

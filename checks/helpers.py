@@ -1,0 +1,178 @@
+"""What the checks share: the program, offices and windows to try the tools with."""
+from __future__ import annotations
+
+import contextlib
+import fcntl
+import os
+import pty
+import re
+import select
+import signal
+import subprocess
+import sys
+import tempfile
+import termios
+import time
+import unittest
+from collections.abc import Callable, Iterator
+
+TOP = os.path.dirname(os.path.dirname(os.path.abspath(__file__)))
+TOOLS = os.path.join(TOP, "tools")
+PROGRAM = os.path.realpath(os.environ.get("REGATTA", os.path.join(TOP, "crates/regatta/out/regatta")))
+PATIENCE = 30.0
+ENTRIES = """\
+Boat,Sail,Helm,Club
+Kestrel,GBR 101,A. Moss,Sandhaven
+Sea Pink,GBR 7,J. Hale,Sandhaven
+Windhover,NED 12,P. de Wit,Zierik
+Plover,FRA 9,C. Blanc,Brest
+Turnstone,GBR 33,R. Shaw,Sandhaven
+Curlew,IRL 5,M. Byrne,Howth
+Dunlin,IRL 55,O. Roche,Howth
+"""
+sys.path.insert(0, TOOLS)
+
+
+def until(what: str, holds: Callable[[], object], patience: float = PATIENCE) -> None:
+    """Waits for what has to come about."""
+    end = time.monotonic() + patience
+    while not holds():
+        if time.monotonic() > end:
+            raise AssertionError(f"{what} didn't come about")
+        time.sleep(0.02)
+
+
+def run(tool: str, *words: str, lines: str = "", cwd: str | None = None) -> tuple[str, int]:
+    """What a tool prints, fed by a pipe, and its status."""
+    done = subprocess.run([sys.executable, os.path.join(TOOLS, tool), *words], cwd=cwd,
+                          input=lines, encoding="utf-8", stdout=subprocess.PIPE,
+                          stderr=subprocess.STDOUT, timeout=PATIENCE)
+    return done.stdout, done.returncode
+
+
+class Window:
+    """A terminal and the tool that runs in it, as at a person's desk."""
+
+    def __init__(self, *words: str, cwd: str | None = None) -> None:
+        self.master, slave = pty.openpty()
+        modes = termios.tcgetattr(slave)
+        modes[1] &= ~termios.OPOST
+        modes[3] &= ~termios.ECHO
+        termios.tcsetattr(slave, termios.TCSANOW, modes)
+
+        def own() -> None:
+            """The terminal is the command's own, so that Ctrl-C reaches it."""
+            fcntl.ioctl(0, termios.TIOCSCTTY, 0)
+            signal.signal(signal.SIGINT, signal.SIG_DFL)
+
+        tool = [sys.executable, os.path.join(TOOLS, words[0]), *words[1:]]
+        self.process = subprocess.Popen(
+            tool, cwd=cwd, stdin=slave, stdout=slave, stderr=slave, start_new_session=True,
+            preexec_fn=own, env={**os.environ, "TERM": "dumb", "PYTHONIOENCODING": "utf-8"})
+        os.close(slave)
+        self.text = ""
+
+    def read(self, wanted: str, patience: float = PATIENCE) -> str:
+        """What is printed up to a text, which a regular expression names."""
+        end = time.monotonic() + patience
+        while not (found := re.search(wanted, self.text, re.MULTILINE)):
+            left = end - time.monotonic()
+            if left < 0 or not self.more(left):
+                raise AssertionError(f"{wanted!r} didn't come; what came is\n{self.text}")
+        text, self.text = self.text[:found.end()], self.text[found.end():]
+        return text
+
+    def more(self, left: float) -> bool:
+        """Reads what comes; whether anything did."""
+        if not select.select([self.master], [], [], left)[0]:
+            return False
+        try:
+            data = os.read(self.master, 65536)
+        except OSError:
+            return False
+        self.text += data.decode("utf-8", "replace")
+        return bool(data)
+
+    def type(self, line: str) -> None:
+        os.write(self.master, line.encode() + b"\n")
+
+    def say(self, line: str, wanted: str) -> str:
+        """Types a line, and reads up to a text."""
+        self.type(line)
+        return self.read(wanted)
+
+    def press(self, key: str = "\x03") -> None:
+        os.write(self.master, key.encode())
+
+    def rest(self) -> tuple[str, int]:
+        """What is printed until the tool ends, and its status."""
+        end = time.monotonic() + PATIENCE
+        while time.monotonic() < end and self.more(0.5) or self.process.poll() is None:
+            if time.monotonic() > end:
+                raise AssertionError(f"the tool didn't end; what came is\n{self.text}")
+        return self.text, self.process.wait(PATIENCE)
+
+    def close(self) -> None:
+        if self.process.poll() is None:
+            self.process.kill()
+        self.process.wait()
+        os.close(self.master)
+
+
+class Series(unittest.TestCase):
+    """A trial in a folder of its own, with one series `cup`."""
+
+    def setUp(self) -> None:
+        holder = tempfile.TemporaryDirectory()
+        self.addCleanup(holder.cleanup)
+        self.here = holder.name
+        self.make("cup")
+
+    def make(self, name: str, entries: str = ENTRIES, **values: str) -> str:
+        """A folder with a series of these settings."""
+        import settings
+        folder = os.path.join(self.here, name)
+        os.mkdir(folder)
+        with open(os.path.join(folder, "entries.csv"), "w", encoding="utf-8") as file:
+            file.write(entries)
+        with open(os.path.join(folder, "series.ini"), "w", encoding="utf-8") as file:
+            file.write(settings.text_of({"title": "Autumn Cup", "program": PROGRAM, "zone": "UTC",
+                                         **values}))
+        return folder
+
+    def window(self, *words: str) -> Window:
+        window = Window(*words, cwd=self.here)
+        self.addCleanup(window.close)
+        return window
+
+    def open(self, name: str = "cup") -> Window:
+        """The window of an office that is open."""
+        window = self.window("series.py", "open", name)
+        window.read(r"The office is open")
+        self.addCleanup(self.stop, name)
+        return window
+
+    def stop(self, name: str) -> None:
+        """Kills an office that a trial has left, by the number that its window has noted."""
+        with contextlib.suppress(OSError, ValueError):
+            with open(os.path.join(self.here, name, "office", "pid")) as file:
+                os.kill(int(file.read().split()[0]), signal.SIGKILL)
+
+    def client(self, *words: str) -> Window:
+        window = self.window("client.py", *words)
+        window.read("> $")
+        return window
+
+    def text(self, *names: str) -> str:
+        with open(os.path.join(self.here, *names), encoding="utf-8") as file:
+            return file.read()
+
+    def write(self, text: str, *names: str) -> None:
+        with open(os.path.join(self.here, *names), "w", encoding="utf-8") as file:
+            file.write(text)
+
+
+@contextlib.contextmanager
+def folder() -> Iterator[str]:
+    with tempfile.TemporaryDirectory() as name:
+        yield name

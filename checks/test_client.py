@@ -1,0 +1,236 @@
+"""The windows of those who type, in terminals: what they ask, say, and do when an office goes."""
+from __future__ import annotations
+
+import os
+import signal
+import unittest
+
+import helpers
+
+
+class Client(helpers.Series):
+    def typist(self, role: str = "finish", *more: str) -> helpers.Window:
+        return self.client("cup", "--role", role, *more)
+
+    def play(self, window: helpers.Window, talk: str) -> None:
+        """Each line of a talk that begins with > is typed; the others have to come, in order."""
+        for step in talk.strip("\n").split("\n> "):
+            line, _, wanted = step.removeprefix("> ").partition("\n")
+            said = window.say(line, r"(> |\] )$")
+            for text in wanted.splitlines():
+                self.assertIn(text, said, line)
+
+    def test_a_race(self) -> None:
+        self.open()
+        window = self.window("client.py", "cup")
+        window.read("finish, jury or scorer: $")
+        window.say("fin", "you type as the finish. help lists your lines.\n> $")
+        self.play(window, """
+> mark 1 gbr 33 ocs
+OK 8   OCS in race 1; 0 finished, 1 coded, 6 to come of 7
+> at 1
+1> 
+> gbr 101
+OK 9   1st in race 1; 1 finished, 1 coded, 5 to come of 7
+> 12
+   12 is NED 12 Windhover
+OK 10   2nd in race 1; 2 finished, 1 coded, 4 to come of 7
+> tie 1 gbr 7 ned 12
+OK 11   2nd (tied) in race 1; 3 finished, 1 coded, 3 to come of 7
+> gbr 110
+   Not sent: GBR110 isn't entered. Do you mean GBR 101 Kestrel?
+> ?
+   ?1 keeps her place.
+> 55
+OK 12   5th in race 1, with 1 unread finisher ahead; 4 finished, 1 coded, 2 to come of 7
+> ? 5
+   BEFORE 1 IRL5 IRL55
+OK 13   4th in race 1; 5 finished, 1 coded, 1 to come of 7
+> race 1
+Race 1 doesn't count yet: 5 finished, 1 coded, 1 not recorded, 7 boats
+    2=  GBR 7 Sea Pink
+     4  IRL 5 Curlew
+   OCS  GBR 33 Turnstone
+  not recorded: FRA 9 Plover
+> mark 1 fra 9 dsq
+NO 4   Refused: your role doesn't send this line. Nothing has changed.
+> score 1
+NO 4
+""")
+        self.assertNotIn("ENTER", window.say("help", "quit .*\n1> $"))
+        window.type("quit")
+        self.assertEqual(window.rest()[1], 0)
+        log = self.text("cup", "office.log")
+        self.assertRegex(log, r"\t\d+\t\t\tFINISH\tcame\t\n")
+        self.assertRegex(log, r"\t2\tFINISH\tFINISH 1 GBR101\tOK 9 1= 0.0\n")
+
+    def test_questions(self) -> None:
+        self.make("five", absent="a53")
+        self.open("five")
+        window = self.client("five", "--role", "scorer")
+        self.play(window, """
+> at 1
+> 101
+> 12
+> penalty 1 7 zfp
+> score 1
+   GBR 7 Sea Pink: a penalty, but no place and no code. Scored DNC, and under RRS A5.3 as not having come.
+> y
+   Score race 1 with 5 boats as DNC? [y/N]
+> y
+OK 11   race 1 counts
+> finish 1 33
+   RACE 1 COUNTS ALREADY. Is this a correction? [y/N]
+> n
+   Not sent.
+> finish 1 33
+   33 is GBR 33 Turnstone
+OK 12   3rd in race 1
+   >>> RACE 1 COUNTS: THE RESULTS HAVE CHANGED.
+       GBR 33 Turnstone: 3rd (tied) to 3rd, net 8.0 to 3.0 (race 1: 8.0/DNC to 3.0)
+> enter den 16
+   DEN16 isn't on the entry list. Enter DEN16? No line takes her out again. [y/N]
+> n
+   Not sent.
+> mark 1 7 dnf
+> clear 1 7
+   DNF and ZFP both go; type again what stays. Clear her? [y/N]
+> n
+> mark 2 5 ocs
+> finish 2 5
+OK 15   she holds OCS in race 2, and is scored so
+> score 2
+Only boats with a code are in the finishing order. Score it all the same? [y/N]
+> n
+> role jury
+ROLE JURY   your lines are now those of the jury
+> redress 2 7 all
+   GBR 7 Sea Pink has no place and no code in race 2. Under RRS A5.3 she doesn't count as having come
+> n
+""")
+        self.assertEqual(self.text("five", "office.log").count("\tOK 12"), 1)
+
+    def test_abandon(self) -> None:
+        self.open()
+        window = self.typist("scorer")
+        self.play(window, """
+> at 1
+> 101
+> 12
+> penalty 1 12 zfp
+> mark 1 5 ret
+> abandon 1
+To take race 1 away 3 lines are sent:
+    STRIKE 1 GBR101
+    STRIKE 1 NED12
+    CLEAR 1 IRL5
+  ZFP and BFD stay (RRS 30.2, 30.4): NED 12 Windhover
+   Send them? [y/N]
+> y
+Race 1 is taken away: 3 lines, all taken.
+> abandon 1
+Nothing of race 1 has to be taken away.
+""")
+
+    def test_file(self) -> None:
+        self.open()
+        lines = "\ufeffFINISH\t1 GBR101\r\n\nfinish 1 ned12\nFINISH 1 GBR78\nFINISH 1 GBR7\nFINISH 1 FRA9\n"
+        said, status = helpers.run("client.py", "cup", "--role", "finish", lines=lines, cwd=self.here)
+        self.assertEqual(status, 1)
+        self.assertIn("> FINISH 1 GBR78\nNO 7   Refused: a boat that is named isn't entered. Nothing "
+                      "has changed.\nStopped at line 4. The lines above it were taken; the 2 below "
+                      "weren't sent.\nCorrect line 4 and send the rest: client.py cup --role finish "
+                      "--from 4 < lines.txt\n", said)
+        said, status = helpers.run("client.py", "cup", "--role", "finish", "--from", "5", lines=lines,
+                                   cwd=self.here)
+        self.assertIn("OK 11   4th in race 1", said)
+        self.assertEqual(status, 0)
+        said, status = helpers.run("client.py", "cup", "--role", "finish", cwd=self.here,
+                                   lines="FINISH 1 GBR33\nFINISH 1 IRL\u20135\n")
+        self.assertIn("Stopped: line 2 has the sign", said)
+        self.assertNotIn("> FINISH", said)
+        self.assertIn("need --role", helpers.run("client.py", "cup", lines="x", cwd=self.here)[0])
+
+    def test_two_classes(self) -> None:
+        self.make("fleet", entries="Boat,Sail\nFulmar,GBR 33\nSterna,NED 80\n")
+        self.open()
+        self.open("fleet")
+        window = self.client("cup", "fleet", "--role", "finish")
+        self.play(window, """
+> c at 3
+cup 3> 
+> f at 2
+cup 3, fleet 2> 
+> 33
+33 may be GBR 33 Turnstone (cup) or GBR 33 Fulmar (fleet): type her class first.
+> c 33
+   33 is GBR 33 Turnstone
+   cup: 1st in race 3
+> 80
+   fleet: 1st in race 2
+> tie 3 gbr 7 gbr 33
+   cup: 1st (tied) in race 3
+> race 3
+Not sent: it isn't clear for which class this is: type cup or fleet first.
+> f race 2
+     1  NED 80 Sterna
+""")
+        os.kill(int(self.text("cup", "office", "pid").split()[0]), signal.SIGKILL)
+        window.read("Beware: the office has gone, that of cup. The others go on.")
+        window.read("> $")
+        self.play(window, """
+> c 12
+Not sent: the office of cup has gone. Write 12 down.
+> f 33
+   fleet: 2nd in race 2
+""")
+
+    def test_crash(self) -> None:
+        """A kill of the office is said at the prompt; afterwards what is lost is listed."""
+        office = self.open()
+        window = self.typist()
+        window.say("finish 1 101", "OK 8 .*\n> $")
+        helpers.until("the journal", lambda: self.text("cup", "journal.txt").count("\n") == 8)
+        os.kill(int(self.text("cup", "office", "pid").split()[0]), signal.SIGKILL)
+        window.read(r"Beware: the office has gone\. Waiting for the office; Ctrl-C ends this window\.")
+        window.type("finish 1 7")
+        office.rest()
+        # As if the second line had been answered and not saved.
+        again = self.open()
+        said = window.read("> $")
+        self.assertIn("Not sent, since the office was away: finish 1 7", said)
+        self.assertIn("The office is back with 8 entries.\nYour last line, OK 8 FINISH 1 GBR101, is "
+                      "among them.", said)
+        window.say("finish 1 12", "OK 9 .*\n> $")
+        helpers.until("the journal", lambda: self.text("cup", "journal.txt").count("\n") == 9)
+        again.process.kill()
+        again.process.wait()
+        os.kill(int(self.text("cup", "office", "pid").split()[0]), signal.SIGKILL)
+        window.read("Beware: the office has gone")
+        kept = self.text("cup", "journal.txt").splitlines(keepends=True)
+        self.write("".join(kept[:8]), "cup", "journal.txt")
+        third = self.open()
+        said = window.read("> $")
+        self.assertIn("The office is back with 8 entries.\nThese lines of yours are lost.", said)
+        self.assertIn("       9  FINISH 1 NED12\n", said)
+        window.say("finish 1 12", "OK 9 .*\n> $")
+        third.press()
+        third.read("1 window is still open: finish since .*. Close the office\\? \\[y/N\\] $")
+        third.type("y")
+        self.assertIn("Closed. journal.txt has 9 entries", third.rest()[0])
+        said, status = window.rest()
+        self.assertIn("The office is being closed: this window ends.", said)
+        self.assertEqual(status, 0)
+
+    def test_pasted(self) -> None:
+        """Pasted lines stop at the first that is refused."""
+        self.open()
+        window = self.typist()
+        os.write(window.master, b"finish 1 101\nfinish 1 101\nfinish 1 7\n")
+        window.read("OK 8 ")
+        window.read("NO 8 ")
+        window.read("Not sent, since the line before it was refused: finish 1 7\n> $")
+
+
+if __name__ == "__main__":
+    unittest.main()

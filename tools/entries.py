@@ -1,0 +1,173 @@
+"""The entry list: the boats with their names, and what is wrong with a list, in words."""
+from __future__ import annotations
+
+import csv
+import io
+import os
+import re
+from dataclasses import dataclass
+
+from office import Trouble
+from words import count, sign
+
+HEADS = {"sail": ("sail", "sailno", "sailnumber"), "helm": ("helm", "skipper", "name"),
+         "name": ("boat", "boatname"), "club": ("club",)}
+SAIL = re.compile(r"[A-Z0-9-]{1,12}")
+ROOM = 500
+
+
+@dataclass(frozen=True)
+class Boat:
+    """A boat as the entry list writes her."""
+    sail: str
+    helm: str = ""
+    name: str = ""
+    club: str = ""
+
+    def __str__(self) -> str:
+        """How she is called at a prompt."""
+        return f"{self.sail} {self.name or self.helm}".rstrip()
+
+
+def plain(sail: str) -> str:
+    """A sail as the program writes it."""
+    return sail.replace(" ", "").upper()
+
+
+def text_of(data: bytes) -> str:
+    try:
+        return data.decode("utf-8-sig")
+    except UnicodeDecodeError:
+        return data.decode("latin-1")
+
+
+def rows_of(data: bytes) -> list[tuple[int, list[str]]]:
+    """The rows that aren't blank, with their numbers; a row may hold line breaks."""
+    rows = csv.reader(io.StringIO(text_of(data), newline=""))
+    return [(at, row) for at, row in enumerate(rows, 1) if any(cell.strip(" ") for cell in row)]
+
+
+def column(heads: list[str], names: tuple[str, ...]) -> int | None:
+    heads = [head.replace(" ", "").lower() for head in heads]
+    return next((heads.index(name) for name in names if name in heads), None)
+
+
+def bytes_of(path: str) -> bytes:
+    try:
+        with open(path, "rb") as file:
+            return file.read(4 << 20)
+    except FileNotFoundError:
+        raise Trouble(f"{path} isn't there") from None
+    except OSError as cause:
+        raise Trouble(f"{path} can't be read: {cause.strerror}") from None
+
+
+def read(path: str) -> dict[str, Boat]:
+    """The boats of an entry list, by the sail as the program writes it; none if it has faults."""
+    data = bytes_of(path)
+    if problems(data, path):
+        return {}
+    (_, heads), *rows = rows_of(data)
+    places = {key: column(heads, names) for key, names in HEADS.items()}
+    boats = {}
+    for _, row in rows:
+        texts = {key: " ".join(row[at].split()) if at is not None and at < len(row) else ""
+                 for key, at in places.items()}
+        boats[plain(texts["sail"])] = Boat(**texts)
+    return boats
+
+
+def kind_of(data: bytes, name: str) -> list[str]:
+    """Why a file is no CSV with a column of sails."""
+    if data.startswith(b"PK\x03\x04"):
+        return [f"{name} is a spreadsheet, not CSV. Save it as \"Text CSV\", with commas."]
+    if data.startswith((b"\xff\xfe", b"\xfe\xff")) or b"\0" in data[:1000]:
+        return [f"{name} is UTF-16 (\"Unicode text\"). Save it as CSV, UTF-8."]
+    rows = rows_of(data)
+    if not rows:
+        return [f"{name} is empty."]
+    heads = [re.split("[;\t,]", ",".join(row)) for _, row in rows[:5]]
+    separator = {";": "semicolons", "\t": "tabs"}.get(separator_of(data))
+    if column(rows[0][1], HEADS["sail"]) is not None:
+        return []
+    if separator:
+        return [f"The columns of {name} are separated by {separator}. They have to be separated "
+                "by commas."]
+    below = next((at for (at, _), head in zip(rows, heads) if column(head, HEADS["sail"])
+                  is not None), None)
+    if below:
+        return [f"Row 1 of {name} is a title; the headings are in row {below}. "
+                f"Take out what is above row {below}."]
+    near = next((cell for cell in rows[0][1] if cell.strip().lower().startswith(("sail", "segel"))),
+                None)
+    found = f" {near.strip()!r} isn't one of them." if near else ""
+    return [f"No column of {name} has the heading Sail, SailNo or SailNumber.{found}"]
+
+
+def separator_of(data: bytes) -> str:
+    """A sign other than the comma by which the first row is separated, if any."""
+    first = text_of(data).lstrip().partition("\n")[0]
+    return next((mark for mark in ";\t" if column(first.strip().split(mark), HEADS["sail"])
+                 is not None and mark in first), "")
+
+
+def with_commas(data: bytes) -> bytes:
+    """The same list, separated by commas."""
+    rows = csv.reader(io.StringIO(text_of(data), newline=""), delimiter=separator_of(data) or ",")
+    made = io.StringIO(newline="")
+    csv.writer(made, lineterminator="\n").writerows(rows)
+    return made.getvalue().encode()
+
+
+def fault_of(sail: str) -> str:
+    """Why a sail isn't one; empty if it is."""
+    text = plain(sail)
+    if SAIL.fullmatch(text):
+        return ""
+    odd = next((letter for letter in text if not re.fullmatch("[A-Z0-9-]", letter)), "")
+    if not text:
+        return "there is no sail"
+    if odd:
+        return f'the sail "{sail.strip()}" has {sign(odd)}'
+    return f'the sail "{sail.strip()}" has {len(text)} letters and digits'
+
+
+def problems(data: bytes, path: str) -> list[str]:
+    """All that keeps the program from taking a list, in words; empty if it takes it."""
+    name = os.path.basename(path)
+    if wrong := kind_of(data, name):
+        return wrong
+    (_, heads), *rows = rows_of(data)
+    at, found = column(heads, HEADS["sail"]), {}
+    assert at is not None
+    who = column(heads, HEADS["helm"])
+    for number, row in rows:
+        named = f" ({row[who].strip()})" if who is not None and who < len(row) else ""
+        if len(row) <= at:
+            open_quote = " Is a quotation mark not closed?" if "\n" in row[-1] else ""
+            wrong.append(f"{name}, row {number}: it ends before the column of sails.{open_quote}")
+        elif fault := fault_of(row[at]):
+            wrong.append(f"{name}, row {number}{named}: {fault}. A sail has 1 to 12 letters, digits "
+                         "and dashes.")
+        elif plain(row[at]) in found:
+            wrong.append(f"{name}, row {number}{named}: {row[at].strip()} is in row "
+                         f"{found[plain(row[at])]}, too.")
+        else:
+            found[plain(row[at])] = number
+    if not rows:
+        wrong.append(f"{name} has headings, but no boats.")
+    if len(found) > ROOM:
+        wrong.append(f"{name} has {count(len(found), 'boat')}, and {ROOM} fit.")
+    return wrong
+
+
+def near(sail: str, boats: list[str]) -> list[str]:
+    """Boats that one slip makes of a sail: a letter more, less or another, or two exchanged."""
+    def is_slip(a: str, b: str) -> bool:
+        a, b = (a, b) if len(a) <= len(b) else (b, a)
+        at = next((i for i, (x, y) in enumerate(zip(a, b)) if x != y), len(a))
+        if len(a) < len(b):
+            return len(b) - len(a) == 1 and a[at:] == b[at + 1:]
+        swapped = a[:at] + a[at + 1:at + 2] + a[at:at + 1] + a[at + 2:]
+        return a != b and (a[at + 1:] == b[at + 1:] or swapped == b)
+    return [boat for boat in boats if is_slip(sail, boat)]
