@@ -54,10 +54,9 @@ impl<N: OfficeName, R: Wait + Drop> Desk<N, R> {
         }
     }
 
-    /// Answers a line that asks for a command or a rank: runs the command for the pass in this
-    /// role, or looks the boat up, and appends the reply. Each journal that the pass was told of is
-    /// a beginning of the one that the desk was found with. Where there is room for a reply, the
-    /// room stays as it was.
+    /// Answers a line with a command or RANK: runs the command for the pass in this role, or looks
+    /// the boat up, and appends the reply. Each journal that the pass had been told of is a beginning
+    /// of the one that the desk had before. If `out` has room for a reply, its capacity stays.
     ///
     /// # Errors
     ///

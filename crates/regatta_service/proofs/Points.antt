@@ -1,4 +1,4 @@
--- Lines that were answered one behind the other, and what stays between them.
+-- Lines that were answered one after another, and what stays between them.
 use Rattle.std.proofs.Common.{◌≡◌, ◌∷◌, ◌++◌, ◌∙◌, [], ℕ, List, Option, Ok, Err, refl}
 use Rattle.std.proofs.Common.{ap, inl, inr, subst, sym}
 use Rattle.std.specs.Io.KnownBytes.{Keeps}
@@ -27,7 +27,7 @@ stays_then p q r one two = record {
   written = keeps-then p.written q.written r.written one.written two.written;
 }
 
--- where each part is as it was
+-- if each part is as it was
 pub stays_by_parts : (role later : Role) (before after : PassValue) (old new : Option (List ℕ))
     → later ≡ role → after ≡ before → new ≡ old
     → Stays (point role before old) (point later after new)
@@ -37,7 +37,7 @@ stays_by_parts role later before after old new same_role same_pass same = record
   written = subst (Keeps old) (sym same) (keeps-same old);
 }
 
--- ---- lines that were answered, and nothing done ahead of them or behind
+-- ---- lines that were answered, with nothing done before them or after
 
 pub replied_from : (rules : RulesParts) (asked : Asked) (p q r : Point) → Stays p q
     → IsReplied rules asked q r → IsReplied rules asked p r
@@ -125,5 +125,4 @@ took_seated rules End.WriteFault asked p q u = ended_seated (IsCutOff rules) rul
     did.answered) u
 took_seated rules End.Stopped asked p q u = ended_seated IsPassedOver rules asked p q
     (λ last between did. ap (λ (pass : PassValue). pass.seat) did.pass) u
-took_seated rules End.NoMemory asked p q u = ended_seated IsPassedOver rules asked p q
-    (λ last between did. ap (λ (pass : PassValue). pass.seat) did.pass) u
+took_seated rules End.NoMemory asked p q u = ap (λ (pass : PassValue). pass.seat) u.1.pass

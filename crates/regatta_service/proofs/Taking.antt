@@ -1,4 +1,4 @@
--- Bytes that a session takes: one more, the end of a line, and one piece behind another.
+-- Bytes that a session takes: one more, the end of a line, and one piece after another.
 use Rattle.std.proofs.Common.{◌≡◌, ◌∷◌, ◌++◌, ◌+◌, ◌<◌, ◌∙◌, [], ℕ, List, Option, Some, None}
 use Rattle.std.proofs.Common.{true, false, refl, IfSome, map}
 use Rattle.std.proofs.Common.{ap, sym}
@@ -30,12 +30,12 @@ no_last : (line : List ℕ) → last_line false line ≡ []
 no_last [] = refl
 no_last (byte ∷ line) = refl
 
--- a line at hand that hasn't ended isn't asked
+-- a line that hasn't ended isn't asked
 asked_none : (line : List ℕ) → asked_from line [] ≡ []
 unfolding heard_lines
 asked_none line = ap (map line_of) (no_last line)
 
--- what is heard of lines asks for the same as the lines
+-- what is kept of lines asks for the same as the lines
 heard_ask : (lines : List (List ℕ)) → map line_of (map heard lines) ≡ map line_of lines
 heard_ask [] = refl
 heard_ask (line ∷ lines) =
@@ -48,7 +48,7 @@ asked_of_text text = ap (map line_of) (heard_of_text false text) ∙ heard_ask (
 
 -- ---- one byte more
 
--- what comes behind it
+-- what comes after it
 behind_byte : (rules : RulesParts) (line bytes : List ℕ) (before : Point) (later : List ℕ)
     (after : Point) (byte : ℕ) (rest : List ℕ)
     → (w : WentOn rules line bytes before later after)
@@ -119,7 +119,7 @@ line_taken rules line piece before later between i byte now left within at is go
     rw (none) (rw (front_more piece i byte within at)
     (line_more rules line (take i piece) before later between byte left is goes replied w))
 
--- a line has ended at which the session ends, and others may stand behind it
+-- a line has ended at which the session ends, and others may follow it
 line_ended : (Did : Asked → Point → Point → Type 0) (rules : RulesParts) (line piece : List ℕ)
     (before : Point) (later : List ℕ) (between : Point) (i byte : ℕ) (after : Point)
     → i < length piece → get_or piece i 0 ≡ byte → is_line_end byte ≡ true
@@ -141,13 +141,13 @@ line_ended Did rules line piece before later between i byte after within at is d
       did = did;
     }
 
--- what was done with the last line, where the session ended so behind it
+-- what was done with the last line, if the session ended so after it
 pub record Last (rules : RulesParts) (ended : Option End) (asked : Asked) (before after : Point)
     : Type 0 where
   pub quit : ended ≡ Some End.Quit → IsQuit rules asked before after
   pub cut_off : ended ≡ Some End.WriteFault → IsCutOff rules asked before after
   pub stopped : ended ≡ Some End.Stopped → Stays before after
-  pub wanting : ended ≡ Some End.NoMemory → Stays before after
+  pub room : ended ≡ Some End.NoMemory → ⊥
   pub closed : ended ≡ Some End.Closed → ⊥
   pub read : ended ≡ Some End.ReadFault → ⊥
 
@@ -170,15 +170,13 @@ last_taken rules line piece before later between i byte after (Some End.Stopped)
     line_ended IsPassedOver rules line piece before later between i byte after within at is
     (last.stopped refl) w
 last_taken rules line piece before later between i byte after (Some End.NoMemory) within at is
-    last w =
-    line_ended IsPassedOver rules line piece before later between i byte after within at is
-    (last.wanting refl) w
+    last w = absurd (last.room refl)
 last_taken rules line piece before later between i byte after (Some End.Closed) within at is
     last w = absurd (last.closed refl)
 last_taken rules line piece before later between i byte after (Some End.ReadFault) within at is
     last w = absurd (last.read refl)
 
--- ---- one piece behind another
+-- ---- one piece after another
 
 module _ (rules : RulesParts) (line bytes : List ℕ) (before : Point) (later : List ℕ)
     (between now : Point) (stays : Stays between now) (piece : List ℕ) (after : Point)
@@ -223,16 +221,17 @@ module _ (rules : RulesParts) (line bytes : List ℕ) (before : Point) (later : 
     did = v.did;
   }
 
-  pub took_both : (end : End) → Took rules end (asked_from later piece) now after
+  pub took_both : (end : End) → (end ≡ End.NoMemory → ⊥)
+      → Took rules end (asked_from later piece) now after
       → Took rules end (asked_from line (bytes ++ piece)) before after
-  took_both End.Closed v = all_both v
-  took_both End.ReadFault v = all_both v
-  took_both End.Quit v = ended_both (IsQuit rules) v
-  took_both End.WriteFault v = ended_both (IsCutOff rules) v
-  took_both End.Stopped v = ended_both IsPassedOver v
-  took_both End.NoMemory v = ended_both IsPassedOver v
+  took_both End.Closed room v = all_both v
+  took_both End.ReadFault room v = all_both v
+  took_both End.Quit room v = ended_both (IsQuit rules) v
+  took_both End.WriteFault room v = ended_both (IsCutOff rules) v
+  took_both End.Stopped room v = ended_both IsPassedOver v
+  took_both End.NoMemory room v = absurd (room refl)
 
--- no bytes come any longer: all lines that ended were answered
+-- no more bytes come: all lines that ended were answered
 pub all_taken : (rules : RulesParts) (line bytes : List ℕ) (before : Point) (later : List ℕ)
     (between now : Point) → Stays between now → WentOn rules line bytes before later between
     → AllReplied rules (asked_from line bytes) before now

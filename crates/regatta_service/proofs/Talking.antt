@@ -1,5 +1,5 @@
 -- How far a session has come, read by read.
-use Rattle.std.proofs.Common.{◌≡◌, ◌++◌, [], ℕ, List, Option, append-nil, sym, subst}
+use Rattle.std.proofs.Common.{◌≡◌, ◌++◌, [], ℕ, List, Option, append-nil, refl, sym, subst}
 use Rattle.std.specs.Io.KnownBytes.{Consumes, Keeps}
 use Rattle.regatta_terms.specs.Rules.{RulesParts}
 use Rattle.regatta_terms.specs.declared.command.Role.{Role}
@@ -8,7 +8,7 @@ use Rattle.regatta_desk.specs.Passes.{PassValue}
 use Rattle.regatta_service.specs.LinesTaken.{AllReplied, Asked, Point, Stays, Talked, Took, WentOn}
 use Rattle.regatta_service.specs.LinesTaken.{asked_from, asked_in, point}
 use Rattle.regatta_service.specs.declared.sessions.End.{End}
-use Rattle.regatta_service.proofs.Points.{took_seated}
+use Rattle.regatta_service.proofs.Points.{stays_same, took_seated}
 use Rattle.regatta_service.proofs.Taking.{all_taken, asked_of_text, none_taken, took_both}
 use Rattle.regatta_service.proofs.Taking.{went_both}
 
@@ -18,6 +18,16 @@ pub record SoFar (rules : RulesParts) (to_read left : Option (List ℕ)) (before
   pub given : List ℕ
   pub consumed : Consumes to_read left given
   pub went : WentOn rules [] given before later now
+
+-- nothing was read: there was no memory for replies
+pub talked_none : (rules : RulesParts) (to_read : Option (List ℕ)) (before : PassValue)
+    (old : Option (List ℕ)) → Talked rules End.NoMemory to_read to_read before before old old
+talked_none rules to_read before old = record {
+  given = [];
+  consumed = consumes-none to_read;
+  role = Role.Scorer;
+  took = (refl, stays_same (point Role.Scorer before old));
+}
 
 -- nothing was read yet
 pub so_far_none : (rules : RulesParts) (to_read : Option (List ℕ)) (before : Point)
@@ -47,9 +57,9 @@ module _ (rules : RulesParts) (to_read left : Option (List ℕ)) (before : PassV
   -- or it ended
   pub talked_last : (mid after : Option (List ℕ)) (piece : List ℕ) → Consumes left mid piece
       → Keeps mid after → (end : End) (role : Role) (pass : PassValue) (new : Option (List ℕ))
-      → Took rules end (asked_from later piece) now (point role pass new)
+      → (end ≡ End.NoMemory → ⊥) → Took rules end (asked_from later piece) now (point role pass new)
       → Talked rules end to_read after before pass old new
-  talked_last mid after piece consumed keeps end role pass new t = record {
+  talked_last mid after piece consumed keeps end role pass new room t = record {
     given = s.given ++ piece;
     consumed = consumes-keeps to_read mid after (s.given ++ piece)
         (consumes-then to_read left mid s.given piece s.consumed consumed) keeps;
@@ -57,7 +67,7 @@ module _ (rules : RulesParts) (to_read left : Option (List ℕ)) (before : PassV
     took = subst (λ (asked : List Asked). Took rules end asked (point Role.Scorer before old)
         (point role pass new)) (asked_of_text (s.given ++ piece))
         (took_both rules [] s.given (point Role.Scorer before old) later between now stays piece
-        (point role pass new) s.went end t);
+        (point role pass new) s.went end room t);
   }
 
   -- nothing more was read

@@ -39,17 +39,17 @@ Asked = Result Line LineFault
 abbrev pub asked_in : List ℕ → List Asked
 asked_in text = map line_of (ended_lines text)
 
--- the same of some bytes behind a line at hand, by what is heard of each line
+-- the same of some bytes that continue a line, by what is kept of each line
 abbrev pub asked_from : List ℕ → List ℕ → List Asked
 asked_from line bytes = map line_of (heard_lines false line bytes)
 
--- a line behind which its session goes on: all but QUIT
+-- a line after which the session goes on: any except QUIT
 abbrev pub GoesOn : Asked → Type 0
 GoesOn asked = next_after asked ≡ Next.Go
 
 -- ---- what was done with a line
 
--- it was answered, and just its reply was written
+-- it was answered, and exactly its reply was written
 abbrev pub IsReplied : RulesParts → Asked → Point → Point → Type 0
 IsReplied rules asked before after =
     Replied rules asked before.role after.role before.pass after.pass before.written after.written
@@ -59,7 +59,7 @@ abbrev pub IsCutOff : RulesParts → Asked → Point → Point → Type 0
 IsCutOff rules asked before after =
     CutOff rules asked before.role after.role before.pass after.pass before.written after.written
 
--- it is QUIT, and was answered so
+-- it is QUIT, and was answered
 abbrev pub IsQuit : RulesParts → Asked → Point → Point → Type 0
 IsQuit rules asked before after = (next_after asked ≡ Next.End) × IsReplied rules asked before after
 
@@ -69,21 +69,21 @@ IsPassedOver asked before after = Stays before after
 
 -- ---- what was done with lines
 
--- they were answered one behind the other, each once, in the role that those before it set, and
--- with just its reply
+-- they were answered one after another, each once, in the role that those before it set, and exactly
+-- their replies were written
 abbrev pub AreReplied : RulesParts → List Asked → Point → Point → Type 0
 AreReplied rules [] before after = Stays before after
 AreReplied rules (asked ∷ more) before after =
     (between : Point) × IsReplied rules asked before between × AreReplied rules more between after
 
--- all were answered so, and none of them is QUIT
+-- all were answered, and none of them is QUIT
 pub record AllReplied (rules : RulesParts) (asked : List Asked) (before after : Point) : Type 0
   where
     pub going : All GoesOn asked
     pub answered : AreReplied rules asked before after
 
--- those up to one were answered so, and none of them is QUIT; with that one this was done, and
--- nothing with those behind it
+-- those before one were answered, and none of them is QUIT; with that one this was done, and nothing
+-- with those after it
 pub record EndedAt (Did : Asked → Point → Point → Type 0) (rules : RulesParts) (asked : List Asked)
     (before after : Point) : Type 0 where
   pub lines : List Asked
@@ -95,17 +95,17 @@ pub record EndedAt (Did : Asked → Point → Point → Type 0) (rules : RulesPa
   pub answered : AreReplied rules lines before between
   pub did : Did last between after
 
--- what was done with the lines that ended, where the session ended so
+-- what was done with the lines, by how the session ended
 abbrev pub Took : RulesParts → End → List Asked → Point → Point → Type 0
 Took rules End.Closed asked before after = AllReplied rules asked before after
 Took rules End.ReadFault asked before after = AllReplied rules asked before after
 Took rules End.Quit asked before after = EndedAt (IsQuit rules) rules asked before after
 Took rules End.WriteFault asked before after = EndedAt (IsCutOff rules) rules asked before after
 Took rules End.Stopped asked before after = EndedAt IsPassedOver rules asked before after
-Took rules End.NoMemory asked before after = EndedAt IsPassedOver rules asked before after
+Took rules End.NoMemory asked before after = (asked ≡ []) × Stays before after
 
--- where it goes on: the lines that ended in some bytes behind a line at hand were answered, and
--- none of them is QUIT; another line is then at hand
+-- some bytes that continue a line: the lines that ended in them were answered, and none is QUIT; the
+-- session goes on with the line `later`
 pub record WentOn (rules : RulesParts) (line bytes : List ℕ) (before : Point) (later : List ℕ)
     (after : Point) : Type 0 where
   pub lines : List Asked
@@ -115,8 +115,8 @@ pub record WentOn (rules : RulesParts) (line bytes : List ℕ) (before : Point) 
 
 -- ---- a whole session
 
--- what was done with the bytes that a stream gave, from the scorer's role on: of the stream the
--- bytes to be read and those that were written, of the pass what it was and is
+-- what was done with the bytes that a stream gave: the lines that ended in them were answered as the
+-- session's end says, starting in the scorer's role
 pub record Talked (rules : RulesParts) (end : End) (to_read left : Option (List ℕ))
     (before after : PassValue) (old new : Option (List ℕ)) : Type 0 where
   pub given : List ℕ

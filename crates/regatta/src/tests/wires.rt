@@ -28,10 +28,13 @@ pub(crate) struct Wire {
     fails_at_end: bool,
     writes: Count,
     failures: Failures,
+    failed_reads: Failures,
 }
 
 impl Device for Wire {
     ghost failures = { λ w. w.failures.count };
+
+    ghost failed_reads = { λ w. w.failed_reads.count };
 }
 
 impl Source for Wire {
@@ -40,6 +43,7 @@ impl Source for Wire {
             Ok(count) if count > 0 || !self.fails_at_end => Ok(count),
             _ => {
                 self.failures = self.failures.one_more();
+                self.failed_reads = self.failed_reads.one_more();
                 Err(StreamFault)
             }
         }
@@ -76,6 +80,7 @@ pub(crate) fn wire_of<R: Net>(
         fails_at_end,
         writes: Arc::try_clone(writes)?,
         failures: Failures::none(),
+        failed_reads: Failures::none(),
     };
     Ok((wire, theirs))
 }

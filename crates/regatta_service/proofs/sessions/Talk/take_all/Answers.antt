@@ -17,9 +17,7 @@ returns-then-is_some-clause-ended g c =
       stopped = λ is.
           let (stream, pass, role, line) = c.answer_line.ensures.stopped is in
           stays_by_parts _ _ _ _ _ _ role pass (ap g.S.Device.contents stream);
-      wanting = λ is.
-          let (stream, pass, role, room) = c.answer_line.ensures.wanting is in
-          stays_by_parts _ _ _ _ _ _ role pass (ap g.S.Device.contents stream);
+      room = search rules;
       closed = search rules;
       read = search rules;
     }) c.loop-byte.invariant.went
@@ -32,7 +30,9 @@ loop-byte-preserved g c =
     elim c.if-take.branch [
       | then-take+else-is_some w ↦ record {
         well = search rules;
+        no_read = search rules;
         goes = search rules;
+        room = search rules;
         went = line_taken _ c.args.self.now.cutter piece _ c.loop-byte.self.cutter _ i
             (get_or piece i 0) _ _ (search rules) refl (search rules) (search rules)
             (search rules) (search rules) c.loop-byte.invariant.went;
@@ -41,7 +41,9 @@ loop-byte-preserved g c =
       }
       | else-take w ↦ record {
         well = search rules;
+        no_read = search rules;
         goes = search rules;
+        room = search rules;
         went = byte_taken _ c.args.self.now.cutter piece _ c.loop-byte.self.cutter _ i
             (get_or piece i 0) _ _ (search rules) refl (search rules) (search rules)
             (search rules) c.loop-byte.invariant.went;
