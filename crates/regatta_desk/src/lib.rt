@@ -9,6 +9,7 @@ mod opening;
 mod pass;
 mod receipt;
 mod sheet;
+mod sources;
 
 pub use answers::{Next, answer_alone};
 pub use desk::Desk;

@@ -9,6 +9,7 @@ ghost use Rattle.regatta_desk.specs.Offices.{IsOpenFault, AreSeated, seated};
 use crate::desk::Desk;
 use crate::opening::{OpenFault, board_of, watched};
 use crate::pass::{Pass, Seen};
+use crate::sources::Sources;
 use regatta_board::Board;
 use regatta_terms::{Entry, MAX_SEATS, Rules};
 use regatta_watch::{History, JournalNote, OfficeName, Publisher, SharedHistory, Watcher};
@@ -208,6 +209,7 @@ fn pass_of<N: OfficeName>(
         watcher,
         seen,
         history.listener(),
+        Sources::none(history.listener()),
         shared,
     )
 }

@@ -1,6 +1,5 @@
 //! Clients made beforehand: streams that may fail, a door that gives them, and a gate that holds
 //! one line back.
-ghost use Rattle.std.specs.Prelude.{None};
 
 use super::*;
 use regatta_office::{
@@ -29,20 +28,22 @@ pub(crate) struct Wire {
     fails_at_end: bool,
     writes: Count,
     failures: Failures,
+    failed_reads: Failures,
 }
 
 impl Device for Wire {
     ghost failures = { λ w. w.failures.count };
+
+    ghost failed_reads = { λ w. w.failed_reads.count };
 }
 
 impl Source for Wire {
-    ghost remaining = { λ _. None };
-
     fn read(&mut self, buf: &mut [u8]) -> Result<usize, StreamFault> {
         match self.stream.read(buf) {
             Ok(count) if count > 0 || !self.fails_at_end => Ok(count),
             _ => {
                 self.failures = self.failures.one_more();
+                self.failed_reads = self.failed_reads.one_more();
                 Err(StreamFault)
             }
         }
@@ -50,8 +51,6 @@ impl Source for Wire {
 }
 
 impl Sink for Wire {
-    ghost contents = { λ _. None };
-
     fn write(&mut self, buf: &[u8]) -> Result<usize, StreamFault> {
         match self.stream.write(buf) {
             Ok(taken) => {
@@ -81,6 +80,7 @@ pub(crate) fn wire_of<R: Net>(
         fails_at_end,
         writes: Arc::try_clone(writes)?,
         failures: Failures::none(),
+        failed_reads: Failures::none(),
     };
     Ok((wire, theirs))
 }

@@ -14,8 +14,8 @@ returns g c =
     record {
       journal = c.board.result.now.entries;
       lawful = rw (c.board.ensures.board) c.board.ensures.lawful;
-      wrote = subst (λ (rules : RulesParts). Appends (g.W.Sink.contents c.args.output.now)
-          (g.W.Sink.contents c.print_final.new.output)
+      wrote = subst (λ (rules : RulesParts). Appends (g.W.Device.contents c.args.output.now)
+          (g.W.Device.contents c.print_final.new.output)
           (final_text rules Table c.board.result.now.entries)) same
           c.in_ok-print_final.ensures.wrote;
     }

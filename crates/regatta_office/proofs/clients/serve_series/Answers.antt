@@ -7,7 +7,7 @@ use Rattle.regatta_office.proofs.clients.serve_series.Goals as goal
 
 pub returns : goal.returns
 returns g c = subst (λ (asked : ServingAsked). IsServingOf asked
-    (g.W.Sink.contents c.args.output.now) (g.W.Sink.contents c.serve_office.new.output))
+    (g.W.Device.contents c.args.output.now) (g.W.Device.contents c.serve_office.new.output))
     c.options.view_is (record {
       rules = c.in_ok-begin.begin.rules;
       start = c.in_ok-begin.begin.start;
@@ -15,6 +15,6 @@ returns g c = subst (λ (asked : ServingAsked). IsServingOf asked
       lawful = subst (λ (start : Journal). is_lawful limits c.in_ok-begin.begin.rules start ≡ true)
           c.as_slice-start.ensures c.in_ok-opened.ensures.lawful;
       table = subst (λ (rules : RulesParts). PrintsTable rules
-          (g.W.Sink.contents c.args.output.now) (g.W.Sink.contents c.serve_office.new.output))
+          (g.W.Device.contents c.args.output.now) (g.W.Device.contents c.serve_office.new.output))
           c.in_ok-opened.ensures.rules c.in_ok-serve_office.ensures;
     })
