@@ -1,7 +1,8 @@
 -- What a run may be asked for, and a run that does it.
 use Rattle.std.specs.Prelude.{◌≡◌, ◌≤◌, ℕ, Bool, true, length, List, [], Option, Some, None}
-use Rattle.std.specs.Prelude.{IfSome, Ok}
-use Rattle.std.specs.Io.KnownBytes.{Appends}
+use Rattle.std.specs.Prelude.{IfSome, Ok, ◌⊎◌}
+use Rattle.std.specs.Io.KnownBytes.{Appends, Keeps}
+use Rattle.regatta_streams.specs.Texts.{AppendsPrefix}
 use Rattle.regatta_terms.specs.Rules.{RulesParts, rules_of_texts}
 use Rattle.regatta_scores.specs.Journal.{Journal}
 use Rattle.regatta_board.specs.Refusals.{limits, is_lawful}
@@ -73,6 +74,21 @@ pub record PrintsTable (rules : RulesParts) (old new : Option (List ℕ)) : Type
   pub journal : Journal
   pub lawful : is_lawful limits rules journal ≡ true
   pub wrote : Appends old new (final_text rules Table journal)
+
+-- a beginning of such a table was written, and not all of it
+pub record BreaksOffTable (rules : RulesParts) (old new : Option (List ℕ)) : Type 0 where
+  pub journal : Journal
+  pub lawful : is_lawful limits rules journal ≡ true
+  pub wrote : AppendsPrefix old new (final_text rules Table journal)
+
+-- nothing was written, or such a table or a beginning of it
+abbrev pub PrintsAtMostTable : RulesParts → Option (List ℕ) → Option (List ℕ) → Type 0
+PrintsAtMostTable rules old new =
+    Keeps old new ⊎ (PrintsTable rules old new ⊎ BreaksOffTable rules old new)
+
+-- nothing was written, or at most a table under some rules
+abbrev pub AtMostServingOf : Option (List ℕ) → Option (List ℕ) → Type 0
+AtMostServingOf old new = Keeps old new ⊎ ((rules : RulesParts) × PrintsAtMostTable rules old new)
 
 -- clients were served under the rules and from the entries that the series starts with, and the
 -- table was written; no type says what clients did to the journal

@@ -19,6 +19,7 @@ use std::fs::Files;
 use std::net::Net;
 use std::sync::Wait;
 use std::thread::Threads;
+use std::time::Clock;
 
 /// The status for arguments that the program doesn't take.
 const BAD_WORDS: u8 = 2;
@@ -101,7 +102,7 @@ fn replay_series<H: Files + AllocGlobal, R: Source, W: Sink>(
 
 fn run<H, R, W>(rt: &H, asked: &Asked<'_>, input: &mut R, output: &mut W) -> Result<(), Complaint>
 where
-    H: Files + AllocGlobal + Threads + Wait + Net + Sync,
+    H: Files + AllocGlobal + Threads + Wait + Net + Clock + Sync,
     R: Source,
     W: Sink,
     ensures { OnOk result (IsRunOf R.remaining asked.now input.old input.new
@@ -135,7 +136,7 @@ pub fn program<H, R, W, E>(
     errors: &mut E,
 ) -> u8
 where
-    H: Files + AllocGlobal + Threads + Wait + Net + Sync,
+    H: Files + AllocGlobal + Threads + Wait + Net + Clock + Sync,
     R: Source,
     W: Sink,
     E: Sink,

@@ -3,4 +3,5 @@ pub mod Ends
 pub mod Faults
 pub mod Lines
 pub mod LinesTaken
+pub mod Partings
 pub mod Pools

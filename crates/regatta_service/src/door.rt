@@ -1,15 +1,19 @@
 //! Where clients come from.
-ghost use Rattle.std.specs.Prelude.{◌≡◌, ◌≢◌, ◌+◌, ◌<◌, ◌↔◌, Ok, Some, None, length, IfOk, OnOk};
+ghost use Rattle.std.specs.Prelude.{◌≡◌, ◌≢◌, ◌+◌, ◌<◌, ◌↔◌, ℕ, Ok, Some, None, length, IfOk, OnOk};
 ghost use Rattle.std.specs.Prelude.{OnErr, OnSome};
-ghost use Rattle.regatta_service.specs.Doors.{streams_asked, one_fewer};
+ghost use Rattle.regatta_service.specs.Doors.{streams_asked, one_fewer, streams_in};
+ghost use Rattle.regatta_service.specs.Doors.{one_if_some};
 
-use crate::connection::Connection;
+use crate::connection::{Connection, Ending};
+use crate::count::Count;
 use regatta_streams::{Device, Failures, Foreign, Sink, Source};
 use std::marker::Model;
 use std::net::Net;
-use std::os::unix::net::UnixListener;
+use std::os::unix::net::{UnixListener, UnixStream};
 use std::rt::Files;
 use std::sync::Wait;
+use std::thread;
+use std::time::{Clock, Duration};
 use thiserror::Error;
 
 /// A door that failed, for whatever reason.
@@ -18,8 +22,10 @@ use thiserror::Error;
 pub struct DoorFault;
 
 /// What gives the streams of clients, one after another. It is seen with the number of its calls
-/// that have failed.
+/// that have failed, and the number of streams that it has given.
 pub trait Door: Device {
+    ghost given: { Self → ℕ };
+
     /// What a client's lines come from, and what their replies go to.
     type Stream: Source + Sink + Send + Drop + 'static;
 
@@ -28,9 +34,50 @@ pub trait Door: Device {
     /// # Errors
     ///
     /// If the door fails. The failure is counted.
-    fn next<R: Wait>(&mut self, rt: &R) -> Result<Option<Self::Stream>, DoorFault>
+    fn next<R: Wait + Clock>(&mut self, rt: &R) -> Result<Option<Self::Stream>, DoorFault>
         ensures well { OnOk result (Self.failures self.new ≡ Self.failures self.old) }
-        ensures failed { OnErr result (Self.failures self.new ≡ Self.failures self.old + 1) };
+        ensures failed { OnErr result (Self.failures self.new ≡ Self.failures self.old + 1) }
+
+        // Each stream that came is returned: one at a time, and none is lost.
+        ensures one { Self.given self.new ≡ Self.given self.old + streams_in result };
+}
+
+/// How long a door waits before it tries a failed `accept` again, in milliseconds.
+static PAUSES: [u64; 6] = [10, 50, 250, 500, 1000, 2000];
+
+/// How long a write to a client may wait, in seconds. A client who reads nothing for so long loses
+/// their seat.
+const WRITE_LIMIT: u64 = 60;
+
+/// The connection to the next client, if the system gives one. It may wait for the client.
+fn accept_one(listener: &UnixListener, came: &mut Count) -> Option<Connection<UnixStream>>
+    ensures { came.new ≡ came.old + one_if_some result }
+{
+    let (stream, _) = listener.accept().ok()?;
+    let ending = Ending::of(&stream)?;
+    stream
+        .set_write_timeout(Some(Duration::from_secs(WRITE_LIMIT)))
+        .ok()?;
+    *came = came.one_more();
+    Some(Connection::new(stream, ending))
+}
+
+/// The same. If the system gives none, for example because no descriptor is left, it is asked again
+/// a few times, after pauses that grow.
+fn accepted<R: Clock>(
+    rt: &R,
+    listener: &UnixListener,
+    came: &mut Count,
+) -> Option<Connection<UnixStream>>
+    ensures { came.new ≡ came.old + one_if_some result }
+{
+    for pause in PAUSES {
+        if let Some(connection) = accept_one(listener, came) {
+            return Some(connection);
+        }
+        thread::sleep(rt, Duration::from_millis(pause));
+    }
+    accept_one(listener, came)
 }
 
 /// A door over a new Unix socket. It closes after the last stream that it gives, or when it fails.
@@ -44,6 +91,7 @@ pub struct SocketDoor {
     listener: Option<UnixListener>,
     left: Option<u32>,
     failures: Failures,
+    came: Count,
 }
 
 impl Model for SocketDoor {
@@ -52,7 +100,11 @@ impl Model for SocketDoor {
 
     ghost Value = { DoorParts };
 
-    ghost view = { λ d. record { left = d.left; failures = d.failures.count } };
+    ghost view = { λ d. record {
+      left = d.left;
+      failures = d.failures.count;
+      given = d.came;
+    } };
 
     ghost invariant = { λ d. IsNone d.listener ↔ (d.left ≡ Some 0) };
 }
@@ -68,7 +120,7 @@ impl SocketDoor {
     /// path exists already. If an allocation fails.
     pub fn bind<R: Files + Net>(rt: &R, path: &str, sessions: u32) -> Result<SocketDoor, DoorFault>
         ensures door { IfOk result (λ door. door
-            ≡ record { left = streams_asked sessions; failures = 0 }) }
+            ≡ record { left = streams_asked sessions; failures = 0; given = 0 }) }
         ensures named { OnOk result (0 < length path.now) }
     {
         if path.is_empty() {
@@ -81,6 +133,7 @@ impl SocketDoor {
             listener: Some(listener),
             left: if sessions == 0 { None } else { Some(sessions) },
             failures: Failures::none(),
+            came: Count::none(),
         })
     }
 
@@ -110,11 +163,17 @@ impl Device for SocketDoor {
 }
 
 impl Door for SocketDoor {
-    type Stream = Foreign<Connection>;
+    ghost given = { λ door. door.given };
 
-    fn next<R: Wait>(&mut self, _rt: &R) -> Result<Option<Foreign<Connection>>, DoorFault>
+    type Stream = Foreign<Connection<UnixStream>>;
+
+    fn next<R: Wait + Clock>(
+        &mut self,
+        rt: &R,
+    ) -> Result<Option<Foreign<Connection<UnixStream>>>, DoorFault>
         ensures well { OnOk result (self.new.failures ≡ self.old.failures) }
         ensures failed { OnErr result (self.new.failures ≡ self.old.failures + 1) }
+        ensures one { self.new.given ≡ self.old.given + streams_in result }
 
         // The result is `None` exactly when no stream is left to give.
         ensures closed { (result ≡ Ok None) ↔ (self.old.left ≡ Some 0) }
@@ -128,12 +187,12 @@ impl Door for SocketDoor {
         let Some(listener) = &self.listener else {
             return Ok(None);
         };
-        let Ok((stream, _)) = listener.accept() else {
+        let Some(connection) = accepted(rt, listener, &mut self.came) else {
             self.failures = self.failures.one_more();
             self.close();
             return Err(DoorFault);
         };
         self.count_given();
-        Ok(Some(Foreign::new(Connection::new(stream))))
+        Ok(Some(Foreign::new(connection)))
     }
 }

@@ -2,8 +2,10 @@
 #![tactic(auto)]
 
 mod connection;
+mod count;
 mod door;
 mod gate;
+mod parting;
 mod pool;
 mod serving;
 mod sessions;

@@ -1,5 +1,5 @@
 //! The passes, while clients are served.
-ghost use Rattle.std.specs.Prelude.{◌≡◌, ◌+◌, ◌<◌, ◌++◌, Some, None, map, take, length, All};
+ghost use Rattle.std.specs.Prelude.{◌≡◌, ◌+◌, ◌<◌, ◌++◌, ℕ, Some, None, map, take, length, All};
 ghost use Rattle.std.specs.Prelude.{IfOk, IfSome, slice_get, slice_set, vec_len};
 ghost use Rattle.regatta_service.specs.Pools.{Finds, IsLowest};
 
@@ -7,10 +7,11 @@ use regatta_desk::{OfficeName, Pass};
 use std::alloc::{AllocError, Global};
 
 /// The passes, each in a slot of its own. The slot is empty while a session has the pass, so taking
-/// the pass back allocates nothing.
+/// the pass back allocates nothing. A booked pass waits at its slot for the session's thread.
 #[derive(Drop)]
 pub(crate) struct Pool<N: OfficeName> {
     slots: Vec<Option<Pass<N>>>,
+    waiting: Vec<Option<Lent<N>>>,
 }
 
 /// A pass that a session has, and its slot in the pool.
@@ -46,6 +47,18 @@ fn lowest_to<N: OfficeName>(
     }
 }
 
+/// `count` places at which no pass waits.
+fn no_waiting<N: OfficeName>(
+    alloc: Global,
+    count: usize,
+) -> Result<Vec<Option<Lent<N>>>, AllocError> {
+    let mut waiting = Vec::with_capacity(alloc, count)?;
+    for _ in 0..count {
+        waiting.push(None)?;
+    }
+    Ok(waiting)
+}
+
 impl<N: OfficeName> Pool<N> {
     /// A pool of these passes. None is lent yet.
     ///
@@ -56,11 +69,12 @@ impl<N: OfficeName> Pool<N> {
     pub(crate) fn new(alloc: Global, passes: Vec<Pass<N>>) -> Result<Pool<N>, AllocError>
         ensures { IfOk result (λ pool. pool.slots.items ≡ map Some passes.items) }
     {
+        let waiting = no_waiting(alloc, passes.len())?;
         let mut slots = Vec::with_capacity(alloc, passes.len())?;
         for pass in passes {
             slots.push(Some(pass))?;
         }
-        Ok(Pool { slots })
+        Ok(Pool { slots, waiting })
     }
 
     /// The slot of the free pass with the lowest seat, and that seat.
@@ -100,6 +114,36 @@ impl<N: OfficeName> Pool<N> {
         }
     }
 
+    /// Lends the pass with the lowest seat, if there is one. The pass waits at its slot, which is
+    /// returned.
+    pub(crate) fn book(&mut self) -> Option<usize>
+        ensures none { result ≡ None → All (λ slot. slot ≡ None) self.old.slots.items }
+        ensures lowest { IfSome result (λ slot. (seat : ℕ)
+            × IsLowest self.old.slots.items slot seat) }
+    {
+        let lent = self.take()?;
+        let slot = lent.slot;
+        match self.waiting.get_mut(slot) {
+            Some(place) => *place = Some(lent),
+            None => self.give(lent),
+        }
+        Some(slot)
+    }
+
+    /// The pass that waits at this slot, if any.
+    pub(crate) fn fetch(&mut self, slot: usize) -> Option<Lent<N>>
+        ensures { self.new.slots ≡ self.old.slots }
+    {
+        self.waiting.get_mut(slot)?.take()
+    }
+
+    /// Gives back the pass that waits at this slot, if any.
+    pub(crate) fn unbook(&mut self, slot: usize) {
+        if let Some(lent) = self.fetch(slot) {
+            self.give(lent);
+        }
+    }
+
     /// Appends the passes, in the order of their slots, to a list that has room for them. `None` if
     /// one is still lent.
     #[tactic(auto, using(crate::proofs::Lowest::pass_more))]
@@ -107,7 +151,7 @@ impl<N: OfficeName> Pool<N> {
         ensures { IfSome result (λ back. map Some back.items
             ≡ map Some passes.items ++ self.slots.items) }
     {
-        let Pool { slots } = self;
+        let Pool { slots, waiting: _ } = self;
         for slot in slots {
             passes.push(slot?).ok()?;
         }

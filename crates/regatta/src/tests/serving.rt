@@ -16,6 +16,7 @@ use std::net::Net;
 use std::os::unix::net::UnixStream;
 use std::sync::Wait;
 use std::thread::{self, Threads};
+use std::time::Clock;
 
 /// What serving should leave: how many passes come back, and the journal.
 #[derive(Drop)]
@@ -36,7 +37,7 @@ fn serve_doors<N, H, R, D, G>(
 where
     N: OfficeName + Send + Sync,
     H: Wait + Drop + Send,
-    R: Threads + Wait + Sync,
+    R: Threads + Wait + Clock + Sync,
     D: Door,
     G: Gate + Sync,
 {
@@ -59,7 +60,7 @@ fn leaves_at<N, H, R, D, G>(
 where
     N: OfficeName + Send + Sync,
     H: Wait + Drop + Send,
-    R: Threads + Wait + Sync,
+    R: Threads + Wait + Clock + Sync,
     D: Door,
     G: Gate + Sync,
     requires { (opened.history ≡ N.history) × (opened.rules ≡ N.rules) }
@@ -86,7 +87,7 @@ pub(crate) fn leaves<R, D, G>(
     left: &Served,
 ) -> bool
 where
-    R: Threads + Wait + Sync,
+    R: Threads + Wait + Clock + Sync,
     D: Door,
     G: Gate + Sync,
 {

@@ -10,6 +10,7 @@ use std::net::{Net, Shutdown};
 use std::os::unix::net::UnixStream;
 use std::sync::atomic::{AtomicU64, Ordering};
 use std::sync::{Arc, Wait};
+use std::time::Clock;
 
 /// How often a line that is held back is checked before it is given up.
 const MOST_TURNS: u64 = 500_000_000;
@@ -134,6 +135,7 @@ pub(crate) struct Wires {
     clients: Vec<Wire>,
     pub(crate) fails_at_end: bool,
     failures: Failures,
+    given: Failures,
 }
 
 impl Wires {
@@ -142,6 +144,7 @@ impl Wires {
             clients,
             fails_at_end,
             failures: Failures::none(),
+            given: Failures::none(),
         }
     }
 }
@@ -179,10 +182,13 @@ impl Device for Wires {
 }
 
 impl Door for Wires {
+    ghost given = { λ d. d.given.count };
+
     type Stream = Wire;
 
-    fn next<R: Wait>(&mut self, _rt: &R) -> Result<Option<Wire>, DoorFault> {
+    fn next<R: Wait + Clock>(&mut self, _rt: &R) -> Result<Option<Wire>, DoorFault> {
         if let Some(client) = self.clients.pop() {
+            self.given = self.given.one_more();
             return Ok(Some(client));
         }
         if !self.fails_at_end {

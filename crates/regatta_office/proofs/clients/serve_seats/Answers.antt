@@ -1,0 +1,20 @@
+use Rattle.std.proofs.Common.{inl}
+use Rattle.regatta_office.proofs.Printing.{keeps_same}
+use Rattle.regatta_office.proofs.clients.serve_seats.Goals as goal
+
+-- nothing was written yet
+pub returns-in_err-office-clause-at_most : goal.returns-in_err-office-clause-at_most
+returns-in_err-office-clause-at_most g c = inl (keeps_same (g.W.Device.contents c.args.output.now))
+
+pub returns-in_err-door-clause-at_most : goal.returns-in_err-door-clause-at_most
+returns-in_err-door-clause-at_most g c = inl (keeps_same (g.W.Device.contents c.args.output.now))
+
+-- the clients were served, and the table was to be printed
+pub returns-in_err-back-clause-at_most : goal.returns-in_err-back-clause-at_most
+returns-in_err-back-clause-at_most g c = c.serve_and_print-back.ensures.at_most
+
+pub returns-in_err-printed-clause-at_most : goal.returns-in_err-printed-clause-at_most
+returns-in_err-printed-clause-at_most g c = c.serve_and_print-back.ensures.at_most
+
+pub returns-clause-at_most : goal.returns-clause-at_most
+returns-clause-at_most g c = c.serve_and_print-back.ensures.at_most
