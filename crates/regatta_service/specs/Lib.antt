@@ -1,3 +1,4 @@
+pub mod Comings
 pub mod Doors
 pub mod Ends
 pub mod Faults

@@ -1,5 +1,5 @@
 -- How a client was parted with.
-use Rattle.std.specs.Prelude.{◌≡◌, ◌+◌, ℕ, List, Option, Some, None}
+use Rattle.std.specs.Prelude.{◌≡◌, ◌+◌, ℕ, List, Option, Result, Ok, Err}
 use Rattle.std.specs.Io.KnownBytes.{Appends, IsAtEnd}
 use Rattle.regatta_terms.specs.Rules.{RulesParts}
 use Rattle.regatta_terms.specs.declared.reply.Reply.TheVariants.{Busy}
@@ -20,11 +20,11 @@ pub record IsServed {S : Type 0} (rules : RulesParts) (remaining contents : S �
   pub talked : Talked rules end (remaining given) (remaining left) before after (contents given)
       (contents left)
 
--- that; or, if no session began, the client was told that there is no seat, unless a call of the
--- stream failed
-abbrev pub IsParted : {S : Type 0} → RulesParts → (S → Option (List ℕ)) → (S → Option (List ℕ))
-    → (S → ℕ) → S → S → Option End → Type 0
-IsParted rules remaining contents failures given left (Some end) =
+-- that; or, if there is a reason why no session began, the client was told that there is no seat,
+-- unless a call of the stream failed
+abbrev pub IsParted : {S Why : Type 0} → RulesParts → (S → Option (List ℕ))
+    → (S → Option (List ℕ)) → (S → ℕ) → S → S → Result End Why → Type 0
+IsParted rules remaining contents failures given left (Ok end) =
     IsServed rules remaining contents failures given left end
-IsParted rules remaining contents failures given left None =
+IsParted rules remaining contents failures given left (Err why) =
     failures left ≡ failures given → Appends (contents given) (contents left) (reply_text Busy)

@@ -5,26 +5,41 @@ use std::io;
 use std::io::{Read, Write};
 use std::net::Shutdown;
 use std::os::unix::net::UnixStream;
+use std::time::Duration;
+
+/// The reply to a client who finds no seat.
+pub(crate) const BUSY: &[u8] = b"BUSY\n";
 
 /// The most bytes that one read asks for.
 const PIECE: usize = 4096;
+
+/// How long a write to a client may wait, in seconds. A client who reads nothing for so long loses
+/// their seat.
+const WRITE_LIMIT: u64 = 60;
 
 /// What ends a connection, by a handle of its own to the client's socket.
 ///
 /// If a Unix socket is closed with unread bytes, the client's connection is reset, and the client
 /// may not see how its session ended. So when this is dropped, the socket is shut and what came
 /// before is read. The client then reads its replies and the end of the stream.
-pub(crate) struct Ending {
+struct Ending {
     socket: UnixStream,
 }
 
 impl Ending {
     /// What ends the connection over this socket. `None` if the system gives no second handle, for
     /// example because no descriptor is left.
-    pub(crate) fn of(socket: &UnixStream) -> Option<Ending> {
+    fn of(socket: &UnixStream) -> Option<Ending> {
         let socket = socket.try_clone().ok()?;
         Some(Ending { socket })
     }
+}
+
+/// Tells a client for whom the system has no descriptor that there is no seat, and ends the
+/// connection. Whether the client reads it changes nothing.
+fn turn_away(socket: UnixStream) {
+    let mut ending = Ending { socket };
+    let _ = ending.socket.write_all(BUSY);
 }
 
 impl Drop for Ending {
@@ -32,6 +47,21 @@ impl Drop for Ending {
         let Ending { mut socket } = self;
         if socket.shutdown(Shutdown::Both).is_ok() {
             read_rest(&mut socket);
+        }
+    }
+}
+
+/// The connection over a socket that was accepted. `None` if the system has no second descriptor for
+/// it, or no time limit of its writes; the client is then turned away.
+pub(crate) fn connection_of(socket: UnixStream) -> Option<Connection<UnixStream>> {
+    let limit = Duration::from_secs(WRITE_LIMIT);
+    match Ending::of(&socket) {
+        Some(ending) if socket.set_write_timeout(Some(limit)).is_ok() => {
+            Some(Connection::new(socket, ending))
+        }
+        _ => {
+            turn_away(socket);
+            None
         }
     }
 }
@@ -57,7 +87,7 @@ pub struct Connection<S> {
 
 impl<S> Connection<S> {
     /// The connection that was accepted.
-    pub(crate) fn new(stream: S, ending: Ending) -> Connection<S>
+    fn new(stream: S, ending: Ending) -> Connection<S>
         ensures { result.stream ≡ stream }
     {
         Connection { stream, ending }

@@ -1,10 +1,11 @@
 //! Where clients come from.
-ghost use Rattle.std.specs.Prelude.{◌≡◌, ◌≢◌, ◌+◌, ◌<◌, ◌↔◌, ℕ, Ok, Some, None, length, IfOk, OnOk};
-ghost use Rattle.std.specs.Prelude.{OnErr, OnSome};
+ghost use Rattle.std.specs.Prelude.{◌≡◌, ◌≢◌, ◌+◌, ◌<◌, ◌↔◌, ℕ, Bool, true, Ok, Some, None, length};
+ghost use Rattle.std.specs.Prelude.{IfOk, OnOk, OnErr, OnSome};
+ghost use Rattle.regatta_service.specs.Comings.{clients_in};
 ghost use Rattle.regatta_service.specs.Doors.{streams_asked, one_fewer, streams_in};
-ghost use Rattle.regatta_service.specs.Doors.{one_if_some};
+ghost use Rattle.regatta_service.specs.Doors.{is_last, is_shut, one_if_some};
 
-use crate::connection::{Connection, Ending};
+use crate::connection::{Connection, connection_of};
 use crate::count::Count;
 use regatta_streams::{Device, Failures, Foreign, Sink, Source};
 use std::marker::Model;
@@ -26,6 +27,8 @@ pub struct DoorFault;
 pub trait Door: Device {
     ghost given: { Self → ℕ };
 
+    ghost closed: { Self → Bool };
+
     /// What a client's lines come from, and what their replies go to.
     type Stream: Source + Sink + Send + Drop + 'static;
 
@@ -39,45 +42,89 @@ pub trait Door: Device {
         ensures failed { OnErr result (Self.failures self.new ≡ Self.failures self.old + 1) }
 
         // Each stream that came is returned: one at a time, and none is lost.
-        ensures one { Self.given self.new ≡ Self.given self.old + streams_in result };
+        ensures one { Self.given self.new ≡ Self.given self.old + streams_in result }
+
+        // Only a door that returns no stream is known to be closed.
+        ensures last { is_last result ≡ true → Self.closed self.new ≡ true };
 }
 
 /// How long a door waits before it tries a failed `accept` again, in milliseconds.
 static PAUSES: [u64; 6] = [10, 50, 250, 500, 1000, 2000];
 
-/// How long a write to a client may wait, in seconds. A client who reads nothing for so long loses
-/// their seat.
-const WRITE_LIMIT: u64 = 60;
-
-/// The connection to the next client, if the system gives one. It may wait for the client.
-fn accept_one(listener: &UnixListener, came: &mut Count) -> Option<Connection<UnixStream>>
-    ensures { came.new ≡ came.old + one_if_some result }
-{
-    let (stream, _) = listener.accept().ok()?;
-    let ending = Ending::of(&stream)?;
-    stream
-        .set_write_timeout(Some(Duration::from_secs(WRITE_LIMIT)))
-        .ok()?;
-    *came = came.one_more();
-    Some(Connection::new(stream, ending))
+/// What came of a call of `accept`.
+#[derive(Drop)]
+enum Came {
+    Client(Connection<UnixStream>),
+    /// The client was turned away, since the system has no descriptor for them.
+    TurnedAway,
+    /// The call failed.
+    Nobody,
 }
 
-/// The same. If the system gives none, for example because no descriptor is left, it is asked again
-/// a few times, after pauses that grow.
-fn accepted<R: Clock>(
+/// The next client's stream, for which it may wait. If the call fails, for example because no
+/// descriptor is left, it is made again once, without the spare descriptor.
+fn accept_with(listener: &UnixListener, spare: &mut Option<UnixListener>) -> Option<UnixStream> {
+    if spare.is_none() {
+        *spare = listener.try_clone().ok();
+    }
+    if let Ok((stream, _)) = listener.accept() {
+        return Some(stream);
+    }
+    *spare = None;
+    let (stream, _) = listener.accept().ok()?;
+    Some(stream)
+}
+
+/// Accepts the next client, and counts them unless they are turned away.
+fn accept_one(listener: &UnixListener, spare: &mut Option<UnixListener>, came: &mut Count) -> Came
+    ensures { came.new ≡ came.old + clients_in result }
+{
+    let Some(stream) = accept_with(listener, spare) else {
+        return Came::Nobody;
+    };
+    let Some(connection) = connection_of(stream) else {
+        return Came::TurnedAway;
+    };
+    *came = came.one_more();
+    Came::Client(connection)
+}
+
+/// The same. A call that fails is made again a few times, after pauses that grow.
+fn accept_again<R: Clock>(
     rt: &R,
     listener: &UnixListener,
+    spare: &mut Option<UnixListener>,
+    came: &mut Count,
+) -> Came
+    ensures { came.new ≡ came.old + clients_in result }
+{
+    for pause in PAUSES {
+        match accept_one(listener, spare, came) {
+            Came::Nobody => {}
+            some => return some,
+        }
+        thread::sleep(rt, Duration::from_millis(pause));
+    }
+    accept_one(listener, spare, came)
+}
+
+/// The connection to the next client who isn't turned away. `None` if `accept` keeps failing.
+fn accepted<R: Wait + Clock>(
+    rt: &R,
+    listener: &UnixListener,
+    spare: &mut Option<UnixListener>,
     came: &mut Count,
 ) -> Option<Connection<UnixStream>>
     ensures { came.new ≡ came.old + one_if_some result }
 {
-    for pause in PAUSES {
-        if let Some(connection) = accept_one(listener, came) {
-            return Some(connection);
+    for _ in rt.forever() {
+        match accept_again(rt, listener, spare, came) {
+            Came::Client(connection) => return Some(connection),
+            Came::TurnedAway => {}
+            Came::Nobody => return None,
         }
-        thread::sleep(rt, Duration::from_millis(pause));
     }
-    accept_one(listener, came)
+    unreachable!()
 }
 
 /// A door over a new Unix socket. It closes after the last stream that it gives, or when it fails.
@@ -89,6 +136,9 @@ fn accepted<R: Clock>(
 pub struct SocketDoor {
     /// `None` if the door is closed.
     listener: Option<UnixListener>,
+    /// A second handle of the listener. When no descriptor is left, it is given up, so that the next
+    /// client can be told that there is no seat.
+    spare: Option<UnixListener>,
     left: Option<u32>,
     failures: Failures,
     came: Count,
@@ -129,8 +179,10 @@ impl SocketDoor {
         let Ok(listener) = UnixListener::bind(rt, path) else {
             return Err(DoorFault);
         };
+        let spare = listener.try_clone().ok();
         Ok(SocketDoor {
             listener: Some(listener),
+            spare,
             left: if sessions == 0 { None } else { Some(sessions) },
             failures: Failures::none(),
             came: Count::none(),
@@ -141,6 +193,7 @@ impl SocketDoor {
         ensures { self.new ≡ record self.old { left = Some 0 } }
     {
         self.listener = None;
+        self.spare = None;
         self.left = Some(0);
     }
 
@@ -153,6 +206,7 @@ impl SocketDoor {
             self.left = Some(left - 1);
             if left == 1 {
                 self.listener = None;
+                self.spare = None;
             }
         }
     }
@@ -165,6 +219,8 @@ impl Device for SocketDoor {
 impl Door for SocketDoor {
     ghost given = { λ door. door.given };
 
+    ghost closed = { λ door. is_shut door.left };
+
     type Stream = Foreign<Connection<UnixStream>>;
 
     fn next<R: Wait + Clock>(
@@ -174,6 +230,7 @@ impl Door for SocketDoor {
         ensures well { OnOk result (self.new.failures ≡ self.old.failures) }
         ensures failed { OnErr result (self.new.failures ≡ self.old.failures + 1) }
         ensures one { self.new.given ≡ self.old.given + streams_in result }
+        ensures last { is_last result ≡ true → is_shut self.new.left ≡ true }
 
         // The result is `None` exactly when no stream is left to give.
         ensures closed { (result ≡ Ok None) ↔ (self.old.left ≡ Some 0) }
@@ -187,7 +244,7 @@ impl Door for SocketDoor {
         let Some(listener) = &self.listener else {
             return Ok(None);
         };
-        let Some(connection) = accepted(rt, listener, &mut self.came) else {
+        let Some(connection) = accepted(rt, listener, &mut self.spare, &mut self.came) else {
             self.failures = self.failures.one_more();
             self.close();
             return Err(DoorFault);

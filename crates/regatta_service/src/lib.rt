@@ -12,5 +12,6 @@ mod sessions;
 
 pub use door::{Door, DoorFault, SocketDoor};
 pub use gate::{Gate, OpenGate};
-pub use serving::{ServeFault, serve};
+pub use parting::Admitted;
+pub use serving::{ServeFault, serve, serve_each};
 pub use sessions::{End, session};

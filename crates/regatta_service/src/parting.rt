@@ -5,9 +5,10 @@ ghost use Rattle.regatta_terms.specs.declared.reply.Reply.TheVariants.{Busy};
 ghost use Rattle.regatta_tables.specs.ReplyTexts.{reply_text};
 ghost use Rattle.regatta_service.specs.Partings.{IsParted};
 
+use crate::connection::BUSY;
 use crate::count::Count;
 use crate::gate::Gate;
-use crate::pool::Pool;
+use crate::pool::{NoPlace, Pool};
 use crate::sessions::{End, session};
 use regatta_desk::{Office, OfficeName};
 use regatta_streams::{Device, Sink, Source, write_all};
@@ -16,9 +17,6 @@ use std::marker::{Model, PhantomData};
 use std::snapshot::Snapshot;
 use std::sync::{Mutex, Wait};
 use std::thread::{Promise, PromisedHandle, Scope};
-
-/// The reply to a client who finds no seat.
-const BUSY: &[u8] = b"BUSY\n";
 
 /// Tells a client that there is no seat. Whether the client reads it changes nothing.
 fn turn_away<S: Sink>(stream: &mut S)
@@ -31,8 +29,8 @@ fn turn_away<S: Sink>(stream: &mut S)
 /// How a client was parted with. The stream itself is closed by then.
 #[derive(Drop)]
 pub(crate) struct Parted<S> {
-    /// How the session ended. `None` if no seat was free, or no thread was available.
-    end: Option<End>,
+    /// How the session ended, or why there was none: no seat was free, or no thread was available.
+    end: Result<End, NoPlace>,
     /// The stream as it was left.
     left: Snapshot<S>,
 }
@@ -49,9 +47,10 @@ impl<N: OfficeName, S: Source + Sink> Promise<Parted<S>> for Serves<N, S> {
         promise.given.value parted.left.value parted.end };
 }
 
-/// The number of clients admitted. Only `admit` counts.
+/// The number of clients admitted: each was given to a thread that promised them a session, or was
+/// turned away with `BUSY`. It has no bytes: only contracts see the number.
 #[derive(Drop)]
-pub(crate) struct Admitted {
+pub struct Admitted {
     clients: Count,
 }
 
@@ -81,8 +80,12 @@ impl Admitted {
     }
 }
 
-/// Turns a client away and parts with them.
-fn sent_away<N: OfficeName, S: Source + Sink>(stream: S, _office: PhantomData<N>) -> Parted<S>
+/// Turns away a client who can't be served, and parts with them.
+fn sent_away<N: OfficeName, S: Source + Sink>(
+    stream: S,
+    why: NoPlace,
+    _office: PhantomData<N>,
+) -> Parted<S>
 where
     S: Drop,
     ensures { IsParted N.rules S.remaining S.contents S.failures stream result.left.value
@@ -91,12 +94,12 @@ where
     let mut stream = stream;
     turn_away(&mut stream);
     Parted {
-        end: None,
+        end: Err(why),
         left: Snapshot::of(&stream),
     }
 }
 
-/// Serves a client with the pass that waits at this slot. If none waits there, turns them away.
+/// Serves a client with the pass that waits at this slot. If they can't be served, turns them away.
 fn attend<N, H, R, S, G>(
     rt: &R,
     alloc: Global,
@@ -115,8 +118,10 @@ where
     ensures { IsParted N.rules S.remaining S.contents S.failures stream result.left.value
         result.end }
 {
-    let Some(mut lent) = pool.lock(rt).fetch(slot) else {
-        return sent_away::<N, S>(stream, PhantomData);
+    let fetched = pool.lock(rt).fetch(slot);
+    let mut lent = match fetched {
+        Ok(lent) => lent,
+        Err(why) => return sent_away::<N, S>(stream, why, PhantomData),
     };
     let mut stream = stream;
     let end = session(rt, alloc, &mut stream, office, &mut lent.pass, gate);
@@ -126,7 +131,7 @@ where
     // may come again at once.
     pool.lock(rt).give(lent);
     Parted {
-        end: Some(end),
+        end: Ok(end),
         left,
     }
 }
@@ -157,8 +162,10 @@ where
         stream parted.left.value parted.end) }
 {
     admitted.count();
-    let Some(slot) = pool.lock(rt).book() else {
-        return Err(sent_away::<N, S>(stream, PhantomData));
+    let booked = pool.lock(rt).book();
+    let slot = match booked {
+        Ok(slot) => slot,
+        Err(why) => return Err(sent_away::<N, S>(stream, why, PhantomData)),
     };
     let promise = Serves {
         given: Snapshot::of(&stream),
@@ -169,8 +176,9 @@ where
     }) {
         Ok(thread) => Ok(thread),
         Err(refused) => {
-            // The refused closure finds no pass at the slot, so it turns the client away.
-            pool.lock(rt).unbook(slot);
+            // The refused closure finds at the slot why the client can't be served.
+            let why = NoPlace::without_thread(&refused);
+            pool.lock(rt).unbook(slot, why);
             Err((refused.value)())
         }
     }

@@ -1,17 +1,32 @@
 //! The passes, while clients are served.
 ghost use Rattle.std.specs.Prelude.{◌≡◌, ◌+◌, ◌<◌, ◌++◌, ℕ, Some, None, map, take, length, All};
-ghost use Rattle.std.specs.Prelude.{IfOk, IfSome, slice_get, slice_set, vec_len};
+ghost use Rattle.std.specs.Prelude.{IfOk, IfSome, OnErr, slice_get, slice_set};
 ghost use Rattle.regatta_service.specs.Pools.{Finds, IsLowest};
 
 use regatta_desk::{OfficeName, Pass};
 use std::alloc::{AllocError, Global};
+use std::thread::SpawnError;
 
 /// The passes, each in a slot of its own. The slot is empty while a session has the pass, so taking
 /// the pass back allocates nothing. A booked pass waits at its slot for the session's thread.
 #[derive(Drop)]
 pub(crate) struct Pool<N: OfficeName> {
     slots: Vec<Option<Pass<N>>>,
-    waiting: Vec<Option<Lent<N>>>,
+    waiting: Vec<Option<Result<Lent<N>, NoPlace>>>,
+}
+
+/// Shows that a client can't be served: no seat is free, or no thread is available. It has no bytes,
+/// and only this file makes one.
+#[derive(Drop)]
+pub(crate) struct NoPlace {
+    _made_here: (),
+}
+
+impl NoPlace {
+    /// No thread is available: a spawn failed.
+    pub(crate) fn without_thread<F>(_refused: &SpawnError<F>) -> NoPlace {
+        NoPlace { _made_here: () }
+    }
 }
 
 /// A pass that a session has, and its slot in the pool.
@@ -51,7 +66,7 @@ fn lowest_to<N: OfficeName>(
 fn no_waiting<N: OfficeName>(
     alloc: Global,
     count: usize,
-) -> Result<Vec<Option<Lent<N>>>, AllocError> {
+) -> Result<Vec<Option<Result<Lent<N>, NoPlace>>>, AllocError> {
     let mut waiting = Vec::with_capacity(alloc, count)?;
     for _ in 0..count {
         waiting.push(None)?;
@@ -116,31 +131,49 @@ impl<N: OfficeName> Pool<N> {
 
     /// Lends the pass with the lowest seat, if there is one. The pass waits at its slot, which is
     /// returned.
-    pub(crate) fn book(&mut self) -> Option<usize>
-        ensures none { result ≡ None → All (λ slot. slot ≡ None) self.old.slots.items }
-        ensures lowest { IfSome result (λ slot. (seat : ℕ)
+    pub(crate) fn book(&mut self) -> Result<usize, NoPlace>
+        ensures none { OnErr result (All (λ slot. slot ≡ None) self.old.slots.items) }
+        ensures lowest { IfOk result (λ slot. (seat : ℕ)
             × IsLowest self.old.slots.items slot seat) }
     {
-        let lent = self.take()?;
+        let Some(lent) = self.take() else {
+            return Err(NoPlace { _made_here: () });
+        };
         let slot = lent.slot;
         match self.waiting.get_mut(slot) {
-            Some(place) => *place = Some(lent),
+            Some(place) => *place = Some(Ok(lent)),
             None => self.give(lent),
         }
-        Some(slot)
+        Ok(slot)
     }
 
-    /// The pass that waits at this slot, if any.
-    pub(crate) fn fetch(&mut self, slot: usize) -> Option<Lent<N>>
+    /// What waits at this slot, if anything.
+    fn take_waiting(&mut self, slot: usize) -> Option<Result<Lent<N>, NoPlace>>
         ensures { self.new.slots ≡ self.old.slots }
     {
         self.waiting.get_mut(slot)?.take()
     }
 
-    /// Gives back the pass that waits at this slot, if any.
-    pub(crate) fn unbook(&mut self, slot: usize) {
-        if let Some(lent) = self.fetch(slot) {
+    /// The pass that waits at this slot, or why its client can't be served. If nothing waits there,
+    /// which no run has met, the pass with the lowest seat is lent.
+    pub(crate) fn fetch(&mut self, slot: usize) -> Result<Lent<N>, NoPlace> {
+        if let Some(waiting) = self.take_waiting(slot) {
+            return waiting;
+        }
+        match self.take() {
+            Some(lent) => Ok(lent),
+            None => Err(NoPlace { _made_here: () }),
+        }
+    }
+
+    /// Gives back the pass that waits at this slot. Why its client can't be served waits there
+    /// instead.
+    pub(crate) fn unbook(&mut self, slot: usize, why: NoPlace) {
+        if let Some(Ok(lent)) = self.take_waiting(slot) {
             self.give(lent);
+        }
+        if let Some(place) = self.waiting.get_mut(slot) {
+            *place = Some(Err(why));
         }
     }
 

@@ -1,8 +1,8 @@
 //! Clients served side by side.
-ghost use Rattle.std.specs.Prelude.{◌≡◌, ◌+◌, map, IfOk, OnOk, IsErrOf, IsTrue};
+ghost use Rattle.std.specs.Prelude.{◌≡◌, ◌+◌, map, true, IfOk, IsTrue};
 ghost use Rattle.std.specs.List.Sorted.{IsPermutation, IsSorted};
 ghost use Rattle.std.specs.Ordering.{nat_cmp};
-ghost use Rattle.regatta_service.specs.Faults.{door_failures_in};
+ghost use Rattle.regatta_service.specs.Faults.{IfBegun, door_failures_in};
 
 use crate::door::Door;
 use crate::gate::Gate;
@@ -50,6 +50,7 @@ where
     G: Gate + Sync + 's,
     ensures door { D.failures door.new ≡ D.failures door.old + door_failures_in result.0 }
     ensures each { D.given door.new ≡ D.given door.old + result.1 }
+    ensures closed { D.closed door.new ≡ true }
 {
     let mut admitted = Admitted::none();
     for _ in rt.forever() {
@@ -108,8 +109,12 @@ fn passes_back<N: OfficeName>(
     Ok(passes)
 }
 
-/// Serves the door's clients, as `serve` does. Returns how many were admitted, too.
-fn serve_each<N, H, R, D, G>(
+/// Serves the door's clients, as [`serve`] does, and counts them.
+///
+/// # Errors
+///
+/// As `serve`.
+pub fn serve_each<N, H, R, D, G>(
     rt: &R,
     alloc: Global,
     office: &Office<N, H>,
@@ -130,6 +135,9 @@ where
 
     // Each client that the door gave was admitted once.
     ensures each { D.given door.new ≡ D.given door.old + result.1 }
+
+    // The door was asked for clients until it closed.
+    ensures closed { IfBegun result.0 (D.closed door.new ≡ true) }
 {
     let Ok(seats) = seats_of(alloc, &passes) else {
         return (Err(ServeFault::NoMemory), Admitted::none());
@@ -153,6 +161,7 @@ where
             ensures failures { D.failures result.1.now
                 ≡ D.failures door.entry.now + door_failures_in result.0.0 }
             ensures each { D.given result.1.now ≡ D.given door.entry.now + result.0.1 }
+            ensures closed { D.closed result.1.now ≡ true }
         {
             let served = accept_all(rt, alloc, scope, office, shared, &mut *door, gate);
             (served, door)
@@ -195,6 +204,9 @@ where
 
     // A failed call of the door ends serving and is reported as `Door`; otherwise no call failed.
     ensures door { D.failures door.new ≡ D.failures door.old + door_failures_in result }
+
+    // The door was asked for clients until it closed.
+    ensures closed { IfBegun result (D.closed door.new ≡ true) }
 {
     let (back, _) = serve_each(rt, alloc, office, door, passes, gate);
     back

@@ -136,6 +136,7 @@ pub(crate) struct Wires {
     pub(crate) fails_at_end: bool,
     failures: Failures,
     given: Failures,
+    is_closed: bool,
 }
 
 impl Wires {
@@ -145,6 +146,7 @@ impl Wires {
             fails_at_end,
             failures: Failures::none(),
             given: Failures::none(),
+            is_closed: false,
         }
     }
 }
@@ -184,6 +186,8 @@ impl Device for Wires {
 impl Door for Wires {
     ghost given = { λ d. d.given.count };
 
+    ghost closed = { λ d. d.is_closed };
+
     type Stream = Wire;
 
     fn next<R: Wait + Clock>(&mut self, _rt: &R) -> Result<Option<Wire>, DoorFault> {
@@ -191,6 +195,7 @@ impl Door for Wires {
             self.given = self.given.one_more();
             return Ok(Some(client));
         }
+        self.is_closed = true;
         if !self.fails_at_end {
             return Ok(None);
         }

@@ -1,6 +1,8 @@
 use Rattle.std.proofs.Common.{◌≡◌}
 use Rattle.regatta_service.proofs.door.accepted.Given as goal
 
--- no client came yet
-abbrev pub invariant-loop-pause : goal.invariant-loop-pause
-invariant-loop-pause g l = l.came ≡ l.fn.came
+-- each client so far was turned away
+abbrev pub invariant-loop : goal.invariant-loop
+invariant-loop g l =
+    (goal.iterator-loop g).can_next l.iterator' × (goal.iterator-loop g).is_finite l.iterator'
+    × (l.came ≡ l.fn.came)
