@@ -1,8 +1,8 @@
 //! Serves a series to clients at a socket.
-ghost use Rattle.std.specs.Prelude.{◌≡◌, ◌+◌, map, vec_len, IfOk, OnOk};
+ghost use Rattle.std.specs.Prelude.{◌≡◌, ◌+◌, true, map, vec_len, IfOk, OnOk};
 ghost use Rattle.std.specs.List.Sorted.{IsPermutation};
 ghost use Rattle.regatta_service.specs.Doors.{streams_asked};
-ghost use Rattle.regatta_service.specs.Faults.{door_failures_in};
+ghost use Rattle.regatta_service.specs.Faults.{IfBegun, door_failures_in};
 ghost use Rattle.regatta_office.specs.Asked.{AtMostServingOf, IsServingOf};
 ghost use Rattle.regatta_office.specs.Asked.{PrintsAtMostTable, PrintsTable};
 
@@ -12,8 +12,8 @@ use crate::form::Form;
 use crate::options::ServeOptions;
 use crate::scribe::ScribeFault;
 use crate::series::beginning_of;
-use regatta_desk::{Office, OfficeName, Opened, Pass};
-use regatta_service::{Door, DoorFault, OpenGate, ServeFault, SocketDoor, serve};
+use regatta_desk::{Note, Office, OfficeName, Opened, Pass};
+use regatta_service::{Admitted, Door, DoorFault, OpenGate, ServeFault, SocketDoor, serve_each};
 use regatta_streams::{Device, Sink};
 use std::alloc::Global;
 use std::fs::Files;
@@ -36,6 +36,8 @@ fn door_of<R: Files + Net>(rt: &R, options: &ServeOptions<'_>) -> Result<SocketD
 struct Served<N: OfficeName> {
     /// The passes of all seats, or why serving ended early.
     back: Result<Vec<Pass<N>>, ServeFault>,
+    /// How many clients were admitted.
+    admitted: Admitted,
     /// Whether the table was printed then.
     printed: Result<(), ScribeFault>,
 }
@@ -48,6 +50,7 @@ fn serve_and_print<N, H, R, D, W>(
     office: &Office<N, H>,
     door: &mut D,
     passes: Vec<Pass<N>>,
+    start: Note,
     output: &mut W,
 ) -> Served<N>
 where
@@ -56,21 +59,32 @@ where
     R: Threads + Wait + Clock + Sync,
     D: Door,
     W: Sink,
+    requires start { start.history ≡ N.history }
     // The passes of all seats come back.
     ensures seats { IfOk result.back (λ back.
         IsPermutation (map (λ p. p.seat) passes.items) (map (λ p. p.seat) back.items)) }
     ensures count { IfOk result.back (λ back. vec_len back ≡ vec_len passes) }
     ensures door { D.failures door.new ≡ D.failures door.old + door_failures_in result.back }
 
-    // The table is printed even if serving failed.
+    // Each client that the door gave was admitted once, until the door closed.
+    ensures each { D.given door.new ≡ D.given door.old + result.admitted }
+    ensures closed { IfBegun result.back (D.closed door.new ≡ true) }
+
+    // The table is printed even if serving failed. Its journal begins with the start.
     ensures printed { OnOk result.printed
-        (PrintsTable N.rules (W.contents output.old) (W.contents output.new)) }
-    ensures at_most { PrintsAtMostTable N.rules (W.contents output.old) (W.contents output.new) }
+        (PrintsTable N.rules start.journal (W.contents output.old) (W.contents output.new)) }
+    ensures at_most { PrintsAtMostTable N.rules start.journal (W.contents output.old)
+        (W.contents output.new) }
 {
-    let back = serve(rt, alloc, office, door, passes, &OpenGate);
-    let desk = office.desk(rt);
+    let (back, admitted) = serve_each(rt, alloc, office, door, passes, &OpenGate);
+    let mut desk = office.desk(rt);
+    desk.cover_note(start);
     let printed = print_final(alloc, desk.board(), Form::Table, output);
-    Served { back, printed }
+    Served {
+        back,
+        admitted,
+        printed,
+    }
 }
 
 /// Serves the socket's clients at the seats of this office. When the door is closed and all clients
@@ -92,17 +106,20 @@ where
     requires rules { opened.rules ≡ N.rules }
     requires seats { opened.seats ≡ options.now.clients }
     ensures table { OnOk result
-        (PrintsTable N.rules (W.contents output.old) (W.contents output.new)) }
-    ensures at_most { PrintsAtMostTable N.rules (W.contents output.old) (W.contents output.new) }
+        (PrintsTable N.rules opened.entries (W.contents output.old) (W.contents output.new)) }
+    ensures at_most { PrintsAtMostTable N.rules opened.entries (W.contents output.old)
+        (W.contents output.new) }
 
     // As many seats were served as were asked for.
     ensures seats { IfOk result (λ back. vec_len back ≡ options.now.clients) }
 {
+    let mut opened = opened;
+    let start = opened.start_note();
     let (office, passes) = opened.split::<N>()?;
     let mut door = door_of(rt, options)?;
-    let Served { back, printed } = serve_and_print(rt, alloc, &office, &mut door, passes, output);
-    let back = back?;
-    printed?;
+    let served = serve_and_print(rt, alloc, &office, &mut door, passes, start, output);
+    let back = served.back?;
+    served.printed?;
     Ok(back)
 }
 
@@ -123,8 +140,9 @@ where
     requires rules { opened.rules ≡ N.rules }
     requires seats { opened.seats ≡ options.now.clients }
     ensures table { OnOk result
-        (PrintsTable N.rules (W.contents output.old) (W.contents output.new)) }
-    ensures at_most { PrintsAtMostTable N.rules (W.contents output.old) (W.contents output.new) }
+        (PrintsTable N.rules opened.entries (W.contents output.old) (W.contents output.new)) }
+    ensures at_most { PrintsAtMostTable N.rules opened.entries (W.contents output.old)
+        (W.contents output.new) }
 
     // As many seats were served as were asked for.
     ensures seats { IfOk result (λ count. count ≡ options.now.clients) }
@@ -150,7 +168,8 @@ where
     W: Sink,
     ensures done { OnOk result (IsServingOf options.now (W.contents output.old)
         (W.contents output.new)) }
-    ensures at_most { AtMostServingOf (W.contents output.old) (W.contents output.new) }
+    ensures at_most { AtMostServingOf options.now (W.contents output.old)
+        (W.contents output.new) }
 {
     let alloc = rt.alloc();
     let begin = beginning_of(rt, &options.series)?;

@@ -4,7 +4,7 @@ ghost use Rattle.std.specs.Io.KnownBytes.{Appends};
 ghost use Rattle.clap.specs.Words.{kind_of};
 ghost use Rattle.clap.specs.declared.builder.value_parser.ValueParser.{ValueParser};
 ghost use Rattle.regatta_office.specs.Asked.{IsReplayOf};
-ghost use Rattle.regatta_office.specs.Runs.{IsRunOf};
+ghost use Rattle.regatta_office.specs.Runs.{AtMostRunOf, IsRunOf};
 ghost use Rattle.regatta_office.specs.Words.{AskHelp, AskRun, TakesForms};
 
 use crate::clients::serve_series;
@@ -40,8 +40,10 @@ fn complain<E: Sink>(alloc: Global, errors: &mut E, complaint: Complaint) -> u8
 
 /// Writes the help that was asked for, and returns the program's status.
 fn help<W: Sink, E: Sink>(alloc: Global, error: &clap::Error, output: &mut W, errors: &mut E) -> u8
-    ensures { result ≡ 0 → (text : List ℕ)
+    ensures done { result ≡ 0 → (text : List ℕ)
         × Appends (W.contents output.old) (W.contents output.new) text }
+    ensures at_most { (output.new ≡ output.old) ⊎ ((text : List ℕ)
+        × Appends (W.contents output.old) (W.contents output.new) text) }
 {
     let Ok(text) = format!(in alloc; "{error}") else {
         return complain(alloc, errors, Complaint::NoMemory);
@@ -73,8 +75,10 @@ fn answer_words<W: Sink, E: Sink>(
     output: &mut W,
     errors: &mut E,
 ) -> u8
-    ensures { result ≡ 0 → (kind_of error.now ≡ ErrorKind.DisplayHelp) × ((text : List ℕ)
+    ensures done { result ≡ 0 → (kind_of error.now ≡ ErrorKind.DisplayHelp) × ((text : List ℕ)
         × Appends (W.contents output.old) (W.contents output.new) text) }
+    ensures at_most { (output.new ≡ output.old) ⊎ ((kind_of error.now ≡ ErrorKind.DisplayHelp)
+        × ((text : List ℕ) × Appends (W.contents output.old) (W.contents output.new) text)) }
 {
     match error.kind() {
         ErrorKind::DisplayHelp => help(alloc, error, output, errors),
@@ -105,8 +109,9 @@ where
     H: Files + AllocGlobal + Threads + Wait + Net + Clock + Sync,
     R: Source,
     W: Sink,
-    ensures { OnOk result (IsRunOf R.remaining asked.now input.old input.new
+    ensures done { OnOk result (IsRunOf R.remaining asked.now input.old input.new
         (W.contents output.old) (W.contents output.new)) }
+    ensures at_most { AtMostRunOf asked.now (W.contents output.old) (W.contents output.new) }
 {
     match asked {
         Asked::Replay(options) => replay_series(rt, options, input, output),
@@ -148,6 +153,14 @@ where
         ⊎ ((asked : _) × AskRun forms (map (λ word. word.now) words.now) asked
         × IsRunOf R.remaining asked input.old input.new (W.contents output.old)
         (W.contents output.new))) }
+
+    // Whatever the status, nothing is written; or help, which the arguments ask for; or at most what
+    // the run that they ask for may write: of `serve`, the table.
+    ensures at_most { (output.new ≡ output.old) ⊎ ((forms : ValueParser) × TakesForms forms
+        × ((AskHelp forms (map (λ word. word.now) words.now)
+        × ((text : List ℕ) × Appends (W.contents output.old) (W.contents output.new) text))
+        ⊎ ((asked : _) × AskRun forms (map (λ word. word.now) words.now) asked
+        × AtMostRunOf asked (W.contents output.old) (W.contents output.new)))) }
 {
     let alloc = rt.alloc();
     let asked = match options_of(alloc, words) {

@@ -22,11 +22,13 @@ pub(crate) fn count(alloc: Global) -> Result<Count, Fail> {
     Ok(Arc::new(alloc, AtomicU64::new(0))?)
 }
 
-/// The office's end of a client. It counts its writes, and may fail at the end of its lines.
+/// The office's end of a client. It counts its writes, and may fail at the end of its lines, or at
+/// each write.
 #[derive(Drop)]
 pub(crate) struct Wire {
     stream: Foreign<UnixStream>,
     fails_at_end: bool,
+    takes_nothing: bool,
     writes: Count,
     failures: Failures,
     failed_reads: Failures,
@@ -53,6 +55,10 @@ impl Source for Wire {
 
 impl Sink for Wire {
     fn write(&mut self, buf: &[u8]) -> Result<usize, StreamFault> {
+        if self.takes_nothing {
+            self.failures = self.failures.one_more();
+            return Err(StreamFault);
+        }
         match self.stream.write(buf) {
             Ok(taken) => {
                 self.writes.fetch_add(1, Ordering::SeqCst);
@@ -79,6 +85,7 @@ pub(crate) fn wire_of<R: Net>(
     let wire = Wire {
         stream: Foreign::new(ours),
         fails_at_end,
+        takes_nothing: false,
         writes: Arc::try_clone(writes)?,
         failures: Failures::none(),
         failed_reads: Failures::none(),
@@ -147,6 +154,13 @@ impl Wires {
             failures: Failures::none(),
             given: Failures::none(),
             is_closed: false,
+        }
+    }
+
+    /// Makes each write to these clients fail.
+    pub(crate) fn refuse_writes(&mut self) {
+        for client in &mut self.clients {
+            client.takes_nothing = true;
         }
     }
 }

@@ -16,6 +16,7 @@ returns-clause-printed g c =
     ap (λ (board : BoardValue). board.rules) c.board.ensures.board ∙ c.board.ensures.rules in
     on_ok c.print_final-printed.result (λ wrote. record {
       journal = c.board.result.now.entries;
+      begins = begins_with g c;
       lawful = rw (c.board.ensures.board) c.board.ensures.lawful;
       wrote = subst (λ (rules : RulesParts). Appends (g.W.Device.contents c.args.output.now)
           (g.W.Device.contents c.print_final-printed.new.output)
@@ -26,10 +27,11 @@ pub returns-clause-at_most : goal.returns-clause-at_most
 returns-clause-at_most g c =
     let same : c.board.result.now.rules ≡ g.N.OfficeName.rules =
     ap (λ (board : BoardValue). board.rules) c.board.ensures.board ∙ c.board.ensures.rules in
-    at_most g.W.Device.contents g.N.OfficeName.rules c.args.output.now
+    at_most g.W.Device.contents g.N.OfficeName.rules c.args.start.journal c.args.output.now
     c.print_final-printed.new.output c.print_final-printed.result
     (on_ok c.print_final-printed.result (λ wrote. record {
       journal = c.board.result.now.entries;
+      begins = begins_with g c;
       lawful = rw (c.board.ensures.board) c.board.ensures.lawful;
       wrote = subst (λ (rules : RulesParts). Appends (g.W.Device.contents c.args.output.now)
           (g.W.Device.contents c.print_final-printed.new.output)
@@ -37,6 +39,7 @@ returns-clause-at_most g c =
     }) c.print_final-printed.ensures.wrote)
     (λ write. record {
       journal = c.board.result.now.entries;
+      begins = begins_with g c;
       lawful = rw (c.board.ensures.board) c.board.ensures.lawful;
       wrote = subst (λ (rules : RulesParts). AppendsPrefix (g.W.Device.contents c.args.output.now)
           (g.W.Device.contents c.print_final-printed.new.output)
@@ -45,11 +48,11 @@ returns-clause-at_most g c =
     }) c.print_final-printed.ensures.silent
 
 pub returns-clause-count : goal.returns-clause-count
-returns-clause-count g c = if_ok c.serve-back.result
+returns-clause-count g c = if_ok c.serve_each-back.result.0
     (λ back same. omega (
       arith,
       back.ok,
       c.args.passes.ok,
       as_many (λ p. p.seat) c.args.passes.items back.items same,
     ))
-    c.serve-back.ensures.seats
+    c.serve_each-back.ensures.seats

@@ -1,4 +1,6 @@
-use Rattle.std.proofs.Common.{inl}
+use Rattle.std.proofs.Common.{inl, subst}
+use Rattle.regatta_scores.specs.Journal.{Journal}
+use Rattle.regatta_office.specs.Asked.{PrintsAtMostTable}
 use Rattle.regatta_office.proofs.Printing.{keeps_same}
 use Rattle.regatta_office.proofs.clients.serve_seats.Goals as goal
 
@@ -11,10 +13,19 @@ returns-in_err-door-clause-at_most g c = inl (keeps_same (g.W.Device.contents c.
 
 -- the clients were served, and the table was to be printed
 pub returns-in_err-back-clause-at_most : goal.returns-in_err-back-clause-at_most
-returns-in_err-back-clause-at_most g c = c.serve_and_print-back.ensures.at_most
+returns-in_err-back-clause-at_most g c = subst (λ (start : Journal). PrintsAtMostTable
+    g.N.OfficeName.rules start (g.W.Device.contents c.args.output.now)
+    (g.W.Device.contents c.serve_and_print-served.new.output)) c.start_note-start.ensures.journal
+    c.serve_and_print-served.ensures.at_most
 
-pub returns-in_err-printed-clause-at_most : goal.returns-in_err-printed-clause-at_most
-returns-in_err-printed-clause-at_most g c = c.serve_and_print-back.ensures.at_most
+pub returns-in_err-served-clause-at_most : goal.returns-in_err-served-clause-at_most
+returns-in_err-served-clause-at_most g c = subst (λ (start : Journal). PrintsAtMostTable
+    g.N.OfficeName.rules start (g.W.Device.contents c.args.output.now)
+    (g.W.Device.contents c.serve_and_print-served.new.output)) c.start_note-start.ensures.journal
+    c.serve_and_print-served.ensures.at_most
 
 pub returns-clause-at_most : goal.returns-clause-at_most
-returns-clause-at_most g c = c.serve_and_print-back.ensures.at_most
+returns-clause-at_most g c = subst (λ (start : Journal). PrintsAtMostTable
+    g.N.OfficeName.rules start (g.W.Device.contents c.args.output.now)
+    (g.W.Device.contents c.serve_and_print-served.new.output)) c.start_note-start.ensures.journal
+    c.serve_and_print-served.ensures.at_most
