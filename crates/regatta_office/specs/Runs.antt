@@ -12,8 +12,8 @@ IsRunOf remaining (Replay asked) before after old new =
 IsRunOf remaining (Serve asked) before after old new =
     (after ≡ before) × IsServingOf asked old new
 
--- the most that a run has written, however it ended: of a serving at most its table; of a replay the
--- contract of `replay` speaks
+-- the most that a run has written, however it ended: a serving at most its table; the contract of
+-- `replay` says what a replay has written
 abbrev pub AtMostRunOf : Asked → Option (List ℕ) → Option (List ℕ) → Type 0
 AtMostRunOf (Replay asked) old new = Unit {0}
 AtMostRunOf (Serve asked) old new = AtMostServingOf asked old new

@@ -302,8 +302,8 @@ fn seated<R: Net>(rt: &R, alloc: Global) -> Option<UnixStream> {
 }
 
 /// Four clients: the first has a seat while the second and the third come, and has said goodbye when
-/// the fourth does. The second goes away before they can be told that there is no seat. The third is
-/// told, and what they sent is never read. The first and the third keep their ends of the stream, so
+/// the fourth does. The second goes away before they can read that there is no seat. The third reads
+/// it, and what they sent is never read. The first and the third keep their ends of the stream, so
 /// that nobody waits for them to go. None if one is answered otherwise.
 fn four_in_turn<R: Net>(rt: &R, alloc: Global) -> Option<[UnixStream; 2]> {
     let mut first = seated(rt, alloc)?;
