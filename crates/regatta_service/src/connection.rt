@@ -13,8 +13,8 @@ pub(crate) const BUSY: &[u8] = b"BUSY\n";
 /// The most bytes that one read asks for.
 const PIECE: usize = 4096;
 
-/// How long a write to a client may wait, in seconds. A client who reads nothing for so long loses
-/// their seat.
+/// How long a write to a client may wait, in seconds. A write that was taken in part succeeds, so a
+/// client who never reads loses their seat after at most twice as long.
 const WRITE_LIMIT: u64 = 60;
 
 /// What ends a connection, by a handle of its own to the client's socket.
