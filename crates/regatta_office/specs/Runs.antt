@@ -1,5 +1,5 @@
 -- A run that does what the words ask for.
-use Rattle.std.specs.Prelude.{◌≡◌, ℕ, List, Option, Unit}
+use Rattle.std.specs.Prelude.{◌≡◌, ℕ, List, Option}
 use Rattle.regatta_office.specs.Asked.{AtMostServingOf, IsReplayOf, IsServingOf}
 use Rattle.regatta_office.specs.declared.options.Asked.{Asked}
 use Rattle.regatta_office.specs.declared.options.Asked.TheVariants.{Replay, Serve}

@@ -1,5 +1,5 @@
 -- What a fault of serving says of its door.
-use Rattle.std.specs.Prelude.{ℕ, Unit, Result, Ok, Err}
+use Rattle.std.specs.Prelude.{ℕ, Result, Ok, Err}
 use Rattle.regatta_service.specs.declared.serving.ServeFault.{ServeFault}
 
 -- the number of failed calls of the door if serving ended so: a failed call ends serving and is
