@@ -99,15 +99,18 @@ impl<N: OfficeName, H: Wait + Drop, G: Gate> Talk<'_, N, H, G> {
         ensures cutter { self.new.cutter ≡ self.old.cutter }
         ensures ended { self.new.ended ≡ self.old.ended }
     {
-        let mut desk = self.office.desk(rt);
+        let mut guard = self.office.desk(rt);
+        let desk = &mut *guard;
         // Called for its contract: the journal is lawful.
         let _ = desk.board();
         if !desk.confirm(pass) {
             return false;
         }
         desk.note_source(pass);
-        let answered = desk.answer(rt, pass, self.role, line, &mut self.reply);
-        answered.is_ok()
+        let Ok(()) = desk.answer(rt, pass, self.role, line, &mut self.reply) else {
+            unreachable!()
+        };
+        true
     }
 
     /// Does what a line asks for, and makes its reply. If there is no answer (`None`), nothing has
