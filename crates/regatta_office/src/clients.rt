@@ -77,7 +77,8 @@ where
         (W.contents output.new) }
 {
     let (back, admitted) = serve_each(rt, alloc, office, door, passes, &OpenGate);
-    let mut desk = office.desk(rt);
+    let mut guard = office.desk(rt);
+    let desk = &mut *guard;
     desk.cover_note(start);
     let printed = print_final(alloc, desk.board(), Form::Table, output);
     Served {
