@@ -17,6 +17,10 @@ pub on_ok : {A E P Q : Type 0} → (r : Result A E) → (P → Q) → OnOk r P �
 on_ok (Ok x) f p = f p
 on_ok (Err e) f p = tt
 
+-- what holds if a call succeeds, of a call that did
+pub of_ok : {A E P : Type 0} → (r : Result A E) (x : A) → r ≡ Ok x → OnOk r P → P
+of_ok {P = P} r x is p = subst (λ s. OnOk s P) is p
+
 -- one of two cases, and what follows from each
 pub either : {P Q R S : Type 0} → P ⊎ Q → (P → R) → (Q → S) → R ⊎ S
 either (inl p) f g = inl (f p)

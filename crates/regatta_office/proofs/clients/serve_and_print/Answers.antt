@@ -60,11 +60,11 @@ returns-clause-at_most g c =
     }) c.print_final-printed.ensures.silent
 
 pub returns-clause-count : goal.returns-clause-count
-returns-clause-count g c = if_ok c.serve_each.result.0
+returns-clause-count g c = if_ok c.serve_each-back.result.0
     (λ back same. omega (
       arith,
       back.ok,
       c.args.passes.ok,
       as_many (λ p. p.seat) c.args.passes.items back.items same,
     ))
-    c.serve_each.ensures.seats
+    c.serve_each-back.ensures.seats

@@ -1,7 +1,7 @@
 use Rattle.std.proofs.Common.{inl, subst}
 use Rattle.regatta_scores.specs.Journal.{Journal}
-use Rattle.regatta_office.specs.Asked.{PrintsAtMostTable}
-use Rattle.regatta_office.proofs.Printing.{keeps_same}
+use Rattle.regatta_office.specs.Asked.{PrintsAtMostTable, PrintsTable}
+use Rattle.regatta_office.proofs.Printing.{keeps_same, of_ok}
 use Rattle.regatta_office.proofs.clients.serve_seats.Goals as goal
 
 -- nothing was written yet
@@ -29,3 +29,10 @@ returns-clause-at_most g c = subst (λ (start : Journal). PrintsAtMostTable
     g.N.OfficeName.rules start (g.W.Device.contents c.args.output.now)
     (g.W.Device.contents c.serve_and_print-served.new.output)) c.start_note-start.ensures.journal
     c.serve_and_print-served.ensures.at_most
+
+pub returns-clause-table : goal.returns-clause-table
+returns-clause-table g c = subst (λ (start : Journal). PrintsTable
+    g.N.OfficeName.rules start (g.W.Device.contents c.args.output.now)
+    (g.W.Device.contents c.serve_and_print-served.new.output)) c.start_note-start.ensures.journal
+    (of_ok c.serve_and_print-served.result.printed c.in_ok-served.field-0 c.in_ok-served.was
+    c.serve_and_print-served.ensures.printed)
