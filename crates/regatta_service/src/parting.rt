@@ -130,10 +130,7 @@ where
     // The seat is free before the stream is closed, so a client who sees the end of their session
     // may come again at once.
     pool.lock(rt).give(lent);
-    Parted {
-        end: Ok(end),
-        left,
-    }
+    Parted { end: Ok(end), left }
 }
 
 /// Admits a client to the lowest free seat, where a thread of their own serves them. If no seat is

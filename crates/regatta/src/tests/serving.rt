@@ -152,7 +152,11 @@ fn a_pass_serves_again(rt: HostRuntime) -> Result<(), Fail> {
     assert!(rt; was_sent(alloc, &mut first_end, b"OK 1 1 0.0\n"));
     assert!(rt; was_sent(alloc, &mut second_end, b""));
     assert!(rt; was_sent(alloc, &mut third_end, b"OK 3 1= 0.0\n"));
-    assert_eq!(rt; gate.ends(), 9, "a read fault, a write fault, and then a close");
+    assert_eq!(rt;
+        gate.ends(),
+        9,
+        "a read fault, a write fault, and then a close"
+    );
     Ok(())
 }
 

@@ -23,9 +23,9 @@ returns-in-Ok-run g c =
     let asks = c.in-Ok.ensures.asked in
     let same : c.in-Ok.asked ≡ Some c.in-Some.asked = search rules in
     let run : AskRun asks.0 (map {A = Bor (List ℕ)} {B = List ℕ} (λ word. word.now) c.args.words.now)
-        c.in-Some.asked =
+    c.in-Some.asked =
     subst (λ (o : Option Asked). IfSome o (AskRun asks.0
-        (map {A = Bor (List ℕ)} {B = List ℕ} (λ word. word.now) c.args.words.now))) same asks.2 in
+    (map {A = Bor (List ℕ)} {B = List ℕ} (λ word. word.now) c.args.words.now))) same asks.2 in
     record {
       done = λ zero. (asks.0, asks.1, inr (c.in-Some.asked, run, c.in-Ok-run.ensures.done));
       at_most = inr (asks.0, asks.1, inr (c.in-Some.asked, run, c.run.ensures.at_most));
@@ -36,9 +36,13 @@ pub returns-in-Err-run-clause-at_most : goal.returns-in-Err-run-clause-at_most
 returns-in-Err-run-clause-at_most g c =
     let asks = c.in-Ok.ensures.asked in
     let same : c.in-Ok.asked ≡ Some c.in-Some.asked = search rules in
-    inr (asks.0, asks.1, inr (
-      c.in-Some.asked,
-      subst (λ (o : Option Asked). IfSome o (AskRun asks.0
-          (map {A = Bor (List ℕ)} {B = List ℕ} (λ word. word.now) c.args.words.now))) same asks.2,
-      c.run.ensures.at_most,
-    ))
+    inr (
+      asks.0,
+      asks.1,
+      inr (
+        c.in-Some.asked,
+        subst (λ (o : Option Asked). IfSome o (AskRun asks.0
+            (map {A = Bor (List ℕ)} {B = List ℕ} (λ word. word.now) c.args.words.now))) same asks.2,
+        c.run.ensures.at_most,
+      ),
+    )
