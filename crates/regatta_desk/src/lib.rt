@@ -17,5 +17,5 @@ pub use office::{Office, Opened};
 pub use opening::OpenFault;
 pub use pass::Pass;
 pub use receipt::Receipt;
-pub use regatta_watch::{OfficeName, ShowFault};
+pub use regatta_watch::{Note, OfficeName, ShowFault};
 pub use sheet::Sheet;

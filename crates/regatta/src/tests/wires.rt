@@ -10,6 +10,7 @@ use std::net::{Net, Shutdown};
 use std::os::unix::net::UnixStream;
 use std::sync::atomic::{AtomicU64, Ordering};
 use std::sync::{Arc, Wait};
+use std::time::Clock;
 
 /// How often a line that is held back is checked before it is given up.
 const MOST_TURNS: u64 = 500_000_000;
@@ -21,11 +22,13 @@ pub(crate) fn count(alloc: Global) -> Result<Count, Fail> {
     Ok(Arc::new(alloc, AtomicU64::new(0))?)
 }
 
-/// The office's end of a client. It counts its writes, and may fail at the end of its lines.
+/// The office's end of a client. It counts its writes, and may fail at the end of its lines, or at
+/// each write.
 #[derive(Drop)]
 pub(crate) struct Wire {
     stream: Foreign<UnixStream>,
     fails_at_end: bool,
+    takes_nothing: bool,
     writes: Count,
     failures: Failures,
     failed_reads: Failures,
@@ -52,6 +55,10 @@ impl Source for Wire {
 
 impl Sink for Wire {
     fn write(&mut self, buf: &[u8]) -> Result<usize, StreamFault> {
+        if self.takes_nothing {
+            self.failures = self.failures.one_more();
+            return Err(StreamFault);
+        }
         match self.stream.write(buf) {
             Ok(taken) => {
                 self.writes.fetch_add(1, Ordering::SeqCst);
@@ -78,6 +85,7 @@ pub(crate) fn wire_of<R: Net>(
     let wire = Wire {
         stream: Foreign::new(ours),
         fails_at_end,
+        takes_nothing: false,
         writes: Arc::try_clone(writes)?,
         failures: Failures::none(),
         failed_reads: Failures::none(),
@@ -134,6 +142,8 @@ pub(crate) struct Wires {
     clients: Vec<Wire>,
     pub(crate) fails_at_end: bool,
     failures: Failures,
+    given: Failures,
+    is_closed: bool,
 }
 
 impl Wires {
@@ -142,6 +152,15 @@ impl Wires {
             clients,
             fails_at_end,
             failures: Failures::none(),
+            given: Failures::none(),
+            is_closed: false,
+        }
+    }
+
+    /// Makes each write to these clients fail.
+    pub(crate) fn refuse_writes(&mut self) {
+        for client in &mut self.clients {
+            client.takes_nothing = true;
         }
     }
 }
@@ -179,12 +198,18 @@ impl Device for Wires {
 }
 
 impl Door for Wires {
+    ghost given = { λ d. d.given.count };
+
+    ghost closed = { λ d. d.is_closed };
+
     type Stream = Wire;
 
-    fn next<R: Wait>(&mut self, _rt: &R) -> Result<Option<Wire>, DoorFault> {
+    fn next<R: Wait + Clock>(&mut self, _rt: &R) -> Result<Option<Wire>, DoorFault> {
         if let Some(client) = self.clients.pop() {
+            self.given = self.given.one_more();
             return Ok(Some(client));
         }
+        self.is_closed = true;
         if !self.fails_at_end {
             return Ok(None);
         }
