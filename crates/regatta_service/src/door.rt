@@ -23,7 +23,7 @@ use thiserror::Error;
 pub struct DoorFault;
 
 /// What gives the streams of clients, one after another. It is seen with the number of its calls
-/// that have failed, and the number of streams that it has given.
+/// that have failed, the number of streams that it has given, and whether it is closed.
 pub trait Door: Device {
     ghost given: { Self → ℕ };
 

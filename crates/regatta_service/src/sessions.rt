@@ -68,7 +68,7 @@ fn make_way(asked: &Result<Line, LineFault>) {
     }
 }
 
-/// A client of the office, and what is kept from line to line beside her pass: the role, the number
+/// A client of the office, and what is kept from line to line beside the pass: the role, the number
 /// of the last line, the buffered part of the current line, and the text of a reply, which always
 /// has room for the next one. `ended` is `None` while the session goes on.
 #[derive(Drop)]
