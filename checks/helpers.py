@@ -19,7 +19,8 @@ from collections.abc import Callable, Iterator
 TOP = os.path.dirname(os.path.dirname(os.path.abspath(__file__)))
 TOOLS = os.path.join(TOP, "tools")
 PROGRAM = os.path.realpath(os.environ.get("REGATTA", os.path.join(TOP, "crates/regatta/out/regatta")))
-PATIENCE = 30.0
+# Seconds for what has to come about. A slow machine with other work gets there, too.
+PATIENCE = 120.0
 ENTRIES = """\
 Boat,Sail,Helm,Club
 Kestrel,GBR 101,A. Moss,Sandhaven
@@ -50,10 +51,10 @@ def run(tool: str, *words: str, lines: str = "", cwd: str | None = None) -> tupl
     return done.stdout, done.returncode
 
 
-class Window:
-    """A terminal and the tool that runs in it, as at a person's desk."""
+class Terminal:
+    """A terminal and the command that runs in it, as at a person's desk."""
 
-    def __init__(self, *words: str, cwd: str | None = None) -> None:
+    def __init__(self, *command: str, cwd: str | None = None) -> None:
         self.master, slave = pty.openpty()
         modes = termios.tcgetattr(slave)
         modes[1] &= ~termios.OPOST
@@ -65,9 +66,8 @@ class Window:
             fcntl.ioctl(0, termios.TIOCSCTTY, 0)
             signal.signal(signal.SIGINT, signal.SIG_DFL)
 
-        tool = [sys.executable, os.path.join(TOOLS, words[0]), *words[1:]]
         self.process = subprocess.Popen(
-            tool, cwd=cwd, stdin=slave, stdout=slave, stderr=slave, start_new_session=True,
+            command, cwd=cwd, stdin=slave, stdout=slave, stderr=slave, start_new_session=True,
             preexec_fn=own, env={**os.environ, "TERM": "dumb", "PYTHONIOENCODING": "utf-8"})
         os.close(slave)
         self.text = ""
@@ -107,16 +107,25 @@ class Window:
     def rest(self) -> tuple[str, int]:
         """What is printed until the tool ends, and its status."""
         end = time.monotonic() + PATIENCE
-        while time.monotonic() < end and self.more(0.5) or self.process.poll() is None:
-            if time.monotonic() > end:
-                raise AssertionError(f"the tool didn't end; what came is\n{self.text}")
-        return self.text, self.process.wait(PATIENCE)
+        while self.more(max(0.0, end - time.monotonic())):
+            pass
+        try:
+            return self.text, self.process.wait(max(1.0, end - time.monotonic()))
+        except subprocess.TimeoutExpired:
+            raise AssertionError(f"the tool didn't end; what came is\n{self.text}") from None
 
     def close(self) -> None:
         if self.process.poll() is None:
             self.process.kill()
         self.process.wait()
         os.close(self.master)
+
+
+class Window(Terminal):
+    """A terminal in which one of the tools runs."""
+
+    def __init__(self, tool: str, *words: str, cwd: str | None = None) -> None:
+        super().__init__(sys.executable, os.path.join(TOOLS, tool), *words, cwd=cwd)
 
 
 class Series(unittest.TestCase):
@@ -140,12 +149,12 @@ class Series(unittest.TestCase):
                                          **values}))
         return folder
 
-    def window(self, *words: str) -> Window:
+    def window(self, *words: str) -> Terminal:
         window = Window(*words, cwd=self.here)
         self.addCleanup(window.close)
         return window
 
-    def open(self, name: str = "cup") -> Window:
+    def open(self, name: str = "cup") -> Terminal:
         """The window of an office that is open."""
         window = self.window("series.py", "open", name)
         window.read(r"The office is open")
@@ -155,10 +164,12 @@ class Series(unittest.TestCase):
     def stop(self, name: str) -> None:
         """Kills an office that a trial has left, by the number that its window has noted."""
         with contextlib.suppress(OSError, ValueError):
-            with open(os.path.join(self.here, name, "office", "pid")) as file:
-                os.kill(int(file.read().split()[0]), signal.SIGKILL)
+            number = int(self.text(name, "office", "pid").split()[0])
+            # Another process may have this number by now.
+            if os.readlink(f"/proc/{number}/cwd").startswith(self.here):
+                os.kill(number, signal.SIGKILL)
 
-    def client(self, *words: str) -> Window:
+    def client(self, *words: str) -> Terminal:
         window = self.window("client.py", *words)
         window.read("> $")
         return window

@@ -3,16 +3,19 @@ from __future__ import annotations
 
 import os
 import signal
+import socket
+import types
 import unittest
 
 import helpers
+import client
 
 
 class Client(helpers.Series):
-    def typist(self, role: str = "finish", *more: str) -> helpers.Window:
+    def typist(self, role: str = "finish", *more: str) -> helpers.Terminal:
         return self.client("cup", "--role", role, *more)
 
-    def play(self, window: helpers.Window, talk: str) -> None:
+    def play(self, window: helpers.Terminal, talk: str) -> None:
         """Each line of a talk that begins with > is typed; the others have to come, in order."""
         for step in talk.strip("\n").split("\n> "):
             line, _, wanted = step.removeprefix("> ").partition("\n")
@@ -221,6 +224,20 @@ Not sent: the office of cup has gone. Write 12 down.
         said, status = window.rest()
         self.assertIn("The office is being closed: this window ends.", said)
         self.assertEqual(status, 0)
+
+    def test_news(self) -> None:
+        """A signal that comes late interrupts nobody, or what is half typed would be lost."""
+        self.addCleanup(signal.signal, signal.SIGUSR1, signal.getsignal(signal.SIGUSR1))
+        ours, office = socket.socketpair()
+        self.addCleanup(ours.close)
+        self.addCleanup(office.close)
+        never = types.SimpleNamespace(is_closing=lambda: False)
+        watcher = client.Watcher([types.SimpleNamespace(link=ours, folder=never)])
+        watcher.at_prompt = True
+        watcher.interrupt()
+        office.sendall(b"OK 8")
+        self.assertRaises(client.News, watcher.interrupt)
+        watcher.interrupt()
 
     def test_pasted(self) -> None:
         """Pasted lines stop at the first that is refused."""

@@ -50,20 +50,30 @@ class Watcher(threading.Thread):
         signal.signal(signal.SIGUSR1, self.interrupt)
 
     def interrupt(self, *_: object) -> None:
-        if self.at_prompt:
+        """Runs in the window's own thread. At its prompt the window has asked nothing, so what has
+        come by now is news, and not the answer to a line."""
+        if self.at_prompt and (self.is_closing() or self.links_heard(0)):
             self.at_prompt = False
             raise News
 
     def run(self) -> None:
         while True:
-            links = [desk.link for desk in self.desks if desk.link]
-            try:
-                ready = select.select(links, [], [], 0.5)[0] if links else time.sleep(0.5)
-            except (OSError, ValueError):
-                continue
-            if (ready or self.is_closing()) and self.at_prompt:
+            heard = self.links_heard(0.5)
+            if (heard or self.is_closing()) and self.at_prompt:
                 signal.pthread_kill(threading.main_thread().ident, signal.SIGUSR1)
                 time.sleep(0.5)
+            elif heard:
+                # The answer to a line, which the window is about to read.
+                time.sleep(0.05)
+
+    def links_heard(self, patience: float) -> list:
+        """The links that have something to read."""
+        links = [desk.link for desk in self.desks if desk.link]
+        try:
+            return select.select(links, [], [], patience)[0]
+        except (OSError, ValueError):
+            # A link was closed meanwhile.
+            return []
 
     def is_closing(self) -> bool:
         return any(desk.link and desk.folder.is_closing() for desk in self.desks)
