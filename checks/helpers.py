@@ -128,6 +128,41 @@ class Window(Terminal):
         super().__init__(sys.executable, os.path.join(TOOLS, tool), *words, cwd=cwd)
 
 
+@contextlib.contextmanager
+def served(*words: str, name: str = "race.sock",
+           folder: str | None = None) -> Iterator[tuple[str, subprocess.Popen]]:
+    """A program that serves, and the path of its socket, whose file it leaves behind."""
+    with contextlib.ExitStack() as stack:
+        folder = folder or stack.enter_context(tempfile.TemporaryDirectory())
+        path = os.path.join(folder, name)
+        if os.path.lexists(path):
+            os.remove(path)
+        serving = subprocess.Popen([PROGRAM, "serve", "--socket", name, *words], cwd=folder,
+                                   stdin=subprocess.DEVNULL, stdout=subprocess.PIPE,
+                                   stderr=subprocess.DEVNULL, text=True)
+        stack.enter_context(contextlib.closing(serving.stdout))
+        stack.callback(serving.wait)
+        stack.callback(serving.kill)
+        until("the socket", lambda: is_listening(path))
+        yield path, serving
+
+
+def is_listening(path: str) -> bool:
+    """Whether a program listens at a socket's file, which is there a moment before that."""
+    from office import sockets_at
+    return os.path.exists(path) and True in sockets_at(path)
+
+
+def kill_office(folder: str) -> None:
+    """Kills an office that a trial has left, by the number that its window has noted."""
+    with contextlib.suppress(OSError, ValueError):
+        with open(os.path.join(folder, "office", "pid"), encoding="ascii") as file:
+            number = int(file.read().split()[0])
+        # Another process may have this number by now.
+        if os.path.samefile(f"/proc/{number}/cwd", os.path.join(folder, "office")):
+            os.kill(number, signal.SIGKILL)
+
+
 class Series(unittest.TestCase):
     """A trial in a folder of its own, with one series `cup`."""
 
@@ -162,12 +197,7 @@ class Series(unittest.TestCase):
         return window
 
     def stop(self, name: str) -> None:
-        """Kills an office that a trial has left, by the number that its window has noted."""
-        with contextlib.suppress(OSError, ValueError):
-            number = int(self.text(name, "office", "pid").split()[0])
-            # Another process may have this number by now.
-            if os.readlink(f"/proc/{number}/cwd").startswith(self.here):
-                os.kill(number, signal.SIGKILL)
+        kill_office(os.path.join(self.here, name))
 
     def client(self, *words: str) -> Terminal:
         window = self.window("client.py", *words)

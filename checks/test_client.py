@@ -4,6 +4,7 @@ from __future__ import annotations
 import os
 import signal
 import socket
+import threading
 import types
 import unittest
 
@@ -238,6 +239,18 @@ Not sent: the office of cup has gone. Write 12 down.
         office.sendall(b"OK 8")
         self.assertRaises(client.News, watcher.interrupt)
         watcher.interrupt()
+
+    def test_office_that_is_going(self) -> None:
+        """An office that lets somebody in and never answers is no office."""
+        place = os.path.join(self.here, "cup", "office")
+        os.mkdir(place)
+        with socket.socket(socket.AF_UNIX, socket.SOCK_STREAM) as door:
+            door.bind(os.path.join(place, "race.sock"))
+            door.listen()
+            threading.Thread(target=lambda: door.accept()[0].close(), daemon=True).start()
+            desk = client.Desk(client.Folder(os.path.join(self.here, "cup")), "FINISH", "", print, bool)
+            self.assertRaises(client.Trouble, desk.connect)
+            self.assertIsNone(desk.link)
 
     def test_pasted(self) -> None:
         """Pasted lines stop at the first that is refused."""

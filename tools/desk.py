@@ -36,9 +36,16 @@ class Desk:
         self.prefix = ""
 
     def connect(self) -> None:
+        """Links to the office in this role. There is no link after a Trouble: an office that is
+        going may let somebody in, and never answer."""
         self.link = self.folder.link()
-        self.link.ask(f"ROLE {self.role}")
-        self.look()
+        try:
+            self.link.ask(f"ROLE {self.role}")
+            self.look()
+        except Trouble:
+            self.link.close()
+            self.link = None
+            raise
 
     def look(self) -> None:
         """Reads journal and table as they are now."""
