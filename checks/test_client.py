@@ -240,6 +240,17 @@ Not sent: the office of cup has gone. Write 12 down.
         self.assertRaises(client.News, watcher.interrupt)
         watcher.interrupt()
 
+    def test_no_seat(self) -> None:
+        """A window waits for a seat, and gets the one that somebody leaves."""
+        self.make("two", seats="2")
+        self.open("two")
+        first = self.client("two", "--role", "finish")
+        second = self.window("client.py", "two", "--role", "jury")
+        second.read("Waiting: all seats of the office are taken. Ctrl-C ends this window.")
+        first.type("quit")
+        self.assertEqual(first.rest()[1], 0)
+        second.read("you type as the jury(.|\\n)*> $")
+
     def test_office_that_is_going(self) -> None:
         """An office that lets somebody in and never answers is no office."""
         place = os.path.join(self.here, "cup", "office")
