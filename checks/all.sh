@@ -21,7 +21,7 @@ check() {
     fi
 }
 
-check "the stored runs, the evening, the guide and the tools of examples/" \
+check "the stored runs of examples/" \
     "$here/../examples/check.sh" "$program"
 printed=$("$here/run.py" "$program" 2>&1)
 status=$?
