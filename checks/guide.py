@@ -38,7 +38,7 @@ STEP = re.compile(r"^```([^\n]*)\n(.*?)^```$|^<!-- (freeze|kill) (\S+) -->$", re
 COMMAND = re.compile(r"\$ python3 tools/(series|client|board)\.py( |$)")
 # What varies from one play to the next, and what it is compared as.
 VARIES = [(re.compile(r"\b\d{4}-\d\d-\d\d-\d{6}\b"), "DATE"), (re.compile(r"\b\d\d:\d\d(:\d\d)?\b"), "TIME"),
-          (re.compile(r"http://[^/\s]+/"), "ADDRESS")]
+          (re.compile(r"http://[^/\s]+/(   \(or [^)]*\))?"), "ADDRESS")]
 # A question, or the prompt of those who type, and for how long nothing else comes then.
 ASKS, QUIET = re.compile(r"(> |[\]):?] )$"), 0.1
 SHOWN_PORT = "8080"
@@ -64,7 +64,8 @@ class Window:
             raise Wrong(f"the guide needs no other command than its three tools: {command}")
         words = shlex.split(command[2:].replace(SHOWN_PORT, self.port))
         self.is_clients = found[1] == "client"
-        self.terminal = helpers.Terminal(sys.executable, *words[1:], cwd=self.folder)
+        # No other program is found, so that what is printed is the same on each computer.
+        self.terminal = helpers.Terminal(sys.executable, *words[1:], cwd=self.folder, PATH="/nowhere")
 
     def lines(self) -> list[str]:
         """The whole lines that have come."""
@@ -144,7 +145,7 @@ class Box:
     def answered(self, asked: str) -> bool:
         """Types the rest of the line that shows this question; whether the box ends here instead."""
         place = next((at for at in range(self.at, len(self.shown))
-                      if self.shown[at].startswith(asked.rstrip())), None)
+                      if plain(self.shown[at]).startswith(plain(asked.rstrip()))), None)
         if place is None:
             if self.stays:
                 return True

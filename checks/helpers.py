@@ -54,7 +54,7 @@ def run(tool: str, *words: str, lines: str = "", cwd: str | None = None) -> tupl
 class Terminal:
     """A terminal and the command that runs in it, as at a person's desk."""
 
-    def __init__(self, *command: str, cwd: str | None = None) -> None:
+    def __init__(self, *command: str, cwd: str | None = None, **environment: str) -> None:
         self.master, slave = pty.openpty()
         modes = termios.tcgetattr(slave)
         modes[1] &= ~termios.OPOST
@@ -68,7 +68,7 @@ class Terminal:
 
         self.process = subprocess.Popen(
             command, cwd=cwd, stdin=slave, stdout=slave, stderr=slave, start_new_session=True,
-            preexec_fn=own, env={**os.environ, "TERM": "dumb", "PYTHONIOENCODING": "utf-8"})
+            preexec_fn=own, env={**os.environ, "TERM": "dumb", "PYTHONIOENCODING": "utf-8", **environment})
         os.close(slave)
         self.text = ""
 
