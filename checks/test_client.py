@@ -5,11 +5,12 @@ import os
 import signal
 import socket
 import threading
-import types
 import unittest
 
 import helpers
-import client
+from desk import Desk
+from folder import Folder
+from office import Trouble
 
 
 class Client(helpers.Series):
@@ -88,7 +89,8 @@ OK 11   race 1 counts
 > n
    Not sent.
 > finish 1 33
-   33 is GBR 33 Turnstone
+   RACE 1 COUNTS ALREADY. Is this a correction? [y/N]
+> y
 OK 12   3rd in race 1
    >>> RACE 1 COUNTS: THE RESULTS HAVE CHANGED.
        GBR 33 Turnstone: 3rd (tied) to 3rd, net 8.0 to 3.0 (race 1: 8.0/DNC to 3.0)
@@ -100,6 +102,9 @@ OK 12   3rd in race 1
 > clear 1 7
    DNF and ZFP both go; type again what stays. Clear her? [y/N]
 > n
+   Not sent.
+> before 1 5 33
+   5 is IRL 5 Curlew
 > mark 2 5 ocs
 > finish 2 5
 OK 15   she holds OCS in race 2, and is scored so
@@ -226,20 +231,6 @@ Not sent: the office of cup has gone. Write 12 down.
         self.assertIn("The office is being closed: this window ends.", said)
         self.assertEqual(status, 0)
 
-    def test_news(self) -> None:
-        """A signal that comes late interrupts nobody, or what is half typed would be lost."""
-        self.addCleanup(signal.signal, signal.SIGUSR1, signal.getsignal(signal.SIGUSR1))
-        ours, office = socket.socketpair()
-        self.addCleanup(ours.close)
-        self.addCleanup(office.close)
-        never = types.SimpleNamespace(is_closing=lambda: False)
-        watcher = client.Watcher([types.SimpleNamespace(link=ours, folder=never)])
-        watcher.at_prompt = True
-        watcher.interrupt()
-        office.sendall(b"OK 8")
-        self.assertRaises(client.News, watcher.interrupt)
-        watcher.interrupt()
-
     def test_no_seat(self) -> None:
         """A window waits for a seat, and gets the one that somebody leaves."""
         self.make("two", seats="2")
@@ -259,8 +250,8 @@ Not sent: the office of cup has gone. Write 12 down.
             door.bind(os.path.join(place, "race.sock"))
             door.listen()
             threading.Thread(target=lambda: door.accept()[0].close(), daemon=True).start()
-            desk = client.Desk(client.Folder(os.path.join(self.here, "cup")), "FINISH", "", print, bool)
-            self.assertRaises(client.Trouble, desk.connect)
+            desk = Desk(Folder(os.path.join(self.here, "cup")), "FINISH", "", print, bool)
+            self.assertRaises(Trouble, desk.connect)
             self.assertIsNone(desk.link)
 
     def test_pasted(self) -> None:

@@ -8,7 +8,7 @@ import tempfile
 import unittest
 
 import helpers
-import folder
+import keeper
 from office import Link, Trouble
 
 TIME = r"\d\d:\d\d:\d\d "
@@ -192,29 +192,29 @@ class Keeping(unittest.TestCase):
         for held, text in [("", self.HELD), (self.HELD, more), ("REGATTA 2\n" + self.HELD, more)]:
             with open(self.path, "w", encoding="ascii") as file:
                 file.write(held)
-            folder.save_to(self.path, text)
+            keeper.save_to(self.path, text)
             self.assertEqual(self.text(), text)
 
     def test_another_journal(self) -> None:
         """A file is never replaced by a journal that lacks one of its entries."""
-        folder.save_to(self.path, self.HELD)
+        keeper.save_to(self.path, self.HELD)
         for text in ["", self.HELD[:19], self.HELD.replace("B", "C") + "2 1 SCORER ENTER D\n"]:
             with self.assertRaises(Trouble) as raised:
-                folder.save_to(self.path, text)
+                keeper.save_to(self.path, text)
             self.assertIn("holds entries that the office doesn't have", str(raised.exception))
             self.assertEqual(self.text(), self.HELD)
 
     def test_no_folder(self) -> None:
         with self.assertRaises(Trouble) as raised:
-            folder.save_to(os.path.join(self.path, "none"), self.HELD)
+            keeper.save_to(os.path.join(self.path, "none"), self.HELD)
         self.assertIn("can't be written", str(raised.exception))
 
     @unittest.skipUnless(os.path.exists("/dev/full"), "there is no /dev/full")
     def test_full_disk(self) -> None:
         """A file that can't be written whole stays as it was, and nothing else is left."""
-        folder.save_to(self.path, self.HELD)
+        keeper.save_to(self.path, self.HELD)
         os.symlink("/dev/full", f"{self.path}.{os.getpid()}.new")
-        self.assertRaises(Trouble, folder.save_to, self.path, self.HELD * 2)
+        self.assertRaises(Trouble, keeper.save_to, self.path, self.HELD * 2)
         self.assertEqual(self.text(), self.HELD)
         self.assertEqual(os.listdir(os.path.dirname(self.path)), ["journal.txt"])
 

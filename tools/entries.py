@@ -77,6 +77,11 @@ def read(path: str) -> dict[str, Boat]:
     return boats
 
 
+def read_if_there(path: str) -> dict[str, Boat]:
+    """The boats of an entry list, which only gives names to a series that has been opened."""
+    return read(path) if os.path.exists(path) else {}
+
+
 def kind_of(data: bytes, name: str) -> list[str]:
     """Why a file is no CSV with a column of sails."""
     if data.startswith(b"PK\x03\x04"):

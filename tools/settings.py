@@ -8,6 +8,7 @@ import difflib
 import os
 import re
 import zoneinfo
+from collections.abc import Callable
 from dataclasses import dataclass
 
 from office import Trouble
@@ -146,7 +147,7 @@ def is_zone(text: str) -> bool:
         return False
 
 
-def is_between(low: int, high: int):
+def is_between(low: int, high: int) -> Callable[[str], bool]:
     """A check of a whole number."""
     return lambda text: text.isascii() and text.isdigit() and low <= int(text) <= high
 

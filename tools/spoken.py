@@ -2,6 +2,7 @@
 from __future__ import annotations
 
 import re
+from collections.abc import Callable
 
 from entries import near
 from words import joined
@@ -35,7 +36,8 @@ def boats_meant(words: list[str], boats: list[str]) -> list[str]:
     return [text] if text in boats else with_digits(text, boats)
 
 
-def boat_meant(words: list[str], boats: list[str], called) -> str:
+def boat_meant(words: list[str], boats: list[str],
+               called: Callable[[str], str]) -> str:
     """The one boat that these words mean; `called` says how a boat is called."""
     text, found = "".join(words).upper(), boats_meant(words, boats)
     if len(found) == 1:
@@ -61,7 +63,8 @@ def split_in_two(words: list[str], boats: list[str]) -> tuple[list[str], list[st
     return found[0]
 
 
-def line_meant(typed: str, at: int | None, boats: list[str], called) -> str:
+def line_meant(typed: str, at: int | None, boats: list[str],
+               called: Callable[[str], str]) -> str:
     """The program's line. After `at 3` a bare sail is a finish in race 3."""
     words = typed.upper().split()
     if at and words[0] not in SAILS.keys() | OTHERS:

@@ -1,0 +1,84 @@
+"""How a journal is kept on the disk: journal.txt, a copy on a second disk, dated copies in kept/."""
+from __future__ import annotations
+
+import os
+import shutil
+import time
+
+from folder import VERSION, Folder, replace_whole
+from office import Sheet, Trouble
+
+
+class Keeper:
+    """Keeps the journal in journal.txt, and a copy of it on a second disk if the settings say so.
+
+    A file is replaced only by a journal that goes on where the file ends. So an office that was
+    opened with an older journal never costs the entries that were saved.
+    """
+
+    def __init__(self, folder: Folder) -> None:
+        self.folder, self.saved = folder, -1
+        self.copy = copy_of(folder)
+        self.trouble = ""
+
+    def save(self, sheet: Sheet) -> None:
+        """Saves the journal; a Trouble if it can't be. A copy that fails is only remembered."""
+        if len(sheet.journal) == self.saved and not self.trouble:
+            return
+        text = "".join(f"{line}\n" for line in sheet.journal)
+        save_to(self.folder.journal, text)
+        self.saved = len(sheet.journal)
+        self.trouble = ""
+        try:
+            if self.copy:
+                save_to(self.copy, text)
+        except Trouble as trouble:
+            self.trouble = str(trouble)
+
+    def keep_dated(self) -> str:
+        """Makes a dated copy of journal.txt in kept/; its name."""
+        name = os.path.join("kept", time.strftime("%Y-%m-%d-%H%M%S.txt"))
+        try:
+            os.makedirs(self.folder.file("kept"), exist_ok=True)
+            if os.path.exists(self.folder.journal):
+                shutil.copyfile(self.folder.journal, self.folder.file(name))
+        except OSError as cause:
+            raise Trouble(f"{name} can't be written: {cause.strerror}") from None
+        return name
+
+
+def copy_of(folder: Folder) -> str:
+    """The file of the copy on a second disk; empty if the settings name none."""
+    copy = folder.settings.copy
+    return os.path.join(folder.file(copy), f"{folder.name}-journal.txt") if copy else ""
+
+
+def save_to(path: str, text: str) -> None:
+    """Makes a file hold a journal that goes on where the file ends."""
+    try:
+        with open(path, encoding="ascii", errors="replace") as file:
+            held = file.read().removeprefix(VERSION)
+    except FileNotFoundError:
+        held = ""
+    except OSError as cause:
+        raise Trouble(f"{path} can't be read: {cause.strerror}") from None
+    if not text.startswith(held):
+        raise Trouble(f"{path} holds entries that the office doesn't have. It is left as it is")
+    if text != held:
+        replace_whole(path, text.encode())
+
+
+def fullest_copy(folder: Folder) -> tuple[str, int]:
+    """The copy of the journal with the most entries, the latest of those, and how many it has."""
+    kept = folder.file("kept")
+    names = sorted(os.listdir(kept)) if os.path.isdir(kept) else []
+    paths = [os.path.join(kept, name) for name in names] + [copy_of(folder)]
+    sized = [(entries_in(path), path) for path in paths if os.path.isfile(path)]
+    most = max((size for size, _ in sized), default=0)
+    return next(((path, size) for size, path in reversed(sized) if size == most and most), ("", 0))
+
+
+def entries_in(path: str) -> int:
+    """How many entries a journal's file has."""
+    with open(path, encoding="ascii", errors="replace") as file:
+        return len(file.read().removeprefix(VERSION).splitlines())

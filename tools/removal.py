@@ -1,0 +1,71 @@
+"""How a boat that should never have been entered is taken out of a journal: no line does that."""
+from __future__ import annotations
+
+import entries
+from folder import Folder, Lock, replace_whole
+from keeper import Keeper
+from office import Trouble
+from program import Program
+from prompt import question, say
+from record import changes
+from words import count, moved
+
+
+def sails_of(line: str) -> list[str]:
+    """The sails that an entry of a journal names, the boat that it is about first."""
+    match line.split()[3:]:
+        case ["ENTER", sail] | ["RANK", sail]:
+            return [sail]
+        case ["TIE" | "BEFORE", _, sail, other]:
+            return [sail, other]
+        case [_, _, sail, *_]:
+            return [sail]
+    return []
+
+
+def lines_about(journal: list[str], sail: str) -> dict[int, str]:
+    """The lines about a boat by their numbers; a Trouble if another boat's place hangs on hers."""
+    named = {at: line for at, line in enumerate(journal, 1) if sail in sails_of(line)}
+    for at, line in named.items():
+        if sails_of(line)[0] != sail:
+            raise Trouble(f"{sail} can't be taken out: entry {at}, {' '.join(line.split()[3:])}, "
+                          "places another boat beside her")
+    if not named:
+        raise Trouble(f"{sail} isn't in journal.txt")
+    return named
+
+
+def remove(path: str, words: list[str]) -> int:
+    """Takes a boat out of a journal whose office is closed, after a question; the status."""
+    folder, sail = Folder(path), "".join(words).upper()
+    folder.make_private()
+    if Lock(folder).is_taken():
+        raise Trouble("the office is open: close it first, by Ctrl-C in its window")
+    journal = folder.kept()
+    about = lines_about(journal, sail)
+    say(f"{count(len(about), 'entry goes', 'entries go')}:")
+    for at, line in about.items():
+        say(f"   {at:>5}  {' '.join(line.split()[2:])}")
+    left = [line for at, line in enumerate(journal, 1) if at not in about]
+    text = "".join(f"{line}\n" for line in left)
+    say_moved(folder, text)
+    if not question(f"Take {sail} out? The journal with her stays in kept/."):
+        say("Nothing was changed.")
+        return 1
+    copy = Keeper(folder).keep_dated()
+    replace_whole(folder.journal, text.encode())
+    held = count(len(left), "entry", "entries")
+    folder.log("", "", "", "closed", held)
+    say(f"{sail} is taken out. journal.txt has {held}; {copy} has all {len(journal)}.")
+    return 0
+
+
+def say_moved(folder: Folder, text: str) -> None:
+    """Says whom a shorter journal moves; a Trouble if the program doesn't take it."""
+    program, options = Program(folder), folder.settings.options()
+    path = folder.file("office", "shorter")
+    replace_whole(path, text.encode())
+    before, after = program.standing(options), program.standing(options, path)
+    names = entries.read_if_there(folder.entries)
+    for change in changes(before, after):
+        say(f"   {moved(change, str(names.get(change.after.sail, change.after.sail)))}")

@@ -1,0 +1,135 @@
+"""The program while it serves a series: started, taken over from a window that has gone, ended."""
+from __future__ import annotations
+
+import os
+import signal
+import subprocess
+import time
+
+from folder import PRIVATE, Folder, Lock, is_tool
+from office import Gone, Link, Trouble, sockets_at
+from program import serve_words
+from prompt import question
+from words import start_fault
+
+# The number of clients after which the program ends. Closing uses up the rest, so that it ends by
+# itself, with its table.
+SESSIONS = 4_000
+# Seconds that the program is given to open or to end, and the windows to leave.
+PATIENCE, LEAVE = 60.0, 10.0
+
+
+class Service:
+    """The program that serves a series, and this window's link to it."""
+
+    def __init__(self, folder: Folder) -> None:
+        self.folder, self.lock = folder, Lock(folder)
+        self.process: subprocess.Popen[bytes] | None = None
+        self.number = 0
+        self.link: Link
+
+    # Its beginning
+
+    def start(self) -> None:
+        """Starts the program, and links to it. It gets a session of its own, so that Ctrl-C in this
+        window doesn't reach it."""
+        with open(self.file("table"), "wb") as table, open(self.file("fault"), "wb") as fault:
+            self.process = subprocess.Popen(
+                serve_words(self.folder, SESSIONS), cwd=self.file(), stdin=subprocess.DEVNULL,
+                stdout=table, stderr=fault, start_new_session=True, pass_fds=[self.lock.file])
+        self.number = self.process.pid
+        self.link = self.first_link()
+        self.note_pid()
+
+    def first_link(self) -> Link:
+        """The link to the program once it has made its socket."""
+        end = time.monotonic() + PATIENCE
+        while time.monotonic() < end:
+            if self.is_over():
+                raise Trouble("\n".join(start_fault(self.fault(), self.folder.journal,
+                                                    self.folder.entries)).removesuffix("."))
+            try:
+                return self.folder.link()
+            except Gone:
+                time.sleep(0.02)
+        raise Trouble("the office doesn't open its socket")
+
+    def take_over(self) -> None:
+        """Goes on with a program whose window has gone; a Trouble if it has one."""
+        try:
+            with open(self.file("pid"), encoding="ascii") as file:
+                number, window, since = file.read().split()
+        except (OSError, ValueError):
+            raise Trouble("the office is being opened in another window") from None
+        if is_tool(window, "series.py"):
+            raise Trouble(f"the office is open in another window, since {since} (process {window})")
+        if not question(f"The office is open since {since}, but its window has gone. Take it over?",
+                        True):
+            raise Trouble("the office goes on without a window")
+        self.number, self.link = int(number), self.folder.link()
+        self.note_pid()
+
+    def note_pid(self) -> None:
+        """Notes the program's process and this window's."""
+        with open(self.file("pid"), "w", encoding="ascii") as file:
+            file.write(f"{self.number} {os.getpid()} {time.strftime('%H:%M')}\n")
+
+    # What it says
+
+    def file(self, *names: str) -> str:
+        return self.folder.file(PRIVATE, *names)
+
+    def fault(self) -> str:
+        """What the program has said on standard error."""
+        with open(self.file("fault"), encoding="utf-8", errors="replace") as file:
+            return file.read().strip()
+
+    def table(self) -> str:
+        """What the program has printed: its table, once it has ended."""
+        with open(self.file("table"), encoding="utf-8") as file:
+            return file.read().rstrip()
+
+    def is_over(self) -> bool:
+        """Whether the program has ended. It holds the lock as long as it lives."""
+        return self.process.poll() is not None if self.process else not self.lock.is_taken()
+
+    def lets_in(self) -> bool:
+        """Whether the program still lets clients in: not after its last session."""
+        return True in sockets_at(self.folder.socket)
+
+    # Its end
+
+    def use_up(self) -> None:
+        """Comes and goes until the program lets nobody in any more."""
+        end = time.monotonic() + PATIENCE
+        while time.monotonic() < end:
+            try:
+                Link(self.folder.socket).close()
+            except Gone:
+                return
+            except Trouble:
+                # The queue at the socket is full for a moment.
+                time.sleep(0.01)
+        raise Trouble("the office goes on letting clients in")
+
+    def has_others(self) -> bool:
+        """Whether there are clients beside this window."""
+        return len(sockets_at(self.folder.socket)) > 1
+
+    def leave(self) -> None:
+        """Leaves as the last client, and waits for the program's end."""
+        self.link.ask("QUIT")
+        self.link.close()
+        self.wait_for_end()
+
+    def stop(self) -> None:
+        """Ends the program although clients are there."""
+        os.kill(self.number, signal.SIGTERM)
+        self.wait_for_end()
+
+    def wait_for_end(self) -> None:
+        end = time.monotonic() + PATIENCE
+        while not self.is_over():
+            if time.monotonic() > end:
+                raise Trouble(f"the program didn't end in {PATIENCE:g} seconds")
+            time.sleep(0.02)

@@ -1,0 +1,158 @@
+"""A look at a series before its office is opened: what keeps it shut, and what should be known."""
+from __future__ import annotations
+
+import errno
+import glob
+import os
+import socket
+
+import entries
+from folder import PRIVATE, Folder
+from keeper import fullest_copy
+from office import Trouble
+from program import Program
+from record import Change, changes
+from words import count, joined
+
+# Bytes that have to be free on the disk beside what the journal has already.
+ROOM = 64 << 10
+
+
+def faults(folder: Folder) -> list[str]:
+    """All that keeps the office from being opened, in words."""
+    program = Program(folder)
+    if wrong := program.fault():
+        return [wrong]
+    if not folder.kept():
+        if lost := lost_journal(folder):
+            return [lost]
+        if wrong := list_faults(folder):
+            return wrong
+    return program.start_faults()
+
+
+def list_faults(folder: Folder) -> list[str]:
+    """What is wrong with the entry list."""
+    try:
+        return entries.problems(entries.bytes_of(folder.entries), folder.entries)
+    except Trouble as trouble:
+        return [f"{trouble}."]
+
+
+def entries_logged(folder: Folder) -> int:
+    """The most entries that the log has seen at an opening or closing."""
+    return max((int(entry.answer.split()[0]) for entry in folder.logged()
+                if entry.line in ("opened", "closed") and entry.answer[:1].isdigit()), default=0)
+
+
+def lost_journal(folder: Folder) -> str:
+    """What the log and the copies say of a journal that is empty or gone."""
+    path, held = fullest_copy(folder)
+    had = max(entries_logged(folder), held)
+    if not had:
+        return ""
+    copy = f" {os.path.relpath(path, folder.path)} has {held}." if path else ""
+    return f"journal.txt is empty or gone, but the series had {count(had, 'entry', 'entries')}.{copy}"
+
+
+def disk_fault(folder: Folder) -> str:
+    """Why the folder can't hold a journal and a socket; empty if it can."""
+    path = folder.file(PRIVATE, "probe")
+    size = os.path.getsize(folder.journal) if os.path.exists(folder.journal) else 0
+    try:
+        with open(path, "wb") as file:
+            file.write(b"\0" * (2 * size + ROOM))
+            file.flush()
+            os.fsync(file.fileno())
+    except OSError as cause:
+        why = "is full" if cause.errno == errno.ENOSPC else f"can't be written: {cause.strerror}"
+        return f"The disk {why}. Nothing was opened or changed."
+    finally:
+        remove_probe(path)
+    try:
+        make_socket(path)
+    except OSError:
+        return ("This disk takes no sockets (often a stick). Copy the folder to the computer's own "
+                "disk.")
+    finally:
+        remove_probe(path)
+    return ""
+
+
+def make_socket(path: str) -> None:
+    """Makes a socket at this path, which may be longer than the 107 bytes of a socket's."""
+    folder = os.open(os.path.dirname(path), os.O_PATH)
+    try:
+        with socket.socket(socket.AF_UNIX) as made:
+            made.bind(f"/proc/self/fd/{folder}/{os.path.basename(path)}")
+    finally:
+        os.close(folder)
+
+
+def remove_probe(path: str) -> None:
+    if os.path.lexists(path):
+        os.remove(path)
+
+
+def notes(folder: Folder) -> list[str]:
+    """What should be known, and keeps nobody from opening."""
+    return [note for note in (boats_left(folder), shorter_journal(folder), other_journals(folder))
+            if note]
+
+
+def boats_left(folder: Folder) -> str:
+    """Which boats of the entry list aren't entered; empty before the first opening."""
+    entered = {line.split()[4] for line in folder.kept() if line.split()[3:4] == ["ENTER"]}
+    left = [str(boat) for sail, boat in entries.read_if_there(folder.entries).items()
+            if sail not in entered]
+    if not entered or not left:
+        return ""
+    return (f"On the entry list, but not entered: {joined(left)}. The scorer enters a late boat by "
+            "ENTER.")
+
+
+def shorter_journal(folder: Folder) -> str:
+    """A journal with fewer entries than at its last closing: an older copy, or an edited one."""
+    held, had = len(folder.kept()), 0
+    for entry in folder.logged():
+        if entry.line == "closed" and entry.answer[:1].isdigit():
+            had = int(entry.answer.split()[0])
+    if not held or held >= had:
+        return ""
+    return (f"journal.txt has {count(held, 'entry', 'entries')}, but had {had} when the office was "
+            "closed. Compare it with the copies in kept/.")
+
+
+def other_journals(folder: Folder) -> str:
+    """Files that a cloud folder made beside the journal, as `journal (conflicted copy).txt`."""
+    names = sorted(os.path.basename(path) for path in glob.glob(folder.file("journal*"))
+                   if os.path.basename(path) != "journal.txt" and not path.endswith(".new"))
+    if not names:
+        return ""
+    return (f"Beside journal.txt there is {joined(names)}. Only journal.txt is used. If a cloud "
+            "folder made the other, move the series out of it.")
+
+
+def summary(folder: Folder) -> str:
+    """The series in one line, from journal and table."""
+    standing = Program(folder).standing(folder.settings.options())
+    races = count(len(standing.races), "race")
+    held = count(len(folder.kept()) or len(standing.rows), "entry", "entries")
+    return (f"{folder.settings.title}: {count(len(standing.rows), 'boat')}, {races} scored, {held}")
+
+
+def rules_before(folder: Folder) -> list[str]:
+    """The options of the last opening, if the settings give others now; else none."""
+    opened = [entry.role for entry in folder.logged() if entry.line == "opened"]
+    now = " ".join(folder.settings.options())
+    return opened[-1].split() if opened and opened[-1] != now and folder.kept() else []
+
+
+def changes_of_rules(folder: Folder, before: list[str]) -> list[Change]:
+    """Whom other rules move; none if the program has no table to compare."""
+    program = Program(folder)
+    try:
+        return changes(program.standing(before), program.standing(folder.settings.options()))
+    except Trouble:
+        # With or without corrected times the journal gives no table.
+        return []

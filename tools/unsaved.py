@@ -1,0 +1,64 @@
+"""What office.log has and a journal lacks after a crash: lines that were answered, but not saved."""
+from __future__ import annotations
+
+from dataclasses import dataclass, field
+
+from folder import Logged
+from words import count, spans
+
+# What the log has in place of an answer that never came.
+UNANSWERED = "no answer"
+
+
+@dataclass
+class Unsaved:
+    """Lines by the numbers of their answers, and lines that had no answer."""
+    held: int
+    answered: dict[int, Logged] = field(default_factory=dict)
+    unanswered: list[Logged] = field(default_factory=list)
+
+    def follow(self, entry: Logged) -> None:
+        """Reads one line of the log. What was saved at a closing isn't lost, nor is what came before."""
+        words = entry.answer.split()
+        if entry.line == "closed":
+            self.answered.clear()
+            self.unanswered.clear()
+        elif entry.line == "opened":
+            self.unanswered.clear()
+        elif entry.answer == UNANSWERED:
+            self.unanswered.append(entry)
+        elif words[:1] == ["OK"] and words[1:2] and int(words[1]) > self.held:
+            self.answered[int(words[1])] = entry
+
+    def missing(self) -> list[int]:
+        """The numbers below the last one whose lines aren't in the log."""
+        return [number for number in range(self.held + 1, max(self.answered, default=0))
+                if number not in self.answered]
+
+    def in_words(self) -> list[str]:
+        """The lines that have to be typed again, in their order; empty if nothing is lost."""
+        said = []
+        if self.answered:
+            said = [f"journal.txt has {count(self.held, 'entry', 'entries')}. These lines were "
+                    "answered, and are lost. Type them again in this order, before any other:"]
+            said += [f"   {number:>5}  {shown(entry)}" for number, entry in sorted(self.answered.items())]
+        if missing := self.missing():
+            said.append(f"   {spans(missing)}: answered to somebody whose lines aren't in office.log. "
+                        "Ask who typed without client.py.")
+        if self.unanswered:
+            said.append("These lines had no answer. Look whether they are in the journal before you "
+                        "type them again:")
+            said += [f"          {shown(entry)}" for entry in self.unanswered]
+        return said
+
+
+def shown(entry: Logged) -> str:
+    return f"{entry.role:<8}{entry.line}" + (f"   ({entry.name})" if entry.name else "")
+
+
+def unsaved(held: int, logged: list[Logged]) -> Unsaved:
+    """What the log has beyond a journal of `held` entries."""
+    found = Unsaved(held)
+    for entry in logged:
+        found.follow(entry)
+    return found

@@ -1,0 +1,99 @@
+"""What happens to an office while somebody types a line: the prompt is interrupted at once."""
+from __future__ import annotations
+
+import contextlib
+import select
+import signal
+import threading
+import time
+
+from desk import Desk
+from office import Trouble, sockets_at
+
+try:
+    # Arrow keys, and the lines typed before.
+    import readline
+
+    # Answers to questions aren't lines.
+    readline.set_auto_history(False)
+except ImportError:
+    readline = None
+
+# Seconds between two looks, and between two tries at an office whose seats are all taken.
+LOOK, AGAIN = 0.5, 5.0
+
+
+class News(Exception):
+    """Something came while a line was being typed: an office has gone, come back, or is closing."""
+
+
+class Watcher(threading.Thread):
+    """Looks at the offices while the window waits at its prompt, and interrupts it at news."""
+
+    def __init__(self, desks: list[Desk]) -> None:
+        super().__init__(daemon=True)
+        self.desks, self.half, self.not_before = desks, "", 0.0
+        self.at_prompt = self.begun = False
+        signal.signal(signal.SIGUSR1, self.interrupt)
+
+    def ask(self, prompt: str) -> str:
+        """A line from the prompt, at which it may be interrupted. What was typed by then is kept,
+        and is there again at the next prompt."""
+        self.begun, self.at_prompt = False, True
+        if readline:
+            readline.set_startup_hook(self.begin)
+        try:
+            typed = input(prompt)
+        finally:
+            self.at_prompt = False
+            if readline:
+                readline.set_startup_hook(None)
+        if readline and typed:
+            readline.add_history(typed)
+        return typed
+
+    def begin(self) -> None:
+        """Begins the line at the prompt with what is left of the one before."""
+        self.begun = True
+        readline.insert_text(self.half)
+        self.half = ""
+
+    def interrupt(self, *_: object) -> None:
+        if self.at_prompt:
+            self.at_prompt = False
+            self.half = readline.get_line_buffer() if self.begun else self.half
+            raise News
+
+    def run(self) -> None:
+        while True:
+            if (self.is_heard() or self.is_closing() or self.is_back()) and self.at_prompt:
+                signal.pthread_kill(threading.main_thread().ident, signal.SIGUSR1)
+                time.sleep(LOOK)
+
+    def is_heard(self) -> bool:
+        """Whether anything comes from an office in the next moment: nobody has asked for it."""
+        links = [desk.link for desk in self.desks if desk.link]
+        try:
+            return bool(select.select(links, [], [], LOOK)[0])
+        except (OSError, ValueError):
+            # The window has closed one of them meanwhile.
+            return False
+
+    def is_closing(self) -> bool:
+        return any(desk.link and desk.folder.is_closing() for desk in self.desks)
+
+    def is_back(self) -> bool:
+        """Whether an office that has gone is there again."""
+        return time.monotonic() > self.not_before and any(
+            desk.link is None and is_open(desk) for desk in self.desks)
+
+    def wait(self) -> None:
+        """Leaves offices without a free seat alone for a while: each try counts as a client there."""
+        self.not_before = time.monotonic() + AGAIN
+
+
+def is_open(desk: Desk) -> bool:
+    """Whether an office lets clients in, and isn't closing. To ask the system costs the office nothing."""
+    with contextlib.suppress(Trouble):
+        return not desk.folder.is_closing() and True in sockets_at(desk.folder.socket)
+    return False

@@ -1,0 +1,298 @@
+"""The window of somebody who types, for one class or several."""
+from __future__ import annotations
+
+import contextlib
+import os
+import select
+import sys
+import termios
+import time
+
+from desk import Desk
+from folder import Folder
+from office import NoSeat, Trouble
+from prompt import question, say, sentence
+from spoken import OTHERS, SAILS, NotSent, boats_meant, line_meant
+from watcher import AGAIN, LOOK, News, Watcher
+from words import count, joined
+
+# First words that are the window's own.
+OWN = ("at", "race", "abandon", "help")
+
+
+class Closing(Exception):
+    """The office is being closed, so this window ends."""
+
+
+class Window:
+    """A prompt, and a desk for each class."""
+
+    def __init__(self, folders: list[Folder], role: str, name: str) -> None:
+        self.desks = [Desk(folder, role, name, say, question) for folder in folders]
+        self.watcher = Watcher(self.desks)
+
+    @property
+    def several(self) -> bool:
+        return len(self.desks) > 1
+
+    def run(self) -> int:
+        """Is the window until somebody leaves it; the status."""
+        self.come()
+        self.watcher.start()
+        try:
+            while self.is_going_on():
+                pass
+        except Closing:
+            say("The office is being closed: this window ends.")
+        self.leave()
+        return 0
+
+    def come(self) -> None:
+        """Links to the offices. Of several classes those that aren't open don't hold up the others."""
+        for desk in self.desks:
+            self.come_to(desk)
+        if not self.several:
+            desk = self.desks[0]
+            say(f"{desk.folder.settings.title}: you type as the {desk.role.lower()}. help lists your "
+                "lines.")
+
+    def come_to(self, desk: Desk) -> None:
+        """Links to an office, and notes it in the log."""
+        if not self.several:
+            self.wait_for(desk)
+        else:
+            try:
+                desk.connect()
+            except Trouble as trouble:
+                say(f"Beware: {trouble}, that of {desk.folder.name}. The others go on.")
+        self.log(desk, "came")
+
+    def leave(self) -> None:
+        """Leaves all offices."""
+        for desk in self.desks:
+            self.log(desk, "left")
+            if desk.link:
+                with contextlib.suppress(Trouble):
+                    desk.link.ask("QUIT")
+                desk.disconnect()
+
+    def log(self, desk: Desk, what: str) -> None:
+        with contextlib.suppress(Trouble):
+            desk.folder.log(desk.name, "", desk.role, what, "")
+
+    # A line
+
+    def prompt(self) -> str:
+        at = [(f"{desk.folder.name} " if self.several else "") + str(desk.at)
+              for desk in self.desks if desk.at]
+        return ", ".join(at) + "> "
+
+    def is_going_on(self) -> bool:
+        """Asks for a line and does it; whether there may be more."""
+        try:
+            typed = self.watcher.ask(self.prompt())
+            if typed.strip().lower() in ("quit", "exit"):
+                return False
+            self.do_all(typed.splitlines())
+        except EOFError:
+            say("")
+            return False
+        except KeyboardInterrupt:
+            say("   Type quit to leave.")
+        except News:
+            say("")
+            self.take_news()
+        return True
+
+    def do_all(self, lines: list[str]) -> None:
+        """Does what was typed. Pasted lines stop at the first that is refused or isn't sent."""
+        if len(lines) > 1 and not self.is_agreed(lines):
+            say("   Not sent.")
+            return
+        for at, line in enumerate(lines, 1):
+            if why := self.refused(line):
+                not_sent(lines[at:], why)
+                self.drop_typed(why)
+                return
+
+    def refused(self, line: str) -> str:
+        """Does a line; why the lines after it can't be sent, or nothing."""
+        try:
+            return "" if self.do(line) else "since the line before it was refused"
+        except NotSent as why:
+            say(f"   Not sent: {sentence(why)}")
+            return "since the line before it wasn't"
+
+    def is_agreed(self, lines: list[str]) -> bool:
+        """Whether somebody agrees to a pasted list of bare sails, which are shown by their names."""
+        desk = self.desks[0]
+        words = [line.upper().split()[:1] for line in lines]
+        known = SAILS.keys() | OTHERS | {word.upper() for word in OWN}
+        if self.several or not desk.at or any(word and word[0] in known for word in words):
+            return True
+        try:
+            meant = [line_meant(line, desk.at, desk.book.boats, desk.book.called)
+                     for line in lines if line.strip()]
+        except NotSent as why:
+            say(f"   {sentence(why)}")
+            return False
+        for at, line in enumerate(meant, 1):
+            say(f"{at:>6}  {desk.book.called(line.split()[2])}")
+        return question(f"   Send these {count(len(meant), 'finish', 'finishes')} in race {desk.at}?")
+
+    def do(self, typed: str) -> bool:
+        """Gives a line to the desk that it is for; whether it was taken."""
+        desk, rest = self.desk_meant(typed)
+        desk.prefix = f"{desk.folder.name}: " if self.several else ""
+        if desk.link is None:
+            raise NotSent(f"the office of {desk.folder.name} has gone. Write {rest.upper()} down")
+        try:
+            return desk.do(rest)
+        except Trouble as trouble:
+            self.lost(desk, trouble)
+            return True
+
+    def desk_meant(self, typed: str) -> tuple[Desk, str]:
+        """The class that a line is for, and the line without its class."""
+        words = typed.split()
+        if not self.several or not words:
+            return self.desks[0], typed
+        if named := self.desk_named(words):
+            return named, " ".join(words[1:])
+        if words[0].lower() == "help":
+            return self.desks[0], typed
+        rest = words[2:] if words[0].upper() in SAILS else words[words[0].upper() in OTHERS:]
+        found = [(desk, boat) for desk in self.desks for boat in first_meant(rest, desk)]
+        if len({id(desk) for desk, _ in found}) == 1:
+            return found[0][0], typed
+        if found:
+            boats = [f"{desk.book.called(boat)} ({desk.folder.name})" for desk, boat in found]
+            raise NotSent(f"{' '.join(rest).upper()} may be {joined(boats, 'or')}: type her class "
+                          "first")
+        names = joined([desk.folder.name for desk in self.desks], "or")
+        raise NotSent(f"it isn't clear for which class this is: type {names} first")
+
+    def desk_named(self, words: list[str]) -> Desk | None:
+        """The class that the first word names by its first letters, unless it is a line's or a
+        boat's."""
+        first = words[0].lower()
+        named = [desk for desk in self.desks if desk.folder.name.lower().startswith(first)]
+        is_line = first.upper() in SAILS.keys() | OTHERS or first in OWN
+        is_boat = any("".join(words).upper() in desk.book.boats for desk in self.desks)
+        return named[0] if len(named) == 1 and len(words) > 1 and not is_line and not is_boat else None
+
+    # When an office goes
+
+    def take_news(self) -> None:
+        """Says what came of the offices while nobody had sent a line."""
+        if self.watcher.is_closing():
+            self.close_one()
+        for desk in self.desks:
+            if desk.link is None:
+                self.try_again(desk)
+            elif select.select([desk.link], [], [], 0)[0]:
+                self.lost(desk, heard(desk))
+
+    def close_one(self) -> None:
+        """Leaves the offices that are being closed; the window ends with the last."""
+        for desk in self.desks:
+            if desk.link and desk.folder.is_closing():
+                self.lost(desk, Trouble("the office is being closed"))
+
+    def try_again(self, desk: Desk) -> None:
+        """Uses an office that has come back."""
+        try:
+            desk.connect()
+        except Trouble:
+            self.watcher.wait()
+        else:
+            self.say_back(desk)
+
+    def lost(self, desk: Desk, trouble: Trouble) -> None:
+        """An office has gone. With one class this waits for it; the others go on without."""
+        if desk.unanswered:
+            say(f"No answer came to: {desk.unanswered}\nIt may be in the journal, or not.")
+        desk.disconnect()
+        if desk.folder.is_closing() and not any(other.link for other in self.desks):
+            raise Closing
+        if self.several:
+            say(f"Beware: {trouble}, that of {desk.folder.name}. The others go on.")
+            return
+        say(f"Beware: {trouble}. Waiting for the office; Ctrl-C ends this window.")
+        self.wait_for(desk, told=True)
+        self.drop_typed("since the office was away")
+        self.say_back(desk)
+
+    def wait_for(self, desk: Desk, told: bool = False) -> None:
+        """Links to an office, for which it waits."""
+        while True:
+            try:
+                desk.connect()
+                return
+            except Trouble as trouble:
+                if not told:
+                    say(f"Waiting: {trouble}{seats_taken(desk, trouble)}. Ctrl-C ends this window.")
+                told = True
+                # A client who finds no seat uses up one of the office's sessions.
+                time.sleep(AGAIN if isinstance(trouble, NoSeat) else LOOK)
+
+    def say_back(self, desk: Desk) -> None:
+        """Says which of this window's lines the office has after a crash."""
+        journal, line = desk.book.commands, desk.unanswered
+        lost = {at: sent for at, sent in desk.sent.items()
+                if at > len(journal) or journal[at - 1] != sent}
+        later = journal[max(desk.sent, default=0):]
+        desk.sent = {at: sent for at, sent in desk.sent.items() if at not in lost}
+        desk.unanswered = ""
+        of = f" of {desk.folder.name}" if self.several else ""
+        say(f"The office{of} is back with {count(len(journal), 'entry', 'entries')}.")
+        if lost:
+            say("These lines of yours are lost. The office's window lists those of all windows: type "
+                "them again in that order.")
+            say("\n".join(f"   {at:>5}  {sent}" for at, sent in sorted(lost.items())))
+        elif desk.sent:
+            at = max(desk.sent)
+            say(f"Your last line, OK {at} {desk.sent[at]}, is among them.")
+        if line:
+            say(f"{line} is {'in the journal' if line in later else 'not in the journal'}.")
+
+    def drop_typed(self, why: str) -> None:
+        """Shows the lines that wait at the prompt already, and sends none of them."""
+        if sys.stdin.isatty():
+            not_sent(typed_already().splitlines(), why)
+
+
+def heard(desk: Desk) -> Trouble:
+    """Why an office has ended a link: what came although nothing was asked."""
+    assert desk.link
+    try:
+        return desk.link.heard()
+    except Trouble as trouble:
+        return trouble
+
+
+def seats_taken(desk: Desk, trouble: Trouble) -> str:
+    """Who has the seats, if that is the trouble."""
+    windows = ", ".join(desk.folder.windows().values())
+    return f": {windows}" if isinstance(trouble, NoSeat) and windows else ""
+
+
+def not_sent(lines: list[str], why: str) -> None:
+    for line in lines:
+        if line.strip():
+            say(f"Not sent, {why}: {line[:80]}")
+
+
+def typed_already() -> str:
+    """What has been typed before the prompt came, which is thrown away."""
+    data = b""
+    while select.select([0], [], [], 0.05)[0] and (more := os.read(0, 65536)):
+        data += more
+    termios.tcflush(0, termios.TCIFLUSH)
+    return data.decode("utf-8", "replace")
+
+
+def first_meant(words: list[str], desk: Desk) -> list[str]:
+    """The boats of a class that the first of these words may mean, as many words as name one."""
+    ways = [boats_meant(words[:at], desk.book.boats) for at in range(len(words), 0, -1)]
+    return next((boats for boats in ways if boats), [])
