@@ -121,8 +121,11 @@ class Box:
         """Takes one step; whether nothing is left to do."""
         window, terminal = self.window, self.window.terminal
         self.went += window.lines()
+        text = terminal.text
         if asked := window.asked():
             return self.answered(asked)
+        if terminal.text != text:
+            return False
         if self.is_shown() and self.stays and not window.is_clients and not self.fill:
             return True
         if self.shown[len(self.went):len(self.went) + 1] == ["^C"]:
@@ -131,7 +134,7 @@ class Box:
             return False
         if terminal.more(1.5 if self.fill else helpers.PATIENCE):
             return False
-        if terminal.process.poll() is None and self.stays:
+        if self.stays and not terminal.is_at_end:
             return True
         self.went += window.lines() + [part for part in [terminal.text.rstrip()] if part]
         window.end()

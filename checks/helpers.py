@@ -70,7 +70,7 @@ class Terminal:
             command, cwd=cwd, stdin=slave, stdout=slave, stderr=slave, start_new_session=True,
             preexec_fn=own, env={**os.environ, "TERM": "dumb", "PYTHONIOENCODING": "utf-8", **environment})
         os.close(slave)
-        self.text = ""
+        self.text, self.is_at_end = "", False
 
     def read(self, wanted: str, patience: float = PATIENCE) -> str:
         """What is printed up to a text, which a regular expression names."""
@@ -83,14 +83,15 @@ class Terminal:
         return text
 
     def more(self, left: float) -> bool:
-        """Reads what comes; whether anything did."""
-        if not select.select([self.master], [], [], left)[0]:
+        """Reads what comes; whether anything did. At the end of the tool nothing more does."""
+        if self.is_at_end or not select.select([self.master], [], [], left)[0]:
             return False
         try:
             data = os.read(self.master, 65536)
         except OSError:
-            return False
+            data = b""
         self.text += data.decode("utf-8", "replace")
+        self.is_at_end = not data
         return bool(data)
 
     def type(self, line: str) -> None:
