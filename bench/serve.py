@@ -24,7 +24,6 @@ import argparse
 import multiprocessing
 import os
 import shlex
-import socket
 import statistics
 import subprocess
 import sys
@@ -33,61 +32,12 @@ import time
 
 from compiled import compiled
 
+sys.path.insert(0, os.path.join(os.path.dirname(os.path.abspath(__file__)), os.pardir, "tools"))
+from office import Link  # noqa: E402
+
 SEATS, COMMANDS, RACES, JOURNAL = 16, 4000, 40, 8192
-
-
-class Client:
-    """One connection to the program."""
-
-    def __init__(self, path):
-        self.socket = socket.socket(socket.AF_UNIX, socket.SOCK_STREAM)
-        self.socket.settimeout(60)
-        self.socket.connect(path)
-        self.rest = b""
-
-    def send(self, data):
-        self.socket.sendall(data)
-
-    def line(self):
-        """The next line of a reply without its LF; None at the end of the stream."""
-        while b"\n" not in self.rest:
-            data = self.socket.recv(65536)
-            if not data:
-                return None
-            self.rest += data
-        line, self.rest = self.rest.split(b"\n", 1)
-        return line
-
-    def ask(self, line):
-        self.send(line + b"\n")
-        return self.line()
-
-    def show(self):
-        """The reply to SHOW as bytes. Nothing else may be asked before its end."""
-        self.send(b"SHOW\n")
-        text, self.rest = bytearray(self.rest), b""
-        while not text.endswith(b"\nEND\n"):
-            data = self.socket.recv(1 << 20)
-            if not data:
-                break
-            text += data
-        return bytes(text)
-
-    def sheet(self):
-        """The reply to SHOW: the entries of the journal, and the lines of the table."""
-        lines = self.show().split(b"\n")
-        count = int(lines[0].removeprefix(b"JOURNAL "))
-        return lines[1:count + 1], lines[count + 1:-2]
-
-    def is_at_end(self):
-        """Whether the stream ends here as it should, with no further byte and no reset."""
-        try:
-            return self.rest == b"" and self.socket.recv(1) == b""
-        except OSError:
-            return False
-
-    def close(self):
-        self.socket.close()
+# Seconds that an answer may take.
+PATIENCE = 60.0
 
 
 class Server:
@@ -125,8 +75,8 @@ class Server:
 
 def write_commands(path, race, count, start, results):
     """Sends `count` commands of one race, each after the reply to the one before."""
-    client = Client(path)
-    client.ask(b"RANK A")
+    client = Link(path, PATIENCE)
+    client.ask("RANK A")
     lines = [b"FINISH %d A\n" % race, b"STRIKE %d A\n" % race] * (count // 2 + 1)
     # A reply is so short that it comes whole. A socket without a time limit makes one system call
     # fewer for each reply.
@@ -143,32 +93,43 @@ def write_commands(path, race, count, start, results):
     ended = clock()
     accepted = sum(reply.startswith(b"OK") for reply in replies)
     results.put(("writer", began, ended, accepted, waits))
-    client.ask(b"QUIT")
+    client.ask("QUIT")
 
 
 def watch(path, done, start, results):
     """Asks for SHOW until the writers are done."""
-    client = Client(path)
-    client.ask(b"RANK A")
+    client = Link(path, PATIENCE)
+    client.ask("RANK A")
     start.wait()
     waits = []
     began = time.perf_counter()
     while not done.is_set():
         before = time.perf_counter()
-        client.show()
+        read_sheet(client)
         waits.append(time.perf_counter() - before)
     results.put(("watcher", began, time.perf_counter(), len(waits), waits))
-    client.ask(b"QUIT")
+    client.ask("QUIT")
+
+
+def read_sheet(client):
+    """Reads the answer to SHOW as bytes: what a client makes of it isn't timed."""
+    client.socket.sendall(b"SHOW\n")
+    end = b""
+    while not end.endswith(b"\nEND\n"):
+        data = client.socket.recv(1 << 20)
+        if not data:
+            sys.exit("the program ended within a sheet")
+        end = (end + data)[-5:]
 
 
 def begin(server, entries):
     """Enters two boats, and makes `entries` entries more, before the clock starts."""
-    client = Client(server.path)
-    client.ask(b"ENTER A")
-    client.ask(b"ENTER B")
+    client = Link(server.path, PATIENCE)
+    client.ask("ENTER A")
+    client.ask("ENTER B")
     for i in range(entries):
-        client.ask((b"FINISH", b"STRIKE")[i % 2] + b" %d B" % RACES)
-    client.ask(b"QUIT")
+        client.ask(f"{('FINISH', 'STRIKE')[i % 2]} {RACES} B")
+    client.ask("QUIT")
     client.close()
     time.sleep(0.05)
 
@@ -216,8 +177,8 @@ def run_once(words, asked):
     else:
         told = told_by_processes(server, clients, watchers, commands)
     memory = server.memory()
-    last = Client(server.path)
-    last.ask(b"QUIT")
+    last = Link(server.path, PATIENCE)
+    last.ask("QUIT")
     status, _, errors = server.end()
     if status != 0:
         sys.exit(f"the program ended with status {status}: {errors.decode()}")

@@ -14,20 +14,74 @@ is judged:
 It ends with status 0 if nothing was wrong.
 """
 import multiprocessing
-import os
 import random
 import re
+import socket
 import subprocess
 import tempfile
 import time
 
-from serve import JOURNAL, SEATS, Client, Server
+from serve import JOURNAL, SEATS, Server
 
 TALKERS = 11
 MEBIBYTE = 1 << 20
 WORDS = (b"ENTER FINISH TIE BEFORE TIME STRIKE MARK PENALTY REDRESS CLEAR SCORE UNSCORE ROLE RANK "
          b"SHOW QUIT").split()
 SESSIONS = 2500
+
+
+class Client:
+    """One connection to the program, over which anything may be sent: it misbehaves on purpose."""
+
+    def __init__(self, path):
+        self.socket = socket.socket(socket.AF_UNIX, socket.SOCK_STREAM)
+        self.socket.settimeout(60)
+        self.socket.connect(path)
+        self.rest = b""
+
+    def send(self, data):
+        self.socket.sendall(data)
+
+    def line(self):
+        """The next line of a reply without its LF; None at the end of the stream."""
+        while b"\n" not in self.rest:
+            data = self.socket.recv(65536)
+            if not data:
+                return None
+            self.rest += data
+        line, self.rest = self.rest.split(b"\n", 1)
+        return line
+
+    def ask(self, line):
+        self.send(line + b"\n")
+        return self.line()
+
+    def show(self):
+        """The reply to SHOW as bytes. Nothing else may be asked before its end."""
+        self.send(b"SHOW\n")
+        text, self.rest = bytearray(self.rest), b""
+        while not text.endswith(b"\nEND\n"):
+            data = self.socket.recv(1 << 20)
+            if not data:
+                break
+            text += data
+        return bytes(text)
+
+    def sheet(self):
+        """The reply to SHOW: the entries of the journal, and the lines of the table."""
+        lines = self.show().split(b"\n")
+        count = int(lines[0].removeprefix(b"JOURNAL "))
+        return lines[1:count + 1], lines[count + 1:-2]
+
+    def is_at_end(self):
+        """Whether the stream ends here as it should, with no further byte and no reset."""
+        try:
+            return self.rest == b"" and self.socket.recv(1) == b""
+        except OSError:
+            return False
+
+    def close(self):
+        self.socket.close()
 
 
 class Caller:

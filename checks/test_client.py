@@ -107,7 +107,7 @@ OK 12   3rd in race 1
    5 is IRL 5 Curlew
 > mark 2 5 ocs
 > finish 2 5
-OK 15   she holds OCS in race 2, and is scored so
+OK 16   she holds OCS in race 2, and is scored so
 > score 2
 Only boats with a code are in the finishing order. Score it all the same? [y/N]
 > n
@@ -118,6 +118,22 @@ ROLE JURY   your lines are now those of the jury
 > n
 """)
         self.assertEqual(self.text("five", "office.log").count("\tOK 12"), 1)
+
+    def test_two_windows(self) -> None:
+        """What is asked depends on what another window has typed meanwhile."""
+        self.open()
+        scorer = self.typist("scorer")
+        finish = self.typist()
+        finish.say("finish 1 101", "OK 8 .*\n> $")
+        self.assertIn("Race 1 doesn't count yet: 1 finished, 0 coded, 6 not recorded, 7 boats\n     1  "
+                      "GBR 101 Kestrel\n", scorer.say("score 1", r"with 6 boats as DNC\? \[y/N\] $"))
+        scorer.say("y", "OK 9   race 1 counts\n> $")
+        finish.say("finish 1 7", r"RACE 1 COUNTS ALREADY\. Is this a correction\? \[y/N\] $")
+        finish.say("n", "Not sent.\n> $")
+        scorer.say("enter usa 7", r"\[y/N\] $")
+        scorer.say("y", "OK 10 .*(\n .*)*\n> $")
+        finish.say("finish 2 7", "7 may be GBR 7 Sea Pink or USA7: type more of her sail.\n> $")
+        finish.say("finish gbr 7", "GBR is no race: the number of the race comes after FINISH.\n> $")
 
     def test_abandon(self) -> None:
         self.open()
@@ -194,6 +210,77 @@ Not sent: the office of cup has gone. Write 12 down.
    fleet: 2nd in race 2
 """)
 
+    def test_a_class_that_opens_later(self) -> None:
+        self.make("fleet", entries="Boat,Sail\nFulmar,GBR 33\nSterna,NED 80\n")
+        self.open()
+        window = self.window("client.py", "cup", "fleet", "--role", "finish")
+        window.read("Beware: no office is open there, that of fleet. The others go on.\n> $")
+        os.write(window.master, b"finish 1 ned ")
+        self.open("fleet")
+        window.read("The office of fleet is back with 2 entries.\n> ")
+        window.say("80", "OK 3   fleet: 1st in race 1; .*\n> $")
+
+    def test_no_answer(self) -> None:
+        """A line without an answer is looked for after the crash, and listed by the office."""
+        office = self.open()
+        window = self.typist("scorer")
+        window.say("enter den 16", r"\[y/N\] $")
+        number = int(self.text("cup", "office", "pid").split()[0])
+        os.kill(number, signal.SIGSTOP)
+        window.type("y")
+        window.read("No answer came to: ENTER DEN16\nIt may be in the journal, or not.\nBeware: the "
+                    "office hasn't answered for 10 seconds. Waiting")
+        os.kill(number, signal.SIGKILL)
+        office.rest()
+        again = self.window("series.py", "open", "cup")
+        said = again.read("The office is open")
+        self.addCleanup(self.stop, "cup")
+        self.assertIn("These lines had no answer. Look whether they are in the journal before you type "
+                      "them again:\n          SCORER  ENTER DEN16\n", said)
+        window.read("ENTER DEN16 is not in the journal.\n> $")
+
+    def test_not_sent(self) -> None:
+        """A line that the office didn't get, since it had stopped, comes back."""
+        self.open()
+        window = self.typist()
+        number = int(self.text("cup", "office", "pid").split()[0])
+        os.kill(number, signal.SIGSTOP)
+        window.type("finish 1 7")
+        window.read("Not sent: finish 1 7\nBeware: the office hasn't answered for 10 seconds. Waiting")
+        os.kill(number, signal.SIGCONT)
+        window.read("The office is back with 7 entries.\n> $")
+        window.say("finish 1 7", "OK 8 ")
+
+    def test_half_a_line(self) -> None:
+        """What has been typed of a line when the office goes is there again afterwards."""
+        office = self.open()
+        window = self.typist()
+        os.write(window.master, b"finish 1 10")
+        os.kill(int(self.text("cup", "office", "pid").split()[0]), signal.SIGKILL)
+        window.read("Beware: ")
+        office.rest()
+        self.open()
+        window.read("is back with 7 entries.\n> ")
+        window.say("1", "101 is GBR 101 Kestrel\nOK 8 ")
+
+    def test_history(self) -> None:
+        """Arrow up brings the last line, and no answer to a question."""
+        self.open()
+        window = self.typist("scorer")
+        window.say("enter den 16", r"\[y/N\] $")
+        window.say("n", "Not sent.\n> $")
+        window.say("\x1b[A", r"Enter DEN16\? .*\[y/N\] $")
+
+    def test_full(self) -> None:
+        """If all seats are taken, the window says by whom."""
+        self.make("small", seats="2")
+        self.open("small")
+        first = self.client("small", "--role", "finish", "--name", "Ann")
+        second = self.window("client.py", "small", "--role", "jury")
+        second.read(r"Waiting: all seats of the office are taken: Ann since \d\d:\d\d\. Ctrl-C ends")
+        first.type("quit")
+        second.read("you type as the jury")
+
     def test_crash(self) -> None:
         """A kill of the office is said at the prompt; afterwards what is lost is listed."""
         office = self.open()
@@ -237,7 +324,7 @@ Not sent: the office of cup has gone. Write 12 down.
         self.open("two")
         first = self.client("two", "--role", "finish")
         second = self.window("client.py", "two", "--role", "jury")
-        second.read("Waiting: all seats of the office are taken. Ctrl-C ends this window.")
+        second.read("Waiting: all seats of the office are taken: finish since .*Ctrl-C ends this window.")
         first.type("quit")
         self.assertEqual(first.rest()[1], 0)
         second.read("you type as the jury(.|\\n)*> $")
@@ -254,6 +341,54 @@ Not sent: the office of cup has gone. Write 12 down.
             self.assertRaises(Trouble, desk.connect)
             self.assertIsNone(desk.link)
 
+    def test_block(self) -> None:
+        """Several lines that are pasted at once; a list of sails is shown and agreed to first."""
+        self.open()
+        window = self.typist()
+        self.assertIn("Not sent, since the line before it wasn't taken: finish 1 7\n", window.say(
+            "finish 1 101\x16\nfinish 1 101\x16\nfinish 1 7", r"\n> $"))
+        window.say("at 1", "1> $")
+        self.assertEqual(window.say("12\x16\n7\x16\ngbr 33", r"\] $"),
+                         "     1  NED 12 Windhover\n     2  GBR 7 Sea Pink\n     3  GBR 33 Turnstone\n"
+                         "   Send these 3 finishes in race 1? [y/N] ")
+        window.say("n", "Not sent.\n1> $")
+        window.say("12\x16\n7\x16\ngbr 33", r"\] $")
+        window.say("y", "OK 11   4th in race 1; .*\n1> $")
+        window.say("9\x16\n9x", "   9X isn't entered.*\n   Not sent.\n1> $")
+
+    def test_block_and_crash(self) -> None:
+        """When the office goes in the middle of a block, the rest isn't sent."""
+        office = self.open()
+        window = self.typist("scorer")
+        window.say("finish 1 101\x16\nenter den 16\x16\nfinish 1 7", r"OK 8 (.|\n)*\[y/N\] $")
+        os.kill(int(self.text("cup", "office", "pid").split()[0]), signal.SIGKILL)
+        window.type("y")
+        window.read("No answer came to: ENTER DEN16\n(.|\n)*Waiting for the office")
+        office.rest()
+        self.open()
+        said = window.read("> $")
+        self.assertIn("Not sent, since the office was away: finish 1 7\n", said)
+        self.assertNotIn("FINISH 1 GBR7", self.text("cup", "office.log"))
+
+    def test_typed_ahead(self) -> None:
+        """A line that was typed before a question came is no answer to it."""
+        self.open()
+        window = self.typist("scorer")
+        os.write(window.master, b"enter den 16\nyes\n")
+        window.read(r"Not sent, since a question came before it: yes\n(.|\n)*\[y/N\] $")
+        window.say("n", "Not sent.\n> $")
+
+    def test_waiting_ended(self) -> None:
+        """Ctrl-C ends a window that waits for its office."""
+        office = self.open()
+        window = self.typist()
+        os.kill(int(self.text("cup", "office", "pid").split()[0]), signal.SIGKILL)
+        window.read("Waiting for the office; Ctrl-C ends this window.")
+        office.rest()
+        window.press()
+        self.assertEqual(window.rest()[1], 0)
+        self.assertIn("\tleft\t", self.text("cup", "office.log"))
+
     def test_pasted(self) -> None:
         """Pasted lines stop at the first that is refused."""
         self.open()
@@ -261,7 +396,7 @@ Not sent: the office of cup has gone. Write 12 down.
         os.write(window.master, b"finish 1 101\nfinish 1 101\nfinish 1 7\n")
         window.read("OK 8 ")
         window.read("NO 8 ")
-        window.read("Not sent, since the line before it was refused: finish 1 7\n> $")
+        window.read("Not sent, since the line before it wasn't taken: finish 1 7\n> $")
 
 
 if __name__ == "__main__":

@@ -33,18 +33,19 @@ class Opening(helpers.Series):
 
     def test_new(self) -> None:
         os.mkdir(os.path.join(self.here, "dragon"))
-        self.write(helpers.ENTRIES.replace(",", ";"), "dragon", "entries.csv")
+        self.write(helpers.ENTRIES.replace("NED 12", "NED/12"), "dragon", "entries.csv")
         os.symlink(helpers.PROGRAM, os.path.join(self.here, "regatta"))
         window = self.window("series.py", "new", "dragon")
         for asked, typed in [("Title: ", ""), ("a title, as Autumn Cup.\nTitle: ", "Winter"),
                              ("Class .*: ", "Dragon"), ("Club .*: ", ""),
                              (r"Entry list \[dragon/entries.csv\]: ", ""),
-                             (r"separated by semicolons(.|\n)*Look again\? \[Y/n\] ", "")]:
+                             (r"slash(.|\n)*Look again\? \[Y/n\] ", "")]:
             window.read(asked)
-            if "semicolons" in asked:
-                self.write(helpers.ENTRIES, "dragon", "entries.csv")
+            if "slash" in asked:
+                self.write(helpers.ENTRIES.replace(",", ";"), "dragon", "entries.csv")
             window.type(typed)
         for asked, typed in [(r"Entry list .*: ", ""),
+                             (r"separated by semicolons(.|\n)*stays as entries-old\.csv\. \[Y/n\] ", ""),
                              (r"   7 boats, from GBR 101 to IRL 55, with helm, boat and club\n"
                               r"(.|\n)*Which\? \[1\] ", "3"), ("One is .*\\? ", "4"),
                              ("Two.*\\) ", "3"), ("Two.*\\) ", "8"), ("Three.*\\) ", ""),
@@ -60,6 +61,19 @@ class Opening(helpers.Series):
             "Scores excluded: one from 4 races and two from 8 races. RRS A5.3. Scoring Penalty 3 "
             "points. By order of finishing.\n", 0))
         self.assertEqual(helpers.run("series.py", "new", "dragon", cwd=self.here)[1], 1)
+
+    def test_new_stopped(self) -> None:
+        """Ctrl-C at a question writes nothing."""
+        self.write(helpers.ENTRIES, "list.csv")
+        window = self.window("series.py", "new", "dragon")
+        for asked, typed in [("Title: ", "Winter"), ("Class .*: ", ""), ("Club .*: ", ""),
+                             ("Entry list .*: ", "list.csv"), ("Which\\? .*", "1")]:
+            window.read(asked)
+            window.type(typed)
+        window.read("A5.3 apply .*] ")
+        window.press()
+        self.assertEqual(window.rest(), ("\nno answer came. Nothing was written.\n", 1))
+        self.assertFalse(os.path.exists(os.path.join(self.here, "dragon")))
 
     def test_open_and_close(self) -> None:
         window = self.open()
@@ -95,7 +109,7 @@ class Opening(helpers.Series):
         again = self.window("series.py", "open", "cup")
         self.assertIn("Its old socket has been removed.\njournal.txt has 10 entries. These lines "
                       "were answered, and are lost. Type them again in this order, before any "
-                      "other:\n      11  FINISH  FINISH 2 GBR7\n", again.read("is open"))
+                      "other:\n      11  FINISH  FINISH 2 GBR7   (Ann)\n", again.read("is open"))
         self.addCleanup(self.stop, "cup")
         self.assertEqual(self.send("RANK GBR7"), ["RANK 3= 8.0"])
         again.press()
@@ -136,6 +150,76 @@ class Opening(helpers.Series):
         again.type("n")
         self.assertEqual(again.rest(), ("Nothing was opened.\n", 1))
         self.assertFalse(os.path.exists(os.path.join(self.here, "cup", "office", "race.sock")))
+
+    def test_closed_properly(self) -> None:
+        """After an orderly end nothing is lost, also if somebody has made the journal shorter."""
+        window = self.open()
+        self.send(*LINES)
+        with open(os.path.join(self.here, "cup", "office.log"), "a") as file:
+            file.write("2026-11-26T09:00:00+0000\t1\tAnn\t2\tSCORER\tSCORE 1\tOK 10\n")
+        window.press()
+        window.rest()
+        kept = self.text("cup", "journal.txt").splitlines(keepends=True)
+        self.write("".join(kept[:9]), "cup", "journal.txt")
+        self.write("", "cup", "journal (conflicted copy).txt")
+        said, status = helpers.run("series.py", "check", "cup", cwd=self.here)
+        self.assertIn("journal.txt has 9 entries, but had 10 when the office was closed. Compare it "
+                      "with the copies in kept/.\nBeside journal.txt there is journal (conflicted "
+                      "copy).txt.", said)
+        self.assertEqual(status, 0)
+        again = self.window("series.py", "open", "cup")
+        said = again.read("The office is open")
+        self.addCleanup(self.stop, "cup")
+        self.assertNotIn("lost", said)
+
+    def test_number_used_again(self) -> None:
+        """The number of a window that has gone may be another process's by now."""
+        window = self.open()
+        window.process.kill()
+        window.process.wait()
+        path = ("cup", "office", "pid")
+        self.write(f"{self.number()} {os.getpid()} 09:00\n", *path)
+        again = self.window("series.py", "open", "cup")
+        again.read(r"open since 09:00, but its window has gone\. Take it over\? \[Y/n\] ")
+
+    def test_remove(self) -> None:
+        window = self.open()
+        self.send("ENTER DEN16", "FINISH 1 DEN16", *LINES)
+        said = helpers.run("series.py", "remove", "cup", "DEN16", cwd=self.here)[0]
+        self.assertEqual(said, "the office is open: close it first, by Ctrl-C in its window.\n")
+        window.press()
+        window.rest()
+        for words, why in [(["GBR", "102"], "GBR102 isn't in journal.txt.\n")]:
+            self.assertEqual(helpers.run("series.py", "remove", "cup", *words, cwd=self.here), (why, 1))
+        asking = self.window("series.py", "remove", "cup", "den", "16")
+        said = asking.read(r"\[y/N\] $")
+        self.assertIn("2 entries go:\n       8  SCORER ENTER DEN16\n       9  SCORER FINISH 1 DEN16\n",
+                      said)
+        self.assertIn("   GBR 101 Kestrel: 2nd to 1st, net 2.0 to 1.0 (race 1: 2.0 to 1.0)\n", said)
+        before = self.text("cup", "journal.txt")
+        asking.type("y")
+        said, status = asking.rest()
+        self.assertRegex(said, r"^DEN16 is taken out\. journal\.txt has 10 entries; kept/(.*) has all 12\.\n")
+        self.assertEqual(status, 0)
+        copy = said.split("kept/")[1].split()[0]
+        self.assertEqual(self.text("cup", "kept", copy), before)
+        self.assertNotIn("DEN16", self.text("cup", "journal.txt"))
+        self.assertIn("10 entries\n", helpers.run("series.py", "check", "cup", cwd=self.here)[0])
+
+    def test_remove_refused(self) -> None:
+        """A boat beside whom another was placed stays."""
+        window = self.open()
+        self.send("ENTER DEN16", "FINISH 1 DEN16", "TIE 1 GBR7 DEN16")
+        window.press()
+        window.rest()
+        before = self.text("cup", "journal.txt")
+        said = helpers.run("series.py", "remove", "cup", "DEN16", cwd=self.here)
+        self.assertEqual(said, ("DEN16 can't be taken out: entry 10, TIE 1 GBR7 DEN16, places another "
+                                "boat beside her.\n", 1))
+        self.write("\n".join(before.splitlines()[:9] + ["1 10 SCORER SCORE 1", ""]), "cup", "journal.txt")
+        said, status = helpers.run("series.py", "remove", "cup", "DEN16", cwd=self.here)
+        self.assertIn("DEN16 can't be taken out: a race that counts would have no finisher", said)
+        self.assertEqual((self.text("cup", "journal.txt").count("\n"), status), (10, 1))
 
     def test_long_path(self) -> None:
         deep = os.path.join("d" * 100, "e" * 100)
@@ -275,8 +359,16 @@ class Faults(helpers.Series):
         window.press()
         window.rest()
         self.write("", "cup", "journal.txt")
-        self.assertRegex(self.fault(), r"^journal\.txt is empty or gone, but the series had 7 entries\. "
-                         r"The last copy is kept/.*\.txt: copy it to journal\.txt\.\n")
+        words = r"journal\.txt is empty or gone, but the series had 7 entries\. kept/.*\.txt has 7\."
+        self.assertRegex(self.fault("check", "cup"), f"^{words}\n$")
+        again = self.window("series.py", "open", "cup")
+        again.read(words + r" Use it\? \[y/N\] $")
+        again.type("y")
+        again.read("7 boats, no races scored, 7 entries(.|\n)*The office is open")
+        self.addCleanup(self.stop, "cup")
+        self.assertEqual(self.text("cup", "journal.txt").count("\n"), 7)
+        again.press()
+        self.assertEqual(again.rest()[1], 0)
 
     def test_states(self) -> None:
         said = helpers.run("series.py", "amended", "cup", "Appeal upheld: FRA 9", cwd=self.here)

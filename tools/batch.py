@@ -51,6 +51,7 @@ class Batch:
         """Whether a line was taken; a Trouble if it had no answer."""
         try:
             plain = " ".join(line.upper().split())
+            self.desk.look()
             return self.desk.do(line) if plain == "SHOW" else self.desk.send(plain)
         except Trouble as trouble:
             raise Trouble(f"{trouble}. Line {at} had no answer: look whether it is in the journal "

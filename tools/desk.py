@@ -31,6 +31,7 @@ class Desk:
         self.at: int | None = None
         self.link: Link | None = None
         self.prefix = self.seat = self.unanswered = ""
+        self.answered = False
 
     def connect(self) -> None:
         """Links to the office, in the role of this desk."""
@@ -60,7 +61,7 @@ class Desk:
 
     def do(self, typed: str) -> bool:
         """Does what was typed; whether it was taken."""
-        words = typed.lower().split()
+        words, self.answered = typed.lower().split(), False
         if not words:
             return True
         if (shown := self.shown(words)) is not None:
@@ -78,6 +79,8 @@ class Desk:
                               "clears the screen")
             case [mark, *sail] if mark.startswith("?"):
                 return self.place_unread(mark, sail)
+        # Other windows type as well, and what is asked depends on what they have typed.
+        self.look()
         return self.send(self.line(typed))
 
     def shown(self, words: list[str]) -> list[str] | None:
@@ -102,15 +105,10 @@ class Desk:
         return race_lines(self.book, race, len(self.unread.of(race.number)))
 
     def line(self, typed: str) -> str:
-        """The program's line; an unknown sail is looked for once more, as it may be new."""
-        try:
-            line = line_meant(typed, self.at, self.book.boats, self.book.called)
-        except NotSent:
-            self.look()
-            line = line_meant(typed, self.at, self.book.boats, self.book.called)
+        """The program's line. Who typed digits sees which boat was meant."""
+        line = line_meant(typed, self.at, self.book.boats, self.book.called)
         plain = "".join(typed.upper().split())
         for sail in line.split()[1:]:
-            # Who typed digits sees which boat was meant.
             if sail in self.book.boats and sail not in plain:
                 digits = [part for part in typed.split() if sail.endswith(part)]
                 self.say(f"   {max(digits, key=len, default=sail)} is {self.book.called(sail)}")
@@ -122,7 +120,7 @@ class Desk:
         """Sends a line after what has to be asked; whether it was taken."""
         if not self.is_meant(line):
             self.say("   Not sent.")
-            return True
+            return False
         before, length = self.book.standing, len(self.book.sheet.journal)
         answer = self.exchange(line)
         if not answer.startswith("OK "):
@@ -164,7 +162,7 @@ class Desk:
         except Trouble:
             self.log(line, UNANSWERED)
             raise
-        self.unanswered = ""
+        self.unanswered, self.answered = "", True
         words = answer.split()
         if words[0] == "ROLE":
             self.role = words[1]
@@ -198,12 +196,13 @@ class Desk:
             raise NotSent(f"abandon {race.number} needs {joined(barred)}, which the "
                           f"{self.role.lower()} doesn't send: let the scorer type it")
         if not plan.lines:
+            self.unread = self.unread.without_race(race.number)
             self.say(f"Nothing of race {race.number} has to be taken away.")
             return True
         self.say_all(plan_lines(self.book, race, plan))
         if not self.ask("   Send them?"):
             self.say("   Not sent.")
-            return True
+            return False
         before, length = self.book.standing, len(self.book.sheet.journal)
         if not self.is_sent(race, plan):
             return False

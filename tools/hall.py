@@ -55,7 +55,11 @@ class Hall:
         else:
             self.clear_up()
             self.service.start()
-        self.begin()
+        try:
+            self.begin()
+        except Trouble:
+            self.service.undo_start()
+            raise
         return self.stay()
 
     def is_agreed(self) -> bool:
@@ -106,7 +110,7 @@ class Hall:
             except Trouble as trouble:
                 if self.service.is_over():
                     return self.crashed()
-                self.once.say("save", f"{clock()} Not saved: {trouble}.")
+                self.say_once("save", f"Not saved: {trouble}.")
 
     def look(self) -> None:
         """Saves what is new, and now and then makes a dated copy and looks at the door."""
@@ -114,19 +118,25 @@ class Hall:
         if self.dated.has_come():
             self.keeper.keep_dated()
         if self.door.has_come():
-            self.once.say("door", "" if self.service.lets_in() else
-                          f"{clock()} The office lets nobody in any more. Close it by Ctrl-C, and "
-                          "open it again.")
+            self.say_once("door", "" if self.service.lets_in() else "The office lets nobody in any "
+                          "more. Close it by Ctrl-C, and open it again.")
 
-    def save(self, sheet: Sheet) -> None:
-        """Saves the journal, and says if it or its copy can't be."""
+    def save(self, sheet: Sheet) -> bool:
+        """Saves the journal, and says if it or its copy can't be; whether it is saved."""
         try:
             self.keeper.save(sheet)
-            self.once.say("save", "")
         except Trouble as trouble:
-            self.once.say("save", f"{clock()} Not saved: {trouble}.")
+            self.say_once("save", f"Not saved: {trouble}.")
+            return False
+        self.once.say("save", "")
         failed = self.keeper.trouble
-        self.once.say("copy", f"{clock()} No second copy: {failed}." if failed else "")
+        self.say_once("copy", f"No second copy: {failed}." if failed else "")
+        return True
+
+    def say_once(self, about: str, text: str) -> None:
+        """Says something with the time, and not again until it has changed."""
+        if self.once.is_new(about, text):
+            say(f"{clock()} {text}")
 
     def is_to_close(self, number: int) -> bool:
         """Whether a signal closes the office. Ctrl-C asks first if windows are open."""
@@ -155,7 +165,7 @@ class Hall:
         try:
             self.service.use_up()
             self.wait_for_others()
-            self.save(self.service.link.sheet())
+            self.save_last(self.service.link.sheet())
             self.service.leave()
         except Trouble as trouble:
             if self.service.is_over():
@@ -175,13 +185,27 @@ class Hall:
             self.save(self.service.link.sheet())
             time.sleep(0.2)
 
+    def save_last(self, sheet: Sheet) -> None:
+        """Saves the journal before the program ends, which has the only other copy of it. If
+        journal.txt can't take it, it is kept beside; on a full disk this waits for room."""
+        while not self.save(sheet):
+            try:
+                say(f"{clock()} The journal of the office is in {self.keeper.keep_beside(sheet)}.")
+                return
+            except Trouble as trouble:
+                self.say_once("last", f"The office stays until its journal is saved: {trouble}.")
+                time.sleep(LOOK)
+
     def closed(self) -> int:
         """Makes the day's copy, and says what was kept; the status."""
-        copy = self.keeper.keep_dated()
         held = count(len(self.folder.kept()), "entry", "entries")
-        self.folder.log("", "", "", "closed", held)
         remove_socket(self.folder.socket)
         self.folder.set_closing(False)
-        say(f"{clock()} Closed. journal.txt has {held}, and so has {copy}.")
+        try:
+            copy = f", and so has {self.keeper.keep_dated()}"
+            self.folder.log("", "", "", "closed", held)
+        except Trouble as trouble:
+            copy = f". {trouble}"
+        say(f"{clock()} Closed. journal.txt has {held}{copy}.")
         say(self.service.table())
         return 0

@@ -2,7 +2,6 @@
 from __future__ import annotations
 
 import os
-import shutil
 import time
 
 from folder import VERSION, Folder, replace_whole
@@ -25,7 +24,7 @@ class Keeper:
         """Saves the journal; a Trouble if it can't be. A copy that fails is only remembered."""
         if len(sheet.journal) == self.saved and not self.trouble:
             return
-        text = "".join(f"{line}\n" for line in sheet.journal)
+        text = text_of(sheet)
         save_to(self.folder.journal, text)
         self.saved = len(sheet.journal)
         self.trouble = ""
@@ -37,14 +36,33 @@ class Keeper:
 
     def keep_dated(self) -> str:
         """Makes a dated copy of journal.txt in kept/; its name."""
-        name = os.path.join("kept", time.strftime("%Y-%m-%d-%H%M%S.txt"))
+        try:
+            with open(self.folder.journal, "rb") as file:
+                return self.keep_as(dated(), file.read())
+        except OSError as cause:
+            raise Trouble(f"journal.txt can't be read: {cause.strerror}") from None
+
+    def keep_beside(self, sheet: Sheet) -> str:
+        """Keeps a journal in kept/ that doesn't go on where journal.txt ends; the copy's name."""
+        return self.keep_as(dated("-office"), text_of(sheet).encode())
+
+    def keep_as(self, name: str, data: bytes) -> str:
         try:
             os.makedirs(self.folder.file("kept"), exist_ok=True)
-            if os.path.exists(self.folder.journal):
-                shutil.copyfile(self.folder.journal, self.folder.file(name))
         except OSError as cause:
-            raise Trouble(f"{name} can't be written: {cause.strerror}") from None
+            raise Trouble(f"kept/ can't be made: {cause.strerror}") from None
+        replace_whole(self.folder.file(name), data)
         return name
+
+
+def dated(more: str = "") -> str:
+    """The name of a copy that is made now."""
+    return os.path.join("kept", time.strftime(f"%Y-%m-%d-%H%M%S{more}.txt"))
+
+
+def text_of(sheet: Sheet) -> str:
+    """The journal of a sheet as a file has it."""
+    return "".join(f"{line}\n" for line in sheet.journal)
 
 
 def copy_of(folder: Folder) -> str:

@@ -9,7 +9,7 @@ import entries
 import settings
 from folder import replace_whole
 from office import Trouble
-from prompt import answer, question, say
+from prompt import question, say, typed
 from words import count, joined
 
 HERE = os.path.dirname(os.path.abspath(__file__))
@@ -23,14 +23,24 @@ def program_for(folder: str) -> str:
     return os.path.relpath(found or "regatta", folder)
 
 
+def asked(text: str) -> str:
+    """An answer; nothing is Enter alone. The end of the input and Ctrl-C are a Trouble."""
+    given = typed(text)
+    if given is None:
+        raise Trouble("no answer came. Nothing was written")
+    return given
+
+
 def asked_until(text: str, is_right: Callable[[str], bool], wanted: str, default: str = "") -> str:
-    """An answer that is right; Enter takes the default. The end of the input is a Trouble."""
-    for _ in range(5):
-        given = answer(text) or default
-        if is_right(given):
-            return given
+    """An answer that is right; Enter takes the default."""
+    while not is_right(given := asked(text) or default):
         say(f"   That has to be {wanted}.")
-    raise Trouble("no answer came. Nothing was written")
+    return given
+
+
+def is_so(text: str) -> bool:
+    """Whether the answer is yes; Enter is no."""
+    return asked(f"{text} [y/N] ").lower() in ("y", "yes")
 
 
 def asked_exclude() -> str:
@@ -61,7 +71,7 @@ def asked_scp() -> str:
 def right_list(default: str) -> tuple[str, bytes]:
     """An entry list that the program takes: its path and what it holds."""
     while True:
-        given = answer(f"Entry list [{default}]: ") or default
+        given = asked(f"Entry list [{default}]: ") or default
         try:
             data = entries.bytes_of(given)
         except Trouble as trouble:
@@ -90,44 +100,39 @@ def mended_list(path: str) -> bool:
     return True
 
 
-def asked_list(folder: str) -> str:
-    """The name of the entry list in the folder, into which it is copied."""
-    path = os.path.join(folder, "entries.csv")
-    given, data = right_list(path)
-    os.makedirs(folder, exist_ok=True)
-    if os.path.abspath(given) != os.path.abspath(path):
-        replace_whole(path, data)
-    boats = list(entries.read(path).values())
+def boats_in_words(boats: list[entries.Boat]) -> str:
+    """How many boats a list has, and which of their names."""
     columns = {"helm": [boat.helm for boat in boats], "boat": [boat.name for boat in boats],
                "club": [boat.club for boat in boats]}
     named = [column for column, texts in columns.items() if any(texts)]
     names = f", with {joined(named)}" if named else ", without names"
-    say(f"   {count(len(boats), 'boat')}, from {boats[0].sail} to {boats[-1].sail}{names}")
-    return "entries.csv"
-
-
-def asked_settings(folder: str) -> dict[str, str]:
-    """The values of a new series.ini."""
-    values = {"title": asked_until("Title: ", bool, "a title, as Autumn Cup")}
-    values["class"] = answer("Class (Enter: none): ")
-    values["club"] = answer("Club (Enter: none): ")
-    values["entries"] = asked_list(folder)
-    values["exclude"] = asked_exclude()
-    come = question("Does RRS A5.3 apply (boats that came to the starting area, plus one)?")
-    values["absent"] = "a53" if come else "a52"
-    values["scp"] = asked_scp()
-    values["handicap"] = "yes" if question("Places by corrected time (RRS A3)?") else "no"
-    copy = answer("A second folder for the journal, on a stick? (Enter: none) ")
-    values["copy"] = os.path.abspath(copy) if copy else ""
-    values["program"] = program_for(folder)
-    return values
+    return f"{count(len(boats), 'boat')}, from {boats[0].sail} to {boats[-1].sail}{names}"
 
 
 def new(folder: str) -> None:
-    """Makes a folder with its series.ini and its entry list."""
-    path = os.path.join(folder, settings.NAME)
+    """Makes a folder with its series.ini and its entry list, once all is asked."""
+    path, list_path = os.path.join(folder, settings.NAME), os.path.join(folder, "entries.csv")
     if os.path.exists(path):
         raise Trouble(f"{folder} has a {settings.NAME} already. Nothing was changed")
-    text = settings.text_of(asked_settings(folder))
-    replace_whole(path, text.encode())
+    values = {"title": asked_until("Title: ", bool, "a title, as Autumn Cup"),
+              "class": asked("Class (Enter: none): "), "club": asked("Club (Enter: none): ")}
+    given, data = right_list(list_path)
+    say(f"   {boats_in_words(list(entries.read(given).values()))}")
+    values |= asked_rules() | {"program": program_for(folder)}
+    os.makedirs(folder, exist_ok=True)
+    if os.path.abspath(given) != os.path.abspath(list_path):
+        replace_whole(list_path, data)
+    replace_whole(path, settings.text_of(values).encode())
     say(f"Wrote {path}. Next: python3 series.py open {folder}")
+
+
+def asked_rules() -> dict[str, str]:
+    """The rules of the series, and where its journal is copied to."""
+    values = {"exclude": asked_exclude()}
+    come = is_so("Does RRS A5.3 apply (boats that came to the starting area, plus one)?")
+    values["absent"] = "a53" if come else "a52"
+    values["scp"] = asked_scp()
+    values["handicap"] = "yes" if is_so("Places by corrected time (RRS A3)?") else "no"
+    copy = asked("A second folder for the journal, on a stick? (Enter: none) ")
+    values["copy"] = os.path.abspath(copy) if copy else ""
+    return values

@@ -13,16 +13,21 @@ def sentence(text: object) -> str:
     return str(text) if str(text).endswith((".", "?")) else f"{text}."
 
 
-def answer(text: str) -> str:
-    """What somebody types to a question; empty at the end of the input, and after Ctrl-C."""
+def typed(text: str) -> str | None:
+    """What somebody types to a question; None at the end of the input, and after Ctrl-C."""
     try:
         given = input(text).strip()
     except (EOFError, KeyboardInterrupt):
         print(flush=True)
-        return ""
+        return None
     if not sys.stdin.isatty():
         say(given)
     return given
+
+
+def answer(text: str) -> str:
+    """What somebody types to a question; nothing after Ctrl-C."""
+    return typed(text) or ""
 
 
 def question(text: str, yes: bool = False) -> bool:
@@ -38,6 +43,10 @@ class Once:
         self.said: dict[str, str] = {}
 
     def say(self, about: str, text: str) -> None:
-        if text and self.said.get(about) != text:
+        if self.is_new(about, text):
             say(text)
-        self.said[about] = text
+
+    def is_new(self, about: str, text: str) -> bool:
+        """Whether this has to be said, which it then is."""
+        before, self.said[about] = self.said.get(about), text
+        return bool(text) and before != text

@@ -2,8 +2,8 @@
 from __future__ import annotations
 
 import entries
-from folder import Folder, Lock, replace_whole
-from keeper import Keeper
+from folder import PRIVATE, Folder, Lock, replace_whole
+from keeper import Keeper, copy_of
 from office import Trouble
 from program import Program
 from prompt import question, say
@@ -14,7 +14,7 @@ from words import count, moved
 def sails_of(line: str) -> list[str]:
     """The sails that an entry of a journal names, the boat that it is about first."""
     match line.split()[3:]:
-        case ["ENTER", sail] | ["RANK", sail]:
+        case ["ENTER", sail]:
             return [sail]
         case ["TIE" | "BEFORE", _, sail, other]:
             return [sail, other]
@@ -47,25 +47,40 @@ def remove(path: str, words: list[str]) -> int:
     for at, line in about.items():
         say(f"   {at:>5}  {' '.join(line.split()[2:])}")
     left = [line for at, line in enumerate(journal, 1) if at not in about]
-    text = "".join(f"{line}\n" for line in left)
-    say_moved(folder, text)
+    data = "".join(f"{line}\n" for line in left).encode()
+    say_moved(folder, sail, data)
     if not question(f"Take {sail} out? The journal with her stays in kept/."):
         say("Nothing was changed.")
         return 1
-    copy = Keeper(folder).keep_dated()
-    replace_whole(folder.journal, text.encode())
-    held = count(len(left), "entry", "entries")
+    copy, held = Keeper(folder).keep_dated(), count(len(left), "entry", "entries")
+    replace(folder, data)
+    folder.log("", "", "", f"removed {sail}", held)
     folder.log("", "", "", "closed", held)
     say(f"{sail} is taken out. journal.txt has {held}; {copy} has all {len(journal)}.")
     return 0
 
 
-def say_moved(folder: Folder, text: str) -> None:
+def say_moved(folder: Folder, sail: str, data: bytes) -> None:
     """Says whom a shorter journal moves; a Trouble if the program doesn't take it."""
     program, options = Program(folder), folder.settings.options()
-    path = folder.file("office", "shorter")
-    replace_whole(path, text.encode())
-    before, after = program.standing(options), program.standing(options, path)
+    path = folder.file(PRIVATE, "shorter")
+    replace_whole(path, data)
+    before = program.standing(options)
+    try:
+        after = program.standing(options, path)
+    except Trouble:
+        raise Trouble(f"{sail} can't be taken out: a race that counts would have no finisher, or no "
+                      "boat would be left") from None
     names = entries.read_if_there(folder.entries)
     for change in changes(before, after):
         say(f"   {moved(change, str(names.get(change.after.sail, change.after.sail)))}")
+
+
+def replace(folder: Folder, data: bytes) -> None:
+    """Writes the shorter journal, and its copy on a second disk."""
+    replace_whole(folder.journal, data)
+    try:
+        if copy := copy_of(folder):
+            replace_whole(copy, data)
+    except Trouble as trouble:
+        say(f"No second copy: {trouble}.")

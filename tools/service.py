@@ -38,8 +38,8 @@ class Service:
                 serve_words(self.folder, SESSIONS), cwd=self.file(), stdin=subprocess.DEVNULL,
                 stdout=table, stderr=fault, start_new_session=True, pass_fds=[self.lock.file])
         self.number = self.process.pid
-        self.link = self.first_link()
         self.note_pid()
+        self.link = self.first_link()
 
     def first_link(self) -> Link:
         """The link to the program once it has made its socket."""
@@ -121,6 +121,11 @@ class Service:
         self.link.ask("QUIT")
         self.link.close()
         self.wait_for_end()
+
+    def undo_start(self) -> None:
+        """Ends a program that this window has started, but not one that it has taken over."""
+        if self.process:
+            self.stop()
 
     def stop(self) -> None:
         """Ends the program although clients are there."""

@@ -77,6 +77,8 @@ def line_meant(typed: str, at: int | None, boats: list[str],
     if command not in SAILS or len(words) < 3:
         return " ".join(words)
     race, rest = rest[0], rest[1:]
+    if not race.isdigit():
+        raise NotSent(f"{race} is no race: the number of the race comes after {command}")
     last = [rest.pop()] if command in LAST and len(rest) > 1 else []
     sails = split_in_two(rest, boats) if SAILS[command] == 2 else (rest,)
     return " ".join([command, race, *(boat_meant(part, boats, called) for part in sails), *last])

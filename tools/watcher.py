@@ -2,6 +2,7 @@
 from __future__ import annotations
 
 import contextlib
+import os
 import select
 import signal
 import threading
@@ -16,6 +17,9 @@ try:
 
     # Answers to questions aren't lines.
     readline.set_auto_history(False)
+    if os.environ.get("TERM", "dumb") != "dumb":
+        # Pasted lines come together, and wait for Enter.
+        readline.parse_and_bind("set enable-bracketed-paste on")
 except ImportError:
     readline = None
 
@@ -33,12 +37,13 @@ class Watcher(threading.Thread):
     def __init__(self, desks: list[Desk]) -> None:
         super().__init__(daemon=True)
         self.desks, self.half, self.not_before = desks, "", 0.0
-        self.at_prompt = self.begun = False
+        self.at_prompt, self.begun, self.prompts = False, False, 0
         signal.signal(signal.SIGUSR1, self.interrupt)
 
     def ask(self, prompt: str) -> str:
         """A line from the prompt, at which it may be interrupted. What was typed by then is kept,
         and is there again at the next prompt."""
+        self.prompts += 1
         self.begun, self.at_prompt = False, True
         if readline:
             readline.set_startup_hook(self.begin)
@@ -66,15 +71,21 @@ class Watcher(threading.Thread):
 
     def run(self) -> None:
         while True:
-            if (self.is_heard() or self.is_closing() or self.is_back()) and self.at_prompt:
+            if self.is_heard(LOOK) and not self.at_prompt:
+                # Nobody is at the prompt to be told of it.
+                time.sleep(LOOK / 10)
+            prompt = self.prompts
+            is_news = self.at_prompt and (self.is_heard(0) or self.is_closing() or self.is_back())
+            # What comes from an office is news only if nobody has sent a line meanwhile.
+            if is_news and self.at_prompt and self.prompts == prompt:
                 signal.pthread_kill(threading.main_thread().ident, signal.SIGUSR1)
                 time.sleep(LOOK)
 
-    def is_heard(self) -> bool:
-        """Whether anything comes from an office in the next moment: nobody has asked for it."""
+    def is_heard(self, patience: float) -> bool:
+        """Whether anything comes from an office within the patience."""
         links = [desk.link for desk in self.desks if desk.link]
         try:
-            return bool(select.select(links, [], [], LOOK)[0])
+            return bool(select.select(links, [], [], patience)[0])
         except (OSError, ValueError):
             # The window has closed one of them meanwhile.
             return False

@@ -8,27 +8,25 @@ import sys
 import termios
 import time
 
+from classes import FIRST, desk_meant
 from desk import Desk
 from folder import Folder
 from office import NoSeat, Trouble
 from prompt import question, say, sentence
-from spoken import OTHERS, SAILS, NotSent, boats_meant, line_meant
+from spoken import NotSent, line_meant
 from watcher import AGAIN, LOOK, News, Watcher
-from words import count, joined
-
-# First words that are the window's own.
-OWN = ("at", "race", "abandon", "help")
+from words import count
 
 
-class Closing(Exception):
-    """The office is being closed, so this window ends."""
+class End(Exception):
+    """Why this window ends, in words."""
 
 
 class Window:
     """A prompt, and a desk for each class."""
 
     def __init__(self, folders: list[Folder], role: str, name: str) -> None:
-        self.desks = [Desk(folder, role, name, say, question) for folder in folders]
+        self.desks = [Desk(folder, role, name, say, self.ask) for folder in folders]
         self.watcher = Watcher(self.desks)
 
     @property
@@ -37,13 +35,13 @@ class Window:
 
     def run(self) -> int:
         """Is the window until somebody leaves it; the status."""
-        self.come()
-        self.watcher.start()
         try:
+            self.come()
+            self.watcher.start()
             while self.is_going_on():
                 pass
-        except Closing:
-            say("The office is being closed: this window ends.")
+        except End as why:
+            say(str(why))
         self.leave()
         return 0
 
@@ -118,17 +116,34 @@ class Window:
     def refused(self, line: str) -> str:
         """Does a line; why the lines after it can't be sent, or nothing."""
         try:
-            return "" if self.do(line) else "since the line before it was refused"
+            return self.do(*desk_meant(self.desks, line))
         except NotSent as why:
             say(f"   Not sent: {sentence(why)}")
             return "since the line before it wasn't"
+
+    def do(self, desk: Desk, line: str) -> str:
+        """Gives a line to the desk that it is for; why the lines after it can't be sent, or nothing."""
+        desk.prefix = f"{desk.folder.name}: " if self.several else ""
+        if desk.link is None:
+            raise NotSent(f"the office of {desk.folder.name} has gone. Write {line.upper()} down")
+        try:
+            return "" if desk.do(line) else "since the line before it wasn't taken"
+        except Trouble as trouble:
+            if not desk.unanswered and not desk.answered:
+                say(f"Not sent: {line}")
+            self.lost(desk, trouble)
+            return "since the office was away"
+
+    def ask(self, text: str) -> bool:
+        """Whether somebody says yes. What was typed before the question is no answer to it."""
+        self.drop_typed("since a question came before it")
+        return question(text)
 
     def is_agreed(self, lines: list[str]) -> bool:
         """Whether somebody agrees to a pasted list of bare sails, which are shown by their names."""
         desk = self.desks[0]
         words = [line.upper().split()[:1] for line in lines]
-        known = SAILS.keys() | OTHERS | {word.upper() for word in OWN}
-        if self.several or not desk.at or any(word and word[0] in known for word in words):
+        if self.several or not desk.at or any(word and word[0] in FIRST for word in words):
             return True
         try:
             meant = [line_meant(line, desk.at, desk.book.boats, desk.book.called)
@@ -139,47 +154,6 @@ class Window:
         for at, line in enumerate(meant, 1):
             say(f"{at:>6}  {desk.book.called(line.split()[2])}")
         return question(f"   Send these {count(len(meant), 'finish', 'finishes')} in race {desk.at}?")
-
-    def do(self, typed: str) -> bool:
-        """Gives a line to the desk that it is for; whether it was taken."""
-        desk, rest = self.desk_meant(typed)
-        desk.prefix = f"{desk.folder.name}: " if self.several else ""
-        if desk.link is None:
-            raise NotSent(f"the office of {desk.folder.name} has gone. Write {rest.upper()} down")
-        try:
-            return desk.do(rest)
-        except Trouble as trouble:
-            self.lost(desk, trouble)
-            return True
-
-    def desk_meant(self, typed: str) -> tuple[Desk, str]:
-        """The class that a line is for, and the line without its class."""
-        words = typed.split()
-        if not self.several or not words:
-            return self.desks[0], typed
-        if named := self.desk_named(words):
-            return named, " ".join(words[1:])
-        if words[0].lower() == "help":
-            return self.desks[0], typed
-        rest = words[2:] if words[0].upper() in SAILS else words[words[0].upper() in OTHERS:]
-        found = [(desk, boat) for desk in self.desks for boat in first_meant(rest, desk)]
-        if len({id(desk) for desk, _ in found}) == 1:
-            return found[0][0], typed
-        if found:
-            boats = [f"{desk.book.called(boat)} ({desk.folder.name})" for desk, boat in found]
-            raise NotSent(f"{' '.join(rest).upper()} may be {joined(boats, 'or')}: type her class "
-                          "first")
-        names = joined([desk.folder.name for desk in self.desks], "or")
-        raise NotSent(f"it isn't clear for which class this is: type {names} first")
-
-    def desk_named(self, words: list[str]) -> Desk | None:
-        """The class that the first word names by its first letters, unless it is a line's or a
-        boat's."""
-        first = words[0].lower()
-        named = [desk for desk in self.desks if desk.folder.name.lower().startswith(first)]
-        is_line = first.upper() in SAILS.keys() | OTHERS or first in OWN
-        is_boat = any("".join(words).upper() in desk.book.boats for desk in self.desks)
-        return named[0] if len(named) == 1 and len(words) > 1 and not is_line and not is_boat else None
 
     # When an office goes
 
@@ -214,7 +188,7 @@ class Window:
             say(f"No answer came to: {desk.unanswered}\nIt may be in the journal, or not.")
         desk.disconnect()
         if desk.folder.is_closing() and not any(other.link for other in self.desks):
-            raise Closing
+            raise End("The office is being closed: this window ends.")
         if self.several:
             say(f"Beware: {trouble}, that of {desk.folder.name}. The others go on.")
             return
@@ -234,7 +208,7 @@ class Window:
                     say(f"Waiting: {trouble}{seats_taken(desk, trouble)}. Ctrl-C ends this window.")
                 told = True
                 # A client who finds no seat uses up one of the office's sessions.
-                time.sleep(AGAIN if isinstance(trouble, NoSeat) else LOOK)
+                wait(AGAIN if isinstance(trouble, NoSeat) else LOOK)
 
     def say_back(self, desk: Desk) -> None:
         """Says which of this window's lines the office has after a crash."""
@@ -260,6 +234,14 @@ class Window:
         """Shows the lines that wait at the prompt already, and sends none of them."""
         if sys.stdin.isatty():
             not_sent(typed_already().splitlines(), why)
+
+
+def wait(seconds: float) -> None:
+    """Waits, and ends the window on Ctrl-C."""
+    try:
+        time.sleep(seconds)
+    except KeyboardInterrupt:
+        raise End("") from None
 
 
 def heard(desk: Desk) -> Trouble:
@@ -290,9 +272,3 @@ def typed_already() -> str:
         data += more
     termios.tcflush(0, termios.TCIFLUSH)
     return data.decode("utf-8", "replace")
-
-
-def first_meant(words: list[str], desk: Desk) -> list[str]:
-    """The boats of a class that the first of these words may mean, as many words as name one."""
-    ways = [boats_meant(words[:at], desk.book.boats) for at in range(len(words), 0, -1)]
-    return next((boats for boats in ways if boats), [])

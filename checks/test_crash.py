@@ -1,0 +1,113 @@
+"""Crashes while three windows write: what was answered is in the journal, or listed as lost."""
+from __future__ import annotations
+
+import contextlib
+import os
+import random
+import re
+import signal
+import subprocess
+import sys
+import time
+import unittest
+
+import helpers
+
+TURNS = 6
+BOATS = ["GBR101", "GBR7", "NED12", "FRA9", "GBR33", "IRL5", "IRL55"]
+
+
+def lines_of(dice: random.Random) -> str:
+    """Lines enough for a turn, some of which are refused."""
+    lines = []
+    for _ in range(3000):
+        race, boat = dice.randint(1, 9), dice.choice(BOATS)
+        lines.append(dice.choice([f"FINISH {race} {boat}", f"STRIKE {race} {boat}",
+                                  f"MARK {race} {boat} DNF", f"PENALTY {race} {boat} ZFP"]))
+    return "\n".join(lines) + "\n"
+
+
+def answered_in(said: str) -> dict[int, str]:
+    """What a window says was answered: lines by the numbers of their answers."""
+    found, line = {}, ""
+    for text in said.splitlines():
+        if text.startswith("> "):
+            line = text[2:]
+        elif text.startswith("OK "):
+            found[int(text.split()[1])] = line
+    return found
+
+
+def listed_in(said: str) -> dict[int, str]:
+    """What the office lists as answered and lost."""
+    return {int(number): line for number, line in
+            re.findall(r"^ +(\d+)  FINISH +((?:FINISH|STRIKE|MARK|PENALTY) .*)$", said, re.MULTILINE)}
+
+
+class Crashes(helpers.Series):
+    def writer(self, seed: int) -> subprocess.Popen[str]:
+        """A window that sends lines until the office goes."""
+        path = os.path.join(self.here, f"lines-{seed}")
+        self.write(lines_of(random.Random(seed)), path)
+        with open(path, encoding="utf-8") as lines:
+            return subprocess.Popen(
+                [sys.executable, os.path.join(helpers.TOOLS, "client.py"), "cup", "--role", "finish",
+                 "--go-on"], cwd=self.here, stdin=lines, stdout=subprocess.PIPE,
+                stderr=subprocess.STDOUT, text=True)
+
+    def opened(self) -> tuple[helpers.Window, str]:
+        """The office's window, and what it says at its opening; a running office is taken over."""
+        window = self.window("series.py", "open", "cup")
+        said = window.read(r"is open\.|\[Y/n\] $")
+        if said.endswith("] "):
+            window.type("y")
+            said += window.read("is open")
+        return window, said
+
+    def is_running(self, number: int) -> bool:
+        with contextlib.suppress(OSError):
+            return os.path.samefile(f"/proc/{number}/cwd", os.path.join(self.here, "cup", "office"))
+        return False
+
+    def test_random_moments(self) -> None:
+        dice, answered = random.Random(5), {}
+        window, _ = self.opened()
+        self.addCleanup(self.stop, "cup")
+        for turn in range(TURNS):
+            kind = ("office", "window", "both")[turn % 3]
+            said = self.crash(window, kind, dice.uniform(0.3, 1.5), turn * 3)
+            answered |= answered_in(said)
+            window, opened = self.opened()
+            journal = self.text("cup", "journal.txt").splitlines()
+            listed = listed_in(opened)
+            for number, line in answered.items():
+                if number in listed:
+                    self.assertEqual((listed[number], number > len(journal)), (line, True))
+                else:
+                    self.assertTrue(journal[number - 1].endswith(f" FINISH {line}"), (number, line))
+            self.assertEqual(set(listed) - set(answered), set())
+        self.assertGreater(len(answered), 100)
+        window.press()
+        self.assertEqual(window.rest()[1], 0)
+
+    def crash(self, window: helpers.Window, kind: str, moment: float, seed: int) -> str:
+        """Kills office, window or both while three write; all that the writers have said."""
+        writers = [self.writer(seed + at) for at in range(3)]
+        number = int(self.text("cup", "office", "pid").split()[0])
+        time.sleep(moment)
+        if kind != "office":
+            window.process.kill()
+        if kind != "window":
+            os.kill(number, signal.SIGKILL)
+        else:
+            # The office outlives its window, and so do the writers.
+            self.assertTrue(self.is_running(number))
+            time.sleep(moment)
+            for writer in writers:
+                writer.terminate()
+        window.process.wait()
+        return "".join(writer.communicate()[0] for writer in writers)
+
+
+if __name__ == "__main__":
+    unittest.main()
