@@ -12,7 +12,7 @@ from collections.abc import Callable
 from dataclasses import dataclass
 
 from office import Trouble
-from words import joined
+from words import TIMES, joined
 
 NAME = "series.ini"
 KEYS = {
@@ -62,7 +62,6 @@ port = {port}
 page = {page}
 """
 STATES = ["provisional", "final", "amended"]
-TIMES = ["no", "one", "two", "three", "four"]
 
 
 @dataclass(frozen=True)

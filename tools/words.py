@@ -34,6 +34,7 @@ NUMBERS = {
     27: "this is no role: FINISH, JURY or SCORER",
     29: "these are no seconds: a whole number from 0 to 999,999",
 }
+TIMES = ["no", "one", "two", "three", "four"]
 ROLES = {"FINISH": "the finish", "JURY": "the jury", "SCORER": "the scorer"}
 SIGNS = {"/": "a slash", "\\": "a backslash", ".": "a dot", ",": "a comma", "_": "an underscore",
          "\t": "a tab", "\u00a0": "a no-break space (U+00A0), which looks like a space",

@@ -1,0 +1,210 @@
+#!/usr/bin/env python3
+"""Shows the results of one or more series, to phones in the same network and as files.
+
+    board.py FOLDER [FOLDER ...] [--http [PORT]] [--page OUT] [--once]
+
+The results are those of the open office, or else of journal.txt. An office is asked as often as
+series.ini says, however many phones look. The board only reads: nothing that a phone
+sends reaches an office or a file.
+"""
+from __future__ import annotations
+
+import argparse
+import shutil
+import signal
+import subprocess
+import sys
+import time
+
+from folder import clock
+from office import Trouble
+from prompt import say, sentence
+from serve import Board, Server, addresses
+from settings import is_between
+from sites import Files, Site, served
+from source import Source
+from words import count
+
+# Seconds between two looks at whether an office is being closed: then the board leaves it.
+TICK = 0.5
+
+
+class Shown:
+    """The series that are shown, where they are shown, and what was said of them last."""
+
+    def __init__(self, sources: list[Source], files: list[Files], board: Board | None) -> None:
+        self.sources, self.files, self.board = sources, files, board
+        self.site = Site(sources)
+        self.width = max(len(source.name) for source in sources)
+        self.said: dict[str, str] = {}
+
+    def tell(self, about: str, text: str, stamp: str) -> None:
+        """Says a thing when it is new, and not again until it has changed."""
+        if text and self.said.get(about) != text:
+            say(f"{stamp}{text}")
+        self.said[about] = text
+
+    def look(self, due: list[Source], stamp: str = "") -> bool:
+        """Looks at some series, shows what was found and then says what has changed; whether all
+        went well."""
+        troubles = [trouble_of(source) for source in due]
+        well = self.publish() and not any(troubles)
+        for source, trouble in zip(due, troubles):
+            self.tell(source.folder.name, said_of(source, trouble, self.width, bool(stamp)), stamp)
+            for about, text in source.notes.items():
+                self.tell(f"{source.folder.name} {about}", text and
+                          f"{source.name}: {sentence(text)}", stamp)
+        return well
+
+    def publish(self) -> bool:
+        """Shows what was found, to phones and in files; whether all files were written."""
+        if self.board is not None:
+            self.board.put(served(self.site.texts()))
+        wrong = ""
+        for files in self.files:
+            try:
+                files.write()
+            except Trouble as trouble:
+                wrong = f"{wrong} {sentence(trouble)}".strip()
+        self.tell("files", wrong and f"Not all pages were written: {wrong}", f"{clock()} ")
+        return not wrong
+
+    def round(self) -> None:
+        """Looks at the series whose time has come."""
+        for source in self.sources:
+            if source.folder.is_closing():
+                source.leave()
+        due = [source for source in self.sources if time.monotonic() >= source.due]
+        if due:
+            self.look(due, f"{clock()} ")
+
+    def leave(self) -> None:
+        for source in self.sources:
+            source.leave()
+
+
+def trouble_of(source: Source) -> str:
+    """Looks at one series; why its page stays as it was, or nothing."""
+    source.due = time.monotonic() + source.settings.every
+    try:
+        source.look()
+    except Trouble as trouble:
+        return sentence(trouble)
+    return ""
+
+
+def said_of(source: Source, trouble: str, width: int, is_later: bool) -> str:
+    """What is shown of a series, and from where."""
+    view = source.view
+    name = f"{source.name}: " if is_later else f"{source.name:<{width}}  "
+    if trouble:
+        red = view is not None and view.settings.state == "provisional"
+        after = " The page says so in red." if red else "" if view else " There is no page yet."
+        return f"{name}{trouble}{after}"
+    where = {"open": f"from the office, every {count(source.settings.every, 'second')}",
+             "journal": "from journal.txt, no office is open"}[source.office]
+    if is_later:
+        return f"{name}{where}."
+    assert view is not None
+    return (f"{name}{count(len(view.standing.rows), 'boat')}, "
+            f"{count(len(view.standing.races), 'race')}, {view.settings.state}: {where}")
+
+
+def port(text: str) -> int:
+    if not is_between(1, 65535)(text):
+        raise argparse.ArgumentTypeError(
+            f"{text!r} is no port from 1 to 65535. Put the folders before --http")
+    return int(text)
+
+
+def asked_of(words: list[str] | None = None) -> argparse.Namespace:
+    parser = argparse.ArgumentParser(
+        description="Shows the results of series, to phones in the same network and as files.")
+    parser.add_argument("folder", nargs="+", help="the folder of a series")
+    parser.add_argument("--http", nargs="?", type=port, const=0, metavar="PORT",
+                        help="show them to phones, at this port or at that of series.ini")
+    parser.add_argument("--page", metavar="OUT", help="write the pages into this folder")
+    parser.add_argument("--once", action="store_true", help="write the pages once, and end")
+    asked = parser.parse_args(words)
+    if asked.once and asked.http is not None:
+        parser.error("--once writes files: it goes with --page, and not with --http")
+    return asked
+
+
+def sources_of(folders: list[str]) -> list[Source]:
+    """The series, whose folders have to have different names: they are addresses."""
+    found = list(map(Source, folders))
+    names = [source.folder.name for source in found]
+    for name in names:
+        if names.count(name) > 1:
+            raise Trouble(f"two of the folders are called {name}, and each needs a name of its own")
+    return found
+
+
+def files_of(asked: argparse.Namespace, sources: list[Source]) -> list[Files]:
+    """Where pages are written: one folder for all, or that which each series.ini names."""
+    if asked.page:
+        return [Files(asked.page, Site(sources))]
+    return [Files(source.folder.file(source.settings.page), Site([source]))
+            for source in sources if source.settings.page]
+
+
+def say_address(number: int) -> None:
+    """Says what phones open, with a code for their cameras if qrencode is installed."""
+    first, *others = [f"http://{address}:{number}/" for address in addresses()]
+    say(f"Phones open   {first}" + (f"   (or {', '.join(others)})" if others else ""))
+    if sys.stdout.isatty() and shutil.which("qrencode"):
+        subprocess.run(["qrencode", "-t", "UTF8", "-m", "2", first], check=False)
+    say("They must be on the same Wi-Fi as this computer. Guest networks often keep devices apart:\n"
+        "try one phone before you post the address.")
+
+
+def show(asked: argparse.Namespace) -> int:
+    """Shows the series until somebody stops it, or once; the status."""
+    sources = sources_of(asked.folder)
+    files = files_of(asked, sources)
+    if asked.http is None and not files:
+        raise Trouble("nothing is shown: add --http for phones, or --page OUT for files")
+    board = None if asked.http is None else Board()
+    number = asked.http or sources[0].settings.port
+    server = Server(("0.0.0.0", number), board) if board is not None else None
+    shown = Shown(sources, files, board)
+    try:
+        well = shown.look(sources)
+        if asked.once:
+            return 0 if well else 1
+        if server:
+            server.start()
+            say_address(number)
+        for place in files:
+            say(f"Pages are in  {place.folder}")
+        while True:
+            time.sleep(TICK)
+            shown.round()
+    except KeyboardInterrupt:
+        say("\nStopped. Pages that are provisional turn red in a minute.")
+        return 0
+    finally:
+        shown.leave()
+
+
+def stop(_number: int, _frame: object) -> None:
+    raise KeyboardInterrupt
+
+
+def main() -> int:
+    asked = asked_of()
+    sys.stdout.reconfigure(errors="replace")
+    for number in (signal.SIGTERM, signal.SIGHUP):
+        signal.signal(number, stop)
+    try:
+        return show(asked)
+    except Trouble as trouble:
+        say(sentence(trouble))
+        return 1
+    except KeyboardInterrupt:
+        return 1
+
+
+if __name__ == "__main__":
+    sys.exit(main())

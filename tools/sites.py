@@ -1,0 +1,126 @@
+"""The pages of some series by address, and how they are kept as files."""
+from __future__ import annotations
+
+import datetime
+import hashlib
+import os
+import time
+import urllib.parse
+from collections.abc import Callable
+from dataclasses import dataclass
+
+import page
+from folder import replace_whole
+from office import Trouble
+from source import Source
+from view import Named, View, now_json, results_csv, results_json
+
+HTML, CSV, JSON = "text/html; charset=utf-8", "text/csv; charset=utf-8", "application/json"
+# The least seconds between two writings of a file that has only been confirmed.
+FRESH = 20.0
+
+
+@dataclass(frozen=True)
+class Made:
+    """Pages, what they were made from, and the same with the moment of their confirmation."""
+    key: object
+    plain: dict[str, str]
+    stamped: dict[str, tuple[str, bytes]]
+
+
+class Site:
+    """The pages of some series. One is made when what it shows changes, and only then."""
+
+    def __init__(self, sources: list[Source]) -> None:
+        self.sources = sources
+        self.made: dict[str, Made] = {}
+
+    def kept(self, name: str, key: object, make: Callable[[], dict[str, str]], fresh: bool,
+             checked: datetime.datetime, office: str) -> dict[str, tuple[str, bytes]]:
+        """The pages of this name, made if the key is another; stamped again if they are to be
+        fresh."""
+        old = self.made.get(name)
+        if old and old.key == key and not fresh:
+            return old.stamped
+        plain = old.plain if old and old.key == key else make()
+        stamped = {address: (HTML, page.stamped(text, checked, office))
+                   for address, text in plain.items()}
+        self.made[name] = Made(key, plain, stamped)
+        return stamped
+
+    def of_series(self, view: View, names: tuple[Named, ...]) -> dict[str, str]:
+        """The pages of one series; alone, it is at the top as well."""
+        here = f"/{view.address}/"
+        found = {f"{here}race-{number}.html": page.race(view, number, names)
+                 for number in view.race_pages}
+        found[f"{here}index.html"] = page.overall(view, names)
+        if len(self.sources) == 1:
+            found["/index.html"] = page.overall(view, names, f"{view.address}/")
+        return found
+
+    def front(self, views: list[View], fresh: bool) -> dict[str, tuple[str, bytes]]:
+        """The list of several series, with what its script asks for."""
+        if len(self.sources) == 1:
+            return {}
+        joined = "".join(view.name + view.version for view in views)
+        version = hashlib.sha256(joined.encode()).hexdigest()[:8]
+        checked = min(source.checked for source in self.sources)
+        office = "away" if any(source.office == "away" for source in self.sources) else "open"
+        pages = self.kept("", version, lambda: {"/index.html": page.series_list(views, version)},
+                          fresh, checked, office)
+        return {**pages, "/now.json": (JSON, now_json(version, checked, office))}
+
+    def texts(self, fresh: bool = False) -> dict[str, tuple[str, bytes]]:
+        """All texts, by address, as files have it."""
+        views = [source.view for source in self.sources if source.view]
+        labels = [view.label for view in views]
+        names = tuple(Named(view.label if labels.count(view.label) == 1 else
+                            f"{view.label} ({view.name})", view.address) for view in views)
+        found = self.front(views, fresh)
+        for source in self.sources:
+            if (view := source.view) is None:
+                continue
+            here = f"/{view.address}/"
+            found |= self.kept(view.name, (view.version, names),
+                               lambda: self.of_series(view, names), fresh, source.checked,
+                               source.office)
+            found |= {f"{here}results.csv": (CSV, results_csv(view)),
+                      f"{here}results.json": (JSON, results_json(view)),
+                      f"{here}now.json": (JSON, now_json(view.version, source.checked,
+                                                         source.office))}
+        return found
+
+
+def served(texts: dict[str, tuple[str, bytes]]) -> dict[str, tuple[str, bytes]]:
+    """The same for phones: a folder's address leads to its page."""
+    return texts | {address.removesuffix("index.html"): text for address, text in texts.items()
+                    if address.endswith("/index.html")}
+
+
+class Files:
+    """The pages as files in a folder, to be opened there or to be uploaded."""
+
+    def __init__(self, folder: str, site: Site) -> None:
+        self.folder, self.site = folder, site
+        self.written: dict[str, bytes] = {}
+        self.fresh_until = 0.0
+
+    def write(self) -> None:
+        """Writes what is new, and `now.json` after all others: it leads to them."""
+        fresh = time.monotonic() >= self.fresh_until
+        if fresh:
+            self.fresh_until = time.monotonic() + FRESH
+        texts = self.site.texts(fresh)
+        for address in sorted(texts, key=lambda address: address.endswith("/now.json")):
+            self.put(address, texts[address][1])
+
+    def put(self, address: str, data: bytes) -> None:
+        if self.written.get(address) == data:
+            return
+        path = os.path.join(self.folder, *map(urllib.parse.unquote, address.split("/")[1:]))
+        try:
+            os.makedirs(os.path.dirname(path), exist_ok=True)
+        except OSError as cause:
+            raise Trouble(f"{os.path.dirname(path)} can't be made: {cause.strerror}") from None
+        replace_whole(path, data)
+        self.written[address] = data

@@ -1,0 +1,230 @@
+"""Where the results of a series come from: its open office, or else its journal."""
+from __future__ import annotations
+
+import dataclasses
+import datetime
+import os
+import subprocess
+
+import entries
+import settings
+from folder import Folder, Logged
+from office import Gone, Link, Sheet, Trouble
+from record import Series, Standing, last_scored
+from settings import Settings
+from view import View
+
+# Seconds that an office may take for its answer, and the program for a replay.
+PATIENCE, REPLAY = 5.0, 60.0
+
+
+def replayed(folder: Folder, options: list[str], journal: bytes | None = None) -> Sheet:
+    """The sheet of a series under these rules, from a journal or the folder's own files."""
+    words = [folder.program, "replay", *options]
+    if journal is not None:
+        held = os.memfd_create("journal")
+        os.write(held, journal)
+        words += ["--journal", f"/proc/self/fd/{held}"]
+    else:
+        held = -1
+        is_begun = os.path.exists(folder.journal)
+        words += (["--journal", folder.journal] if is_begun else ["--entries", folder.entries])
+    try:
+        done = subprocess.run(words, input="SHOW\nQUIT\n", capture_output=True, encoding="utf-8",
+                              errors="replace", timeout=REPLAY, pass_fds=[held] if held >= 0 else [])
+    except (OSError, subprocess.TimeoutExpired) as cause:
+        raise Trouble(f"the program at {folder.program} can't be run: "
+                      f"{getattr(cause, 'strerror', '') or 'it does not end'}") from None
+    finally:
+        if held >= 0:
+            os.close(held)
+    if done.returncode:
+        raise Trouble(f"the program says {done.stderr.strip() or 'nothing'}")
+    return sheet_of(done.stdout.splitlines())
+
+
+def sheet_of(lines: list[str]) -> Sheet:
+    """The sheet that a replay prints for SHOW."""
+    words = lines[0].split() if lines else []
+    if len(words) != 2 or words[0] != "JOURNAL" or "END" not in lines:
+        raise Trouble("the program doesn't show its journal: is it regatta?")
+    count = int(words[1])
+    return Sheet(tuple(lines[1:count + 1]), tuple(lines[count + 1:lines.index("END")]))
+
+
+def rules_of(options: list[str]) -> dict[str, object]:
+    """The rules of a settings file from the options that an office was opened with."""
+    words = dict(zip(options, options[1:] + [""]))
+    return {"exclude": words.get("--exclude", "2"), "absent": words.get("--absent", "a52"),
+            "scp": words.get("--scp", ""), "handicap": "--handicap" in words}
+
+
+def time_of(entry: Logged) -> datetime.datetime | None:
+    try:
+        return datetime.datetime.strptime(entry.time, "%Y-%m-%dT%H:%M:%S%z")
+    except ValueError:
+        return None
+
+
+def now() -> datetime.datetime:
+    return datetime.datetime.now(datetime.timezone.utc).replace(microsecond=0)
+
+
+class Source:
+    """One series, looked at again and again. `view` is what is shown, and None before the first
+    success; `office` is `open`, `journal` or `away`; `checked` is when it was confirmed last."""
+
+    def __init__(self, path: str) -> None:
+        self.folder = Folder(path)
+        self.link: Link | None = None
+        self.view: View | None = None
+        self.office, self.checked = "away", now()
+        self.settings, self.rules = self.folder.settings, {}
+        self.notes: dict[str, str] = {}
+        self.replayed: tuple[object, Sheet] | None = None
+        self.summed: tuple[object, dict[str, str]] | None = None
+        self.due = 0.0
+
+    @property
+    def name(self) -> str:
+        return self.settings.group or self.folder.name
+
+    def note(self, about: str, text: object) -> None:
+        """Notes a trouble that doesn't keep the results from being shown; none if it is empty."""
+        self.notes[about] = str(text)
+
+    # What the results are made from
+
+    def read_settings(self) -> None:
+        """Reads series.ini again. While it has faults the old settings stay."""
+        try:
+            self.settings = settings.read(self.folder.path)
+            self.note("settings", "")
+        except Trouble as trouble:
+            self.note("settings", f"{trouble} The settings read before are used until then")
+        self.folder.settings = self.settings
+
+    def boats(self) -> dict[str, entries.Boat]:
+        """The boats by name; none if there is no list that can be read."""
+        try:
+            found = entries.read(self.folder.entries)
+        except Trouble as trouble:
+            self.note("names", f"No names are shown: {trouble}")
+            return self.view.boats if self.view else {}
+        name = os.path.basename(self.folder.entries)
+        self.note("names", "" if found else f"No names are shown: {name} has faults, which "
+                  f"python3 series.py check {os.path.relpath(self.folder.path)} lists")
+        return found or (self.view.boats if self.view else {})
+
+    def opened_rules(self) -> dict[str, object]:
+        """The rules that the open office has: series.ini may have been changed since."""
+        opened = [entry.role for entry in self.folder.logged() if entry.line == "opened"]
+        return rules_of(opened[-1].split()) if opened else {}
+
+    def open_link(self) -> Link:
+        """The link to the office, kept while the office is open: each new one uses up a session."""
+        if self.link is None:
+            self.link = Link(self.folder.socket, PATIENCE)
+            self.rules = self.opened_rules()
+            self.log("came")
+        return self.link
+
+    def leave(self) -> None:
+        """Gives the seat at the office back."""
+        if self.link is not None:
+            self.link.close()
+            self.link = None
+            self.log("left")
+
+    def log(self, what: str) -> None:
+        try:
+            self.folder.log("board", "", "", what, "")
+        except Trouble as trouble:
+            self.note("log", trouble)
+
+    def from_office(self) -> Sheet:
+        try:
+            return self.open_link().sheet()
+        except Trouble:
+            self.leave()
+            raise
+
+    def from_journal(self) -> Sheet:
+        """The sheet of the folder's files, which is replayed when one of them has changed."""
+        self.leave()
+        self.rules = {}
+        files = [self.folder.program, self.folder.journal, self.folder.entries]
+        found = [os.stat(path) for path in files if os.path.exists(path)]
+        key = (self.settings.options(), [(file.st_mtime_ns, file.st_size) for file in found])
+        if self.replayed is None or self.replayed[0] != key:
+            self.replayed = (key, replayed(self.folder, self.settings.options()))
+        return self.replayed[1]
+
+    # One look
+
+    def look(self) -> None:
+        """Brings the view up to date. A Trouble says why the old one stays."""
+        self.read_settings()
+        try:
+            is_open = os.path.lexists(self.folder.socket) and not self.folder.is_closing()
+            sheet = self.from_office() if is_open else self.from_journal()
+            self.show(sheet)
+        except (Trouble, ValueError) as cause:
+            self.office = "away"
+            if self.view is None:
+                self.show_saved()
+            raise Trouble(str(cause)) from None
+        self.office, self.checked = "open" if is_open else "journal", now()
+
+    def show_saved(self) -> None:
+        """Shows what journal.txt has, if an office has gone before the board came."""
+        try:
+            self.show(replayed(self.folder, self.settings.options()))
+        except (Trouble, ValueError):
+            pass
+
+    def show(self, sheet: Sheet) -> None:
+        """Makes a new view if anything that it shows has changed."""
+        shown = dataclasses.replace(self.settings, **self.rules)
+        self.note("rules", "" if shown.options() == self.settings.options() else
+                  "series.ini has other rules than the open office. Close and open the office to "
+                  "change them: until then its own are shown")
+        key = (sheet, shown, self.boats())
+        old = self.view
+        if old is not None and old.key == key:
+            return
+        standing = Standing.read(list(sheet.table))
+        series = Series.read(list(sheet.journal))
+        fresh = View(self.folder.name, shown, standing, series, key[2],
+                     self.totals(sheet, standing, shown), now(), key)
+        is_same = old is not None and old.results() == fresh.results()
+        changed = old.changed if is_same else self.changed_at(sheet, standing) if old is None else now()
+        self.view = dataclasses.replace(fresh, changed=changed)
+
+    def totals(self, sheet: Sheet, standing: Standing, shown: Settings) -> dict[str, str]:
+        """The net of each boat without exclusions, by the program; none if nothing is excluded.
+
+        As long as the table is the same, so are they: a long journal is replayed when it has changed.
+        """
+        if not any(score.excluded for row in standing.rows for score in row.scores):
+            return {}
+        options = dataclasses.replace(shown, exclude="none").options()
+        if self.summed is None or self.summed[0] != (sheet.table, options):
+            journal = "".join(f"{line}\n" for line in sheet.journal).encode()
+            table = replayed(self.folder, options, journal).table
+            totals = {row.sail: row.net for row in Standing.read(list(table)).rows}
+            self.summed = ((sheet.table, options), totals)
+        return self.summed[1]
+
+    def changed_at(self, sheet: Sheet, standing: Standing) -> datetime.datetime:
+        """When the results changed last, as far as the log and the files know."""
+        number = last_scored(list(sheet.journal), standing.races)
+        logged = [time_of(entry) for entry in self.folder.logged()
+                  if entry.answer.split()[:2] == ["OK", str(number)]]
+        times = [time for time in logged[-1:] if time]
+        files = [] if times else [self.folder.journal]
+        if self.settings.state != "provisional":
+            files.append(self.folder.file(settings.NAME))
+        times += [datetime.datetime.fromtimestamp(int(os.path.getmtime(path)), datetime.timezone.utc)
+                  for path in files if os.path.exists(path)]
+        return max(times, default=now())

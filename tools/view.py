@@ -1,0 +1,175 @@
+"""What the pages of one series show, and the same as CSV and JSON. No score is computed here."""
+from __future__ import annotations
+
+import csv
+import datetime
+import functools
+import hashlib
+import io
+import json
+import urllib.parse
+import zoneinfo
+from dataclasses import dataclass
+
+from entries import Boat
+from record import Race, Row, Score, Series, Standing, tie_break
+from settings import Settings
+
+
+@dataclass(frozen=True)
+class Named:
+    """A series among others: what it is called, and the folder of its pages."""
+    label: str
+    address: str
+
+
+@dataclass(frozen=True)
+class View:
+    """One series at one moment; `key` is all that it was made from."""
+    name: str
+    settings: Settings
+    standing: Standing
+    series: Series
+    boats: dict[str, Boat]
+    totals: dict[str, str]
+    changed: datetime.datetime
+    key: object = None
+
+    @property
+    def label(self) -> str:
+        """What the series is called among others."""
+        return self.settings.group or self.settings.title
+
+    @property
+    def address(self) -> str:
+        """The folder of its pages, as an address has it."""
+        return urllib.parse.quote(self.name, safe="")
+
+    def boat(self, sail: str) -> Boat:
+        return self.boats.get(sail, Boat(sail))
+
+    def results(self) -> tuple:
+        """All whose change is a change of the results."""
+        shown = self.settings
+        return (self.standing, self.boats, shown.title, shown.group, shown.club, shown.state,
+                shown.reason, shown.options())
+
+    @functools.cached_property
+    def version(self) -> str:
+        """Another text whenever anything that is shown is another."""
+        made = hashlib.sha256(repr((self.key, self.changed)).encode())
+        return f"{self.series.entries}-{made.hexdigest()[:8]}"
+
+    @property
+    def has_helms(self) -> bool:
+        return any(boat.helm for boat in self.boats.values())
+
+    @property
+    def excluded(self) -> int:
+        """How many scores of each boat the rules exclude after the races that count."""
+        return sum(len(self.standing.races) >= races for races in self.settings.thresholds)
+
+    @functools.cached_property
+    def open_races(self) -> list[int]:
+        """The races that don't count, or don't count yet, and of which something is recorded."""
+        return [number for number, race in sorted(self.series.races.items())
+                if number not in self.standing.races
+                and (race.order or race.codes or race.penalties or race.redress)]
+
+    @property
+    def race_pages(self) -> list[int]:
+        """The races that have a page."""
+        return sorted([*self.standing.races, *self.open_races])
+
+    def race(self, number: int) -> Race:
+        return self.series.races.get(number, Race(number))
+
+    def scores(self, number: int) -> dict[str, Score]:
+        """Each boat's score in a race; none if the race doesn't count."""
+        if number not in self.standing.races:
+            return {}
+        column = self.standing.races.index(number)
+        return {row.sail: row.scores[column] for row in self.standing.rows}
+
+    def ties(self) -> list[list[Row]]:
+        """The boats with the same net, in the order of the table."""
+        groups: list[list[Row]] = []
+        for row in self.standing.rows if self.standing.races else ():
+            if groups and groups[-1][0].net == row.net:
+                groups[-1].append(row)
+            else:
+                groups.append([row])
+        found = [group for group in groups if len(group) > 1]
+        # A table whose order isn't that of the rules is no table to show.
+        for group in found:
+            list(map(functools.partial(tie_break, self.standing.races), group, group[1:]))
+        return found
+
+    def local(self, when: datetime.datetime) -> datetime.datetime:
+        """A moment in the series' zone, or else in this computer's."""
+        zone = self.settings.zone
+        return when.astimezone(zoneinfo.ZoneInfo(zone) if zone else None)
+
+    def when(self, moment: datetime.datetime) -> str:
+        """A moment with its zone and the hours from UTC, as `Thu 26 Nov 2026, 08:52 WET (UTC+0)`."""
+        local = self.local(moment)
+        offset, name = local.strftime("%z"), local.strftime("%Z")
+        minutes = f":{offset[3:5]}" if offset[3:5] != "00" else ""
+        hours = f"UTC{offset[0]}{int(offset[1:3])}{minutes}"
+        zone = "UTC" if name == "UTC" else hours if name[:1] in "+-" else f"{name} ({hours})"
+        day = f"{DAYS[local.weekday()]} {local.day} {MONTHS[local.month - 1]} {local.year}"
+        return f"{day}, {local:%H:%M} {zone}"
+
+
+# Not those of the computer's language: the pages are in English.
+DAYS = ["Mon", "Tue", "Wed", "Thu", "Fri", "Sat", "Sun"]
+MONTHS = ["Jan", "Feb", "Mar", "Apr", "May", "Jun", "Jul", "Aug", "Sep", "Oct", "Nov", "Dec"]
+
+
+def unharmful(text: str) -> str:
+    """A text that no spreadsheet takes for a formula."""
+    return f"'{text}" if text[:1] in ("=", "+", "-", "@", "\t", "\r") else text
+
+
+def results_csv(view: View) -> bytes:
+    """A row for each boat, in UTF-8 with the mark by which a spreadsheet knows it."""
+    races = view.standing.races
+    heads = ["rank", "tied", "sail", "helm", "boat", "club", "net", "total"]
+    heads += [f"R{number}{what}" for number in races for what in ("", " code", " excluded")]
+    made = io.StringIO(newline="")
+    writer = csv.writer(made, lineterminator="\r\n")
+    writer.writerow(heads)
+    for row in view.standing.rows:
+        boat = view.boat(row.sail)
+        names = map(unharmful, (boat.sail, boat.helm, boat.name, boat.club))
+        scores = [text for score in row.scores
+                  for text in (score.points, score.code, "yes" if score.excluded else "no")]
+        writer.writerow([row.rank, "yes" if row.shared else "no", *names, row.net,
+                         view.totals.get(row.sail, row.net), *scores])
+    return b"\xef\xbb\xbf" + made.getvalue().encode()
+
+
+def results_json(view: View) -> bytes:
+    """The same for programs; points are texts, since they are exact to a tenth."""
+    shown = view.settings
+
+    def boat_of(row: Row) -> dict[str, object]:
+        boat = view.boat(row.sail)
+        scores = [{"race": number, "points": score.points, "code": score.code,
+                   "excluded": score.excluded}
+                  for number, score in zip(view.standing.races, row.scores)]
+        return {"rank": row.rank, "tied": row.shared, "sail": row.sail, "shown": boat.sail,
+                "helm": boat.helm, "boat": boat.name, "club": boat.club, "net": row.net,
+                "total": view.totals.get(row.sail, row.net), "scores": scores}
+
+    whole = {"title": shown.title, "class": shown.group, "club": shown.club, "state": shown.state,
+             "reason": shown.reason, "changed": view.local(view.changed).isoformat(),
+             "version": view.version, "rules": shown.options(), "races": view.standing.races,
+             "boats": [boat_of(row) for row in view.standing.rows]}
+    return json.dumps(whole, ensure_ascii=False, indent=1).encode() + b"\n"
+
+
+def now_json(version: str, checked: datetime.datetime, office: str) -> bytes:
+    """Which version is shown, when it was confirmed last, and whether the office is open."""
+    return json.dumps({"version": version, "checked": checked.isoformat(),
+                       "office": office}).encode() + b"\n"
