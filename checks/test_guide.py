@@ -34,9 +34,11 @@ class Guide(unittest.TestCase):
         self.assertGreater(len(boxes), 20)
 
     def test_refusals(self) -> None:
-        """Each number of a refusal has a row, with the words of the tools."""
-        rows = re.findall(r"^\| `NO (\d+)` \| ([^|]*) \|", self.text, re.MULTILINE)
-        self.assertEqual({int(number): said for number, said in rows}, words.NUMBERS)
+        """The guide explains refusals in the words that the tools have for them."""
+        table = self.text.partition("\n## If a line is refused")[2].partition("\n##")[0]
+        said = re.findall(r"^\| ([^|]*) \| [^|]* \|$", table, re.MULTILINE)[1:]
+        self.assertGreater(len(said), 10)
+        self.assertEqual([text for text in said if text not in words.NUMBERS.values()], [])
 
     def test_roles(self) -> None:
         """The lines of each role are those that the program takes of it."""
