@@ -35,7 +35,7 @@ from office import Link
 
 GUIDE = os.path.join(helpers.TOP, "docs", "GUIDE.md")
 STEP = re.compile(r"^```([^\n]*)\n(.*?)^```$|^<!-- (freeze|kill) (\S+) -->$", re.MULTILINE | re.DOTALL)
-COMMAND = re.compile(r"\$ python3 tools/(series|client|board)\.py( |$)")
+COMMAND = re.compile(r"\$ python3 tools/(?:series|client|board)\.py ")
 # What varies from one play to the next, and what it is compared as.
 VARIES = [(re.compile(r"\b\d{4}-\d\d-\d\d-\d{6}\b"), "DATE"), (re.compile(r"\b\d\d:\d\d(:\d\d)?\b"), "TIME"),
           (re.compile(r"http://[^/\s]+/(   \(or [^)]*\))?"), "ADDRESS")]
@@ -54,16 +54,13 @@ class Window:
     def __init__(self, folder: str, port: str) -> None:
         self.folder, self.port = folder, port
         self.terminal: helpers.Terminal | None = None
-        self.is_clients = False
 
     def start(self, command: str) -> None:
         if self.terminal:
             raise Wrong("something is still running in this window")
-        found = COMMAND.match(command)
-        if not found:
+        if not COMMAND.match(command):
             raise Wrong(f"the guide needs no other command than its three tools: {command}")
         words = shlex.split(command[2:].replace(SHOWN_PORT, self.port))
-        self.is_clients = found[1] == "client"
         # No other program is found, so that what is printed is the same on each computer.
         self.terminal = helpers.Terminal(sys.executable, *words[1:], cwd=self.folder, PATH="/nowhere")
 
@@ -126,7 +123,7 @@ class Box:
             return self.answered(asked)
         if terminal.text != text:
             return False
-        if self.is_shown() and self.stays and not window.is_clients and not self.fill:
+        if self.is_shown() and self.stays and not self.fill:
             return True
         if self.shown[len(self.went):len(self.went) + 1] == ["^C"]:
             terminal.press()
@@ -204,9 +201,20 @@ class Play:
     def run(self, guide: str) -> str:
         """The guide with what was printed; a Wrong at the first box that shows something else."""
         try:
-            return STEP.sub(lambda step: self.step(guide, step), guide)
+            text = STEP.sub(lambda step: self.step(guide, step), guide)
+            self.look_at_rest()
+            return text
         finally:
             self.close()
+
+    def look_at_rest(self) -> None:
+        """A Wrong if a window that is still open has printed more than its last box shows."""
+        for name, window in self.windows.items():
+            if window.terminal:
+                window.asked()
+                if more := window.lines():
+                    raise Wrong(f"docs/GUIDE.md: after its last box the window {name} printed\n"
+                                + "\n".join(more))
 
     def step(self, guide: str, step: re.Match) -> str:
         place = f"docs/GUIDE.md, line {guide[:step.start()].count(chr(10)) + 1}"
