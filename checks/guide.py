@@ -104,7 +104,7 @@ class Box:
         return self.went
 
     def skip(self) -> None:
-        """Passes over what was printed since the last box, up to the line that is shown next."""
+        """Leaves out what was printed since the last box."""
         self.note("...")
         while self.window.terminal.more(QUIET):
             pass

@@ -82,8 +82,8 @@ class Replies(unittest.TestCase):
 
 @contextlib.contextmanager
 def stood_in(answer: bytes, lines: int = 0) -> Iterator[str]:
-    """The socket of somebody who sends these bytes to whoever comes, and then leaves after so many
-    lines, if any."""
+    """The socket of somebody who sends these bytes to whoever comes, and with `lines` leaves after
+    that number of lines."""
     with tempfile.TemporaryDirectory() as folder, contextlib.ExitStack() as stack:
         path = os.path.join(folder, "race.sock")
         door = stack.enter_context(socket.socket(socket.AF_UNIX, socket.SOCK_STREAM))
