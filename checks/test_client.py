@@ -22,8 +22,8 @@ class Client(helpers.Series):
         for step in talk.strip("\n").split("\n> "):
             line, _, wanted = step.removeprefix("> ").partition("\n")
             said = window.say(line, r"(> |\] )$")
-            for text in wanted.splitlines():
-                self.assertIn(text, said, line)
+            missing = [text for text in wanted.splitlines() if text not in said]
+            self.assertEqual(missing, [], f"{line} said\n{said}")
 
     def test_a_race(self) -> None:
         self.open()
@@ -44,6 +44,28 @@ OK 10   2nd in race 1; 2 finished, 1 coded, 4 to come of 7
 OK 11   2nd (tied) in race 1; 3 finished, 1 coded, 3 to come of 7
 > gbr 110
    Not sent: GBR110 isn't entered. Do you mean GBR 101 Kestrel?
+> mark 1 fra 9 dsq
+NO 4   Refused: your role doesn't send this line. Nothing has changed.
+> score 1
+NO 4
+""")
+        self.assertNotIn("ENTER", window.say("help", "quit .*\n1> $"))
+        window.type("quit")
+        self.assertEqual(window.rest()[1], 0)
+        log = self.text("cup", "office.log")
+        self.assertRegex(log, r"\t\d+\t\t\tFINISH\tcame\t\n")
+        self.assertRegex(log, r"\t2\tFINISH\tFINISH 1 GBR101\tOK 9 1= 0.0\n")
+
+    def test_sail_that_was_not_read(self) -> None:
+        """A finisher whose sail wasn't read keeps her place."""
+        self.open()
+        window = self.typist()
+        self.play(window, """
+> mark 1 gbr 33 ocs
+> at 1
+> gbr 101
+> 12
+> tie 1 gbr 7 ned 12
 > ?
    ?1 keeps her place.
 > 55
@@ -57,17 +79,35 @@ Race 1 doesn't count yet: 5 finished, 1 coded, 1 not recorded, 7 boats
      4  IRL 5 Curlew
    OCS  GBR 33 Turnstone
   not recorded: FRA 9 Plover
-> mark 1 fra 9 dsq
-NO 4   Refused: your role doesn't send this line. Nothing has changed.
+> ?
+   ?1 keeps her place.
+> ?
+   ?2 keeps her place.
 > score 1
 NO 4
+> ? 9
+   Not sent: more than one place is kept: type ?1 or ?2 and her sail.
+> ?3
+   Not sent: type ?3 and her sail, or ?3 none.
+> ?3 9
+   Not sent: no finisher ?3 is kept in race 1.
+> ?1 none
+   ?1 is dropped.
+> ? fra 9
+   FINISH 1 FRA9
+OK 14   6th in race 1; 6 finished, 1 coded, 0 to come of 7
+> at
+> ? 9
+   Not sent: first say which race: at 3.
+> at 2
+> ?
+> quit
+   1 finisher without a sail (?) would be forgotten. Leave? [y/N]
+> n
+> ?1 none
 """)
-        self.assertNotIn("ENTER", window.say("help", "quit .*\n1> $"))
         window.type("quit")
         self.assertEqual(window.rest()[1], 0)
-        log = self.text("cup", "office.log")
-        self.assertRegex(log, r"\t\d+\t\t\tFINISH\tcame\t\n")
-        self.assertRegex(log, r"\t2\tFINISH\tFINISH 1 GBR101\tOK 9 1= 0.0\n")
 
     def test_questions(self) -> None:
         self.make("five", absent="a53")
@@ -105,9 +145,18 @@ OK 12   3rd in race 1
    Not sent.
 > before 1 5 33
    5 is IRL 5 Curlew
+""")
+        self.assertEqual(self.text("five", "office.log").count("\tOK 12"), 1)
+
+    def test_odd_races(self) -> None:
+        """Lines that the program takes, and that the rules hardly mean."""
+        self.make("five", absent="a53")
+        self.open("five")
+        window = self.client("five", "--role", "scorer")
+        self.play(window, """
 > mark 2 5 ocs
 > finish 2 5
-OK 16   she holds OCS in race 2, and is scored so
+OK 9   she holds OCS in race 2, and is scored so
 > score 2
 Only boats with a code are in the finishing order. Score it all the same? [y/N]
 > n
@@ -116,8 +165,14 @@ ROLE JURY   your lines are now those of the jury
 > redress 2 7 all
    GBR 7 Sea Pink has no place and no code in race 2. Under RRS A5.3 she doesn't count as having come
 > n
+   Not sent.
+> role scorer
+> mark 2 7 dnf
+OK 10   DNF in race 2
+> role jury
+> redress 2 7 all
+OK 11   DNF and redress ALL in race 2
 """)
-        self.assertEqual(self.text("five", "office.log").count("\tOK 12"), 1)
 
     def test_two_windows(self) -> None:
         """What is asked depends on what another window has typed meanwhile."""

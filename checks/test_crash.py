@@ -78,17 +78,19 @@ class Crashes(helpers.Series):
             said = self.crash(window, kind, dice.uniform(0.3, 1.5), turn * 3)
             answered |= answered_in(said)
             window, opened = self.opened()
-            journal = self.text("cup", "journal.txt").splitlines()
-            listed = listed_in(opened)
-            for number, line in answered.items():
-                if number in listed:
-                    self.assertEqual((listed[number], number > len(journal)), (line, True))
-                else:
-                    self.assertTrue(journal[number - 1].endswith(f" FINISH {line}"), (number, line))
-            self.assertEqual(set(listed) - set(answered), set())
+            self.agree(answered, listed_in(opened))
         self.assertGreater(len(answered), 100)
         window.press()
         self.assertEqual(window.rest()[1], 0)
+
+    def agree(self, answered: dict[int, str], listed: dict[int, str]) -> None:
+        """What was answered is in the journal, or else is listed; and nothing else is listed."""
+        journal = self.text("cup", "journal.txt").splitlines()
+        self.assertEqual({number: line for number, line in answered.items() if number in listed}, listed)
+        self.assertTrue(all(number > len(journal) for number in listed))
+        for number, line in answered.items():
+            if number not in listed:
+                self.assertTrue(journal[number - 1].endswith(f" FINISH {line}"), (number, line))
 
     def crash(self, window: helpers.Window, kind: str, moment: float, seed: int) -> str:
         """Kills office, window or both while three write; all that the writers have said."""

@@ -11,6 +11,7 @@ import entries
 
 GOOD = [b"Sail\nA\n", b"Boat,Sail\nX,gbr 7\n", b"\xef\xbb\xbfSail No\r\nA\r\nB\r\n", b"sailnumber\nA-1\n\n,\n",
         b'Sail,Helm\nA,"Two\nlines"\nB,x\n', b"Sail,Helm\nA,J\xfcrgen\n", b"\nSail\nA\n",
+        b"Sail,Helm\nA," + b"x" * 1000 + b"\0\n", b"Sail,Helm\nA," + b"x" * 200_000 + b"\n",
         b"Sail\n" + b"".join(b"B%d\n" % at for at in range(500))]
 BAD = [
     (b"PK\x03\x04xx", 'a spreadsheet, not CSV. Save it as "Text CSV", with commas.'),

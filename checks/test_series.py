@@ -31,28 +31,31 @@ class Opening(helpers.Series):
         path = os.path.join(self.here, name, "journal.txt")
         return os.path.exists(path) and self.text(name, "journal.txt").count("\n") == count
 
+    def answer(self, window: helpers.Window, talk: list[tuple[str, str | None]]) -> None:
+        """Waits for each question, and answers it; None is no answer yet."""
+        for asked, typed in talk:
+            window.read(asked)
+            if typed is not None:
+                window.type(typed)
+
     def test_new(self) -> None:
         os.mkdir(os.path.join(self.here, "dragon"))
         self.write(helpers.ENTRIES.replace("NED 12", "NED/12"), "dragon", "entries.csv")
         os.symlink(helpers.PROGRAM, os.path.join(self.here, "regatta"))
         window = self.window("series.py", "new", "dragon")
-        for asked, typed in [("Title: ", ""), ("a title, as Autumn Cup.\nTitle: ", "Winter"),
+        self.answer(window, [("Title: ", ""), ("a title, as Autumn Cup.\nTitle: ", "Winter"),
                              ("Class .*: ", "Dragon"), ("Club .*: ", ""),
                              (r"Entry list \[dragon/entries.csv\]: ", ""),
-                             (r"slash(.|\n)*Look again\? \[Y/n\] ", "")]:
-            window.read(asked)
-            if "slash" in asked:
-                self.write(helpers.ENTRIES.replace(",", ";"), "dragon", "entries.csv")
-            window.type(typed)
-        for asked, typed in [(r"Entry list .*: ", ""),
+                             (r"slash(.|\n)*Look again\? \[Y/n\] ", None)])
+        self.write(helpers.ENTRIES.replace(",", ";"), "dragon", "entries.csv")
+        window.type("")
+        self.answer(window, [(r"Entry list .*: ", ""),
                              (r"separated by semicolons(.|\n)*stays as entries-old\.csv\. \[Y/n\] ", ""),
                              (r"   7 boats, from GBR 101 to IRL 55, with helm, boat and club\n"
                               r"(.|\n)*Which\? \[1\] ", "3"), ("One is .*\\? ", "4"),
                              ("Two.*\\) ", "3"), ("Two.*\\) ", "8"), ("Three.*\\) ", ""),
                              ("A5.3 apply .*] ", "y"), ("Scoring Penalty.*\\) ", "3"),
-                             ("corrected time.*] ", ""), ("stick.*\\) ", "")]:
-            window.read(asked)
-            window.type(typed)
+                             ("corrected time.*] ", ""), ("stick.*\\) ", "")])
         self.assertEqual(window.rest(), (
             "Wrote dragon/series.ini. Next: python3 series.py open dragon\n", 0))
         said, status = helpers.run("series.py", "check", "dragon", cwd=self.here)
@@ -66,11 +69,9 @@ class Opening(helpers.Series):
         """Ctrl-C at a question writes nothing."""
         self.write(helpers.ENTRIES, "list.csv")
         window = self.window("series.py", "new", "dragon")
-        for asked, typed in [("Title: ", "Winter"), ("Class .*: ", ""), ("Club .*: ", ""),
-                             ("Entry list .*: ", "list.csv"), ("Which\\? .*", "1")]:
-            window.read(asked)
-            window.type(typed)
-        window.read("A5.3 apply .*] ")
+        self.answer(window, [("Title: ", "Winter"), ("Class .*: ", ""), ("Club .*: ", ""),
+                             ("Entry list .*: ", "list.csv"), ("Which\\? .*", "1"),
+                             ("A5.3 apply .*] ", None)])
         window.press()
         self.assertEqual(window.rest(), ("\nno answer came. Nothing was written.\n", 1))
         self.assertFalse(os.path.exists(os.path.join(self.here, "dragon")))
@@ -329,6 +330,9 @@ class Faults(helpers.Series):
         self.write(helpers.ENTRIES.replace("NED 12", "NED/12"), "cup", "entries.csv")
         self.assertEqual(self.fault(), 'entries.csv, row 4 (P. de Wit): the sail "NED/12" has a slash. '
                          "A sail has 1 to 12 letters, digits and dashes.\nNothing was opened.\n")
+        self.write(helpers.ENTRIES.replace("A. Moss", "A" * (1 << 20)), "cup", "entries.csv")
+        self.assertEqual(self.fault(), "journal.txt or entries.csv is longer than 1,048,576 bytes.\n"
+                         "Nothing was opened.\n")
         os.remove(os.path.join(self.here, "cup", "entries.csv"))
         self.assertIn("entries.csv isn't there", self.fault())
 

@@ -16,7 +16,7 @@ def questions(book: Book, role: str, line: str, unread: int, corrected: set[int]
         return []
     if command == "ENTER":
         return [before_entry(book, rest[0])]
-    race = book.series.races.get(int(rest[0]) if rest[0].isdigit() else 0)
+    race = book.series.races.get(int(rest[0]) if rest[0].isdecimal() else 0)
     if command == "SCORE" and len(rest) == 1 and race and not race.counts:
         return before_score(book, race, unread)
     if command in FINISHING and race and race.counts and race.number not in corrected:
@@ -71,7 +71,7 @@ def before_redress(book: Book, race: Race, number: str, sail: str) -> list[str]:
     """What is asked before a boat without a place and a code is given redress."""
     if sail not in race.missing(book.boats):
         return []
-    come = (" Under RRS A5.3 she doesn't count as having come: mark her first, as DNF or DNS."
-            if book.is_a53 else "")
+    come = (" Under RRS A5.3 she doesn't count as having come: the scorer marks her first, as DNF or "
+            "DNS." if book.is_a53 else "")
     return [f"{book.called(sail)} has no place and no code in race {number}.{come} Give her redress "
             "as she is?"]

@@ -42,7 +42,7 @@ class Book:
 
     def race(self, text: str) -> Race:
         """A race by its number, also one of which nothing is recorded."""
-        if not text.isdigit() or not 1 <= int(text) <= 40:
+        if not text.isdecimal() or not 1 <= int(text) <= 40:
             raise NotSent(f"{text} is no race: a number from 1 to 40")
         return self.series.races.get(int(text)) or Race(int(text))
 

@@ -151,7 +151,7 @@ class Desk:
     def race_of(self, line: str) -> Race | None:
         """The race that a line is about, if anything is recorded of it."""
         number = line.split()[1:2]
-        return self.book.series.races.get(int(number[0])) if number and number[0].isdigit() else None
+        return self.book.series.races.get(int(number[0])) if number and number[0].isdecimal() else None
 
     def exchange(self, line: str) -> str:
         """The office's answer to a line, which is logged before anything else is done."""
@@ -242,7 +242,7 @@ class Desk:
             raise NotSent(f"type {mark} and her sail, or {mark} none")
         if mark == "?" and len(self.unread.of(race.number)) > 1:
             raise NotSent("more than one place is kept: type ?1 or ?2 and her sail")
-        return self.send_known(race, int(mark[1:]) if mark[1:].isdigit() else 1, sail)
+        return self.send_known(race, int(mark[1:]) if mark[1:].isdecimal() else 1, sail)
 
     def keep_place(self, race: Race) -> bool:
         """Keeps the place of a finisher at the end of the order as it is now."""

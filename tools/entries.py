@@ -12,8 +12,12 @@ from words import count, sign
 
 HEADS = {"sail": ("sail", "sailno", "sailnumber"), "helm": ("helm", "skipper", "name"),
          "name": ("boat", "boatname"), "club": ("club",)}
+SEPARATORS = {";": "semicolons", "\t": "tabs"}
 SAIL = re.compile(r"[A-Z0-9-]{1,12}")
 ROOM = 500
+# Bytes of a list that are read at most. A single field may have all of them.
+LARGEST = 4 << 20
+csv.field_size_limit(LARGEST)
 
 
 @dataclass(frozen=True)
@@ -35,10 +39,12 @@ def plain(sail: str) -> str:
 
 
 def text_of(data: bytes) -> str:
+    """The text of a list. A NUL, which some versions of csv refuse, is an odd sign like any other."""
     try:
-        return data.decode("utf-8-sig")
+        text = data.decode("utf-8-sig")
     except UnicodeDecodeError:
-        return data.decode("latin-1")
+        text = data.decode("latin-1")
+    return text.replace("\0", "\ufffd")
 
 
 def rows_of(data: bytes) -> list[tuple[int, list[str]]]:
@@ -55,7 +61,7 @@ def column(heads: list[str], names: tuple[str, ...]) -> int | None:
 def bytes_of(path: str) -> bytes:
     try:
         with open(path, "rb") as file:
-            return file.read(4 << 20)
+            return file.read(LARGEST)
     except FileNotFoundError:
         raise Trouble(f"{path} isn't there") from None
     except OSError as cause:
@@ -82,37 +88,39 @@ def read_if_there(path: str) -> dict[str, Boat]:
     return read(path) if os.path.exists(path) else {}
 
 
-def kind_of(data: bytes, name: str) -> list[str]:
-    """Why a file is no CSV with a column of sails."""
+def wrong_form(data: bytes, name: str) -> str:
+    """Why a file isn't CSV with rows in it; empty if it is."""
     if data.startswith(b"PK\x03\x04"):
-        return [f"{name} is a spreadsheet, not CSV. Save it as \"Text CSV\", with commas."]
+        return f"{name} is a spreadsheet, not CSV. Save it as \"Text CSV\", with commas."
     if data.startswith((b"\xff\xfe", b"\xfe\xff")) or b"\0" in data[:1000]:
-        return [f"{name} is UTF-16 (\"Unicode text\"). Save it as CSV, UTF-8."]
+        return f"{name} is UTF-16 (\"Unicode text\"). Save it as CSV, UTF-8."
+    return "" if rows_of(data) else f"{name} is empty."
+
+
+def wrong_heading(data: bytes, name: str) -> str:
+    """Why no column has the sails; empty if one has."""
     rows = rows_of(data)
-    if not rows:
-        return [f"{name} is empty."]
-    heads = [re.split("[;\t,]", ",".join(row)) for _, row in rows[:5]]
-    separator = {";": "semicolons", "\t": "tabs"}.get(separator_of(data))
-    if column(rows[0][1], HEADS["sail"]) is not None:
-        return []
-    if separator:
-        return [f"The columns of {name} are separated by {separator}. They have to be separated "
-                "by commas."]
-    below = next((at for (at, _), head in zip(rows, heads) if column(head, HEADS["sail"])
-                  is not None), None)
+    first = rows[0][1]
+    if column(first, HEADS["sail"]) is not None:
+        return ""
+    if mark := separator_of(data):
+        return (f"The columns of {name} are separated by {SEPARATORS[mark]}. They have to be "
+                "separated by commas.")
+    below = next((at for at, row in rows[:5] if column(re.split("[;\t,]", ",".join(row)),
+                                                       HEADS["sail"]) is not None), None)
     if below:
-        return [f"Row 1 of {name} is a title; the headings are in row {below}. "
-                f"Take out what is above row {below}."]
-    near = next((cell for cell in rows[0][1] if cell.strip().lower().startswith(("sail", "segel"))),
-                None)
-    found = f" {near.strip()!r} isn't one of them." if near else ""
-    return [f"No column of {name} has the heading Sail, SailNo or SailNumber.{found}"]
+        return (f"Row 1 of {name} is a title; the headings are in row {below}. "
+                f"Take out what is above row {below}.")
+    near = next((cell.strip() for cell in first if cell.strip().lower().startswith(("sail", "segel"))),
+                "")
+    found = f" {near!r} isn't one of them." if near else ""
+    return f"No column of {name} has the heading Sail, SailNo or SailNumber.{found}"
 
 
 def separator_of(data: bytes) -> str:
     """A sign other than the comma by which the first row is separated, if any."""
     first = text_of(data).lstrip().partition("\n")[0]
-    return next((mark for mark in ";\t" if column(first.strip().split(mark), HEADS["sail"])
+    return next((mark for mark in SEPARATORS if column(first.strip().split(mark), HEADS["sail"])
                  is not None and mark in first), "")
 
 
@@ -140,30 +148,34 @@ def fault_of(sail: str) -> str:
 def problems(data: bytes, path: str) -> list[str]:
     """All that keeps the program from taking a list, in words; empty if it takes it."""
     name = os.path.basename(path)
-    if wrong := kind_of(data, name):
-        return wrong
+    if wrong := wrong_form(data, name) or wrong_heading(data, name):
+        return [wrong]
     (_, heads), *rows = rows_of(data)
-    at, found = column(heads, HEADS["sail"]), {}
-    assert at is not None
-    who = column(heads, HEADS["helm"])
+    at, who = column(heads, HEADS["sail"]), column(heads, HEADS["helm"])
+    found: dict[str, int] = {}
+    faults = []
     for number, row in rows:
-        named = f" ({row[who].strip()})" if who is not None and who < len(row) else ""
-        if len(row) <= at:
-            open_quote = " Is a quotation mark not closed?" if "\n" in row[-1] else ""
-            wrong.append(f"{name}, row {number}: it ends before the column of sails.{open_quote}")
-        elif fault := fault_of(row[at]):
-            wrong.append(f"{name}, row {number}{named}: {fault}. A sail has 1 to 12 letters, digits "
-                         "and dashes.")
-        elif plain(row[at]) in found:
-            wrong.append(f"{name}, row {number}{named}: {row[at].strip()} is in row "
-                         f"{found[plain(row[at])]}, too.")
+        named = f" ({row[who].strip()})" if who is not None and max(who, at) < len(row) else ""
+        if fault := fault_of_row(row, at, found):
+            faults.append(f"{name}, row {number}{named}: {fault}")
         else:
             found[plain(row[at])] = number
     if not rows:
-        wrong.append(f"{name} has headings, but no boats.")
+        faults.append(f"{name} has headings, but no boats.")
     if len(found) > ROOM:
-        wrong.append(f"{name} has {count(len(found), 'boat')}, and {ROOM} fit.")
-    return wrong
+        faults.append(f"{name} has {count(len(found), 'boat')}, and {ROOM} fit.")
+    return faults
+
+
+def fault_of_row(row: list[str], at: int, found: dict[str, int]) -> str:
+    """What is wrong with a row; `found` has the rows of the sails above it."""
+    if len(row) <= at:
+        open_quote = " Is a quotation mark not closed?" if "\n" in row[-1] else ""
+        return f"it ends before the column of sails.{open_quote}"
+    if fault := fault_of(row[at]):
+        return f"{fault}. A sail has 1 to 12 letters, digits and dashes."
+    above = found.get(plain(row[at]))
+    return f"{row[at].strip()} is in row {above}, too." if above else ""
 
 
 def near(sail: str, boats: list[str]) -> list[str]:

@@ -1,7 +1,9 @@
 """The window of an office, from its opening to its end: what it asks, keeps and says."""
 from __future__ import annotations
 
+import contextlib
 import os
+import shlex
 import signal
 import time
 
@@ -154,7 +156,7 @@ class Hall:
         held, said = len(self.folder.kept()), self.service.fault()
         say(f"{clock()} The office has gone{': ' + said if said else ''}. journal.txt has "
             f"{count(held, 'entry', 'entries')}. Open it again: python3 series.py open "
-            f"{os.path.relpath(self.folder.path)}")
+            f"{shlex.quote(os.path.relpath(self.folder.path))}")
         return 1
 
     # Closing
@@ -171,6 +173,8 @@ class Hall:
             if self.service.is_over():
                 return self.crashed()
             say(f"{clock()} {trouble}. The office is stopped without its windows.")
+            with contextlib.suppress(Trouble):
+                self.save_last(self.service.link.sheet())
             self.service.stop()
         return self.closed()
 

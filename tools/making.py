@@ -2,6 +2,7 @@
 from __future__ import annotations
 
 import os
+import shlex
 import shutil
 from collections.abc import Callable
 
@@ -123,7 +124,7 @@ def new(folder: str) -> None:
     if os.path.abspath(given) != os.path.abspath(list_path):
         replace_whole(list_path, data)
     replace_whole(path, settings.text_of(values).encode())
-    say(f"Wrote {path}. Next: python3 series.py open {folder}")
+    say(f"Wrote {path}. Next: python3 series.py open {shlex.quote(folder)}")
 
 
 def asked_rules() -> dict[str, str]:

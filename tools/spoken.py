@@ -24,7 +24,7 @@ class NotSent(Exception):
 
 def with_digits(text: str, boats: list[str]) -> list[str]:
     """The boats that are meant by digits: those with this number, or else this end."""
-    if not text.isdigit():
+    if not text.isdecimal():
         return []
     exact = [boat for boat in boats if re.search(r"\d*$", boat)[0] == text]
     return exact or [boat for boat in boats if boat.endswith(text)]
@@ -77,7 +77,7 @@ def line_meant(typed: str, at: int | None, boats: list[str],
     if command not in SAILS or len(words) < 3:
         return " ".join(words)
     race, rest = rest[0], rest[1:]
-    if not race.isdigit():
+    if not race.isdecimal():
         raise NotSent(f"{race} is no race: the number of the race comes after {command}")
     last = [rest.pop()] if command in LAST and len(rest) > 1 else []
     sails = split_in_two(rest, boats) if SAILS[command] == 2 else (rest,)

@@ -4,6 +4,7 @@ from __future__ import annotations
 import errno
 import glob
 import os
+import re
 import socket
 
 import entries
@@ -41,8 +42,14 @@ def list_faults(folder: Folder) -> list[str]:
 
 def entries_logged(folder: Folder) -> int:
     """The most entries that the log has seen at an opening or closing."""
-    return max((int(entry.answer.split()[0]) for entry in folder.logged()
-                if entry.line in ("opened", "closed") and entry.answer[:1].isdigit()), default=0)
+    return max((entries_in_words(entry.answer) for entry in folder.logged()
+                if entry.line in ("opened", "closed")), default=0)
+
+
+def entries_in_words(text: str) -> int:
+    """How many entries a line of the log says, as `74 entries`."""
+    found = re.match(r"[0-9]{1,9} entr", text)
+    return int(found[0].split()[0]) if found else 0
 
 
 def lost_journal(folder: Folder) -> str:
@@ -102,7 +109,8 @@ def notes(folder: Folder) -> list[str]:
 
 def boats_left(folder: Folder) -> str:
     """Which boats of the entry list aren't entered; empty before the first opening."""
-    entered = {line.split()[4] for line in folder.kept() if line.split()[3:4] == ["ENTER"]}
+    entered = {sail for line in folder.kept() for sail in line.split()[4:5]
+               if line.split()[3].upper() == "ENTER"}
     left = [str(boat) for sail, boat in entries.read_if_there(folder.entries).items()
             if sail not in entered]
     if not entered or not left:
@@ -115,8 +123,8 @@ def shorter_journal(folder: Folder) -> str:
     """A journal with fewer entries than at its last closing: an older copy, or an edited one."""
     held, had = len(folder.kept()), 0
     for entry in folder.logged():
-        if entry.line == "closed" and entry.answer[:1].isdigit():
-            had = int(entry.answer.split()[0])
+        if entry.line == "closed":
+            had = entries_in_words(entry.answer)
     if not held or held >= had:
         return ""
     return (f"journal.txt has {count(held, 'entry', 'entries')}, but had {had} when the office was "

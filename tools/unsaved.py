@@ -1,6 +1,7 @@
 """What office.log has and a journal lacks after a crash: lines that were answered, but not saved."""
 from __future__ import annotations
 
+import re
 from dataclasses import dataclass, field
 
 from folder import Logged
@@ -19,7 +20,7 @@ class Unsaved:
 
     def follow(self, entry: Logged) -> None:
         """Reads one line of the log. What was saved at a closing isn't lost, nor is what came before."""
-        words = entry.answer.split()
+        found = re.match(r"OK ([0-9]{1,9})\b", entry.answer)
         if entry.line == "closed":
             self.answered.clear()
             self.unanswered.clear()
@@ -27,8 +28,8 @@ class Unsaved:
             self.unanswered.clear()
         elif entry.answer == UNANSWERED:
             self.unanswered.append(entry)
-        elif words[:1] == ["OK"] and words[1:2] and int(words[1]) > self.held:
-            self.answered[int(words[1])] = entry
+        elif found and int(found[1]) > self.held:
+            self.answered[int(found[1])] = entry
 
     def missing(self) -> list[int]:
         """The numbers below the last one whose lines aren't in the log."""

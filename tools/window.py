@@ -13,6 +13,7 @@ from desk import Desk
 from folder import Folder
 from office import NoSeat, Trouble
 from prompt import question, say, sentence
+from prompt import typed as asked
 from spoken import NotSent, line_meant
 from watcher import AGAIN, LOOK, News, Watcher
 from words import count
@@ -65,6 +66,14 @@ class Window:
                 say(f"Beware: {trouble}, that of {desk.folder.name}. The others go on.")
         self.log(desk, "came")
 
+    def may_leave(self) -> bool:
+        """Whether somebody leaves although places are kept, which only this window knows."""
+        kept = sum(len(desk.unread.all) for desk in self.desks)
+        if not kept:
+            return True
+        given = asked(f"   {count(kept, 'finisher')} without a sail (?) would be forgotten. Leave? [y/N] ")
+        return given is None or given.lower() in ("y", "yes")
+
     def leave(self) -> None:
         """Leaves all offices."""
         for desk in self.desks:
@@ -90,11 +99,11 @@ class Window:
         try:
             typed = self.watcher.ask(self.prompt())
             if typed.strip().lower() in ("quit", "exit"):
-                return False
+                return not self.may_leave()
             self.do_all(typed.splitlines())
         except EOFError:
             say("")
-            return False
+            return not self.may_leave()
         except KeyboardInterrupt:
             say("   Type quit to leave.")
         except News:

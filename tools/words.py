@@ -108,6 +108,10 @@ def start_fault(said: str, journal: str, entries: str) -> list[str]:
         return [f"Line {place} of {name} is refused: {refusal('NO ' + found[1])}. It is "
                 f"{line_of(journal, place)!r}.",
                 "Has somebody edited it? Compare it with the copies in kept/."]
+    if "regatta: input too long" in said:
+        return [f"{name} or {entries} is longer than 1,048,576 bytes."]
+    if "regatta: device fault" in said:
+        return [f"The program can't read {name} or {entries}, or can't make its socket in office/."]
     return [f"The program says: {said.strip() or 'nothing'}."]
 
 
