@@ -135,6 +135,23 @@ class Opening(helpers.Series):
         self.assertIn("Closed. journal.txt has 11 entries", said)
         self.assertEqual(status, 0)
 
+    def test_question_waits(self) -> None:
+        """The journal is kept while the office asks whether to close; Ctrl-C is no."""
+        window = self.open()
+        typist = self.client("cup", "--role", "finish")
+        asked = r"1 window is still open: finish since \d\d:\d\d\. Close the office\? \[y/N\] $"
+        for sail, entries in [("101", 8), ("7", 9)]:
+            window.press()
+            window.read(asked)
+            typist.say(f"finish 1 {sail}", r"OK \d .*\n> $")
+            helpers.until("the journal", lambda entries=entries: self.saved(entries))
+            window.press()
+            window.read("\n")
+        window.press()
+        window.read(asked)
+        os.kill(self.number(), signal.SIGKILL)
+        window.read("The office has gone. journal.txt has 9 entries.")
+
     def test_rules_changed(self) -> None:
         window = self.open()
         self.send(*LINES, "FINISH 2 NED12", "FINISH 2 GBR101", "SCORE 2", "FINISH 3 NED12",
@@ -254,6 +271,7 @@ class Opening(helpers.Series):
         said, status = window.rest()
         self.assertIn("still there after 10 seconds: somebody who isn't in office.log. The office is "
                       "stopped", said)
+        self.assertIn("TABLE 7 RACES\n1= FRA9 0.0\n", said)
         self.assertEqual(status, 0)
         link.close()
         self.assertTrue(self.saved(7))

@@ -3,14 +3,17 @@ from __future__ import annotations
 
 import contextlib
 import os
+import select
 import shlex
 import signal
+import sys
 import time
 
 import entries
 from folder import Folder, clock
 from keeper import Keeper
 from office import Sheet, Trouble, remove_socket
+from program import Program
 from prompt import Once, question, say
 from service import LEAVE, Service
 from survey import changes_of_rules, notes, rules_before, summary
@@ -145,11 +148,19 @@ class Hall:
         windows = list(self.folder.windows().values())
         if number != signal.SIGINT or not windows:
             return True
-        signal.pthread_sigmask(signal.SIG_UNBLOCK, STOPS)
-        agreed = question(f"{count(len(windows), 'window is', 'windows are')} still open: "
-                          f"{', '.join(windows)}. Close the office?")
-        signal.pthread_sigmask(signal.SIG_BLOCK, STOPS)
-        return agreed
+        return self.is_yes(f"{count(len(windows), 'window is', 'windows are')} still open: "
+                           f"{', '.join(windows)}. Close the office? [y/N] ")
+
+    def is_yes(self, text: str) -> bool:
+        """Whether somebody says yes; Ctrl-C is no. The journal is kept while the question waits."""
+        print(text, end="", flush=True)
+        while not select.select([sys.stdin], [], [], LOOK)[0]:
+            with contextlib.suppress(Trouble):
+                self.look()
+            if self.service.is_over() or signal.sigtimedwait({signal.SIGINT}, 0):
+                say("")
+                return False
+        return sys.stdin.readline().strip().lower() in ("y", "yes")
 
     def crashed(self) -> int:
         """Says that the program has ended by itself; the status."""
@@ -211,5 +222,6 @@ class Hall:
         except Trouble as trouble:
             copy = f". {trouble}"
         say(f"{clock()} Closed. journal.txt has {held}{copy}.")
-        say(self.service.table())
+        # A program that was stopped hasn't printed its table.
+        say(self.service.table() or Program(self.folder).table(self.folder.settings.options()))
         return 0

@@ -53,13 +53,17 @@ class Program:
         return start_fault(tried.stderr, folder.journal, folder.entries) if tried.returncode else []
 
     def standing(self, options: list[str], journal: str = "") -> Standing:
-        """The table that these rules give, of the series or of another journal."""
+        """The standing that these rules give, of the series or of another journal."""
+        return Standing.read(self.table(options, journal).splitlines())
+
+    def table(self, options: list[str], journal: str = "") -> str:
+        """The table that these rules give, as the program prints it."""
         start = ["--journal", journal] if journal else self.start()
         done = self.run("replay", *options, *start)
         if done.returncode:
             raise Trouble("\n".join(start_fault(done.stderr, journal or self.folder.journal,
                                                 self.folder.entries)).removesuffix("."))
-        return Standing.read(done.stdout.splitlines())
+        return done.stdout.rstrip()
 
 
 def serve_words(folder: Folder, sessions: int) -> list[str]:
