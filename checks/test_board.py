@@ -423,7 +423,7 @@ class Boards(helpers.Series):
                 (("cup", "./cup", "--page", "out"), "two of the folders are called cup, and each "
                  "needs a name of its own.\n"),
                 (("nowhere", "--page", "out"), "nowhere has no series.ini: it isn't a series. "
-                 "python3 series.py new nowhere makes one.\n")]:
+                 "python3 tools/series.py new nowhere makes one.\n")]:
             self.assertEqual(helpers.run("board.py", *words, cwd=self.here), (wanted, 1))
         self.assertIn("'cup' is no port", helpers.run("board.py", "--http", "cup", cwd=self.here)[0])
         self.write("REGATTA 2\n1 1 SCORER FINISH 1 A\n", "cup", "journal.txt")

@@ -219,8 +219,8 @@ Nothing of race 1 has to be taken away.
         self.assertEqual(status, 1)
         self.assertIn("> FINISH 1 GBR78\nNO 7   Refused: a boat that is named isn't entered. Nothing "
                       "has changed.\nStopped at line 4. The lines above it were taken; the 2 below "
-                      "weren't sent.\nCorrect line 4 and send the rest: client.py cup --role finish "
-                      "--from 4 < lines.txt\n", said)
+                      "weren't sent.\nCorrect line 4 and send the rest: python3 tools/client.py cup "
+                      "--role finish --from 4 < lines.txt\n", said)
         said, status = helpers.run("client.py", "cup", "--role", "finish", "--from", "5", lines=lines,
                                    cwd=self.here)
         self.assertIn("OK 11   4th in race 1", said)

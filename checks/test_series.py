@@ -57,7 +57,7 @@ class Opening(helpers.Series):
                              ("A5.3 apply .*] ", "y"), ("Scoring Penalty.*\\) ", "3"),
                              ("corrected time.*] ", ""), ("stick.*\\) ", "")])
         self.assertEqual(window.rest(), (
-            "Wrote dragon/series.ini. Next: python3 series.py open dragon\n", 0))
+            "Wrote dragon/series.ini. Next: python3 tools/series.py open dragon\n", 0))
         said, status = helpers.run("series.py", "check", "dragon", cwd=self.here)
         self.assertEqual((said, status), (
             "dragon can be opened: Winter: 7 boats, no races scored, 7 entries\n"
@@ -102,7 +102,7 @@ class Opening(helpers.Series):
         os.kill(self.number(), signal.SIGKILL)
         said, status = window.rest()
         self.assertRegex(said, TIME + r"The office has gone\. journal\.txt has 10 entries\. Open it "
-                         r"again: python3 series\.py open cup")
+                         r"again: python3 tools/series\.py open cup")
         self.assertEqual(status, 1)
         with open(os.path.join(self.here, "cup", "office.log"), "a") as file:
             file.write("2026-11-26T09:00:00+0000\t1\tAnn\t2\tFINISH\tFINISH 2 GBR7\tOK 11 3= 8.0\n"
@@ -332,7 +332,7 @@ class Faults(helpers.Series):
         self.write("[series]\ntitle = Cup\n[rules]\nexlude = 4\n", "cup", "series.ini")
         self.assertEqual(self.fault(), "series.ini, line 4: [rules] has no key 'exlude'. Did you mean "
                          "'exclude'?\n")
-        self.assertIn("isn't a series. python3 series.py new none makes one", self.fault("open", "none"))
+        self.assertIn("isn't a series. python3 tools/series.py new none makes one", self.fault("open", "none"))
 
     def test_program(self) -> None:
         for program, words in [("none", "The program isn't at"), ("entries.csv", "may not be run"),
