@@ -277,10 +277,13 @@ class Play:
             helpers.kill_office(os.path.join(self.folder, name))
 
 
-def play(fill: bool = False) -> str:
-    """The guide as it went."""
+def read() -> str:
     with open(GUIDE, encoding="utf-8") as file:
-        guide = file.read()
+        return file.read()
+
+
+def play(guide: str, fill: bool = False) -> str:
+    """A guide as it went."""
     with tempfile.TemporaryDirectory() as folder:
         os.symlink(helpers.PROGRAM, os.path.join(folder, "regatta"))
         os.symlink(helpers.TOOLS, os.path.join(folder, "tools"))
@@ -290,7 +293,7 @@ def play(fill: bool = False) -> str:
 def main() -> int:
     helpers.PROGRAM = os.path.realpath(sys.argv[1])
     try:
-        text = play(sys.argv[2:] == ["--fill"])
+        text = play(read(), sys.argv[2:] == ["--fill"])
     except Wrong as cause:
         print(cause)
         return 1

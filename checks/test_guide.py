@@ -20,11 +20,33 @@ def slug(heading: str) -> str:
 class Guide(unittest.TestCase):
     @classmethod
     def setUpClass(cls) -> None:
-        with open(guide.GUIDE, encoding="utf-8") as file:
-            cls.text = file.read()
+        cls.text = guide.read()
 
     def test_boxes(self) -> None:
-        guide.play()
+        guide.play(self.text)
+
+    def test_wrong_boxes(self) -> None:
+        """The play stops at what isn't so."""
+        files = "```file cup/entries.csv\nSail\nA\n```\n```file cup/series.ini\n[series]\ntitle = Cup\n```\n"
+        check = "$ python3 tools/series.py check cup"
+        good = ["cup can be opened: Cup: 1 boat, no races scored, 1 entry",
+                "Scores excluded: one from 2 races. RRS A5.2. Scoring Penalty 20%. By order of finishing."]
+        for box, lines, wrong in [
+                ("window a", [check, *good], ""),
+                ("window a", [check, good[0].replace("1 boat", "2 boats"), good[1]], "but what came is"),
+                ("window a", [check, good[0]], "but what came is"),
+                ("window a", [check, *good, "Good luck."], "but what came is"),
+                ("window a stays", [check, *good, "> quit"], "what ran here has ended"),
+                ("window a", ["$ python3 tools/series.py new fleet", "Title: B"], "nothing is typed at"),
+                ("window a", ["$ rm cup/series.ini"], "needs no other command"),
+                ("window a", good, "nothing is running in this window"),
+                ("sh", [check], "a box has to be a file or a window")]:
+            body = "\n".join(lines)
+            text = f"{files}```{box}\n{body}\n```\n"
+            if wrong:
+                self.assertRaisesRegex(guide.Wrong, wrong, guide.play, text)
+            else:
+                self.assertEqual(guide.play(text), text)
 
     def test_all_is_played(self) -> None:
         """No box is hidden from the player, and there are many."""
