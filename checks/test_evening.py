@@ -1,7 +1,6 @@
 """The stored evening: three clients at one office, and a fourth who finds no seat."""
 from __future__ import annotations
 
-import contextlib
 import os
 import unittest
 
