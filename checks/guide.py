@@ -250,7 +250,7 @@ class Play:
             office, window = map(int, file.read().split()[:2])
         if what == "freeze":
             self.wait_for_saved(folder)
-            os.kill(window, signal.SIGSTOP)
+            helpers.freeze(window)
             self.frozen.append(window)
             return
         os.kill(office, signal.SIGKILL)

@@ -51,6 +51,23 @@ def run(tool: str, *words: str, lines: str = "", cwd: str | None = None) -> tupl
     return done.stdout, done.returncode
 
 
+def states(number: int, leader: bool = False) -> set[str]:
+    """The states of a process's threads, or of its first: R runs, S waits, T is stopped."""
+    names = [str(number)] if leader else os.listdir(f"/proc/{number}/task")
+    found = set()
+    for name in names:
+        # A thread may have ended meanwhile.
+        with contextlib.suppress(OSError), open(f"/proc/{number}/task/{name}/stat", "rb") as file:
+            found.add(file.read().rpartition(b")")[2].split()[0].decode())
+    return found
+
+
+def freeze(number: int) -> None:
+    """Stops a process, and waits until all its threads have stopped."""
+    os.kill(number, signal.SIGSTOP)
+    until("a stopped process", lambda: states(number) == {"T"})
+
+
 class Terminal:
     """A terminal and the command that runs in it, as at a person's desk."""
 
@@ -103,6 +120,8 @@ class Terminal:
         return self.read(wanted)
 
     def press(self, key: str = "\x03") -> None:
+        """Presses a key once the tool waits: a signal just before it begins to would go unheard."""
+        until("a tool that waits", lambda: states(self.process.pid, leader=True) <= {"S", "Z"})
         os.write(self.master, key.encode())
 
     def rest(self) -> tuple[str, int]:

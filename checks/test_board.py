@@ -268,7 +268,7 @@ class Boards(helpers.Series):
         self.send(*RACE, name="one")
         window, _ = self.board("one", "two")
         number = int(self.text("one", "office", "pid").split()[0])
-        os.kill(number, signal.SIGSTOP)
+        helpers.freeze(number)
         try:
             window.read(r"one: the office hasn't answered for 5 seconds\. The page says so in red\.")
             before = self.now("two")["checked"]

@@ -281,7 +281,7 @@ Not sent: the office of cup has gone. Write 12 down.
         window = self.typist("scorer")
         window.say("enter den 16", r"\[y/N\] $")
         number = int(self.text("cup", "office", "pid").split()[0])
-        os.kill(number, signal.SIGSTOP)
+        helpers.freeze(number)
         window.type("y")
         window.read("No answer came to: ENTER DEN16\nIt may be in the journal, or not.\nBeware: the "
                     "office hasn't answered for 10 seconds. Waiting")
@@ -299,7 +299,7 @@ Not sent: the office of cup has gone. Write 12 down.
         self.open()
         window = self.typist()
         number = int(self.text("cup", "office", "pid").split()[0])
-        os.kill(number, signal.SIGSTOP)
+        helpers.freeze(number)
         window.type("finish 1 7")
         window.read("Not sent: finish 1 7\nBeware: the office hasn't answered for 10 seconds. Waiting")
         os.kill(number, signal.SIGCONT)
