@@ -49,12 +49,12 @@ asked_of_text text = ap (map line_of) (heard_of_text false text) ∙ heard_ask (
 -- ---- one byte more
 
 -- what comes after it
-behind_byte : (rules : RulesParts) (line bytes : List ℕ) (before : Point) (later : List ℕ)
+after_byte : (rules : RulesParts) (line bytes : List ℕ) (before : Point) (later : List ℕ)
     (after : Point) (byte : ℕ) (rest : List ℕ)
     → (w : WentOn rules line bytes before later after)
     → asked_from line ((bytes ++ byte ∷ []) ++ rest)
     ≡ w.lines ++ asked_from later (byte ∷ rest)
-behind_byte rules line bytes before later after byte rest w =
+after_byte rules line bytes before later after byte rest w =
     ap (asked_from line) (append_assoc bytes (byte ∷ []) rest) ∙ w.cut (byte ∷ rest)
 
 byte_more : (rules : RulesParts) (line bytes : List ℕ) (before : Point) (later : List ℕ)
@@ -64,7 +64,7 @@ byte_more : (rules : RulesParts) (line bytes : List ℕ) (before : Point) (later
 byte_more rules line bytes before later after byte is w = record {
   lines = w.lines;
   going = w.going;
-  cut = λ rest. behind_byte rules line bytes before later after byte rest w
+  cut = λ rest. after_byte rules line bytes before later after byte rest w
       ∙ ap (λ (more : List Asked). w.lines ++ more) (asked_byte later byte rest is);
   answered = w.answered;
 }
@@ -77,7 +77,7 @@ line_more : (rules : RulesParts) (line bytes : List ℕ) (before : Point) (later
 line_more rules line bytes before later between byte after is goes replied w = record {
   lines = w.lines ++ line_of later ∷ [];
   going = All-push GoesOn w.lines (line_of later) w.going goes;
-  cut = λ rest. behind_byte rules line bytes before later between byte rest w
+  cut = λ rest. after_byte rules line bytes before later between byte rest w
       ∙ ap (λ (more : List Asked). w.lines ++ more) (asked_end later byte rest is)
       ∙ sym (append_assoc w.lines (line_of later ∷ []) (asked_from [] rest));
   answered = are_more rules w.lines (line_of later) before between after w.answered replied;
@@ -131,10 +131,10 @@ line_ended Did rules line piece before later between i byte after within at is d
       lines = w.lines;
       going = w.going;
       last = line_of later;
-      behind = asked_from [] rest;
+      unanswered = asked_from [] rest;
       cut = ap (asked_from line) (sym (take-append-drop (i + 1) piece)
           ∙ ap (λ (front : List ℕ). front ++ rest) (front_more piece i byte within at))
-          ∙ behind_byte rules line (take i piece) before later between byte rest w
+          ∙ after_byte rules line (take i piece) before later between byte rest w
           ∙ ap (λ (more : List Asked). w.lines ++ more) (asked_end later byte rest is);
       between = between;
       answered = w.answered;
@@ -213,9 +213,9 @@ module _ (rules : RulesParts) (line bytes : List ℕ) (before : Point) (later : 
     lines = w.lines ++ v.lines;
     going = All-append GoesOn w.lines v.lines w.going v.going;
     last = v.last;
-    behind = v.behind;
+    unanswered = v.unanswered;
     cut = w.cut piece ∙ ap (λ (more : List Asked). w.lines ++ more) v.cut
-        ∙ sym (append_assoc w.lines v.lines (v.last ∷ v.behind));
+        ∙ sym (append_assoc w.lines v.lines (v.last ∷ v.unanswered));
     between = v.between;
     answered = are_both rules w.lines v.lines before now v.between front v.answered;
     did = v.did;

@@ -89,8 +89,8 @@ pub record EndedAt (Did : Asked → Point → Point → Type 0) (rules : RulesPa
   pub lines : List Asked
   pub going : All GoesOn lines
   pub last : Asked
-  pub behind : List Asked
-  pub cut : asked ≡ lines ++ last ∷ behind
+  pub unanswered : List Asked
+  pub cut : asked ≡ lines ++ last ∷ unanswered
   pub between : Point
   pub answered : AreReplied rules lines before between
   pub did : Did last between after

@@ -5,7 +5,7 @@ ghost use Rattle.std.specs.Io.KnownBytes.{IsAtEnd, Keeps};
 ghost use Rattle.regatta_terms.specs.Lines.{line_of};
 ghost use Rattle.regatta_talk.specs.Replies.{role_after};
 ghost use Rattle.regatta_tables.specs.declared.replies.TheConstants.{REPLY_ROOM};
-ghost use Rattle.regatta_desk.specs.Replies.{is_for_desk, is_for_pass, next_after};
+ghost use Rattle.regatta_desk.specs.Replies.{is_for_desk, next_after};
 ghost use Rattle.regatta_service.specs.Ends.{failed_reads_in, failures_in, failures_so_far};
 ghost use Rattle.regatta_service.specs.Lines.{Answers, CutOff, DeskAnswers, Replied};
 ghost use Rattle.regatta_service.specs.Lines.{is_replied};
@@ -46,15 +46,12 @@ pub enum End {
 /// The line, if the desk answers it.
 fn for_desk(asked: &Result<Line, LineFault>) -> Option<Line>
     ensures some { IfSome result (λ line.
-        (asked.now ≡ Ok line) × (is_for_desk line ≡ true)) }
-    ensures none { result ≡ None → is_for_pass asked.now ≡ true }
+        (asked.now ≡ Ok line) × (is_for_desk asked.now ≡ true)) }
+    ensures none { result ≡ None → is_for_desk asked.now ≡ false }
 {
     match asked {
-        Ok(line) => match line {
-            Line::Do(_) | Line::Rank(_) => Some(*line),
-            Line::SetRole(_) | Line::Show | Line::Quit => None,
-        },
-        Err(_) => None,
+        Ok(line @ (Line::Do(_) | Line::Rank(_))) => Some(*line),
+        Ok(Line::SetRole(_) | Line::Show | Line::Quit) | Err(_) => None,
     }
 }
 
@@ -89,7 +86,7 @@ impl<N: OfficeName, H: Wait + Drop, G: Gate> Talk<'_, N, H, G> {
     /// Nothing is done, and the result is false, if the desk's journal doesn't begin with the one
     /// that the pass has seen. No run has returned false; no clause says so.
     fn ask_desk<R: Wait>(&mut self, rt: &R, pass: &mut Pass<N>, line: Line) -> bool
-        requires for_desk { is_for_desk line ≡ true }
+        requires for_desk { is_for_desk (Ok line) ≡ true }
         requires room { vec_len self.old.reply + REPLY_ROOM ≤ vec_capacity self.old.reply }
         ensures answered { IsTrue result → DeskAnswers N.rules line self.old.role pass.old pass.new
             self.old.reply.items self.new.reply.items }
