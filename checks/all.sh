@@ -1,5 +1,5 @@
 #!/usr/bin/env bash
-# Tries a built program over the stored runs, and the tools over the program.
+# Tries a built program over the stored runs, the links of the pages, and the tools over the program.
 #   checks/all.sh PROGRAM
 # The last line is `N passed, M failed`, and the status is 1 if anything failed.
 set -uo pipefail
@@ -8,12 +8,20 @@ here=$(dirname "$(realpath "$0")")
 export PYTHONDONTWRITEBYTECODE=1
 passed=0 failed=0
 
-if printed=$("$here/../examples/check.sh" "$program" 2>&1); then
-    passed=1
-else
-    printf '%s\nfailed: the stored runs of examples/\n' "$printed"
-    failed=1
-fi
+# Counts a part that passes or fails as a whole: part NAME COMMAND...
+part() {
+    local name=$1 printed
+    shift
+    if printed=$("$@" 2>&1); then
+        passed=$((passed + 1))
+    else
+        printf '%s\nfailed: %s\n' "$printed" "$name"
+        failed=$((failed + 1))
+    fi
+}
+
+part 'the stored runs of examples/' "$here/../examples/check.sh" "$program"
+part 'the links of the pages' "$here/../bench/links.py"
 printed=$("$here/run.py" "$program" 2>&1)
 status=$?
 grep '^not tried: ' <<< "$printed"

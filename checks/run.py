@@ -13,6 +13,20 @@ import unittest
 HERE = os.path.dirname(os.path.abspath(__file__))
 
 
+class Result(unittest.TextTestResult):
+    """Counts the checks that passed. A check whose parts fail counts once, however many they are."""
+    passed = 0
+
+    def addSuccess(self, trial: unittest.TestCase) -> None:
+        super().addSuccess(trial)
+        self.passed += 1
+
+    def failed(self) -> set[str]:
+        """The checks that failed."""
+        wrong = [trial for trial, _ in self.failures + self.errors] + self.unexpectedSuccesses
+        return {getattr(trial, "test_case", trial).id() for trial in wrong}
+
+
 def main() -> int:
     if len(sys.argv) < 2 or not os.access(sys.argv[1], os.X_OK):
         sys.exit("usage: checks/run.py PROGRAM [NAME ...], with a program that can be run")
@@ -22,11 +36,11 @@ def main() -> int:
     sys.path.insert(0, HERE)
     loader = unittest.defaultTestLoader
     trials = loader.loadTestsFromNames(sys.argv[2:]) if sys.argv[2:] else loader.discover(HERE)
-    done = unittest.TextTestRunner(stream=sys.stdout, verbosity=2).run(trials)
-    failed = len(done.failures) + len(done.errors) + len(done.unexpectedSuccesses)
+    done = unittest.TextTestRunner(stream=sys.stdout, verbosity=2, resultclass=Result).run(trials)
+    failed = len(done.failed())
     for trial, why in done.skipped:
         print(f"not tried: {trial.id()}: {why}")
-    print(f"{done.testsRun - failed - len(done.skipped)} passed, {failed} failed")
+    print(f"{done.passed} passed, {failed} failed")
     return 1 if failed or not done.testsRun else 0
 
 

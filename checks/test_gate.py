@@ -84,20 +84,26 @@ class All(Scripts):
     def test_all(self) -> None:
         self.copy("all.sh")
         self.stand_in("examples/check.sh", ("as it was", 0))
+        self.stand_in("bench/links.py", ("9 links, 0 broken", 0))
         for said, passed, failed in ENDS:
             if not said[0].startswith("0 "):
                 with self.subTest(said=said):
                     self.stand_in("checks/run.py", said)
                     self.assertEqual(self.ran("checks/all.sh", "/bin/true"), (
-                        f"{1 + passed} passed, {failed} failed", 1 if failed else 0))
+                        f"{2 + passed} passed, {failed} failed", 1 if failed else 0))
         self.stand_in("checks/run.py", GOOD)
-        self.stand_in("examples/check.sh", ("1c1", 1))
-        self.assertEqual(self.ran("checks/all.sh", "/bin/true"), ("61 passed, 1 failed", 1))
+        for part in ("examples/check.sh", "bench/links.py"):
+            with self.subTest(part=part):
+                self.stand_in(part, ("1c1", 1))
+                self.assertEqual(self.ran("checks/all.sh", "/bin/true"), ("62 passed, 1 failed", 1))
+            self.stand_in(part, ("as it was", 0))
 
     def test_run(self) -> None:
-        """`run.py` counts what fails, and fails if there is nothing to try."""
+        """`run.py` counts each check once, and fails if there is nothing to try."""
         self.copy("run.py")
-        for text, end in [("self.fail()", ("0 passed, 1 failed", 1)), ("1 / 0", ("0 passed, 1 failed", 1)),
+        parts = "for at in range(3):\n            with self.subTest(at=at): self.fail()"
+        for text, end in [(parts, ("0 passed, 1 failed", 1)), ("self.skipTest('')", ("0 passed, 0 failed", 0)),
+                          ("self.fail()", ("0 passed, 1 failed", 1)), ("1 / 0", ("0 passed, 1 failed", 1)),
                           ("pass", ("1 passed, 0 failed", 0)), ("", ("0 passed, 0 failed", 1))]:
             body = f"class T(unittest.TestCase):\n    def test(self):\n        {text}\n" if text else ""
             with open(os.path.join(self.here, "checks", "test_one.py"), "w", encoding="ascii") as file:
