@@ -9,7 +9,7 @@ import subprocess
 import entries
 import settings
 from folder import Folder, Logged
-from office import Gone, Link, Sheet, Trouble
+from office import Link, Sheet, Trouble
 from record import Series, Standing, last_scored
 from settings import Settings
 from view import View

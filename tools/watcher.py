@@ -37,7 +37,7 @@ class Watcher(threading.Thread):
     def __init__(self, desks: list[Desk]) -> None:
         super().__init__(daemon=True)
         self.desks, self.half, self.not_before = desks, "", 0.0
-        self.at_prompt, self.begun, self.prompts = False, False, 0
+        self.at_prompt, self.begun, self.prompts, self.interrupted = False, False, 0, 0
         signal.signal(signal.SIGUSR1, self.interrupt)
 
     def ask(self, prompt: str) -> str:
@@ -64,7 +64,8 @@ class Watcher(threading.Thread):
         self.half = ""
 
     def interrupt(self, *_: object) -> None:
-        if self.at_prompt:
+        # The prompt that is meant may have been answered, and another come, before the signal.
+        if self.at_prompt and self.prompts == self.interrupted:
             self.at_prompt = False
             self.half = readline.get_line_buffer() if self.begun else self.half
             raise News
@@ -78,6 +79,7 @@ class Watcher(threading.Thread):
             is_news = self.at_prompt and (self.is_heard(0) or self.is_closing() or self.is_back())
             # What comes from an office is news only if nobody has sent a line meanwhile.
             if is_news and self.at_prompt and self.prompts == prompt:
+                self.interrupted = prompt
                 signal.pthread_kill(threading.main_thread().ident, signal.SIGUSR1)
                 time.sleep(LOOK)
 
