@@ -57,7 +57,7 @@ NO 4
         self.assertRegex(log, r"\t2\tFINISH\tFINISH 1 GBR101\tOK 9 1= 0.0\n")
 
     def test_sail_that_was_not_read(self) -> None:
-        """A finisher whose sail wasn't read keeps her place."""
+        """A finisher whose sail wasn't read keeps her place until she is known."""
         self.open()
         window = self.typist()
         self.play(window, """
@@ -79,28 +79,12 @@ Race 1 doesn't count yet: 5 finished, 1 coded, 1 not recorded, 7 boats
      4  IRL 5 Curlew
    OCS  GBR 33 Turnstone
   not recorded: FRA 9 Plover
-> ?
-   ?1 keeps her place.
-> ?
-   ?2 keeps her place.
-> score 1
-NO 4
-> ? 9
-   Not sent: more than one place is kept: type ?1 or ?2 and her sail.
-> ?3
-   Not sent: type ?3 and her sail, or ?3 none.
-> ?3 9
-   Not sent: no finisher ?3 is kept in race 1.
-> ?1 none
-   ?1 is dropped.
-> ? fra 9
-   FINISH 1 FRA9
-OK 14   6th in race 1; 6 finished, 1 coded, 0 to come of 7
 > at
 > ? 9
    Not sent: first say which race: at 3.
 > at 2
 > ?
+   ?1 keeps her place.
 > quit
    1 finisher without a sail (?) would be forgotten. Leave? [y/N]
 > n
@@ -108,6 +92,90 @@ OK 14   6th in race 1; 6 finished, 1 coded, 0 to come of 7
 """)
         window.type("quit")
         self.assertEqual(window.rest()[1], 0)
+
+    def test_numbers_that_stay(self) -> None:
+        """A number that was written on paper is that of one finisher for the whole race."""
+        self.open()
+        window = self.typist()
+        self.play(window, """
+> at 1
+> ?
+   ?1 keeps her place.
+> 101
+> ?
+   ?2 keeps her place.
+> ?
+   ?3 keeps her place.
+> 12
+OK 9   5th in race 1, with 3 unread finishers ahead
+> score 1
+NO 4
+> race 1
+    ?1  1st on the water, but her sail wasn't read
+    ?2  3rd on the water, but her sail wasn't read
+    ?3  4th on the water, but her sail wasn't read
+> ? 9
+   Not sent: more than one place is kept: type ?1, ?2 or ?3 and her sail.
+> ?1 7
+   BEFORE 1 GBR7 GBR101
+> ?1 9
+   Not sent: no finisher ?1 is kept in race 1, only ?2 and ?3.
+> ?4
+   Not sent: type ?4 and her sail, or ?4 none.
+> ?2 none
+   ?2 is dropped.
+> ?
+   ?4 keeps her place.
+> ?3 fra 9
+   BEFORE 1 FRA9 NED12
+OK 11   3rd in race 1
+> ? 33
+   FINISH 1 GBR33
+OK 12   5th in race 1
+""")
+
+    def test_places_of_another_window(self) -> None:
+        """The scorer is told of places that the finish keeps, and the finish of a race that has gone."""
+        self.open()
+        finish, scorer = self.typist(), self.typist("scorer")
+        self.play(finish, "> at 1\n> 101\n> ?\n> ?\n> 12\n> ?1 none\n> at 2\n> ?")
+        self.assertIn("\t?2 in race 1\tkept after 1 finisher\n", self.text("cup", "office.log"))
+        self.assertRegex(scorer.say("score 1", r"\[y/N\] $"), r"   \?2 \(kept by finish since \d\d:\d\d\): a "
+                         r"finisher without a sail would be left out\. Score it all the same\? \[y/N\] $")
+        scorer.say("n", "Not sent.\n> $")
+        scorer.say("abandon 1", r"Send them\? \[y/N\] $")
+        scorer.say("y", "all taken.\n> $")
+        self.assertIn("Still kept: ?1 (kept by finish", scorer.say("abandon 2", "none\n> $"))
+        said = finish.say("race 1", "2> $")
+        self.assertIn("   The scorer has taken race 1 away: ?2 is dropped.\nRace 1 doesn't count yet: 0 "
+                      "finished", said)
+        finish.say("?", r"   \?2 keeps her place")
+        finish.say("?1 none", r"   \?1 is dropped")
+        self.play(scorer, "> finish 1 7\n> finish 1 9\n> score 1\nRace 1 is to count: 2 finished")
+        self.assertNotIn("without a sail", scorer.say("n", "> $"))
+
+    def test_numbers_of_boats(self) -> None:
+        """A whole number is hers if one boat has it; other sails that end so are named."""
+        self.make("many", entries="Sail,Boat\nSWE 12,Iris\nNED 112,Windhover\nGBR 1042,Osprey\n"
+                  "GBR 42,Kestrel\nFRA 42,Plover\nIRL 342,Dunlin\n")
+        self.open("many")
+        window = self.client("many", "--role", "finish")
+        self.play(window, """
+> at 1
+> 12
+   12 is SWE 12 Iris; NED 112 Windhover ends so too
+OK 7   1st in race 1
+> 42
+   Not sent: 42 may be GBR 42 Kestrel or FRA 42 Plover: type more of her sail.
+> 1042
+   1042 is GBR 1042 Osprey
+> 2
+   Not sent: 2 may be SWE 12 Iris, NED 112 Windhover, GBR 1042 Osprey, GBR 42 Kestrel, FRA 42 Plover or
+> before 1 342 gbr 1042
+   342 is IRL 342 Dunlin
+OK 9   2nd in race 1
+""")
+        self.assertNotIn(" is ", window.say("gbr 42", "OK 10 "))
 
     def test_questions(self) -> None:
         self.make("five", absent="a53")
@@ -135,7 +203,7 @@ OK 12   3rd in race 1
    >>> RACE 1 COUNTS: THE RESULTS HAVE CHANGED.
        GBR 33 Turnstone: 3rd (tied) to 3rd, net 8.0 to 3.0 (race 1: 8.0/DNC to 3.0)
 > enter den 16
-   DEN16 isn't on the entry list. Enter DEN16? No line takes her out again. [y/N]
+   DEN16 isn't on the entry list. Enter DEN16? Only series.py remove takes her out again. [y/N]
 > n
    Not sent.
 > mark 1 7 dnf
@@ -180,7 +248,7 @@ OK 11   DNF and redress ALL in race 2
         scorer = self.typist("scorer")
         finish = self.typist()
         finish.say("finish 1 101", "OK 8 .*\n> $")
-        self.assertIn("Race 1 doesn't count yet: 1 finished, 0 coded, 6 not recorded, 7 boats\n     1  "
+        self.assertIn("Race 1 is to count: 1 finished, 0 coded, 6 not recorded, 7 boats\n     1  "
                       "GBR 101 Kestrel\n", scorer.say("score 1", r"with 6 boats as DNC\? \[y/N\] $"))
         scorer.say("y", "OK 9   race 1 counts\n> $")
         finish.say("finish 1 7", r"RACE 1 COUNTS ALREADY\. Is this a correction\? \[y/N\] $")

@@ -8,8 +8,9 @@ from spoken import FINISHING, MAY
 from words import count, joined
 
 
-def questions(book: Book, role: str, line: str, unread: int, corrected: set[int]) -> list[str]:
-    """What is asked before a line. In races that were `corrected` a finish isn't asked again."""
+def questions(book: Book, role: str, line: str, unread: list[str], corrected: set[int]) -> list[str]:
+    """What is asked before a line. `unread` are the finishers without a sail of a race that is to
+    count; in races that were `corrected` a finish isn't asked again."""
     command, *rest = line.split()
     if command not in MAY[role] or not rest:
         # The office refuses it, or it is a question itself.
@@ -38,17 +39,18 @@ def before_entry(book: Book, sail: str) -> str:
                  f"{joined([book.called(boat) for boat in close])}.")
     else:
         known = f"{sail} isn't on the entry list."
-    return f"{known} Enter {sail}? No line takes her out again."
+    return f"{known} Enter {sail}? Only series.py remove takes her out again."
 
 
-def before_score(book: Book, race: Race, unread: int) -> list[str]:
+def before_score(book: Book, race: Race, unread: list[str]) -> list[str]:
     """What is odd in a race that is to count."""
     missing = race.missing(book.boats)
     penalised = [sail for sail in missing if race.penalties.get(sail)]
     come = ", and under RRS A5.3 as not having come" if book.is_a53 else ""
+    who = "a finisher" if len(unread) == 1 else "finishers"
+    left = f"{joined(unread)}: {who} without a sail would be left out." if unread else ""
     asked = {
-        f"{count(unread, 'finisher')} without a sail (?) would be left out. Score it all the same?":
-            unread,
+        f"{left} Score it all the same?": unread,
         "Only boats with a code are in the finishing order. Score it all the same?":
             race.order and not race.places(),
         f"{book.all_called(penalised)}: a penalty, but no place and no code. Scored DNC{come}. Is "

@@ -2,6 +2,7 @@
 says what each has done."""
 from __future__ import annotations
 
+import os
 from collections.abc import Callable
 
 from asking import questions
@@ -10,9 +11,9 @@ from folder import Folder
 from manual import help_lines
 from office import Link, Trouble
 from record import Plan, Race, plan_of_abandoning
-from spoken import FINISHING, MAY, NotSent, boat_meant, line_meant
+from spoken import FINISHING, MAY, NotSent, boat_meant, digits_of, line_meant
 from telling import answer_line, change_lines, outcome, plan_lines, race_lines, standing_lines
-from unread import Waiting
+from unread import GONE, KEPT, Unread, Waiting, kept_by_window
 from unsaved import UNANSWERED
 from words import count, joined, refusal
 
@@ -52,6 +53,7 @@ class Desk:
         """Reads journal and table as they are now."""
         assert self.link
         self.book.read(self.link.sheet())
+        self.drop_taken_away()
 
     def say_all(self, lines: list[str]) -> None:
         for line in lines:
@@ -101,17 +103,18 @@ class Desk:
                 return [*self.book.sheet.journal, *self.book.sheet.table]
         return None
 
-    def shown_race(self, race: Race) -> list[str]:
-        return race_lines(self.book, race, len(self.unread.of(race.number)))
+    def shown_race(self, race: Race, is_to_count: bool = False) -> list[str]:
+        return race_lines(self.book, race, self.unread.places(race), is_to_count)
 
     def line(self, typed: str) -> str:
         """The program's line. Who typed digits sees which boat was meant."""
         line = line_meant(typed, self.at, self.book.boats, self.book.called)
-        plain = "".join(typed.upper().split())
         for sail in line.split()[1:]:
-            if sail in self.book.boats and sail not in plain:
-                digits = [part for part in typed.split() if sail.endswith(part)]
-                self.say(f"   {max(digits, key=len, default=sail)} is {self.book.called(sail)}")
+            if digits := digits_of(sail, typed, self.book.boats):
+                others = [boat for boat in self.book.boats if boat.endswith(digits) and boat != sail]
+                more = (f"; {joined(list(map(self.book.called, others)))} "
+                        f"{'ends' if len(others) == 1 else 'end'} so too" if others else "")
+                self.say(f"   {digits} is {self.book.called(sail)}{more}")
         return line
 
     # What is sent
@@ -138,9 +141,10 @@ class Desk:
         """Whether a line may be sent: what has to be asked is answered by yes."""
         command, *rest = line.split()
         race = self.race_of(line)
+        unread: list[str] = []
         if command == "SCORE" and command in MAY[self.role] and race and not race.counts:
-            self.say_all(self.shown_race(race))
-        unread = len(self.unread.of(race.number)) if race else 0
+            self.say_all(self.shown_race(race, True))
+            unread = self.unread.marks(race.number) + self.kept_elsewhere(race.number)
         asked = questions(self.book, self.role, line, unread, self.corrected)
         if not all(self.ask(f"   {text}") for text in asked):
             return False
@@ -196,8 +200,10 @@ class Desk:
             raise NotSent(f"abandon {race.number} needs {joined(barred)}, which the "
                           f"{self.role.lower()} doesn't send: let the scorer type it")
         if not plan.lines:
-            self.unread = self.unread.without_race(race.number)
+            self.drop_race(race.number)
             self.say(f"Nothing of race {race.number} has to be taken away.")
+            self.say_all([f"   Still kept: {mark}. That window drops her by: {mark.split()[0]} none"
+                          for mark in self.kept_elsewhere(race.number)])
             return True
         self.say_all(plan_lines(self.book, race, plan))
         if not self.ask("   Send them?"):
@@ -206,7 +212,7 @@ class Desk:
         before, length = self.book.standing, len(self.book.sheet.journal)
         if not self.is_sent(race, plan):
             return False
-        self.unread = self.unread.without_race(race.number)
+        self.drop_race(race.number)
         self.say(f"Race {race.number} is taken away: {count(len(plan.lines), 'line')}, all taken.")
         if before.races and before.races == self.book.standing.races:
             mixed = len(self.book.sheet.journal) != length + len(plan.lines)
@@ -240,25 +246,24 @@ class Desk:
             return self.keep_place(race)
         if not sail:
             raise NotSent(f"type {mark} and her sail, or {mark} none")
-        if mark == "?" and len(self.unread.of(race.number)) > 1:
-            raise NotSent("more than one place is kept: type ?1 or ?2 and her sail")
-        return self.send_known(race, int(mark[1:]) if mark[1:].isdecimal() else 1, sail)
+        return self.send_known(race, self.unread.one(race.number, mark), sail)
 
     def keep_place(self, race: Race) -> bool:
         """Keeps the place of a finisher at the end of the order as it is now."""
-        self.unread = self.unread.added(race)
-        number, finished = len(self.unread.of(race.number)), sum(map(len, race.order))
-        self.log(f"? after {finished} in race {race.number}", "kept in the window")
-        self.say(f"   ?{number} keeps her place. Once she is known, type: ?{number} and her sail (or "
-                 "none)")
+        self.unread = self.unread.added(race, len(self.book.sheet.journal))
+        meant, finished = self.unread.all[-1], sum(map(len, race.order))
+        self.note_unread(meant, f"{KEPT} after {count(finished, 'finisher')}")
+        self.say(f"   {meant.mark} keeps her place. Once she is known, type: {meant.mark} and her sail "
+                 "(or none)")
         return True
 
-    def send_known(self, race: Race, number: int, words: list[str]) -> bool:
+    def send_known(self, race: Race, meant: Unread, words: list[str]) -> bool:
         """Sends the sail of a finisher who is known now, in the place that was kept."""
-        meant, waiting = self.unread.one(race.number, number), self.unread
+        waiting = self.unread
         if words == ["none"]:
             self.unread = waiting.without(meant)
-            self.say(f"   ?{number} is dropped.")
+            self.note_unread(meant, GONE)
+            self.say(f"   {meant.mark} is dropped.")
             return True
         sail = boat_meant(words, self.book.boats, self.book.called)
         line = meant.line(sail, race)
@@ -267,5 +272,32 @@ class Desk:
         try:
             return self.send(line)
         finally:
-            if not any(sail in group for group in self.book.race(str(race.number)).order):
+            if any(sail in group for group in self.book.race(str(race.number)).order):
+                self.note_unread(meant, GONE)
+            else:
                 self.unread = waiting
+
+    def note_unread(self, unread: Unread, what: str) -> None:
+        """Notes in the log what becomes of a place, so that other windows know of it."""
+        self.log(f"{unread.mark} in race {unread.race}", what)
+
+    def drop_race(self, race: int) -> None:
+        """Keeps no place of a race that was taken away."""
+        dropped, self.unread = self.unread.of(race), self.unread.without_race(race)
+        for unread in dropped:
+            self.note_unread(unread, GONE)
+
+    def drop_taken_away(self) -> None:
+        """Drops the places of races that a scorer has taken away in another window, and says so."""
+        for race in sorted({unread.race for unread in self.unread.all}):
+            marks, first = self.unread.marks(race), self.unread.of(race)[0]
+            if first.is_taken_away(self.book.sheet.journal, set(self.sent)):
+                self.drop_race(race)
+                self.say(f"   The scorer has taken race {race} away: {joined(marks)} "
+                         f"{'is' if len(marks) == 1 else 'are'} dropped.")
+
+    def kept_elsewhere(self, race: int) -> list[str]:
+        """What other windows that are open keep of a race."""
+        kept, windows = kept_by_window(self.folder.logged(), race), self.folder.windows()
+        return [f"{mark} (kept by {windows[window]})" for window, marks in kept.items()
+                if window in windows and window != str(os.getpid()) for mark in marks]

@@ -23,11 +23,22 @@ class NotSent(Exception):
 
 
 def with_digits(text: str, boats: list[str]) -> list[str]:
-    """The boats that are meant by digits: those with this number, or else this end."""
+    """The boats that are meant by digits: those with this whole number, or else this end. So 12 is
+    SWE 12 although NED 112 ends so too."""
     if not text.isdecimal():
         return []
     exact = [boat for boat in boats if re.search(r"\d*$", boat)[0] == text]
     return exact or [boat for boat in boats if boat.endswith(text)]
+
+
+def digits_of(sail: str, typed: str, boats: list[str]) -> str:
+    """The digits by which a boat was typed; empty if her whole sail was, or none is a boat's."""
+    words = typed.upper().split()
+    parts = {"".join(words[start:end]) for start in range(len(words)) for end in range(len(words) + 1)}
+    if sail not in boats or sail in parts and not sail.isdecimal():
+        return ""
+    return max((word for word in words if word.isdecimal() and sail.endswith(word)), key=len,
+               default="")
 
 
 def boats_meant(words: list[str], boats: list[str]) -> list[str]:

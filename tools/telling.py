@@ -60,18 +60,19 @@ def change_lines(book: Book, before: Standing, race: Race | None, mixed: bool) -
             *(f"       {moved(change, book.called(change.after.sail))}" for change in found)]
 
 
-def race_lines(book: Book, race: Race, unread: int) -> list[str]:
-    """A race as it is recorded: the order, who holds what, and who is missing."""
+def race_lines(book: Book, race: Race, unread: dict[str, str], is_to_count: bool = False) -> list[str]:
+    """A race as it is recorded: the order, who holds what, and who is missing. `unread` are the places
+    of finishers whose sails weren't read."""
     missing = race.missing(book.boats)
-    state = "counts" if race.counts else "doesn't count yet"
+    state = "counts" if race.counts else "is to count" if is_to_count else "doesn't count yet"
     said = [f"Race {race.number} {state}: {len(race.places())} finished, {len(race.codes)} coded, "
             f"{len(missing)} not recorded, {count(len(book.boats), 'boat')}"]
     said += [f"  {str(place) + '=' * tied:>4}  {book.called(sail)}{beside_code(race, sail)}"
              for sail, (place, tied) in race.places().items()]
     said += [f"   {code}  {book.called(sail)}{beside_code(race, sail)}"
              for sail, code in race.codes.items()]
-    if unread:
-        said.append(f"     ?  {count(unread, 'finisher')} whose sail wasn't read")
+    said += [f"  {mark:>4}  {place} on the water, but her sail wasn't read"
+             for mark, place in unread.items()]
     if missing:
         said.append(f"  {'DNC' if race.counts else 'not recorded'}: "
                     + ", ".join(book.called(sail) + beside_code(race, sail, " ") for sail in missing))
