@@ -65,6 +65,28 @@ class Opening(helpers.Series):
             "points. By order of finishing.\n", 0))
         self.assertEqual(helpers.run("series.py", "new", "dragon", cwd=self.here)[1], 1)
 
+    def test_new_second_chance(self) -> None:
+        """A name that isn't there, a list with a fault and a missing stick cost no earlier answer."""
+        self.write(helpers.ENTRIES.replace("NED 12", "NED/12"), "list.csv")
+        window = self.window("series.py", "new", "dragon")
+        self.answer(window, [("Title: ", "Winter"), ("Class .*: ", ""), ("Club .*: ", ""),
+                             (r"Entry list \[dragon/entries.csv\]: ", "lst.csv"),
+                             (r"lst\.csv isn't there\. Type the name of the list, or make it now\. "
+                              r"Ctrl-C ends this\.\nEntry list \[dragon/entries.csv\]: ", "list.csv"),
+                             (r"slash(.|\n)*Look again\? \[Y/n\] ", None)])
+        self.write(helpers.ENTRIES, "list.csv")
+        window.type("")
+        self.answer(window, [(r"Entry list \[list\.csv\]: ", ""), ("7 boats(.|\n)*Which\\? .*", "1"),
+                             ("A5.3 apply .*] ", ""), ("Scoring Penalty.*\\) ", ""),
+                             ("corrected time.*] ", ""), ("stick.*\\) ", "stik"),
+                             (r"/stik isn't there\. Take it all the same\? \[y/N\] ", ""),
+                             ("stick.*\\) ", "stick"), (r"\[y/N\] ", "y")])
+        self.assertEqual(window.rest(), (
+            "Copied list.csv to dragon/entries.csv: from now on change that one.\n"
+            "Wrote dragon/series.ini. Next: python3 tools/series.py open dragon\n", 0))
+        self.assertIn(f"copy = {self.here}/stick\n", self.text("dragon", "series.ini"))
+        self.assertEqual(self.text("dragon", "entries.csv"), helpers.ENTRIES)
+
     def test_new_stopped(self) -> None:
         """Ctrl-C at a question writes nothing."""
         self.write(helpers.ENTRIES, "list.csv")
@@ -253,9 +275,14 @@ class Opening(helpers.Series):
         self.make("copied", copy=os.path.join(self.here, "stick"))
         window = self.open("copied")
         self.assertTrue(self.text("stick", "copied-journal.txt").startswith("1 1 SCORER ENTER GBR101"))
+        said = helpers.run("series.py", "check", "copied", cwd=self.here)[0]
+        self.assertNotIn("No second copy", said)
         os.rename(os.path.join(self.here, "stick"), os.path.join(self.here, "gone"))
+        said, status = helpers.run("series.py", "check", "copied", cwd=self.here)
+        self.assertIn(f"No second copy: {self.here}/stick isn't there.\n", said)
+        self.assertEqual(status, 0)
         self.send(*LINES, name="copied")
-        window.read(TIME + "No second copy: .*No such file or directory")
+        window.read(TIME + "No second copy: .*/stick isn't there\\.")
         os.rename(os.path.join(self.here, "gone"), os.path.join(self.here, "stick"))
         self.send("FINISH 2 GBR7", name="copied")
         helpers.until("the copy", lambda: self.text("stick", "copied-journal.txt").count("\n") == 11)

@@ -27,10 +27,11 @@ class Keeper:
         text = text_of(sheet)
         save_to(self.folder.journal, text)
         self.saved = len(sheet.journal)
-        self.trouble = ""
+        self.trouble = copy_fault(self.folder)
+        if self.trouble or not self.copy:
+            return
         try:
-            if self.copy:
-                save_to(self.copy, text)
+            save_to(self.copy, text)
         except Trouble as trouble:
             self.trouble = str(trouble)
 
@@ -69,6 +70,12 @@ def copy_of(folder: Folder) -> str:
     """The file of the copy on a second disk; empty if the settings name none."""
     copy = folder.settings.copy
     return os.path.join(folder.file(copy), f"{folder.name}-journal.txt") if copy else ""
+
+
+def copy_fault(folder: Folder) -> str:
+    """Why the second folder can't take a copy; empty if it is there, or none is named."""
+    copy = folder.settings.copy
+    return f"{folder.file(copy)} isn't there" if copy and not os.path.isdir(folder.file(copy)) else ""
 
 
 def save_to(path: str, text: str) -> None:

@@ -70,20 +70,22 @@ def asked_scp() -> str:
 
 
 def right_list(default: str) -> tuple[str, bytes]:
-    """An entry list that the program takes: its path and what it holds."""
+    """An entry list that the program takes: its path and what it holds. A list with a fault is the
+    default of the next question."""
     while True:
         given = asked(f"Entry list [{default}]: ") or default
         try:
+            mended_list(given)
             data = entries.bytes_of(given)
         except Trouble as trouble:
-            raise Trouble(f"{trouble}. Make the list first. Nothing was written") from None
-        if mended_list(given):
-            data = entries.bytes_of(given)
+            say(f"   {trouble}. Type the name of the list, or make it now. Ctrl-C ends this.")
+            continue
         if not (wrong := entries.problems(data, given)):
             return given, data
         say("\n".join(wrong))
         if not question("Is it put right? Look again?", True):
             raise Trouble("the entry list isn't right. Nothing was written")
+        default = given
 
 
 def mended_list(path: str) -> bool:
@@ -123,6 +125,7 @@ def new(folder: str) -> None:
     os.makedirs(folder, exist_ok=True)
     if os.path.abspath(given) != os.path.abspath(list_path):
         replace_whole(list_path, data)
+        say(f"Copied {given} to {list_path}: from now on change that one.")
     replace_whole(path, settings.text_of(values).encode())
     say(f"Wrote {path}. Next: python3 tools/series.py open {shlex.quote(folder)}")
 
@@ -134,6 +137,15 @@ def asked_rules() -> dict[str, str]:
     values["absent"] = "a53" if come else "a52"
     values["scp"] = asked_scp()
     values["handicap"] = "yes" if is_so("Places by corrected time (RRS A3)?") else "no"
-    copy = asked("A second folder for the journal, on a stick? (Enter: none) ")
-    values["copy"] = os.path.abspath(copy) if copy else ""
+    values["copy"] = asked_copy()
     return values
+
+
+def asked_copy() -> str:
+    """The second folder for the journal; empty for none. One that isn't there may be on a stick that
+    isn't in yet, or misspelt."""
+    while copy := asked("A second folder for the journal, on a stick? (Enter: none) "):
+        path = os.path.abspath(copy)
+        if os.path.isdir(path) or is_so(f"   {path} isn't there. Take it all the same?"):
+            return path
+    return ""

@@ -21,7 +21,7 @@ import sys
 import settings
 from folder import Folder, replace_whole
 from hall import Hall
-from keeper import fullest_copy
+from keeper import copy_fault, fullest_copy
 from making import mended_list, new
 from office import Trouble
 from prompt import question, say, sentence
@@ -32,8 +32,8 @@ from survey import disk_fault, faults, lost_journal, notes, summary
 def check(path: str) -> int:
     """Says all that would keep a series from being opened; the status."""
     folder = Folder(path)
-    wrong = faults(folder)
-    for text in wrong + notes(folder):
+    wrong, missing = faults(folder), copy_fault(folder)
+    for text in wrong + notes(folder) + [f"No second copy: {missing}."] * bool(missing):
         say(text)
     if not wrong:
         say(f"{path} can be opened: {summary(folder)}\n{folder.settings.in_words()}")
