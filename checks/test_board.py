@@ -396,7 +396,8 @@ class Boards(helpers.Series):
                                    cwd=self.here)
         self.assertEqual((said, status), (
             "cup        7 boats, 1 race, provisional: from journal.txt, no office is open\n"
-            "Folk boat  7 boats, no races, provisional: from journal.txt, no office is open\n", 0))
+            "Folk boat  7 boats, no races, provisional: from journal.txt, no office is open\n"
+            "Pages are in  out\n", 0))
         found = sorted(os.path.relpath(os.path.join(at, name), os.path.join(self.here, "out"))
                        for at, _, names in os.walk(os.path.join(self.here, "out"))
                        for name in names)

@@ -32,8 +32,9 @@ TICK = 0.5
 class Shown:
     """The series that are shown, where they are shown, and what was said of them last."""
 
-    def __init__(self, sources: list[Source], files: list[Files], board: Board | None) -> None:
-        self.sources, self.files, self.board = sources, files, board
+    def __init__(self, sources: list[Source], files: list[Files], board: Board | None,
+                 is_once: bool = False) -> None:
+        self.sources, self.files, self.board, self.is_once = sources, files, board, is_once
         self.site = Site(sources)
         self.width = max(len(source.name) for source in sources)
         self.said: dict[str, str] = {}
@@ -50,7 +51,8 @@ class Shown:
         troubles = [trouble_of(source) for source in due]
         well = self.publish() and not any(troubles)
         for source, trouble in zip(due, troubles):
-            self.tell(source.folder.name, said_of(source, trouble, self.width, bool(stamp)), stamp)
+            said = said_of(source, trouble, self.width, bool(stamp), self.is_once)
+            self.tell(source.folder.name, said, stamp)
             for about, text in source.notes.items():
                 self.tell(f"{source.folder.name} {about}", text and
                           f"{source.name}: {sentence(text)}", stamp)
@@ -93,15 +95,16 @@ def trouble_of(source: Source) -> str:
     return ""
 
 
-def said_of(source: Source, trouble: str, width: int, is_later: bool) -> str:
-    """What is shown of a series, and from where."""
+def said_of(source: Source, trouble: str, width: int, is_later: bool, is_once: bool) -> str:
+    """What is shown of a series, from where and how often."""
     view = source.view
     name = f"{source.name}: " if is_later else f"{source.name:<{width}}  "
     if trouble:
         red = view is not None and view.settings.state == "provisional"
         after = " The page says so in red." if red else "" if view else " There is no page yet."
         return f"{name}{trouble}{after}"
-    where = {"open": f"from the office, every {count(source.settings.every, 'second')}",
+    often = "once" if is_once else f"every {count(source.settings.every, 'second')}"
+    where = {"open": f"from the office, {often}",
              "journal": "from journal.txt, no office is open"}[source.office]
     if is_later:
         return f"{name}{where}."
@@ -168,16 +171,16 @@ def show(asked: argparse.Namespace) -> int:
     board = None if asked.http is None else Board()
     number = asked.http or sources[0].settings.port
     server = Server(("0.0.0.0", number), board) if board is not None else None
-    shown = Shown(sources, files, board)
+    shown = Shown(sources, files, board, asked.once)
     try:
         well = shown.look(sources)
-        if asked.once:
-            return 0 if well else 1
         if server:
             server.start()
             say_address(number)
-        for place in files:
+        for place in files if well or not asked.once else []:
             say(f"Pages are in  {place.folder}")
+        if asked.once:
+            return 0 if well else 1
         while True:
             time.sleep(TICK)
             shown.round()

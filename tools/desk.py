@@ -2,15 +2,18 @@
 says what each has done."""
 from __future__ import annotations
 
+import contextlib
 import os
+import shlex
 from collections.abc import Callable
 
+import settings
 from asking import questions
 from book import Book
 from folder import Folder
 from manual import help_lines
 from office import Link, Trouble
-from record import Plan, Race, plan_of_abandoning
+from record import Plan, Race, Standing, plan_of_abandoning
 from spoken import FINISHING, MAY, NotSent, boat_meant, digits_of, line_meant
 from telling import answer_line, change_lines, outcome, plan_lines, race_lines, standing_lines
 from unread import GONE, KEPT, Unread, Waiting, kept_by_window
@@ -135,7 +138,20 @@ class Desk:
         self.say(f"OK {number}   {self.prefix}{outcome(self.book, line, self.unread)}")
         if not line.startswith("SCORE ") and (race is None or race.counts):
             self.say_all(change_lines(self.book, before, race, number != length + 1))
+        self.say_declared(before)
         return True
+
+    def say_declared(self, before: Standing) -> None:
+        """Says that results which have changed were declared final or amended, if they were."""
+        if before == self.book.standing:
+            return
+        # The notice may have been written since this window came.
+        with contextlib.suppress(Trouble):
+            state = settings.read(self.folder.path).state
+            if state != "provisional":
+                path = shlex.quote(os.path.relpath(self.folder.path))
+                self.say(f"       The results were declared {state}. Next: python3 tools/series.py "
+                         f'amended {path} "the reason"')
 
     def is_meant(self, line: str) -> bool:
         """Whether a line may be sent: what has to be asked is answered by yes."""
@@ -217,6 +233,7 @@ class Desk:
         if before.races and before.races == self.book.standing.races:
             mixed = len(self.book.sheet.journal) != length + len(plan.lines)
             self.say_all(change_lines(self.book, before, None, mixed))
+        self.say_declared(before)
         return True
 
     def is_sent(self, race: Race, plan: Plan) -> bool:

@@ -20,6 +20,7 @@ LINES = {
 WINDOW = {
     "at 3": "from here on a bare sail is a finish in race 3",
     "?": "after at: a finisher whose sail wasn't read keeps her place",
+    "?1 sail": "she is known now; or ?1 none",
     "race 3": "the order of race 3, the codes, and who is missing",
     "abandon 3": "takes race 3 away, all but ZFP, BFD and the jury's decisions",
     "standing": "rank and net points",
@@ -34,6 +35,6 @@ def help_lines(role: str) -> list[str]:
     """What somebody in this role may type."""
     known = {command: text for command, text in LINES.items() if command.split()[0] in MAY[role]}
     known |= {command: text for command, text in WINDOW.items()
-              if command.split()[0] != "abandon" or role == "SCORER"}
+              if command.split()[0] != "abandon" or role != "JURY"}
     return [f"The lines of the {role.lower()} (small letters will do):",
             *(f"   {command:<26}{text}" for command, text in known.items())]

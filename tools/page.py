@@ -110,9 +110,15 @@ def state(view: View) -> str:
             f"{esc(view.when(view.changed))}</time></p></div>")
 
 
+def since(view: View) -> str:
+    """That the results aren't those that were declared final or amended."""
+    return f"The results have changed since they were declared {view.settings.state}."
+
+
 def head(view: View, names: Sequence[Named], above: str, title: str, facts: list[str]) -> str:
     reason = view.settings.reason
     noted = f'<p class="reason {view.settings.state}">{esc(reason)}</p>' if reason else ""
+    noted += f'<p class="reason provisional">{since(view)}</p>' if view.is_changed_since else ""
     small = f"<small>{esc(above)}</small>" if above else ""
     items = "".join(f"<li>{fact}</li>" if "<b>RRS" not in fact and "places by" not in fact
                     else f'<li class="aside">{fact}</li>' for fact in facts)
@@ -186,6 +192,18 @@ date: reload it to be sure.</p></noscript>
 </body>
 </html>
 """
+
+
+def is_ours(path: str) -> bool:
+    """Whether a file is a page that a board has made."""
+    try:
+        with open(path, encoding="utf-8", errors="replace") as file:
+            start = file.read(1000)
+    except OSError:
+        return False
+    return re.match(r'<!DOCTYPE html>\n<html lang="en" data-live="(yes|no)" data-every="\d+" '
+                    'data-checked="[^"]*" data-office="[^"]*" data-version="[^"]*" data-now="',
+                    start) is not None
 
 
 def stamped(page: str, checked: datetime.datetime, office: str) -> bytes:
@@ -540,6 +558,7 @@ def entry(view: View, above: Sequence[str]) -> str:
                         for row in first[:3])
     which = "Leads" if shown.state == "provisional" else "First"
     leads = f"<p>{which}: {lead}</p>" if lead else ""
+    leads += f"<p>{since(view)}</p>" if view.is_changed_since else ""
     return (f'<li><h2><a href="{view.address}/index.html">{esc(view.label)}</a> '
             f'<span class="word {shown.state}">{shown.state.capitalize()}</span></h2>'
             f"<p class=sub>{esc(sub)}</p><p>{count(len(view.standing.rows), 'boat')}, "

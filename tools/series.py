@@ -19,10 +19,11 @@ import shutil
 import sys
 
 import settings
-from folder import Folder, replace_whole
+from folder import Folder
 from hall import Hall
 from keeper import copy_fault, fullest_copy
 from making import mended_list, new
+from notice import announce
 from office import Trouble
 from prompt import question, say, sentence
 from removal import remove
@@ -66,19 +67,6 @@ def mend(folder: Folder) -> None:
         mended_list(folder.entries)
     elif copy and question(f"{lost} Use it?"):
         shutil.copyfile(copy, folder.journal)
-
-
-def announce(path: str, state: str, reason: str) -> int:
-    """Writes whether the results are final; the board shows it within seconds."""
-    Folder(path)
-    name = os.path.join(path, settings.NAME)
-    with open(name, encoding="utf-8-sig") as file:
-        text = file.read()
-    for key, value in (("state", state), ("reason", " ".join(reason.split()))):
-        text = settings.with_value(text, "notice", key, value)
-    replace_whole(name, text.encode())
-    say(f"The results of {path} are {state}" + (f": {reason}" if reason else "") + ".")
-    return 0
 
 
 def arguments() -> argparse.Namespace:

@@ -2,11 +2,13 @@
 from __future__ import annotations
 
 import datetime
+import glob
 import hashlib
 import os
+import re
 import time
 import urllib.parse
-from collections.abc import Callable
+from collections.abc import Callable, Mapping
 from dataclasses import dataclass
 
 import page
@@ -18,6 +20,7 @@ from view import Named, View, now_json, results_csv, results_json
 HTML, CSV, JSON = "text/html; charset=utf-8", "text/csv; charset=utf-8", "application/json"
 # The least seconds between two writings of a file that has only been confirmed.
 FRESH = 20.0
+RACE_PAGE = re.compile(r"race-\d+\.html")
 
 
 @dataclass(frozen=True)
@@ -113,14 +116,36 @@ class Files:
         texts = self.site.texts(fresh)
         for address in sorted(texts, key=lambda address: address.endswith("/now.json")):
             self.put(address, texts[address][1])
+        self.remove_old(texts)
+
+    def remove_old(self, texts: Mapping[str, object]) -> None:
+        """Removes the pages of races that are no more. Files that no board has written stay."""
+        for address in [address for address in texts if address.endswith("/results.json")]:
+            here = address.removesuffix("results.json")
+            for path in glob.glob(glob.escape(self.path(here)) + "race-*.html"):
+                name = os.path.basename(path)
+                if f"{here}{name}" not in texts and RACE_PAGE.fullmatch(name) and page.is_ours(path):
+                    remove(path)
+                    self.written.pop(f"{here}{name}", None)
+
+    def path(self, address: str) -> str:
+        """The file of an address."""
+        return os.path.join(self.folder, *map(urllib.parse.unquote, address.split("/")[1:]))
 
     def put(self, address: str, data: bytes) -> None:
         if self.written.get(address) == data:
             return
-        path = os.path.join(self.folder, *map(urllib.parse.unquote, address.split("/")[1:]))
+        path = self.path(address)
         try:
             os.makedirs(os.path.dirname(path), exist_ok=True)
         except OSError as cause:
             raise Trouble(f"{os.path.dirname(path)} can't be made: {cause.strerror}") from None
         replace_whole(path, data)
         self.written[address] = data
+
+
+def remove(path: str) -> None:
+    try:
+        os.remove(path)
+    except OSError as cause:
+        raise Trouble(f"{path} can't be removed: {cause.strerror}") from None

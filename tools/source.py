@@ -8,7 +8,8 @@ import subprocess
 
 import entries
 import settings
-from folder import Folder, Logged
+from folder import Folder
+from moments import is_changed_since, time_of_entry, time_of_notice, time_of_rules
 from office import Link, Sheet, Trouble
 from record import Series, Standing, last_scored
 from settings import Settings
@@ -57,13 +58,6 @@ def rules_of(options: list[str]) -> dict[str, object]:
     words = dict(zip(options, options[1:] + [""]))
     return {"exclude": words.get("--exclude", "2"), "absent": words.get("--absent", "a52"),
             "scp": words.get("--scp", ""), "handicap": "--handicap" in words}
-
-
-def time_of(entry: Logged) -> datetime.datetime | None:
-    try:
-        return datetime.datetime.strptime(entry.time, "%Y-%m-%dT%H:%M:%S%z")
-    except ValueError:
-        return None
 
 
 def now() -> datetime.datetime:
@@ -189,16 +183,19 @@ class Source:
         self.note("rules", "" if shown.options() == self.settings.options() else
                   "series.ini has other rules than the open office. Close and open the office to "
                   "change them: until then its own are shown")
-        key = (sheet, shown, self.boats())
+        is_changed = shown.state != "provisional" and is_changed_since(
+            self.folder.logged(), shown.state, sheet.table)
+        key = (sheet, shown, self.boats(), is_changed)
         old = self.view
         if old is not None and old.key == key:
             return
         standing = Standing.read(list(sheet.table))
         series = Series.read(list(sheet.journal))
         fresh = View(self.folder.name, shown, standing, series, key[2],
-                     self.totals(sheet, standing, shown), now(), key)
+                     self.totals(sheet, standing, shown), now(), key, is_changed)
         is_same = old is not None and old.results() == fresh.results()
-        changed = old.changed if is_same else self.changed_at(sheet, standing) if old is None else now()
+        is_seen = old is not None and old.standing != standing
+        changed = old.changed if is_same else self.changed_at(sheet, standing, is_seen)
         self.view = dataclasses.replace(fresh, changed=changed)
 
     def totals(self, sheet: Sheet, standing: Standing, shown: Settings) -> dict[str, str]:
@@ -216,15 +213,17 @@ class Source:
             self.summed = ((sheet.table, options), totals)
         return self.summed[1]
 
-    def changed_at(self, sheet: Sheet, standing: Standing) -> datetime.datetime:
-        """When the results changed last, as far as the log and the files know."""
-        number = last_scored(list(sheet.journal), standing.races)
-        logged = [time_of(entry) for entry in self.folder.logged()
-                  if entry.answer.split()[:2] == ["OK", str(number)]]
-        times = [time for time in logged[-1:] if time]
-        files = [] if times else [self.folder.journal]
-        if self.settings.state != "provisional":
+    def changed_at(self, sheet: Sheet, standing: Standing, is_seen: bool) -> datetime.datetime:
+        """When the results changed last, as far as the log and the files know. If a change is seen just
+        now that isn't in the log, it is now."""
+        logged, state = self.folder.logged(), self.settings.state
+        entry = time_of_entry(logged, last_scored(list(sheet.journal), standing.races))
+        notice = time_of_notice(logged, state)
+        times = [time for time in (entry, notice, time_of_rules(logged)) if time]
+        files = [] if entry or is_seen else [self.folder.journal]
+        if state != "provisional" and not notice:
             files.append(self.folder.file(settings.NAME))
         times += [datetime.datetime.fromtimestamp(int(os.path.getmtime(path)), datetime.timezone.utc)
                   for path in files if os.path.exists(path)]
+        times += [now()] * (is_seen and not entry)
         return max(times, default=now())

@@ -25,7 +25,8 @@ class Named:
 
 @dataclass(frozen=True)
 class View:
-    """One series at one moment; `key` is all that it was made from."""
+    """One series at one moment; `key` is all that it was made from. `is_changed_since` says whether
+    the table isn't the one that was declared final or amended."""
     name: str
     settings: Settings
     standing: Standing
@@ -34,6 +35,7 @@ class View:
     totals: dict[str, str]
     changed: datetime.datetime
     key: object = None
+    is_changed_since: bool = False
 
     @property
     def label(self) -> str:
@@ -73,8 +75,7 @@ class View:
     def open_races(self) -> list[int]:
         """The races that don't count, or don't count yet, and of which something is recorded."""
         return [number for number, race in sorted(self.series.races.items())
-                if number not in self.standing.races
-                and (race.order or race.codes or race.penalties or race.redress)]
+                if number not in self.standing.races and race.is_recorded]
 
     @property
     def race_pages(self) -> list[int]:
