@@ -120,15 +120,12 @@ NO 4
    BEFORE 1 GBR7 GBR101
 > ?1 9
    Not sent: no finisher ?1 is kept in race 1, only ?2 and ?3.
-> ?4
-   Not sent: type ?4 and her sail, or ?4 none.
 > ?2 none
    ?2 is dropped.
 > ?
    ?4 keeps her place.
 > ?3 fra 9
    BEFORE 1 FRA9 NED12
-OK 11   3rd in race 1
 > ? 33
    FINISH 1 GBR33
 OK 12   5th in race 1
