@@ -8,9 +8,9 @@ from spoken import FINISHING, MAY
 from words import count, joined
 
 
-def questions(book: Book, role: str, line: str, unread: list[str], corrected: set[int]) -> list[str]:
+def questions(book: Book, role: str, line: str, unread: list[str]) -> list[str]:
     """What is asked before a line. `unread` are the finishers without a sail of a race that is to
-    count; in races that were `corrected` a finish isn't asked again."""
+    count."""
     command, *rest = line.split()
     if command not in MAY[role] or not rest:
         # The office refuses it, or it is a question itself.
@@ -20,7 +20,9 @@ def questions(book: Book, role: str, line: str, unread: list[str], corrected: se
     race = book.series.races.get(int(rest[0]) if rest[0].isdecimal() else 0)
     if command == "SCORE" and len(rest) == 1 and race and not race.counts:
         return before_score(book, race, unread)
-    if command in FINISHING and race and race.counts and race.number not in corrected:
+    if command == "UNSCORE" and len(rest) == 1 and race and race.counts:
+        return [f"Race {race.number} counts. Take it out of the results?"]
+    if command in FINISHING and race and race.counts:
         return [f"RACE {race.number} COUNTS ALREADY. Is this a correction?"]
     if command == "CLEAR" and race and len(rest) == 2:
         return before_clear(race, rest[1])

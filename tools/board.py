@@ -100,7 +100,7 @@ def said_of(source: Source, trouble: str, width: int, is_later: bool, is_once: b
     view = source.view
     name = f"{source.name}: " if is_later else f"{source.name:<{width}}  "
     if trouble:
-        red = view is not None and view.settings.state == "provisional"
+        red = view is not None and view.settings.state == "provisional" and not is_once
         after = " The page says so in red." if red else "" if view else " There is no page yet."
         return f"{name}{trouble}{after}"
     often = "once" if is_once else f"every {count(source.settings.every, 'second')}"
@@ -147,8 +147,8 @@ def sources_of(folders: list[str]) -> list[Source]:
 def files_of(asked: argparse.Namespace, sources: list[Source]) -> list[Files]:
     """Where pages are written: one folder for all, or that which each series.ini names."""
     if asked.page:
-        return [Files(asked.page, Site(sources))]
-    return [Files(source.folder.file(source.settings.page), Site([source]))
+        return [Files(asked.page, Site(sources, asked.once))]
+    return [Files(source.folder.file(source.settings.page), Site([source], asked.once))
             for source in sources if source.settings.page]
 
 

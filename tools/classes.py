@@ -3,12 +3,14 @@ from __future__ import annotations
 
 from desk import Desk
 from spoken import OTHERS, SAILS, NotSent, boats_meant
-from words import joined
+from words import ROLES, joined
 
 # First words that are the window's own.
-OWN = ("at", "race", "abandon", "help")
+OWN = ("at", "race", "abandon", "standing", "help")
 # All first words of lines, and of what the window does by itself.
 FIRST = SAILS.keys() | OTHERS | {word.upper() for word in OWN}
+# Lines about a whole class: a number in them is that of a race, or of a new boat.
+WHOLE = {"SCORE", "UNSCORE", "AT", "RACE", "ABANDON", "STANDING", "SHOW", "ENTER"}
 
 
 def desk_meant(desks: list[Desk], typed: str) -> tuple[Desk, str]:
@@ -18,24 +20,73 @@ def desk_meant(desks: list[Desk], typed: str) -> tuple[Desk, str]:
         return desks[0], typed
     if named := desk_named(desks, words):
         return named, " ".join(words[1:])
-    rest = words[2:] if words[0].upper() in SAILS else words[words[0].upper() in OTHERS:]
+    first = words[0].upper()
+    if first in WHOLE:
+        raise NotSent(f"{typed.strip()} is for one class: type {ways(desks, typed.strip())}")
+    if first.startswith("?"):
+        return desk_keeping(desks, words), typed
+    rest = words[2:] if first in SAILS else words[first in OTHERS:]
     found = [(desk, boat) for desk in desks for boat in first_meant(rest, desk)]
+    if first not in FIRST:
+        # A bare sail is a finish, in a class that is at a race.
+        found = [(desk, boat) for desk, boat in found if desk.at] or found
     if len({id(desk) for desk, _ in found}) == 1:
         return found[0][0], typed
     if found:
         boats = [f"{desk.book.called(boat)} ({desk.folder.name})" for desk, boat in found]
         raise NotSent(f"{' '.join(rest).upper()} may be {joined(boats, 'or')}: type her class first")
-    names = joined([desk.folder.name for desk in desks], "or")
-    raise NotSent(f"it isn't clear for which class this is: type {names} first")
+    raise NotSent(f"it isn't clear for which class this is: type {ways(desks, typed.strip())}")
+
+
+def ways(desks: list[Desk], line: str) -> str:
+    """The line with each class in front: `c score 4 (cup) or f score 4 (fleet)`."""
+    return joined([f"{short(desk, desks)} {line} ({desk.folder.name})" for desk in desks], "or")
+
+
+def desk_keeping(desks: list[Desk], words: list[str]) -> Desk:
+    """The class that a place kept by ? is in: the one at a race, that of the sail, or the one that
+    keeps this number."""
+    there = [desk for desk in desks if desk.at]
+    if len(there) < 2:
+        return (there or desks)[0]
+    of_sail = [desk for desk in there if first_meant(words[1:], desk)]
+    keeping = [desk for desk in there if words[0] in desk.unread.marks(desk.at or 0)]
+    found = next((some for some in (of_sail, keeping) if len(some) == 1), [])
+    if len(words) == 1 or not found:
+        raise NotSent(f"{words[0]} is for one class: type {ways(there, ' '.join(words))}")
+    return found[0]
 
 
 def desk_named(desks: list[Desk], words: list[str]) -> Desk | None:
     """The class that the first word names by its first letters, unless it begins a line or a boat."""
-    named = [desk for desk in desks if desk.folder.name.lower().startswith(words[0].lower())]
+    first = words[0].lower()
+    named = [desk for desk in desks if desk.folder.name.lower().startswith(first)]
+    named = [desk for desk in named if desk.folder.name.lower() == first] or named
     is_boat = any("".join(words).upper() in desk.book.boats for desk in desks)
     if len(named) != 1 or len(words) == 1 or words[0].upper() in FIRST or is_boat:
         return None
     return named[0]
+
+
+def short(desk: Desk, desks: list[Desk]) -> str:
+    """The fewest first letters of a folder that name this class alone."""
+    name, others = desk.folder.name, [other.folder.name.lower() for other in desks if other is not desk]
+    heads = [name[:at].lower() for at in range(1, len(name))]
+    return next((head for head in heads if head.upper() not in FIRST and " " not in head
+                 and not any(other.startswith(head) for other in others)), name)
+
+
+def choosing(desks: list[Desk]) -> str:
+    """How a class is chosen."""
+    letters = joined([f"{short(desk, desks)} for {desk.folder.name}" for desk in desks])
+    return f"A sail chooses its class. Otherwise the class comes first: {letters}."
+
+
+def greeting(desks: list[Desk]) -> str:
+    """Whose lines these are, of which classes, and how one is chosen."""
+    classes = joined([f"{desk.folder.name} ({desk.folder.settings.title})" for desk in desks])
+    return (f"You type as {ROLES[desks[0].role]}, for {classes}.\n{choosing(desks)}\n"
+            "help lists your lines.")
 
 
 def first_meant(words: list[str], desk: Desk) -> list[str]:

@@ -29,22 +29,34 @@ ROLES = ["FINISH", "JURY", "SCORER"]
 def asked_role() -> str:
     """The role, which is asked for: forgetting it must not make anybody the scorer."""
     for _ in range(5):
-        given = answer("Whose lines are these? finish, jury or scorer: ").upper()
-        found = [role for role in ROLES if given and role.startswith(given)]
-        if len(found) == 1:
-            return found[0]
+        if role := role_meant(answer("Whose lines are these? finish, jury or scorer: ")):
+            return role
     raise Trouble("no role was given")
+
+
+def role_meant(text: str) -> str:
+    """The role that begins with these letters; empty if there is none."""
+    return next((role for role in ROLES if text and role.startswith(text.upper())), "")
+
+
+def role_of(asked: argparse.Namespace) -> str:
+    """The role of the command line, or the one that somebody types."""
+    if asked.role is None:
+        return asked_role()
+    if not (role := role_meant(asked.role)):
+        raise Trouble(f"there is no role {asked.role!r}. --role takes finish, jury or scorer")
+    return role
 
 
 def send_file(asked: argparse.Namespace) -> int:
     """Sends the lines of standard input; the status."""
     if not asked.role or len(asked.folders) > 1:
         raise Trouble("lines of a file need --role, and one folder")
-    folder = Folder(asked.folders[0])
+    folder, role = Folder(asked.folders[0]), role_of(asked)
     lines = lines_of(sys.stdin.buffer.read(LARGEST))
-    desk = Desk(folder, asked.role, asked.name, say, lambda _: True)
+    desk = Desk(folder, role, asked.name, say, lambda _: True)
     desk.connect()
-    again = f"python3 tools/client.py {asked.folders[0]} --role {asked.role.lower()}"
+    again = f"python3 tools/client.py {asked.folders[0]} --role {role.lower()}"
     return Batch(desk, lines, again).send(asked.start, asked.go_on)
 
 
@@ -52,8 +64,8 @@ def arguments() -> argparse.Namespace:
     """What the command line says."""
     words = argparse.ArgumentParser(description="A window for those who type.")
     words.add_argument("folders", nargs="+", metavar="FOLDER", help="the folder of a series")
-    words.add_argument("--role", type=str.upper, choices=ROLES,
-                       help="whose lines these are; it is asked for if it isn't given")
+    words.add_argument("--role", help="whose lines these are: finish, jury or scorer; it is asked for "
+                       "if it isn't given")
     words.add_argument("--name", default="", help="who types, for office.log")
     words.add_argument("--from", dest="start", type=int, default=1, metavar="N",
                        help="the first line of a file that is sent")
@@ -68,7 +80,7 @@ def main() -> int:
         if not sys.stdin.isatty():
             return send_file(asked)
         folders = [Folder(path) for path in asked.folders]
-        return Window(folders, asked.role or asked_role(), asked.name).run()
+        return Window(folders, role_of(asked), asked.name).run()
     except Trouble as trouble:
         say(f"Stopped: {sentence(trouble)}")
         return 1

@@ -14,7 +14,7 @@ from folder import Folder
 from manual import help_lines
 from office import Link, Trouble
 from record import Plan, Race, Standing, plan_of_abandoning
-from spoken import FINISHING, MAY, NotSent, boat_meant, digits_of, line_meant
+from spoken import MAY, NotSent, boat_meant, digits_of, line_meant
 from telling import answer_line, change_lines, outcome, plan_lines, race_lines, standing_lines
 from unread import GONE, KEPT, Unread, Waiting, kept_by_window
 from unsaved import UNANSWERED
@@ -30,7 +30,6 @@ class Desk:
         self.folder, self.role, self.name, self.say, self.ask = folder, role, name, say, ask
         self.book = Book(folder)
         self.unread = Waiting()
-        self.corrected: set[int] = set()
         self.sent: dict[int, str] = {}
         self.at: int | None = None
         self.link: Link | None = None
@@ -92,26 +91,28 @@ class Desk:
         """What the window itself answers to a question; None to anything else."""
         match words:
             case ["help"]:
-                return help_lines(self.role)
+                return help_lines(self.role, self.folder.settings.handicap)
             case ["?"] if not self.at:
-                return help_lines(self.role)
+                return help_lines(self.role, self.folder.settings.handicap)
             case ["race", number]:
                 self.look()
                 return self.shown_race(self.book.race(number))
             case ["standing"]:
                 self.look()
-                return standing_lines(self.book)
+                return [f"{self.prefix}rank and net points"] * bool(self.prefix) + standing_lines(self.book)
             case ["show"]:
                 self.look()
                 return [*self.book.sheet.journal, *self.book.sheet.table]
         return None
 
     def shown_race(self, race: Race, is_to_count: bool = False) -> list[str]:
-        return race_lines(self.book, race, self.unread.places(race), is_to_count)
+        first, *rest = race_lines(self.book, race, self.unread.places(race), is_to_count)
+        return [self.prefix + first, *rest]
 
     def line(self, typed: str) -> str:
         """The program's line. Who typed digits sees which boat was meant."""
-        line = line_meant(typed, self.at, self.book.boats, self.book.called)
+        line = line_meant(typed, self.at, self.book.boats, self.book.called,
+                          self.folder.settings.handicap)
         for sail in line.split()[1:]:
             if digits := digits_of(sail, typed, self.book.boats):
                 others = [boat for boat in self.book.boats if boat.endswith(digits) and boat != sail]
@@ -130,13 +131,15 @@ class Desk:
         before, length = self.book.standing, len(self.book.sheet.journal)
         answer = self.exchange(line)
         if not answer.startswith("OK "):
-            self.say(answer_line(self.book, line, answer))
+            self.say(answer_line(self.book, line, answer, self.prefix))
             return not answer.startswith("NO ")
         number = int(answer.split()[1])
         self.look_after(number, line)
         race = self.race_of(line)
         self.say(f"OK {number}   {self.prefix}{outcome(self.book, line, self.unread)}")
-        if not line.startswith("SCORE ") and (race is None or race.counts):
+        if line.startswith("UNSCORE "):
+            self.say_all(change_lines(self.book, before, None, number != length + 1))
+        elif not line.startswith("SCORE ") and (race is None or race.counts):
             self.say_all(change_lines(self.book, before, race, number != length + 1))
         self.say_declared(before)
         return True
@@ -161,12 +164,8 @@ class Desk:
         if command == "SCORE" and command in MAY[self.role] and race and not race.counts:
             self.say_all(self.shown_race(race, True))
             unread = self.unread.marks(race.number) + self.kept_elsewhere(race.number)
-        asked = questions(self.book, self.role, line, unread, self.corrected)
-        if not all(self.ask(f"   {text}") for text in asked):
-            return False
-        if asked and race and command in FINISHING:
-            self.corrected.add(race.number)
-        return True
+        asked = questions(self.book, self.role, line, unread)
+        return all(self.ask(f"   {self.prefix}{text}") for text in asked)
 
     def race_of(self, line: str) -> Race | None:
         """The race that a line is about, if anything is recorded of it."""
@@ -217,11 +216,12 @@ class Desk:
                           f"{self.role.lower()} doesn't send: let the scorer type it")
         if not plan.lines:
             self.drop_race(race.number)
-            self.say(f"Nothing of race {race.number} has to be taken away.")
+            self.say(f"{self.prefix}Nothing of race {race.number} has to be taken away.")
             self.say_all([f"   Still kept: {mark}. That window drops her by: {mark.split()[0]} none"
                           for mark in self.kept_elsewhere(race.number)])
             return True
-        self.say_all(plan_lines(self.book, race, plan))
+        first, *rest = plan_lines(self.book, race, plan)
+        self.say_all([self.prefix + first, *rest])
         if not self.ask("   Send them?"):
             self.say("   Not sent.")
             return False
@@ -229,8 +229,9 @@ class Desk:
         if not self.is_sent(race, plan):
             return False
         self.drop_race(race.number)
-        self.say(f"Race {race.number} is taken away: {count(len(plan.lines), 'line')}, all taken.")
-        if before.races and before.races == self.book.standing.races:
+        self.say(f"{self.prefix}Race {race.number} is taken away: {count(len(plan.lines), 'line')}, "
+                 "all taken.")
+        if before.races:
             mixed = len(self.book.sheet.journal) != length + len(plan.lines)
             self.say_all(change_lines(self.book, before, None, mixed))
         self.say_declared(before)
@@ -242,7 +243,7 @@ class Desk:
             answer = self.exchange(line)
             if answer.startswith("NO"):
                 self.look()
-                self.say(f"Stopped at {line}: {refusal(answer)}. Somebody else types for race "
+                self.say(f"{self.prefix}Stopped at {line}: {refusal(answer)}. Somebody else types for race "
                          f"{race.number}: type race {race.number}.")
                 return False
         self.look()

@@ -97,31 +97,21 @@ def wrong_form(data: bytes, name: str) -> str:
     return "" if rows_of(data) else f"{name} is empty."
 
 
-def wrong_heading(data: bytes, name: str) -> str:
-    """Why no column has the sails; empty if one has."""
-    rows = rows_of(data)
-    first = rows[0][1]
-    if column(first, HEADS["sail"]) is not None:
-        return ""
-    if mark := separator_of(data):
-        return (f"The columns of {name} are separated by {SEPARATORS[mark]}. They have to be "
-                "separated by commas.")
-    below = next((at for at, row in rows[:5] if column(re.split("[;\t,]", ",".join(row)),
-                                                       HEADS["sail"]) is not None), None)
-    if below:
-        return (f"Row 1 of {name} is a title; the headings are in row {below}. "
-                f"Take out what is above row {below}.")
-    near = next((cell.strip() for cell in first if cell.strip().lower().startswith(("sail", "segel"))),
-                "")
-    found = f" {near!r} isn't one of them." if near else ""
-    return f"No column of {name} has the heading Sail, SailNo or SailNumber.{found}"
+def heading_at(rows: list[tuple[int, list[str]]]) -> int:
+    """At which of the first rows the headings are: the first, unless only a later one has a sail's."""
+    return next((at for at, (_, row) in enumerate(rows[:5])
+                 if column(re.split("[;\t,]", ",".join(row)), HEADS["sail"]) is not None), 0)
 
 
 def separator_of(data: bytes) -> str:
-    """A sign other than the comma by which the first row is separated, if any."""
-    first = text_of(data).lstrip().partition("\n")[0]
-    return next((mark for mark in SEPARATORS if column(first.strip().split(mark), HEADS["sail"])
-                 is not None and mark in first), "")
+    """A sign other than the comma by which the columns are separated, if any. It is in each of the
+    first rows, and no comma is in that of the headings, unless a heading tells it."""
+    rows = rows_of(data)
+    texts = [",".join(row) for _, row in rows[heading_at(rows):][:3]]
+    head = texts[0] if texts else ""
+    return next((mark for mark in SEPARATORS if mark in head and (
+        column(head.split(mark), HEADS["sail"]) is not None
+        or "," not in head and len(texts) > 1 and all(mark in text for text in texts))), "")
 
 
 def with_commas(data: bytes) -> bytes:
@@ -130,6 +120,29 @@ def with_commas(data: bytes) -> bytes:
     made = io.StringIO(newline="")
     csv.writer(made, lineterminator="\n").writerows(rows)
     return made.getvalue().encode()
+
+
+def column_like(heads: list[str]) -> int | None:
+    """The column whose heading looks like a sail's, and isn't one."""
+    return next((at for at, head in enumerate(heads)
+                 if head.strip().lower().startswith(("sail", "segel"))), None)
+
+
+def heading_faults(data: bytes, name: str) -> list[str]:
+    """What is wrong with the form of the first rows: a title, the separators, the headings."""
+    mark, rows = separator_of(data), rows_of(with_commas(data))
+    at = heading_at(rows)
+    number, heads = rows[at]
+    faults = [f"Row 1 of {name} is a title; the headings are in row {number}. Take out what is above "
+              f"row {number}."] if at else []
+    if mark:
+        faults.append(f"The columns of {name} are separated by {SEPARATORS[mark]}. They have to be "
+                      "separated by commas.")
+    if column(heads, HEADS["sail"]) is None:
+        like = column_like(heads)
+        found = "" if like is None else f" {heads[like].strip()!r} isn't one of them."
+        faults.append(f"No column of {name} has the heading Sail, SailNo or SailNumber.{found}")
+    return faults
 
 
 def fault_of(sail: str) -> str:
@@ -146,14 +159,17 @@ def fault_of(sail: str) -> str:
 
 
 def problems(data: bytes, path: str) -> list[str]:
-    """All that keeps the program from taking a list, in words; empty if it takes it."""
+    """All that keeps the program from taking a list, in words, as far as it can be told at once; empty
+    if it takes it."""
     name = os.path.basename(path)
-    if wrong := wrong_form(data, name) or wrong_heading(data, name):
+    if wrong := wrong_form(data, name):
         return [wrong]
-    (_, heads), *rows = rows_of(data)
+    faults, rows = heading_faults(data, name), rows_of(with_commas(data))
+    (_, heads), *rows = rows[heading_at(rows):]
     at, who = column(heads, HEADS["sail"]), column(heads, HEADS["helm"])
+    if at is None and (at := column_like(heads)) is None:
+        return faults
     found: dict[str, int] = {}
-    faults = []
     for number, row in rows:
         named = f" ({row[who].strip()})" if who is not None and max(who, at) < len(row) else ""
         if fault := fault_of_row(row, at, found):

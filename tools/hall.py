@@ -2,6 +2,7 @@
 from __future__ import annotations
 
 import contextlib
+import dataclasses
 import os
 import select
 import shlex
@@ -14,8 +15,9 @@ from folder import Folder, clock
 from keeper import Keeper
 from office import Sheet, Trouble, remove_socket
 from program import Program
-from prompt import Once, question, say
+from prompt import Once, question, say, wrapped
 from service import LEAVE, Service
+from source import rules_of
 from survey import changes_of_rules, notes, rules_before, summary
 from unsaved import unsaved
 from words import count, moved
@@ -72,8 +74,8 @@ class Hall:
         before = rules_before(self.folder)
         if not before:
             return True
-        say(f"The rules were: {' '.join(before)}\n"
-            f"They are now: {' '.join(self.folder.settings.options())}")
+        rules = dataclasses.replace(self.folder.settings, **rules_of(before))
+        say(f"The rules were: {rules.in_words()}\nThey are now: {self.folder.settings.in_words()}")
         names = entries.read_if_there(self.folder.entries)
         for change in changes_of_rules(self.folder, before):
             say(f"   {moved(change, str(names.get(change.after.sail, change.after.sail)))}")
@@ -144,16 +146,19 @@ class Hall:
             say(f"{clock()} {text}")
 
     def is_to_close(self, number: int) -> bool:
-        """Whether a signal closes the office. Ctrl-C asks first if windows are open."""
-        windows = list(self.folder.windows().values())
+        """Whether a signal closes the office. Ctrl-C asks first if somebody may still type."""
+        windows = list(self.folder.windows("client.py").values())
         if number != signal.SIGINT or not windows:
             return True
-        return self.is_yes(f"{count(len(windows), 'window is', 'windows are')} still open: "
-                           f"{', '.join(windows)}. Close the office? [y/N] ")
+        is_yes = self.is_yes(f"{count(len(windows), 'window is', 'windows are')} still open: "
+                             f"{', '.join(windows)}. Close the office? [y/N] ")
+        if not is_yes and not self.service.is_over():
+            say("The office stays open.")
+        return is_yes
 
     def is_yes(self, text: str) -> bool:
         """Whether somebody says yes; Ctrl-C is no. The journal is kept while the question waits."""
-        print(text, end="", flush=True)
+        print(wrapped(text), end="", flush=True)
         while not select.select([sys.stdin], [], [], LOOK)[0]:
             with contextlib.suppress(Trouble):
                 self.look()

@@ -18,6 +18,10 @@ PLACES = ["regatta", os.path.join(HERE, os.pardir, "regatta"),
           os.path.join(HERE, os.pardir, "crates/regatta/out/regatta")]
 
 
+# More points of a Scoring Penalty than these are hardly meant.
+MOST_USUAL = 10
+
+
 def program_for(folder: str) -> str:
     """The program's file as seen from a new folder."""
     found = next((path for path in PLACES if os.path.isfile(path)), shutil.which("regatta"))
@@ -64,9 +68,15 @@ def asked_exclude() -> str:
 
 def asked_scp() -> str:
     """The points of a Scoring Penalty; empty for 20%."""
-    is_number = settings.is_between(1, 99)
-    return asked_until("Points of a Scoring Penalty? (Enter: 20%) ",
-                       lambda text: text == "" or is_number(text), "whole points from 1 to 99")
+    usual, is_number = ("", "20%", "20 %"), settings.is_between(1, 99)
+    while True:
+        given = asked_until("Points of a Scoring Penalty? (Enter: 20%) ",
+                            lambda text: text in usual or is_number(text),
+                            "20%, or whole points from 1 to 99")
+        if given in usual:
+            return ""
+        if int(given) <= MOST_USUAL or is_so(f"   {given} points, not {given}%?"):
+            return given
 
 
 def right_list(default: str) -> tuple[str, bytes]:

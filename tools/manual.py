@@ -31,10 +31,17 @@ WINDOW = {
 }
 
 
-def help_lines(role: str) -> list[str]:
-    """What somebody in this role may type."""
+# What isn't for the jury, nor for a series with and without corrected times.
+FINISHERS = {"at", "?", "?1", "abandon"}
+ORDERED, TIMED = {"FINISH", "TIE", "BEFORE", "?", "?1"}, {"TIME"}
+
+
+def help_lines(role: str, is_timed: bool = False) -> list[str]:
+    """What somebody in this role may type, in a series by corrected time or any other."""
+    left_out = (ORDERED if is_timed else TIMED) | (FINISHERS if role == "JURY" else set())
     known = {command: text for command, text in LINES.items() if command.split()[0] in MAY[role]}
-    known |= {command: text for command, text in WINDOW.items()
-              if command.split()[0] != "abandon" or role != "JURY"}
+    known |= WINDOW | ({"at 3": "from here on a line is a sail and her seconds, in race 3"} if is_timed
+                       else {})
+    known = {command: text for command, text in known.items() if command.split()[0] not in left_out}
     return [f"The lines of the {role.lower()} (small letters will do):",
             *(f"   {command:<26}{text}" for command, text in known.items())]

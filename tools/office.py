@@ -50,7 +50,7 @@ def unreachable(path: str, cause: OSError) -> Trouble:
     if isinstance(cause, FileNotFoundError):
         return Gone("no office is open there")
     if isinstance(cause, ConnectionRefusedError):
-        return Gone("the office has gone, and only the file of its socket is left")
+        return Gone("no office is open there, and the last one wasn't closed properly")
     if isinstance(cause, PermissionError):
         return Trouble(f"this account may not open {path}")
     return Trouble(f"{path} can't be reached: {cause.strerror or cause}")

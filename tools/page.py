@@ -10,7 +10,7 @@ from collections.abc import Sequence
 from entries import Boat
 from record import CODES, Race, Row, Score, tie_break
 from view import Named, View
-from words import TIMES, count, joined, ordinal, spans
+from words import TIMES, count, duration, joined, ordinal, spans
 
 HERE = os.path.dirname(os.path.abspath(__file__))
 MEANING = {
@@ -51,10 +51,6 @@ def file(name: str) -> str:
 def points(text: str) -> str:
     whole, _, tenth = text.partition(".")
     return f"{whole}<i>.{tenth}</i>"
-
-
-def duration(seconds: int) -> str:
-    return f"{seconds // 3600}:{seconds // 60 % 60:02}:{seconds % 60:02}"
 
 
 def tenths(number: int) -> str:
@@ -107,7 +103,14 @@ def state(view: View) -> str:
     word = view.settings.state
     return (f'<div class="state"><span class="word {word}">{word.capitalize()}</span>\n'
             f'<p class="when"><span>Last changed</span> <time datetime="{view.changed.isoformat()}">'
-            f"{esc(view.when(view.changed))}</time></p></div>")
+            f"{esc(view.when(view.changed))}</time></p>{made(view)}</div>")
+
+
+def made(view: View) -> str:
+    """When a page was made that nobody keeps up to date."""
+    return "" if view.made is None else (
+        f'<p class="when"><span>Made once, on</span> <time datetime="{view.made.isoformat()}">'
+        f"{esc(view.when(view.made))}</time></p>")
 
 
 def since(view: View) -> str:
@@ -147,16 +150,17 @@ def bar(view: View, here: int, prefix: str, more: str = "") -> str:
             f'id="found" role="status"></span>{more}</div></div>')
 
 
-def foot(view: View) -> str:
+def foot(view: View, prefix: str) -> str:
     return (f"<footer>\n<p>Scored by regatta under Appendix A (Low Point System), Racing Rules of "
-            f"Sailing 2025–2028. Entry {view.series.entries} of the journal.</p>\n<p>Spotted a "
+            f"Sailing 2025–2028. Entry {view.series.entries} of the journal. "
+            f'<a href="{prefix}results.csv">The results as a spreadsheet</a> (CSV).</p>\n<p>Spotted a '
             "mistake? Ask the race office, within the time limit for requests for redress.</p>\n"
             "</footer>")
 
 
 def whole(view: View, title: str, body: str, style: str, prefix: str) -> str:
     """A page from its parts. `stamped` adds when it was confirmed."""
-    live = "yes" if view.settings.state == "provisional" else "no"
+    live = "yes" if view.is_live else "no"
     below = " · ".join([title, f"last changed {view.when(view.changed)}",
                         f"entry {view.series.entries}", "scored by regatta under Appendix A, "
                         "RRS 2025–2028"])
@@ -208,7 +212,7 @@ def is_ours(path: str) -> bool:
 
 def stamped(page: str, checked: datetime.datetime, office: str) -> bytes:
     """The page with the moment at which it was confirmed last."""
-    return page.replace(STAMP, f'data-checked="{checked.isoformat()}" data-office="{office}"',
+    return page.replace(STAMP, f'data-checked="{checked.isoformat()}" data-office="{esc(office)}"',
                         1).encode()
 
 
@@ -362,7 +366,7 @@ def rules(view: View) -> str:
 def redress_words(how: str) -> str:
     return {"ALL": "the average of her points in all other races (RRS A9(a))",
             "PRIOR": "the average of her points in the races before it (RRS A9(b))"}.get(
-                how, f"{how} points (RRS A9(c))")
+                how, f"{how} points, given by the jury")
 
 
 def repeated(kinds: list[str]) -> str:
@@ -449,7 +453,7 @@ def overall(view: View, names: Sequence[Named] = (), prefix: str = "") -> str:
 {table(view, prefix)}
 {second_table(view)}
 <div class="notes">{notes}</div>
-{foot(view)}
+{foot(view, prefix)}
 </main>"""
     return whole(view, f"{title} · {shown.state}", body, overall_style(view), prefix)
 
@@ -463,7 +467,7 @@ def remarks(race: Race, sail: str) -> str:
             for kind in dict.fromkeys(kinds)]
     if sail in race.redress:
         how = {"ALL": "average of all other races", "PRIOR": "average of the races before"}.get(
-            race.redress[sail], "points for her position")
+            race.redress[sail], "points given by the jury")
         says.append(f"{code('RDG')} {how}")
     return f"<em>{', '.join(says)}</em>" if says else ""
 
@@ -540,7 +544,7 @@ def race(view: View, number: int, names: Sequence[Named] = ()) -> str:
 {bar(view, number, "")}
 {race_tables(view, seen)}
 <div class="notes">{key(used)}</div>
-{foot(view)}
+{foot(view, "")}
 </main>"""
     style = "@media print { @page { size: A4 portrait; } }\n"
     return whole(view, f"Race {number} · {view.label} · {shown.state}", body, style, "")
@@ -563,7 +567,9 @@ def entry(view: View, above: Sequence[str]) -> str:
             f'<span class="word {shown.state}">{shown.state.capitalize()}</span></h2>'
             f"<p class=sub>{esc(sub)}</p><p>{count(len(view.standing.rows), 'boat')}, "
             f"{count(races, 'race')} scored</p>{leads}"
-            f'<p class="when"><span>Last changed</span> {esc(view.when(view.changed))}</p></li>')
+            f'<p class="when"><span>Last changed</span> {esc(view.when(view.changed))}</p>'
+            f'{made(view)}<p class="sub"><a href="{view.address}/results.csv">Spreadsheet</a> (CSV)</p>'
+            "</li>")
 
 
 def series_list(views: Sequence[View], version: str) -> str:
@@ -573,7 +579,7 @@ def series_list(views: Sequence[View], version: str) -> str:
     title = titles[0] if len(titles) == 1 else "Results"
     small = f"<small>{esc(clubs[0])}</small>" if len(clubs) == 1 else ""
     above = titles[:1] * (len(titles) == 1) + clubs[:1] * (len(clubs) == 1)
-    live = "yes" if any(view.settings.state == "provisional" for view in views) else "no"
+    live = "yes" if any(view.is_live for view in views) else "no"
     body = f"""<main class="series">
 <header><h1>{small}{esc(title)}</h1></header>
 <ul class="list" id="table">

@@ -1,11 +1,43 @@
 """Questions at a terminal, and what a tool says."""
 from __future__ import annotations
 
+import os
 import sys
+import textwrap
+
+# What is to be copied whole: no line of a terminal breaks in it.
+COMMAND = "python3 tools/"
 
 
 def say(text: str) -> None:
-    print(text, flush=True)
+    print(wrapped(text), flush=True)
+
+
+def width() -> int:
+    """The columns of the terminal; 0 if they aren't known."""
+    try:
+        return os.get_terminal_size(sys.stdout.fileno()).columns
+    except (OSError, ValueError):
+        return 0
+
+
+def wrapped(text: str, columns: int | None = None) -> str:
+    """A text whose lines break at spaces, as wide as the terminal."""
+    columns = width() if columns is None else columns
+    return "\n".join(broken(line, columns) for line in text.split("\n")) if columns else text
+
+
+def broken(line: str, columns: int) -> str:
+    """A line in pieces that fit, the later ones further in. A command at its end stays whole."""
+    if len(line) <= columns:
+        return line
+    indent = " " * (len(line) - len(line.lstrip()) + 2)
+    if COMMAND in line.strip()[1:]:
+        before, command, after = line.rpartition(COMMAND)
+        return f"{broken(before.rstrip(), columns)}\n{indent}{command}{after}"
+    end = " " * (len(line) - len(line.rstrip()))
+    return textwrap.fill(line, columns, subsequent_indent=indent, break_long_words=False,
+                         break_on_hyphens=False) + end
 
 
 def sentence(text: object) -> str:
@@ -16,7 +48,10 @@ def sentence(text: object) -> str:
 def typed(text: str) -> str | None:
     """What somebody types to a question; None at the end of the input, and after Ctrl-C."""
     try:
-        given = input(text).strip()
+        *lines, asked = wrapped(text).split("\n")
+        for line in lines:
+            print(line)
+        given = input(asked).strip()
     except (EOFError, KeyboardInterrupt):
         print(flush=True)
         return None

@@ -2,10 +2,10 @@
 """Makes, opens and checks a series, and says whether its results are final.
 
     series.py new FOLDER
-    series.py check FOLDER
+    series.py check FOLDER [FOLDER ...]
     series.py open FOLDER
     series.py remove FOLDER SAIL
-    series.py provisional|final|amended FOLDER [REASON]
+    series.py provisional|final|amended FOLDER [FOLDER ...] [REASON]
 
 A series is a folder with its settings (series.ini), its entry list and its journal (journal.txt).
 `open` says in words whatever is wrong before it opens anything. It then is the office's window, and
@@ -83,9 +83,31 @@ def arguments() -> argparse.Namespace:
         command.add_argument("folder", help="the folder of the series")
         if name == "remove":
             command.add_argument("sail", nargs="+", help="her sail")
+        elif name == "check":
+            command.add_argument("more", nargs="*", metavar="folder", help="more series")
         elif name in settings.STATES:
-            command.add_argument("reason", nargs="?", default="", help="shown below the title")
+            command.add_argument("more", nargs="*", metavar="folder or reason",
+                                 help="more series, and a reason that is shown below the title")
     return words.parse_args()
+
+
+def folders_and_reason(words: list[str]) -> tuple[list[str], str]:
+    """The series that words name, and a reason if the last one names none. All are read before
+    anything is done."""
+    is_reason = len(words) > 1 and not os.path.isdir(words[-1])
+    folders, reason = (words[:-1], words[-1]) if is_reason else (words, "")
+    for path in folders:
+        if not os.path.isdir(path) and path != words[0]:
+            raise Trouble(f"{path} is no folder of a series. A reason of several words is written in "
+                          f'quotation marks: "{" ".join(words[words.index(path):])}"')
+        Folder(path)
+    return folders, reason
+
+
+def announce_all(state: str, words: list[str]) -> int:
+    """Says of some series that their results are final, or not; the status."""
+    folders, reason = folders_and_reason(words)
+    return max([announce(path, state, reason) for path in folders])
 
 
 def done(asked: argparse.Namespace) -> int:
@@ -95,12 +117,12 @@ def done(asked: argparse.Namespace) -> int:
             new(asked.folder)
             return 0
         case "check":
-            return check(asked.folder)
+            return max([check(path) for path in [asked.folder, *asked.more]])
         case "open":
             return open_(asked.folder)
         case "remove":
             return remove(asked.folder, asked.sail)
-    return announce(asked.folder, asked.command, asked.reason)
+    return announce_all(asked.command, [asked.folder, *asked.more])
 
 
 def main() -> int:

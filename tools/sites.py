@@ -1,6 +1,7 @@
 """The pages of some series by address, and how they are kept as files."""
 from __future__ import annotations
 
+import dataclasses
 import datetime
 import glob
 import hashlib
@@ -12,9 +13,10 @@ from collections.abc import Callable, Mapping
 from dataclasses import dataclass
 
 import page
+import words
 from folder import replace_whole
 from office import Trouble
-from source import Source
+from source import Source, now
 from view import Named, View, now_json, results_csv, results_json
 
 HTML, CSV, JSON = "text/html; charset=utf-8", "text/csv; charset=utf-8", "application/json"
@@ -34,9 +36,16 @@ class Made:
 class Site:
     """The pages of some series. One is made when what it shows changes, and only then."""
 
-    def __init__(self, sources: list[Source]) -> None:
+    def __init__(self, sources: list[Source], is_once: bool = False) -> None:
         self.sources = sources
         self.made: dict[str, Made] = {}
+        self.made_once = now() if is_once else None
+
+    def view_of(self, source: Source) -> View | None:
+        """What is shown of a series; pages that are made once say when they were."""
+        if source.view is None or self.made_once is None:
+            return source.view
+        return dataclasses.replace(source.view, made=self.made_once)
 
     def kept(self, name: str, key: object, make: Callable[[], dict[str, str]], fresh: bool,
              checked: datetime.datetime, office: str) -> dict[str, tuple[str, bytes]]:
@@ -68,20 +77,21 @@ class Site:
         joined = "".join(view.name + view.version for view in views)
         version = hashlib.sha256(joined.encode()).hexdigest()[:8]
         checked = min(source.checked for source in self.sources)
-        office = "away" if any(source.office == "away" for source in self.sources) else "open"
+        away = [source.name for source in self.sources if source.office == "away"]
+        office = f"away: {words.joined(away)}" if away else "open"
         pages = self.kept("", version, lambda: {"/index.html": page.series_list(views, version)},
                           fresh, checked, office)
         return {**pages, "/now.json": (JSON, now_json(version, checked, office))}
 
     def texts(self, fresh: bool = False) -> dict[str, tuple[str, bytes]]:
         """All texts, by address, as files have it."""
-        views = [source.view for source in self.sources if source.view]
+        views = [view for source in self.sources if (view := self.view_of(source))]
         labels = [view.label for view in views]
         names = tuple(Named(view.label if labels.count(view.label) == 1 else
                             f"{view.label} ({view.name})", view.address) for view in views)
         found = self.front(views, fresh)
         for source in self.sources:
-            if (view := source.view) is None:
+            if (view := self.view_of(source)) is None:
                 continue
             here = f"/{view.address}/"
             found |= self.kept(view.name, (view.version, names),

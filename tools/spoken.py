@@ -75,11 +75,14 @@ def split_in_two(words: list[str], boats: list[str]) -> tuple[list[str], list[st
 
 
 def line_meant(typed: str, at: int | None, boats: list[str],
-               called: Callable[[str], str]) -> str:
-    """The program's line. After `at 3` a bare sail is a finish in race 3."""
+               called: Callable[[str], str], is_timed: bool = False) -> str:
+    """The program's line. After `at 3` a bare sail is a finish in race 3; in a series by corrected
+    time it is followed by her time."""
     words = typed.upper().split()
     if at and words[0] not in SAILS.keys() | OTHERS:
-        words = ["FINISH", str(at), *words]
+        if is_timed and (len(words) == 1 or "".join(words) in boats):
+            raise NotSent(f"her corrected time is missing: {typed.strip()} and its seconds")
+        words = ["TIME" if is_timed else "FINISH", str(at), *words]
     command, rest = words[0], words[1:]
     if command == "RANK" and rest:
         return f"RANK {boat_meant(rest, boats, called)}"

@@ -5,20 +5,20 @@ from book import Book
 from record import Plan, Race, Standing, changes
 from spoken import FINISHING
 from unread import Waiting
-from words import ROLES, count, moved, ordinal, rank_of, refusal
+from words import ROLES, count, duration, moved, ordinal, rank_of, refusal
 
 
-def answer_line(book: Book, line: str, answer: str) -> str:
-    """What any answer but OK says of a line."""
+def answer_line(book: Book, line: str, answer: str, prefix: str = "") -> str:
+    """What any answer but OK says of a line; `prefix` is the class, if there are several."""
     first, *rest = answer.split()
     if first == "NO":
-        return f"{answer}   Refused: {refusal(answer)}. Nothing has changed."
+        return f"{answer}   {prefix}Refused: {refusal(answer)}. Nothing has changed."
     if first == "RANK":
         tied = ", tied," if rest[0].endswith("=") else ""
-        return (f"   {book.called(line.split()[1])} is {ordinal(int(rest[0].rstrip('=')))}{tied} "
+        return (f"   {prefix}{book.called(line.split()[1])} is {ordinal(int(rest[0].rstrip('=')))}{tied} "
                 f"with {rest[1]} points")
     if first == "ROLE":
-        return f"{answer}   your lines are now those of {ROLES[rest[0]]}"
+        return f"{answer}   {prefix}your lines are now those of {ROLES[rest[0]]}"
     return answer
 
 
@@ -51,6 +51,8 @@ def place_in(race: Race, sail: str, unread: int) -> str:
 
 def change_lines(book: Book, before: Standing, race: Race | None, mixed: bool) -> list[str]:
     """Whose scores moved; `mixed` says that lines of other windows came in between."""
+    if before.races and not book.standing.races:
+        return ["   >>> NO RACE COUNTS ANY MORE."]
     found = changes(before, book.standing)
     if not found:
         return [f"   Race {race.number} counts; no score moved."] if race else []
@@ -67,9 +69,10 @@ def race_lines(book: Book, race: Race, unread: dict[str, str], is_to_count: bool
     state = "counts" if race.counts else "is to count" if is_to_count else "doesn't count yet"
     said = [f"Race {race.number} {state}: {len(race.places())} finished, {len(race.codes)} coded, "
             f"{len(missing)} not recorded, {count(len(book.boats), 'boat')}"]
-    said += [f"  {str(place) + '=' * tied:>4}  {book.called(sail)}{beside_code(race, sail)}"
+    said += [f"  {str(place) + '=' * tied:>4}  {book.called(sail)}{time_in(race, sail)}"
+             f"{beside_code(race, sail)}"
              for sail, (place, tied) in race.places().items()]
-    said += [f"   {code}  {book.called(sail)}{beside_code(race, sail)}"
+    said += [f"   {code}  {book.called(sail)}{time_in(race, sail)}{beside_code(race, sail)}"
              for sail, code in race.codes.items()]
     said += [f"  {mark:>4}  {place} on the water, but her sail wasn't read"
              for mark, place in unread.items()]
@@ -77,6 +80,12 @@ def race_lines(book: Book, race: Race, unread: dict[str, str], is_to_count: bool
         said.append(f"  {'DNC' if race.counts else 'not recorded'}: "
                     + ", ".join(book.called(sail) + beside_code(race, sail, " ") for sail in missing))
     return said
+
+
+def time_in(race: Race, sail: str) -> str:
+    """A boat's corrected time, in a series that has times."""
+    seconds = race.times.get(sail)
+    return "" if seconds is None else f"   {seconds} s ({duration(seconds)})"
 
 
 def beside_code(race: Race, sail: str, space: str = "   ") -> str:

@@ -26,7 +26,8 @@ class Named:
 @dataclass(frozen=True)
 class View:
     """One series at one moment; `key` is all that it was made from. `is_changed_since` says whether
-    the table isn't the one that was declared final or amended."""
+    the table isn't the one that was declared final or amended; `made` is when its pages were made, if
+    nobody keeps them up to date."""
     name: str
     settings: Settings
     standing: Standing
@@ -36,6 +37,13 @@ class View:
     changed: datetime.datetime
     key: object = None
     is_changed_since: bool = False
+    made: datetime.datetime | None = None
+
+    @property
+    def is_live(self) -> bool:
+        """Whether its pages have to be kept up to date: until the results are final, by a board that
+        is there."""
+        return self.settings.state == "provisional" and self.made is None
 
     @property
     def label(self) -> str:

@@ -8,7 +8,7 @@ import sys
 import termios
 import time
 
-from classes import FIRST, desk_meant
+from classes import FIRST, choosing, desk_meant, greeting
 from desk import Desk
 from folder import Folder
 from office import NoSeat, Trouble
@@ -50,10 +50,9 @@ class Window:
         """Links to the offices. Of several classes those that aren't open don't hold up the others."""
         for desk in self.desks:
             self.come_to(desk)
-        if not self.several:
-            desk = self.desks[0]
-            say(f"{desk.folder.settings.title}: you type as the {desk.role.lower()}. help lists your "
-                "lines.")
+        desk = self.desks[0]
+        say(greeting(self.desks) if self.several else
+            f"{desk.folder.settings.title}: you type as the {desk.role.lower()}. help lists your lines.")
 
     def come_to(self, desk: Desk) -> None:
         """Links to an office, and notes it in the log."""
@@ -90,9 +89,8 @@ class Window:
     # A line
 
     def prompt(self) -> str:
-        at = [(f"{desk.folder.name} " if self.several else "") + str(desk.at)
-              for desk in self.desks if desk.at]
-        return ", ".join(at) + "> "
+        names = [f"{desk.folder.name} " * self.several + str(desk.at or "") for desk in self.desks]
+        return ", ".join(map(str.strip, names)) + "> "
 
     def is_going_on(self) -> bool:
         """Asks for a line and does it; whether there may be more."""
@@ -125,10 +123,16 @@ class Window:
     def refused(self, line: str) -> str:
         """Does a line; why the lines after it can't be sent, or nothing."""
         try:
+            if self.several and line.lower().split()[:1] == ["role"]:
+                return self.do_everywhere(line)
             return self.do(*desk_meant(self.desks, line))
         except NotSent as why:
             say(f"   Not sent: {sentence(why)}")
             return "since the line before it wasn't"
+
+    def do_everywhere(self, line: str) -> str:
+        """Gives a line to all classes that are there: a role is that of the whole window."""
+        return "".join([self.do(desk, line) for desk in self.desks if desk.link])
 
     def do(self, desk: Desk, line: str) -> str:
         """Gives a line to the desk that it is for; why the lines after it can't be sent, or nothing."""
@@ -136,7 +140,10 @@ class Window:
         if desk.link is None:
             raise NotSent(f"the office of {desk.folder.name} has gone. Write {line.upper()} down")
         try:
-            return "" if desk.do(line) else "since the line before it wasn't taken"
+            is_taken = desk.do(line)
+            if self.several and line.strip().lower() == "help":
+                say(choosing(self.desks))
+            return "" if is_taken else "since the line before it wasn't taken"
         except Trouble as trouble:
             if not desk.unanswered and not desk.answered:
                 say(f"Not sent: {line}")
@@ -155,8 +162,8 @@ class Window:
         if self.several or not desk.at or any(word and word[0] in FIRST for word in words):
             return True
         try:
-            meant = [line_meant(line, desk.at, desk.book.boats, desk.book.called)
-                     for line in lines if line.strip()]
+            meant = [line_meant(line, desk.at, desk.book.boats, desk.book.called,
+                                desk.folder.settings.handicap) for line in lines if line.strip()]
         except NotSent as why:
             say(f"   {sentence(why)}")
             return False
@@ -184,6 +191,8 @@ class Window:
 
     def try_again(self, desk: Desk) -> None:
         """Uses an office that has come back."""
+        if desk.folder.is_closing():
+            return
         try:
             desk.connect()
         except Trouble:

@@ -46,6 +46,11 @@ def ordinal(number: int) -> str:
     return f"{number}" + ("th" if number % 100 in (11, 12, 13) else ends.get(number % 10, "th"))
 
 
+def duration(seconds: int) -> str:
+    """`1:06:45`."""
+    return f"{seconds // 3600}:{seconds // 60 % 60:02}:{seconds % 60:02}"
+
+
 def count(number: int, one: str, more: str = "") -> str:
     """`1 boat`, `2 boats`, `no boats`."""
     return f"{number or 'no'} {one if number == 1 else more or one + 's'}"
