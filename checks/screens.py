@@ -111,8 +111,13 @@ def page_of(program: str, here: str) -> str:
     os.utime(os.path.join(here, "dragon", "journal.txt"), (TYPED, TYPED))
     os.symlink(program, os.path.join(here, "regatta"))
     board = os.path.join(TOP, "tools", "board.py")
-    subprocess.run([sys.executable, board, os.path.join(here, "dragon"), "--page",
-                    os.path.join(here, "out"), "--once"], check=True, stdout=subprocess.DEVNULL)
+    with subprocess.Popen([sys.executable, board, os.path.join(here, "dragon"), "--page",
+                           os.path.join(here, "out")], stdout=subprocess.PIPE, text=True) as window:
+        # The pages are those of a board that is there, not those that are made once.
+        while not window.stdout.readline().startswith("Pages are in"):
+            pass
+        window.terminate()
+        window.communicate()
     return f"file://{here}/out/index.html"
 
 

@@ -75,6 +75,22 @@ PLACES = """
   return [Math.round(box.left), Math.round(box.top)];
 })
 """
+# The rows whose height isn't a whole number of pixels.
+PARTLY = """
+[...document.querySelectorAll("tr")].filter(row => row.getClientRects().length
+  && row.getBoundingClientRect().height % 1 > .01).map(row => row.textContent.slice(0, 30))
+"""
+# The headings of the table that are whole in the window.
+IN_VIEW = """
+(() => {
+  const edge = document.querySelector("thead .net").getBoundingClientRect().right;
+  return [...document.querySelectorAll("thead th")].filter(part => {
+    const box = part.getBoundingClientRect();
+    const isPinned = getComputedStyle(part).left !== "auto";
+    return box.width && box.right <= innerWidth + 1 && (isPinned || box.left >= edge - 1);
+  }).map(part => part.textContent);
+})()
+"""
 # The clock of the phone is an hour fast, and can be turned on.
 CLOCK = "const real = Date.now; window.turned = 3600e3; Date.now = () => real.call(Date) + turned;"
 IS_RED = "!document.getElementById('alarm').hidden"
@@ -161,14 +177,52 @@ class Pages(helpers.Series):
         self.assertLess(self.browser.run(APART), 1, where)
         self.assertEqual(self.browser.run(PALE), [], where)
 
+    def test_whole_pixels(self) -> None:
+        """No row is part of a pixel high: its line would be in two places where cells stay."""
+        self.week()
+        overall = self.made("dragon")
+        for page in (overall, overall.replace("index", "race-8")):
+            for width in SIZES:
+                self.browser.size(width)
+                self.browser.open(page)
+                self.assertEqual(self.browser.run(PARTLY), [], f"{page[-20:]}, {width} px")
+
+    def test_newest(self) -> None:
+        """A phone shows the newest race first, beside rank, sail and net; Total is a swipe away."""
+        self.week()
+        page = self.made("dragon")
+        self.browser.size(390)
+        self.browser.open(page)
+        self.assertEqual(self.browser.run(IN_VIEW), ["Rank", "Sail", "Net", "R10", "R11", "R12"])
+        self.browser.run("document.querySelector('.scroll').scrollTo(9999, 0)")
+        self.assertEqual(self.browser.run(IN_VIEW)[-2:], ["R12", "Total"])
+
+    def test_corrected(self) -> None:
+        """On a phone the helm's column is the widest, also with corrected times, which are below the
+        points."""
+        self.make("club", handicap="yes")
+        self.write("".join(f"1 {at} SCORER {line}\n" for at, line in enumerate(
+            ["ENTER GBR101", "ENTER GBR7", "TIME 1 GBR101 4005", "TIME 1 GBR7 3600", "SCORE 1"], 1)),
+            "club", "journal.txt")
+        page = self.made("club").replace("index", "race-1")
+        self.browser.size(390)
+        self.browser.open(page)
+        widths = self.browser.run("[...document.querySelectorAll('tbody tr:first-child > *')].map("
+                                  "cell => cell.getBoundingClientRect().width)")
+        self.assertEqual(max(widths), widths[2])
+        self.assertGreater(widths[2], 150)
+        self.assertEqual(self.browser.run("[...document.querySelectorAll('td.pts')].map("
+                                          "cell => cell.innerText)"), ["1.0\n1:00:00", "2.0\n1:06:45"])
+
     def test_scrolled(self) -> None:
-        """Rank, sail and headings stay where they are while the table moves."""
+        """Rank, sail and headings stay where they are while the table moves; on a phone net does, too."""
         self.week()
         page = self.made("dragon")
         for width in SIZES[:2]:
             self.browser.size(width)
             self.browser.open(page)
             self.browser.run("document.querySelector('.scroll').scrollIntoView()")
+            self.browser.run("document.querySelector('.scroll').scrollTo(0, 0)")
             before = self.browser.run(PLACES)
             moved = self.browser.run("(part => { part.scrollTo(9999, 200); "
                                      "return part.scrollLeft; })(document.querySelector('.scroll'))")
@@ -177,7 +231,8 @@ class Pages(helpers.Series):
             self.assertEqual(after[:2], before[:2])
             for at in (2, 3):
                 self.assertEqual(after[at], [before[at][0], before[at][1] - 200])
-            self.assertEqual(after[4], [before[4][0] - moved, before[4][1] - 200])
+            stays = 0 if width == 390 else moved
+            self.assertEqual(after[4], [before[4][0] - stays, before[4][1] - 200])
 
     def test_find(self) -> None:
         self.week()
@@ -353,10 +408,13 @@ class Pages(helpers.Series):
             """), ["moss", "GBR101", True, 40])
 
     def test_final(self) -> None:
-        """A page that is final is never red, and one that is provisional is, as a file too."""
+        """A page that is final is never red, and one that a board keeps until then is, as a file too."""
         self.week("final")
-        page = self.made("dragon", "cup")
-        path = page.removeprefix("file://")
+        path = os.path.join(self.here, "out", "dragon", "index.html")
+        board = self.window("board.py", "dragon", "cup", "--page", "out")
+        board.read("Pages are in")
+        board.press()
+        board.rest()
         for file, wanted in ((path, False), (path.replace("dragon", "cup"), True)):
             with open(file, encoding="utf-8") as opened:
                 text = re.sub('data-checked="[^"]*"', 'data-checked="2026-01-01T00:00:00+00:00"',
@@ -365,6 +423,21 @@ class Pages(helpers.Series):
                 opened.write(text)
             self.browser.open(f"file://{file}")
             self.red(wanted)
+
+    def test_once(self) -> None:
+        """Pages that are made once say when, and are never red: nobody keeps them up to date."""
+        path = self.made("cup").removeprefix("file://")
+        for name in (path, path.replace("cup/index", "index")):
+            with open(name, encoding="utf-8") as opened:
+                text = re.sub('data-checked="[^"]*"', 'data-checked="2026-01-01T00:00:00+00:00"',
+                              opened.read())
+            with open(name, "w", encoding="utf-8") as opened:
+                opened.write(text)
+            self.browser.open(f"file://{name}")
+            time.sleep(2.5)
+            self.assertFalse(self.browser.run(IS_RED))
+            self.assertRegex(self.browser.run("document.querySelector('header').innerText"),
+                             r"Made once, on \w{3} \d+ \w{3} \d{4}, \d\d:\d\d UTC")
 
 
 if __name__ == "__main__":

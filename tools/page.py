@@ -29,6 +29,8 @@ MEANING = {
 }
 # On paper the races after these are in a second table.
 MOST_COLUMNS = 24
+# On paper so many boats leave room for the notes below them, in large letters.
+MOST_ROOMY = 12
 STAMP = 'data-checked="" data-office=""'
 
 
@@ -319,7 +321,7 @@ def second_table(view: View) -> str:
 def ties(view: View) -> str:
     items = "".join(f'<li id="tie-{letter(at)}"><b>{letter(at)}</b>{tie_words(view, group)}</li>'
                     for at, group in enumerate(view.ties()))
-    return (f'<section class="wide"><h2>How ties were broken</h2><ul class="ties">{items}</ul>'
+    return (f'<section><h2>How ties were broken</h2><ul class="ties">{items}</ul>'
             "</section>" if items else "")
 
 
@@ -405,7 +407,7 @@ def overall_style(view: View) -> str:
     of its own: the page scrolls. Below it the table does."""
     races = len(view.standing.races)
     fits = max(450 + 55 * races + (64 if view.totals else 0), 736)
-    if len(view.standing.rows) <= 20 and races <= 8:
+    if len(view.standing.rows) <= MOST_ROOMY and races <= 8:
         paper = ROOMY
     elif races > 14:
         letters = (6.2, 5.2, 5.6, 6.2) if races > 19 else (7.2, 5.8, 6.4, 7.2)
@@ -414,7 +416,7 @@ def overall_style(view: View) -> str:
         paper = ""
     hidden = (f".standing > .scroll .r:nth-child(n + {MOST_COLUMNS + 5}) {{ display: none; }}"
               if races > MOST_COLUMNS else "")
-    return f"""main.standing {{ --wide: {fits + 60}px; }}
+    return f"""main.standing {{ --wide: {fits + 160}px; }}
 @media print {{ {paper} {hidden} }}
 @media screen and (max-width: {fits}px) {{
   .standing > .scroll {{ overflow: auto; max-height: calc(100dvh - 1rem); }}
@@ -425,7 +427,7 @@ def overall_style(view: View) -> str:
   thead .rank, thead th.sail {{ z-index: 4; }}
   .rank {{ left: 0; min-width: 2.9rem; }}
   .who {{ min-width: 13rem; }}
-  th.sail {{ left: 2.9rem; min-width: 6.4rem; border-right: 1px solid var(--line); }}
+  th.sail {{ left: 2.9rem; min-width: 6.4rem; box-shadow: inset -1px 0 var(--line); }}
 }}
 """
 
@@ -475,7 +477,8 @@ def remarks(race: Race, sail: str) -> str:
 def race_row(view: View, race: Race, sail: str, first: str, with_time: bool) -> str:
     scores = view.scores(race.number)
     time = f'<td class="time">{duration(race.times[sail])}</td>' if with_time else ""
-    score = f'<td class="pts">{points(scores[sail].points)}</td>' if scores else ""
+    below = f'<span class="below">{duration(race.times[sail])}</span>' if with_time else ""
+    score = f'<td class="pts">{points(scores[sail].points)}{below}</td>' if scores else ""
     return (f'<tr {row_head(view, sail)}><td class="place">{first}</td><th scope="row" class="sail">'
             f'{esc(view.boat(sail).sail)}</th><td class="who">{who(view.boat(sail))}'
             f"{remarks(race, sail)}</td>{time}{score}</tr>")
@@ -488,9 +491,11 @@ def race_table(view: View, race: Race, label: str, caption: str, first: str,
         return ""
     rows = "\n".join(race_row(view, race, sail, text, with_time) for sail, text in boats.items())
     time = '<th scope="col" class="time">Corrected</th>' if with_time else ""
-    score = '<th scope="col" class="pts">Points</th>' if view.scores(race.number) else ""
+    below = '<span class="below">Corrected</span>' if with_time else ""
+    score = f'<th scope="col" class="pts">Points{below}</th>' if view.scores(race.number) else ""
+    timed = ' class="timed"' if with_time and score else ""
     return f"""<h2 id="{label}">{caption} <span>{len(boats)}</span></h2>
-<div class="scroll" role="region" aria-labelledby="{label}" tabindex="0"><table \
+<div class="scroll" role="region" aria-labelledby="{label}" tabindex="0"><table{timed} \
 aria-labelledby="{label}">
 <thead><tr><th scope="col" class="place">{first}</th><th scope="col" class="sail">Sail</th>\
 <th scope="col" class="who">{name_heads(view)}</th>{time}{score}</tr></thead>
