@@ -300,10 +300,20 @@ Nothing of race 1 has to be taken away.
         self.make("fleet", entries="Boat,Sail\nFulmar,GBR 33\nSterna,NED 80\n")
         self.open()
         self.open("fleet")
-        window = self.client("cup", "fleet", "--role", "finish")
+        window = self.window("client.py", "cup", "fleet", "--role", "finish")
+        window.read("You type as the finish, for cup \\(Autumn Cup\\) and fleet \\(Autumn Cup\\)\\.\nA sail "
+                    "chooses its class\\. Otherwise the class comes first: c for cup and f for "
+                    "fleet\\.\nhelp lists your lines\\.\ncup, fleet> $")
         self.play(window, """
 > c at 3
-cup 3> 
+cup 3, fleet> 
+> 33
+   33 is GBR 33 Turnstone
+OK 8   cup: 1st in race 3
+> strike 3 gbr 33
+33 may be GBR 33 Turnstone (cup) or GBR 33 Fulmar (fleet): type her class first.
+> strike 3 gbr 33
+> c strike 3 33
 > f at 2
 cup 3, fleet 2> 
 > 33
@@ -316,9 +326,12 @@ cup 3, fleet 2>
 > tie 3 gbr 7 gbr 33
    cup: 1st (tied) in race 3
 > race 3
-Not sent: it isn't clear for which class this is: type cup or fleet first.
+Not sent: race 3 is for one class: type c race 3 (cup) or f race 3 (fleet).
 > f race 2
+fleet: Race 2 doesn't count yet
      1  NED 80 Sterna
+> help
+A sail chooses its class. Otherwise the class comes first: c for cup and f for fleet.
 """)
         os.kill(int(self.text("cup", "office", "pid").split()[0]), signal.SIGKILL)
         window.read("Beware: the office has gone, that of cup. The others go on.")
@@ -330,15 +343,200 @@ Not sent: the office of cup has gone. Write 12 down.
    fleet: 2nd in race 2
 """)
 
+    def test_lines_for_one_class(self) -> None:
+        """The number of a race is no sail: such a line needs its class, which each question names."""
+        self.make("fleet", entries="Boat,Sail\nFulmar,GBR 33\nSterna,NED 84\nPetrel,NED 81\n")
+        self.open()
+        self.open("fleet")
+        window = self.client("cup", "fleet", "--role", "scorer")
+        self.play(window, """
+> finish 4 ned 84
+> finish 1 gbr 101
+> score 4
+Not sent: score 4 is for one class: type c score 4 (cup) or f score 4 (fleet).
+> unscore 1
+Not sent: unscore 1 is for one class: type c unscore 1 (cup) or f unscore 1 (fleet).
+> abandon 1
+Not sent: abandon 1 is for one class
+> standing
+Not sent: standing is for one class
+> enter 4
+Not sent: enter 4 is for one class
+> at 1
+Not sent: at 1 is for one class
+> f score 4
+fleet: Race 4 is to count: 1 finished
+   fleet: Score race 4 with 2 boats as DNC? [y/N]
+> y
+OK 5   fleet: race 4 counts
+> f score 4
+NO 13   fleet: Refused: this race counts already. Nothing has changed.
+> rank 84
+   fleet: NED 84 Sterna is 1st with 1.0 points
+> f strike 4 84
+   fleet: RACE 4 COUNTS ALREADY. Is this a correction? [y/N]
+> n
+> f unscore 4
+   fleet: Race 4 counts. Take it out of the results? [y/N]
+> n
+   Not sent.
+> f abandon 4
+fleet: To take race 4 away 2 lines are sent:
+> y
+fleet: Race 4 is taken away: 2 lines, all taken.
+> f standing
+fleet: rank and net points
+> role jury
+ROLE JURY   cup: your lines are now those of the jury
+ROLE JURY   fleet: your lines are now those of the jury
+""")
+
+    def test_unread_in_two_classes(self) -> None:
+        """A place kept by ? needs no class if one class is at a race, or the sail or number tells it."""
+        self.make("fleet", entries="Boat,Sail\nFulmar,GBR 33\nSterna,NED 80\n")
+        self.open()
+        self.open("fleet")
+        window = self.client("cup", "fleet", "--role", "finish")
+        self.play(window, """
+> c at 1
+> ?
+   ?1 keeps her place.
+> ?
+   ?2 keeps her place.
+> f at 1
+> ?
+Not sent: ? is for one class: type c ? (cup) or f ? (fleet).
+> f ?
+   ?1 keeps her place.
+> ?1 none
+Not sent: ?1 is for one class
+> ?2 none
+   ?2 is dropped.
+> ?1 80
+OK 3   fleet: 1st in race 1
+> ?1 7
+OK 8   cup: 1st in race 1
+""")
+
+    def test_unscore(self) -> None:
+        """To take a race out of the results is asked, and what that moves is said."""
+        self.open()
+        window = self.typist("scorer")
+        self.play(window, """
+> finish 1 101
+> finish 1 7
+> score 1
+> y
+> finish 2 7
+> finish 2 101
+> finish 2 12
+> score 2
+> y
+OK 14   race 2 counts
+> unscore 1
+   Race 1 counts. Take it out of the results? [y/N]
+> n
+   Not sent.
+> unscore 1
+> y
+OK 15   race 1 counts no longer
+   >>> THE RESULTS HAVE CHANGED.
+       GBR 101 Kestrel: 2nd, net 1.0 to 2.0
+> unscore 1
+NO 14
+> unscore 2
+> y
+   >>> NO RACE COUNTS ANY MORE.
+""")
+
+    def test_each_correction_is_asked(self) -> None:
+        """In a race that counts each line for its order is questioned, also after another was."""
+        self.open()
+        window = self.typist("scorer")
+        self.play(window, """
+> finish 1 101
+> finish 1 7
+> score 1
+> y
+> strike 1 7
+   RACE 1 COUNTS ALREADY. Is this a correction? [y/N]
+> y
+> before 1 7 101
+   RACE 1 COUNTS ALREADY. Is this a correction? [y/N]
+> n
+   Not sent.
+""")
+
+    def test_corrected_times(self) -> None:
+        """After `at 1` a line is a sail and her seconds, and the race shows the times."""
+        self.make("club", handicap="yes")
+        self.open("club")
+        window = self.client("club", "--role", "scorer")
+        self.play(window, """
+> at 1
+1> 
+> gbr 101 4005
+OK 8   1st in race 1
+> 7 3600
+   7 is GBR 7 Sea Pink
+OK 9   1st in race 1
+> gbr 33
+   Not sent: her corrected time is missing: gbr 33 and its seconds.
+> 33
+   Not sent: her corrected time is missing: 33 and its seconds.
+> race 1
+     1  GBR 7 Sea Pink   3600 s (1:00:00)
+     2  GBR 101 Kestrel   4005 s (1:06:45)
+> score 1
+     2  GBR 101 Kestrel   4005 s (1:06:45)
+> n
+> help
+   at 3                      from here on a line is a sail and her seconds, in race 3
+   TIME race sail seconds
+""")
+        self.assertNotIn("FINISH", window.say("help", "quit .*\n1> $"))
+
+    def test_help_of_the_jury(self) -> None:
+        self.open()
+        said = self.typist("jury").say("help", "quit .*\n> $")
+        self.assertIn("   race 3 ", said)
+        for line in ("   at 3", "   ?", "   abandon", "   TIME"):
+            self.assertNotIn(line, said)
+
+    def test_roles(self) -> None:
+        """A role that there isn't is said in a sentence, before anything is opened."""
+        for words in (["cup", "--role", "king"], ["cup", "--role", ""]):
+            said, status = helpers.run("client.py", *words, lines="FINISH 1 GBR7\n", cwd=self.here)
+            self.assertIn("role", said)
+            self.assertNotIn("usage", said)
+            self.assertEqual(status, 1)
+
+    def test_orderly_closing(self) -> None:
+        """A class whose office is closed is gone once, and isn't back while it is being closed."""
+        self.make("fleet", entries="Boat,Sail\nFulmar,GBR 33\nSterna,NED 80\n")
+        office = self.open()
+        self.open("fleet")
+        window = self.client("cup", "fleet", "--role", "finish")
+        os.write(window.master, b"finish 1 ned ")
+        office.press()
+        office.read(r"1 window is still open: finish since \d\d:\d\d\. Close the office\? \[y/N\] $")
+        office.say("n", "The office stays open\\.\n$")
+        office.press()
+        office.read(r"\[y/N\] $")
+        office.say("y", "Closed\\. journal\\.txt")
+        said = window.read("> ") + window.say("80", "OK 3   fleet: 1st in race 1; .*\n.*> $")
+        self.assertEqual(said.count("Beware: "), 1, said)
+        self.assertNotIn("is back", said)
+
     def test_a_class_that_opens_later(self) -> None:
         self.make("fleet", entries="Boat,Sail\nFulmar,GBR 33\nSterna,NED 80\n")
         self.open()
         window = self.window("client.py", "cup", "fleet", "--role", "finish")
-        window.read("Beware: no office is open there, that of fleet. The others go on.\n> $")
+        window.read("Beware: no office is open there, that of fleet. The others go on.\n(.|\n)*> $")
         os.write(window.master, b"finish 1 ned ")
         self.open("fleet")
-        window.read("The office of fleet is back with 2 entries.\n> ")
-        window.say("80", "OK 3   fleet: 1st in race 1; .*\n> $")
+        window.read("The office of fleet is back with 2 entries.\ncup, fleet> ")
+        window.say("80", "OK 3   fleet: 1st in race 1; .*\n.*> $")
 
     def test_no_answer(self) -> None:
         """A line without an answer is looked for after the crash, and listed by the office."""

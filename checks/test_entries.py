@@ -57,6 +57,23 @@ class Entries(unittest.TestCase):
             self.assertIn(words, "\n".join(wrong), data[:40])
             self.assertFalse(self.is_taken(data), data[:40])
 
+    def test_all_at_once(self) -> None:
+        """A list with several faults is faulted once, as far as its rows can be read."""
+        data = b"Autumn Cup\nBoat;Sail No.;Helm\nFulmar;FRA/45;C. Blanc\nSterna;;R. Shaw\n"
+        first = entries.problems(data.replace(b"Sail No.", b"Sail"), "list.csv")
+        self.assertEqual(first, [
+            "Row 1 of list.csv is a title; the headings are in row 2. Take out what is above row 2.",
+            "The columns of list.csv are separated by semicolons. They have to be separated by commas.",
+            'list.csv, row 3 (C. Blanc): the sail "FRA/45" has a slash. A sail has 1 to 12 letters, digits '
+            "and dashes.",
+            "list.csv, row 4 (R. Shaw): there is no sail. A sail has 1 to 12 letters, digits and dashes."])
+        second = entries.problems(data.partition(b"\n")[2], "list.csv")
+        self.assertEqual(second, [
+            first[1], "No column of list.csv has the heading Sail, SailNo or SailNumber. 'Sail No.' isn't "
+            "one of them.", *(text.replace("row 3", "row 2").replace("row 4", "row 3") for text in first[2:])])
+        self.assertEqual(entries.problems(b"Boat;Number\nA;1\nB;2\n", "list.csv"), [
+            first[1], "No column of list.csv has the heading Sail, SailNo or SailNumber."])
+
     def test_commas(self) -> None:
         data = 'Segel;Sail\n"a;b";GBR 7\nx,y;NED 1\n'.encode()
         self.assertEqual(entries.with_commas(data).decode(), 'Segel,Sail\na;b,GBR 7\n"x,y",NED 1\n')

@@ -54,7 +54,10 @@ class Opening(helpers.Series):
                              (r"   7 boats, from GBR 101 to IRL 55, with helm, boat and club\n"
                               r"(.|\n)*Which\? \[1\] ", "3"), ("One is .*\\? ", "4"),
                              ("Two.*\\) ", "3"), ("Two.*\\) ", "8"), ("Three.*\\) ", ""),
-                             ("A5.3 apply .*] ", "y"), ("Scoring Penalty.*\\) ", "3"),
+                             ("A5.3 apply .*] ", "y"), ("Scoring Penalty.*\\) ", "30%"),
+                             (r"That has to be 20%, or whole points from 1 to 99\.\n.*\) ", "20"),
+                             (r"20 points, not 20%\? \[y/N\] ", ""),
+                             ("Scoring Penalty.*\\) ", "3"),
                              ("corrected time.*] ", ""), ("stick.*\\) ", "")])
         self.assertEqual(window.rest(), (
             "Wrote dragon/series.ini. Next: python3 tools/series.py open dragon\n", 0))
@@ -77,7 +80,7 @@ class Opening(helpers.Series):
         self.write(helpers.ENTRIES, "list.csv")
         window.type("")
         self.answer(window, [(r"Entry list \[list\.csv\]: ", ""), ("7 boats(.|\n)*Which\\? .*", "1"),
-                             ("A5.3 apply .*] ", ""), ("Scoring Penalty.*\\) ", ""),
+                             ("A5.3 apply .*] ", ""), ("Scoring Penalty.*\\) ", "20%"),
                              ("corrected time.*] ", ""), ("stick.*\\) ", "stik"),
                              (r"/stik isn't there\. Take it all the same\? \[y/N\] ", ""),
                              ("stick.*\\) ", "stick"), (r"\[y/N\] ", "y")])
@@ -85,6 +88,7 @@ class Opening(helpers.Series):
             "Copied list.csv to dragon/entries.csv: from now on change that one.\n"
             "Wrote dragon/series.ini. Next: python3 tools/series.py open dragon\n", 0))
         self.assertIn(f"copy = {self.here}/stick\n", self.text("dragon", "series.ini"))
+        self.assertIn("scp = \n", self.text("dragon", "series.ini"))
         self.assertEqual(self.text("dragon", "entries.csv"), helpers.ENTRIES)
 
     def test_new_stopped(self) -> None:
@@ -168,7 +172,7 @@ class Opening(helpers.Series):
             typist.say(f"finish 1 {sail}", r"OK \d .*\n> $")
             helpers.until("the journal", lambda entries=entries: self.saved(entries))
             window.press()
-            window.read("\n")
+            window.read("\nThe office stays open.\n")
         window.press()
         window.read(asked)
         os.kill(self.number(), signal.SIGKILL)
@@ -184,8 +188,9 @@ class Opening(helpers.Series):
         self.write(text, "cup", "series.ini")
         again = self.window("series.py", "open", "cup")
         said = again.read(r"Go on with the new rules\? \[y/N\] ")
-        self.assertIn("The rules were: --exclude 2 --absent a52\nThey are now: --exclude none "
-                      "--absent a52\n", said)
+        self.assertIn("The rules were: Scores excluded: one from 2 races. RRS A5.2. Scoring Penalty "
+                      "20%. By order of finishing.\nThey are now: No score excluded. RRS A5.2. Scoring "
+                      "Penalty 20%. By order of finishing.\n", said)
         self.assertIn("NED 12 Windhover: 1st, net 2.0 to 4.0\n", said)
         again.type("n")
         self.assertEqual(again.rest(), ("Nothing was opened.\n", 1))
@@ -418,6 +423,25 @@ class Faults(helpers.Series):
         self.assertEqual(self.text("cup", "journal.txt").count("\n"), 7)
         again.press()
         self.assertEqual(again.rest()[1], 0)
+
+    def test_several(self) -> None:
+        """Several series are checked and announced at once; no folder of a series is a reason."""
+        self.make("fleet")
+        said, status = helpers.run("series.py", "check", "cup", "fleet", cwd=self.here)
+        self.assertEqual((said.count(" can be opened: "), status), (2, 0))
+        said, status = helpers.run("series.py", "final", "cup", "fleet", cwd=self.here)
+        self.assertEqual((said, status), ("The results of cup are final.\n"
+                                          "The results of fleet are final.\n", 0))
+        said, status = helpers.run("series.py", "amended", "cup", "fleet", "Appeal", cwd=self.here)
+        self.assertEqual((said, status), ("The results of cup are amended: Appeal.\n"
+                                          "The results of fleet are amended: Appeal.\n", 0))
+        os.mkdir(os.path.join(self.here, "other"))
+        for words, why in [(["cup", "other"], "other has no series.ini"),
+                           (["cup", "Appeal", "upheld"], 'quotation marks: "Appeal upheld"')]:
+            said, status = helpers.run("series.py", "final", *words, cwd=self.here)
+            self.assertIn(why, said)
+            self.assertEqual(status, 1)
+            self.assertIn("state = amended\n", self.text("cup", "series.ini"))
 
     def test_states(self) -> None:
         said = helpers.run("series.py", "amended", "cup", "Appeal upheld: FRA 9", cwd=self.here)
