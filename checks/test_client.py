@@ -11,6 +11,7 @@ import helpers
 from desk import Desk
 from folder import Folder
 from office import Trouble
+from watcher import News, Watcher
 
 
 class Client(helpers.Series):
@@ -517,6 +518,21 @@ Not sent: the office of cup has gone. Write 12 down.
         window.read("OK 8 ")
         window.read("NO 8 ")
         window.read("Not sent, since the line before it wasn't taken: finish 1 7\n> $")
+
+
+class Signals(unittest.TestCase):
+    def test_late_signal(self) -> None:
+        """A signal that was meant for one prompt doesn't interrupt the next, nor what comes between."""
+        self.addCleanup(signal.signal, signal.SIGUSR1, signal.getsignal(signal.SIGUSR1))
+        watcher = Watcher([])
+        watcher.prompts, watcher.interrupted = 2, 1
+        for watcher.at_prompt in (True, False):
+            watcher.interrupt()
+        watcher.interrupted = 2
+        watcher.interrupt()
+        watcher.at_prompt = True
+        self.assertRaises(News, watcher.interrupt)
+        self.assertFalse(watcher.at_prompt)
 
 
 if __name__ == "__main__":
