@@ -278,6 +278,22 @@ Race 1 is taken away: 3 lines, all taken.
 Nothing of race 1 has to be taken away.
 """)
 
+    def test_abandon_by_the_finish(self) -> None:
+        """The finish may take a race away until it counts, and the jury may not."""
+        self.open()
+        window, jury = self.typist(), self.typist("jury")
+        self.assertIn("   abandon 3 ", window.say("help", "quit .*\n> $"))
+        self.assertNotIn("abandon", jury.say("help", "quit .*\n> $"))
+        window.say("finish 1 101", "OK 8 .*\n> $")
+        self.assertIn("needs STRIKE, which the jury doesn't send", jury.say("abandon 1", "> $"))
+        window.say("abandon 1", r"Send them\? \[y/N\] $")
+        window.say("y", "Race 1 is taken away: 1 line, all taken.\n> $")
+        scorer = self.typist("scorer")
+        scorer.say("finish 1 101", "OK 10 .*\n> $")
+        scorer.say("score 1", r"\[y/N\] $")
+        scorer.say("y", "OK 11 .*\n> $")
+        self.assertIn("needs UNSCORE, which the finish doesn't send", window.say("abandon 1", "> $"))
+
     def test_file(self) -> None:
         self.open()
         lines = "\ufeffFINISH\t1 GBR101\r\n\nfinish 1 ned12\nFINISH 1 GBR78\nFINISH 1 GBR7\nFINISH 1 FRA9\n"
