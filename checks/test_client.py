@@ -271,6 +271,7 @@ To take race 1 away 3 lines are sent:
     STRIKE 1 NED12
     CLEAR 1 IRL5
   ZFP and BFD stay (RRS 30.2, 30.4): NED 12 Windhover
+  If the race is resailed under a new number: type them there, and clear them here
    Send them? [y/N]
 > y
 Race 1 is taken away: 3 lines, all taken.
