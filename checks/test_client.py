@@ -11,6 +11,7 @@ import helpers
 from desk import Desk
 from folder import Folder
 from office import Trouble
+from watcher import News, Watcher
 
 
 class Client(helpers.Series):
@@ -270,12 +271,29 @@ To take race 1 away 3 lines are sent:
     STRIKE 1 NED12
     CLEAR 1 IRL5
   ZFP and BFD stay (RRS 30.2, 30.4): NED 12 Windhover
+  If the race is resailed under a new number: type them there, and clear them here
    Send them? [y/N]
 > y
 Race 1 is taken away: 3 lines, all taken.
 > abandon 1
 Nothing of race 1 has to be taken away.
 """)
+
+    def test_abandon_by_the_finish(self) -> None:
+        """The finish may take a race away until it counts, and the jury may not."""
+        self.open()
+        window, jury = self.typist(), self.typist("jury")
+        self.assertIn("   abandon 3 ", window.say("help", "quit .*\n> $"))
+        self.assertNotIn("abandon", jury.say("help", "quit .*\n> $"))
+        window.say("finish 1 101", "OK 8 .*\n> $")
+        self.assertIn("needs STRIKE, which the jury doesn't send", jury.say("abandon 1", "> $"))
+        window.say("abandon 1", r"Send them\? \[y/N\] $")
+        window.say("y", "Race 1 is taken away: 1 line, all taken.\n> $")
+        scorer = self.typist("scorer")
+        scorer.say("finish 1 101", "OK 10 .*\n> $")
+        scorer.say("score 1", r"\[y/N\] $")
+        scorer.say("y", "OK 11 .*\n> $")
+        self.assertIn("needs UNSCORE, which the finish doesn't send", window.say("abandon 1", "> $"))
 
     def test_file(self) -> None:
         self.open()
@@ -715,6 +733,21 @@ OK 9   1st in race 1
         window.read("OK 8 ")
         window.read("NO 8 ")
         window.read("Not sent, since the line before it wasn't taken: finish 1 7\n> $")
+
+
+class Signals(unittest.TestCase):
+    def test_late_signal(self) -> None:
+        """A signal that was meant for one prompt doesn't interrupt the next, nor what comes between."""
+        self.addCleanup(signal.signal, signal.SIGUSR1, signal.getsignal(signal.SIGUSR1))
+        watcher = Watcher([])
+        watcher.prompts, watcher.interrupted = 2, 1
+        for watcher.at_prompt in (True, False):
+            watcher.interrupt()
+        watcher.interrupted = 2
+        watcher.interrupt()
+        watcher.at_prompt = True
+        self.assertRaises(News, watcher.interrupt)
+        self.assertFalse(watcher.at_prompt)
 
 
 if __name__ == "__main__":

@@ -22,7 +22,7 @@ from view import Named, View, now_json, results_csv, results_json
 HTML, CSV, JSON = "text/html; charset=utf-8", "text/csv; charset=utf-8", "application/json"
 # The least seconds between two writings of a file that has only been confirmed.
 FRESH = 20.0
-RACE_PAGE = re.compile(r"race-\d+\.html")
+RACE_PAGE = re.compile(r"/race-\d+\.html$")
 
 
 @dataclass(frozen=True)
@@ -126,17 +126,19 @@ class Files:
         texts = self.site.texts(fresh)
         for address in sorted(texts, key=lambda address: address.endswith("/now.json")):
             self.put(address, texts[address][1])
-        self.remove_old(texts)
+        for address in self.old_pages(texts):
+            remove(self.path(address))
+            self.written.pop(address, None)
 
-    def remove_old(self, texts: Mapping[str, object]) -> None:
-        """Removes the pages of races that are no more. Files that no board has written stay."""
-        for address in [address for address in texts if address.endswith("/results.json")]:
-            here = address.removesuffix("results.json")
-            for path in glob.glob(glob.escape(self.path(here)) + "race-*.html"):
-                name = os.path.basename(path)
-                if f"{here}{name}" not in texts and RACE_PAGE.fullmatch(name) and page.is_ours(path):
-                    remove(path)
-                    self.written.pop(f"{here}{name}", None)
+    def old_pages(self, texts: Mapping[str, object]) -> list[str]:
+        """The pages, also of an earlier run, of races that are no more. Files that no board has written
+        aren't among them."""
+        homes = [address.removesuffix("results.json") for address in texts
+                 if address.endswith("/results.json")]
+        found = [f"{home}{os.path.basename(path)}" for home in homes
+                 for path in glob.glob(glob.escape(self.path(home)) + "race-*.html")]
+        return [address for address in found if address not in texts
+                and RACE_PAGE.search(address) and page.is_ours(self.path(address))]
 
     def path(self, address: str) -> str:
         """The file of an address."""

@@ -105,7 +105,8 @@ def plan_lines(book: Book, race: Race, plan: Plan) -> list[str]:
     lines = count(len(plan.lines), "line is", "lines are")
     said = [f"To take race {race.number} away {lines} sent:", *(f"    {line}" for line in plan.lines)]
     if plan.stays:
-        said.append(f"  ZFP and BFD stay (RRS 30.2, 30.4): {book.all_called(plan.stays)}")
+        said += [f"  ZFP and BFD stay (RRS 30.2, 30.4): {book.all_called(plan.stays)}",
+                 "  If the race is resailed under a new number: type them there, and clear them here"]
     if plan.jury:
         said.append(f"  What the jury decided stays (RRS 36): {book.all_called(plan.jury)}")
     return said
