@@ -224,6 +224,14 @@ class Series(unittest.TestCase):
         window.read("> $")
         return window
 
+    def play(self, window: helpers.Terminal, talk: str) -> None:
+        """Each line of a talk that begins with > is typed; the others have to come, in order."""
+        for step in talk.strip("\n").split("\n> "):
+            line, _, wanted = step.removeprefix("> ").partition("\n")
+            said = window.say(line, r"(> |\] )$")
+            missing = [text for text in wanted.splitlines() if text not in said]
+            self.assertEqual(missing, [], f"{line} said\n{said}")
+
     def text(self, *names: str) -> str:
         with open(os.path.join(self.here, *names), encoding="utf-8") as file:
             return file.read()

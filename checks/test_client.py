@@ -18,14 +18,6 @@ class Client(helpers.Series):
     def typist(self, role: str = "finish", *more: str) -> helpers.Terminal:
         return self.client("cup", "--role", role, *more)
 
-    def play(self, window: helpers.Terminal, talk: str) -> None:
-        """Each line of a talk that begins with > is typed; the others have to come, in order."""
-        for step in talk.strip("\n").split("\n> "):
-            line, _, wanted = step.removeprefix("> ").partition("\n")
-            said = window.say(line, r"(> |\] )$")
-            missing = [text for text in wanted.splitlines() if text not in said]
-            self.assertEqual(missing, [], f"{line} said\n{said}")
-
     def test_a_race(self) -> None:
         self.open()
         window = self.window("client.py", "cup")
@@ -314,128 +306,6 @@ Nothing of race 1 has to be taken away.
         self.assertNotIn("> FINISH", said)
         self.assertIn("need --role", helpers.run("client.py", "cup", lines="x", cwd=self.here)[0])
 
-    def test_two_classes(self) -> None:
-        self.make("fleet", entries="Boat,Sail\nFulmar,GBR 33\nSterna,NED 80\n")
-        self.open()
-        self.open("fleet")
-        window = self.window("client.py", "cup", "fleet", "--role", "finish")
-        window.read("You type as the finish, for cup \\(Autumn Cup\\) and fleet \\(Autumn Cup\\)\\.\nA sail "
-                    "chooses its class\\. Otherwise the class comes first: c for cup and f for "
-                    "fleet\\.\nhelp lists your lines\\.\ncup, fleet> $")
-        self.play(window, """
-> c at 3
-cup 3, fleet> 
-> 33
-   33 is GBR 33 Turnstone
-OK 8   cup: 1st in race 3
-> strike 3 gbr 33
-33 may be GBR 33 Turnstone (cup) or GBR 33 Fulmar (fleet): type her class first.
-> strike 3 gbr 33
-> c strike 3 33
-> f at 2
-cup 3, fleet 2> 
-> 33
-33 may be GBR 33 Turnstone (cup) or GBR 33 Fulmar (fleet): type her class first.
-> c 33
-   33 is GBR 33 Turnstone
-   cup: 1st in race 3
-> 80
-   fleet: 1st in race 2
-> tie 3 gbr 7 gbr 33
-   cup: 1st (tied) in race 3
-> race 3
-Not sent: race 3 is for one class: type c race 3 (cup) or f race 3 (fleet).
-> f race 2
-fleet: Race 2 doesn't count yet
-     1  NED 80 Sterna
-> help
-A sail chooses its class. Otherwise the class comes first: c for cup and f for fleet.
-""")
-        os.kill(int(self.text("cup", "office", "pid").split()[0]), signal.SIGKILL)
-        window.read("Beware: the office has gone, that of cup. The others go on.")
-        window.read("> $")
-        self.play(window, """
-> c 12
-Not sent: the office of cup has gone. Write 12 down.
-> f 33
-   fleet: 2nd in race 2
-""")
-
-    def test_lines_for_one_class(self) -> None:
-        """The number of a race is no sail: such a line needs its class, which each question names."""
-        self.make("fleet", entries="Boat,Sail\nFulmar,GBR 33\nSterna,NED 84\nPetrel,NED 81\n")
-        self.open()
-        self.open("fleet")
-        window = self.client("cup", "fleet", "--role", "scorer")
-        self.play(window, """
-> finish 4 ned 84
-> finish 1 gbr 101
-> score 4
-Not sent: score 4 is for one class: type c score 4 (cup) or f score 4 (fleet).
-> unscore 1
-Not sent: unscore 1 is for one class: type c unscore 1 (cup) or f unscore 1 (fleet).
-> abandon 1
-Not sent: abandon 1 is for one class
-> standing
-Not sent: standing is for one class
-> enter 4
-Not sent: enter 4 is for one class
-> at 1
-Not sent: at 1 is for one class
-> f score 4
-fleet: Race 4 is to count: 1 finished
-   fleet: Score race 4 with 2 boats as DNC? [y/N]
-> y
-OK 5   fleet: race 4 counts
-> f score 4
-NO 13   fleet: Refused: this race counts already. Nothing has changed.
-> rank 84
-   fleet: NED 84 Sterna is 1st with 1.0 points
-> f strike 4 84
-   fleet: RACE 4 COUNTS ALREADY. Is this a correction? [y/N]
-> n
-> f unscore 4
-   fleet: Race 4 counts. Take it out of the results? [y/N]
-> n
-   Not sent.
-> f abandon 4
-fleet: To take race 4 away 2 lines are sent:
-> y
-fleet: Race 4 is taken away: 2 lines, all taken.
-> f standing
-fleet: rank and net points
-> role jury
-ROLE JURY   cup: your lines are now those of the jury
-ROLE JURY   fleet: your lines are now those of the jury
-""")
-
-    def test_unread_in_two_classes(self) -> None:
-        """A place kept by ? needs no class if one class is at a race, or the sail or number tells it."""
-        self.make("fleet", entries="Boat,Sail\nFulmar,GBR 33\nSterna,NED 80\n")
-        self.open()
-        self.open("fleet")
-        window = self.client("cup", "fleet", "--role", "finish")
-        self.play(window, """
-> c at 1
-> ?
-   ?1 keeps her place.
-> ?
-   ?2 keeps her place.
-> f at 1
-> ?
-Not sent: ? is for one class: type c ? (cup) or f ? (fleet).
-> f ?
-   ?1 keeps her place.
-> ?1 none
-Not sent: ?1 is for one class
-> ?2 none
-   ?2 is dropped.
-> ?1 80
-OK 3   fleet: 1st in race 1
-> ?1 7
-OK 8   cup: 1st in race 1
-""")
-
     def test_unscore(self) -> None:
         """To take a race out of the results is asked, and what that moves is said."""
         self.open()
@@ -528,33 +398,6 @@ OK 9   1st in race 1
             self.assertIn("role", said)
             self.assertNotIn("usage", said)
             self.assertEqual(status, 1)
-
-    def test_orderly_closing(self) -> None:
-        """A class whose office is closed is gone once, and isn't back while it is being closed."""
-        self.make("fleet", entries="Boat,Sail\nFulmar,GBR 33\nSterna,NED 80\n")
-        office = self.open()
-        self.open("fleet")
-        window = self.client("cup", "fleet", "--role", "finish")
-        os.write(window.master, b"finish 1 ned ")
-        office.press()
-        office.read(r"1 window is still open: finish since \d\d:\d\d\. Close the office\? \[y/N\] $")
-        office.say("n", "The office stays open\\.\n$")
-        office.press()
-        office.read(r"\[y/N\] $")
-        office.say("y", "Closed\\. journal\\.txt")
-        said = window.read("> ") + window.say("80", "OK 3   fleet: 1st in race 1; .*\n.*> $")
-        self.assertEqual(said.count("Beware: "), 1, said)
-        self.assertNotIn("is back", said)
-
-    def test_a_class_that_opens_later(self) -> None:
-        self.make("fleet", entries="Boat,Sail\nFulmar,GBR 33\nSterna,NED 80\n")
-        self.open()
-        window = self.window("client.py", "cup", "fleet", "--role", "finish")
-        window.read("Beware: no office is open there, that of fleet. The others go on.\n(.|\n)*> $")
-        os.write(window.master, b"finish 1 ned ")
-        self.open("fleet")
-        window.read("The office of fleet is back with 2 entries.\ncup, fleet> ")
-        window.say("80", "OK 3   fleet: 1st in race 1; .*\n.*> $")
 
     def test_no_answer(self) -> None:
         """A line without an answer is looked for after the crash, and listed by the office."""

@@ -424,6 +424,22 @@ class Pages(helpers.Series):
             self.browser.open(f"file://{file}")
             self.red(wanted)
 
+    def test_stale_class(self) -> None:
+        """The list of several classes names the one whose office doesn't answer."""
+        self.make("fleet", title="Folkboats")
+        board = self.window("board.py", "cup", "fleet", "--page", "out")
+        board.read("Pages are in")
+        board.press()
+        board.rest()
+        text = self.text("out", "index.html")
+        self.assertIn('<a href="fleet/results.csv">', text)
+        self.assertIn('<a href="results.csv">', self.text("out", "fleet", "index.html"))
+        self.write(text.replace('data-office="open"', 'data-office="away: Folkboats"'), "out", "index.html")
+        self.browser.open(f"file://{self.here}/out/index.html")
+        self.red(True)
+        self.assertIn("The race office of Folkboats isn't answering just now.",
+                      self.browser.run("alarm.textContent"))
+
     def test_once(self) -> None:
         """Pages that are made once say when, and are never red: nobody keeps them up to date."""
         path = self.made("cup").removeprefix("file://")

@@ -105,7 +105,7 @@ def heading_at(rows: list[tuple[int, list[str]]]) -> int:
 
 def separator_of(data: bytes) -> str:
     """A sign other than the comma by which the columns are separated, if any. It is in each of the
-    first rows, and no comma is in that of the headings, unless a heading tells it."""
+    first rows, and no comma is in that of the headings, unless a heading is a sail's."""
     rows = rows_of(data)
     texts = [",".join(row) for _, row in rows[heading_at(rows):][:3]]
     head = texts[0] if texts else ""
@@ -159,8 +159,8 @@ def fault_of(sail: str) -> str:
 
 
 def problems(data: bytes, path: str) -> list[str]:
-    """All that keeps the program from taking a list, in words, as far as it can be told at once; empty
-    if it takes it."""
+    """All that keeps the program from taking a list, in words: as much as shows at once; empty if it
+    takes it."""
     name = os.path.basename(path)
     if wrong := wrong_form(data, name):
         return [wrong]

@@ -29,7 +29,7 @@ MEANING = {
 }
 # On paper the races after these are in a second table.
 MOST_COLUMNS = 24
-# On paper so many boats leave room for the notes below them, in large letters.
+# On paper this many boats leave room for the notes below them, in large letters.
 MOST_ROOMY = 12
 STAMP = 'data-checked="" data-office=""'
 
