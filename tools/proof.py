@@ -1,0 +1,176 @@
+"""What a page carries so that anybody can verify it: the settings, the journal, the names, the
+decisions and the SHA-256 of the program, as JSON in a block that no browser runs."""
+from __future__ import annotations
+
+import datetime
+import hashlib
+import json
+import re
+from collections.abc import Sequence
+from dataclasses import dataclass
+
+from entries import Boat
+from view import Named, View
+
+FORM = 1
+NAMES = ("title", "club", "zone", "exclude", "absent", "scp", "state", "reason")
+# Signs by which a text could end the block, or begin another; U+2028 and U+2029 end lines.
+SIGNS = {sign: f"\\u{ord(sign):04x}" for sign in "<>&\u2028\u2029"}
+BLOCK = re.compile(r'<script type="application/json" id="proof">\n(.*?)</script>', re.DOTALL)
+
+
+class Odd(Exception):
+    """Why a page isn't one that the tools wrote, in words."""
+
+
+@dataclass(frozen=True)
+class Kept:
+    """What a page carries: which page it is, and each of its series."""
+    page: dict[str, object]
+    series: tuple[dict[str, object], ...]
+
+
+# What a page carries
+
+def settings_of(view: View) -> dict[str, str]:
+    """The settings that a page shows or that its scores follow."""
+    shown = view.settings
+    return {**{name: getattr(shown, name) for name in NAMES}, "class": shown.group,
+            "handicap": "yes" if shown.handicap else "no", "every": str(shown.every)}
+
+
+def series_of(view: View) -> dict[str, object]:
+    boats = [[sail, boat.sail, boat.helm, boat.name, boat.club] for sail, boat in view.boats.items()]
+    return {"name": view.name, "program": view.program, "version": view.version,
+            "changed": view.changed.isoformat(), "when": view.when(view.changed),
+            "settings": settings_of(view), "boats": boats,
+            "decisions": [without_note(line) for line in view.decided.text.splitlines()],
+            "journal": list(view.journal)}
+
+
+def without_note(line: str) -> str:
+    """A line of decisions.txt without what is for its writer alone."""
+    return line.partition("#")[0].strip()
+
+
+def text_of(value: object) -> str:
+    """A value as JSON, always in the same way: a line for each line of a journal."""
+    text = json.dumps(value, ensure_ascii=False, indent=0)
+    return "".join(SIGNS.get(sign, sign) for sign in text)
+
+
+def digest(value: object) -> str:
+    return hashlib.sha256(text_of(value).encode()).hexdigest()
+
+
+def seal(view: View) -> str:
+    """The SHA-256 of what a series' pages carry: it is the same as long as nothing has changed."""
+    return digest(series_of(view))
+
+
+def seal_words(view: View) -> str:
+    """The first half of the seal, in groups that can be read out."""
+    return " ".join(seal(view)[at:at + 4] for at in range(0, 32, 4))
+
+
+def items(series: dict[str, object]) -> list[tuple[str, str]]:
+    """Each setting, boat, decision and line of a series, with what it is called."""
+    settings, boats = series["settings"], series["boats"]
+    assert isinstance(settings, dict) and isinstance(boats, list)
+    found = [(f"the {name} of the page", str(series[name]))
+             for name in ("name", "program", "version", "changed", "when")]
+    found += [(f"the setting {name}", str(value)) for name, value in settings.items()]
+    found += [(f"boat {at}", "\t".join(boat)) for at, boat in enumerate(boats, 1)]
+    for name, called in (("decisions", "line {} of the decisions"), ("journal", "entry {}")):
+        found += [(called.format(at), line) for at, line in enumerate(series[name], 1)]  # type: ignore
+    return found
+
+
+def marks(series: dict[str, object]) -> str:
+    """Four digits for each item, by which one that was changed is found."""
+    return "".join(hashlib.sha256(f"{name}\t{text}".encode()).hexdigest()[:4]
+                   for name, text in items(series))
+
+
+def block(kind: str, views: Sequence[View], **more: object) -> str:
+    """The block of a page: its kind, what it needs besides its series, and the series."""
+    series = [series_of(view) for view in views]
+    page = {"kind": kind, **more}
+    whole = {"regatta": FORM, "page": page, "series": series,
+             "marks": [marks(each) for each in series]}
+    return (f'<script type="application/json" id="proof">\n{text_of({**whole, "seal": digest(whole)})}'
+            "\n</script>")
+
+
+def named(names: Sequence[Named]) -> list[list[str]]:
+    return [[name.label, name.address] for name in names]
+
+
+# What is read from a page
+
+def found_in(page: str) -> Kept:
+    """What a page carries. Odd says why it can't be read, or what in it was changed."""
+    blocks = BLOCK.findall(page)
+    if len(blocks) != 1:
+        raise Odd("it has no block that can be verified" if not blocks else
+                  f"it has {len(blocks)} blocks to verify, and each page has one")
+    try:
+        whole = json.loads(blocks[0])
+    except json.JSONDecodeError as cause:
+        line = blocks[0].splitlines()[cause.lineno - 1:cause.lineno]
+        raise Odd(f"the block isn't JSON at its line {cause.lineno}: {''.join(line)[:80]}") from None
+    if problem := changed_in(whole):
+        raise Odd(problem)
+    if f"{text_of(whole)}\n" != blocks[0]:
+        raise Odd("the block isn't written as these tools write one")
+    return Kept(whole["page"], tuple(whole["series"]))
+
+
+def changed_in(whole: object) -> str:
+    """What of a block isn't as it was written; empty if it is."""
+    if not isinstance(whole, dict) or whole.get("regatta") != FORM:
+        return "the block is of another version: take the tools of its time"
+    if not has_form(whole):
+        return "the block hasn't the parts of one: a part was renamed, added or taken out"
+    for series, written in zip(whole["series"], whole["marks"]):
+        fresh, all_items = marks(series), items(series)
+        odd = [at // 4 for at in range(0, max(len(fresh), len(written)), 4)
+               if fresh[at:at + 4] != written[at:at + 4]]
+        if odd:
+            name, text = (all_items + [("the last item", "")])[min(odd[0], len(all_items))]
+            return f"{name} isn't as it was written: {text!r}"
+    rest = {name: value for name, value in whole.items() if name != "seal"}
+    return "" if digest(rest) == whole["seal"] else "the block's seal isn't that of what it holds"
+
+
+def is_texts(value: object) -> bool:
+    return isinstance(value, list) and all(isinstance(text, str) for text in value)
+
+
+def has_form(whole: dict[str, object]) -> bool:
+    """Whether a block has the parts of one, each of its type."""
+    series, written = whole.get("series"), whole.get("marks")
+    return (set(whole) == {"regatta", "page", "series", "marks", "seal"} and is_texts(written)
+            and isinstance(whole["page"], dict) and isinstance(series, list)
+            and len(series) == len(written) and all(map(is_series, series)))  # type: ignore
+
+
+def is_series(series: object) -> bool:
+    if not isinstance(series, dict):
+        return False
+    texts = ("name", "program", "version", "changed", "when")
+    settings, boats = series.get("settings"), series.get("boats")
+    return (set(series) == {*texts, "settings", "boats", "decisions", "journal"}
+            and all(isinstance(series[name], str) for name in texts)
+            and isinstance(settings, dict) and set(settings) == {*NAMES, "class", "handicap", "every"}
+            and all(isinstance(value, str) for value in settings.values())
+            and isinstance(boats, list) and all(is_texts(boat) and len(boat) == 5 for boat in boats)
+            and is_texts(series["decisions"]) and is_texts(series["journal"]))
+
+
+def boats_of(series: dict[str, object]) -> dict[str, Boat]:
+    return {sail: Boat(*rest) for sail, *rest in series["boats"]}  # type: ignore
+
+
+def changed_at(series: dict[str, object]) -> datetime.datetime:
+    return datetime.datetime.fromisoformat(str(series["changed"]))
