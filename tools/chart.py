@@ -12,8 +12,11 @@ from view import View
 
 # How many boats have a line, and the last rank that has a height of its own.
 LINES, DEEPEST = 8, 16
-# Pixels: between ranks and between races, above the first rank, and left and right of the lines.
-HIGH, WIDE, ABOVE, LEFT, RIGHT = 20, 27, 34, 34, 118
+# Pixels: between ranks, above the first rank, and left and right of the lines.
+HIGH, ABOVE, LEFT, RIGHT = 20, 34, 40, 118
+# The width that a phone has for the lines, the least and the most between two races, and the width of
+# a race's number.
+PHONE, NEAREST, FARTHEST, NUMBER = 206, 15, 40, 30
 DASHES = ["", "7 3", "2 3", "11 3 2 3", "", "7 3", "2 3", "11 3 2 3"]
 
 
@@ -31,6 +34,11 @@ def height(rank: int, deepest: int) -> int:
     return ABOVE + (min(rank, deepest + 1) - 1) * HIGH
 
 
+def step(races: int) -> int:
+    """How far two races are apart: as far as a phone has room, within limits."""
+    return max(NEAREST, min(FARTHEST, PHONE // max(1, races - 1)))
+
+
 def mark(kind: int, x: int, y: int) -> str:
     """The mark of a line at one race: a disc, a square, a triangle or a diamond, full or hollow."""
     shape = [f'<circle cx="{x}" cy="{y}" r="4"/>',
@@ -42,7 +50,7 @@ def mark(kind: int, x: int, y: int) -> str:
 
 def line(at: int, row: Row, places: list[tuple[int, bool]], deepest: int, name: str) -> str:
     """A boat's line with its marks, and her label at its end."""
-    points = [(LEFT + WIDE * number, height(rank, deepest))
+    points = [(LEFT + step(len(places)) * number, height(rank, deepest))
               for number, (rank, _) in enumerate(places)]
     dash = f' stroke-dasharray="{DASHES[at]}"' if DASHES[at] else ""
     path = " ".join(f"{x},{y}" for x, y in points)
@@ -55,10 +63,13 @@ def line(at: int, row: Row, places: list[tuple[int, bool]], deepest: int, name: 
 
 
 def axes(view: View, deepest: int, has_later: bool) -> str:
-    """The numbers of the races above, and of the ranks on the left."""
-    races = "".join(f'<text x="{LEFT + WIDE * at}" y="16" text-anchor="middle">R{number}</text>'
-                    for at, number in enumerate(view.standing.races))
-    right = LEFT + WIDE * (len(view.standing.races) - 1)
+    """The numbers of the races above, as many as fit, and of the ranks on the left."""
+    count, apart = len(view.standing.races), step(len(view.standing.races))
+    every = -(-NUMBER // apart)
+    races = "".join(f'<text x="{LEFT + apart * at}" y="16" text-anchor="middle">R{number}</text>'
+                    for at, number in enumerate(view.standing.races)
+                    if (count - 1 - at) % every == 0)
+    right = LEFT + apart * (count - 1)
     steps = [(rank, str(rank)) for rank in range(1, deepest + 1)]
     steps += [(deepest + 1, f"{deepest + 1}+")] if has_later else []
     lines = "".join(
@@ -72,7 +83,8 @@ def picture(view: View) -> str:
     rows, found = view.standing.rows[:LINES], ranks(view)
     worst = max(rank for row in rows for rank, _ in found[row.sail])
     deepest = min(max(worst, len(rows)), DEEPEST)
-    wide = LEFT + WIDE * (len(view.standing.races) - 1) + RIGHT
+    races = len(view.standing.races)
+    wide = LEFT + step(races) * (races - 1) + RIGHT
     high = height(deepest + (worst > deepest), deepest) + 16
     lines = "".join(line(at, row, found[row.sail], deepest, view.boat(row.sail).sail)
                     for at, row in enumerate(rows))
