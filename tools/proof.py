@@ -6,7 +6,7 @@ import datetime
 import hashlib
 import json
 import re
-from collections.abc import Sequence
+from collections.abc import Callable, Sequence
 from dataclasses import dataclass
 
 from entries import Boat
@@ -59,13 +59,24 @@ def text_of(value: object) -> str:
     return "".join(SIGNS.get(sign, sign) for sign in text)
 
 
-def digest(value: object) -> str:
-    return hashlib.sha256(text_of(value).encode()).hexdigest()
+def digest(text: str) -> str:
+    return hashlib.sha256(text.encode()).hexdigest()
+
+
+def made(view: View, name: str, make: Callable[[View], str]) -> str:
+    """A text of a series, made once: a board has many pages of one series."""
+    if name not in view.memo:
+        view.memo[name] = make(view)
+    return view.memo[name]
+
+
+def series_text(view: View) -> str:
+    return made(view, "series", lambda view: text_of(series_of(view)))
 
 
 def seal(view: View) -> str:
     """The SHA-256 of what a series' pages carry: it is the same as long as nothing has changed."""
-    return digest(series_of(view))
+    return made(view, "seal", lambda view: digest(series_text(view)))
 
 
 def seal_words(view: View) -> str:
@@ -94,12 +105,12 @@ def marks(series: dict[str, object]) -> str:
 
 def block(kind: str, views: Sequence[View], **more: object) -> str:
     """The block of a page: its kind, what it needs besides its series, and the series."""
-    series = [series_of(view) for view in views]
-    page = {"kind": kind, **more}
-    whole = {"regatta": FORM, "page": page, "series": series,
-             "marks": [marks(each) for each in series]}
-    return (f'<script type="application/json" id="proof">\n{text_of({**whole, "seal": digest(whole)})}'
-            "\n</script>")
+    series = ",\n".join(map(series_text, views))
+    written = [made(view, "marks", lambda view: marks(series_of(view))) for view in views]
+    head = text_of({"regatta": FORM, "page": {"kind": kind, **more}}).removesuffix("\n}")
+    whole = f'{head},\n"series": [\n{series}\n],\n"marks": {text_of(written)}'
+    return ('<script type="application/json" id="proof">\n'
+            f'{whole},\n"seal": "{digest(whole)}"\n}}\n</script>')
 
 
 def named(names: Sequence[Named]) -> list[list[str]]:
@@ -121,8 +132,9 @@ def found_in(page: str) -> Kept:
         raise Odd(f"the block isn't JSON at its line {cause.lineno}: {''.join(line)[:80]}") from None
     if problem := changed_in(whole):
         raise Odd(problem)
-    if f"{text_of(whole)}\n" != blocks[0]:
-        raise Odd("the block isn't written as these tools write one")
+    text, _, last = blocks[0].rpartition(',\n"seal": ')
+    if digest(text) != whole["seal"] or last != f'"{whole["seal"]}"\n}}\n':
+        raise Odd("the block's seal isn't that of what it holds")
     return Kept(whole["page"], tuple(whole["series"]))
 
 
@@ -139,8 +151,7 @@ def changed_in(whole: object) -> str:
         if odd:
             name, text = (all_items + [("the last item", "")])[min(odd[0], len(all_items))]
             return f"{name} isn't as it was written: {text!r}"
-    rest = {name: value for name, value in whole.items() if name != "seal"}
-    return "" if digest(rest) == whole["seal"] else "the block's seal isn't that of what it holds"
+    return ""
 
 
 def is_texts(value: object) -> bool:

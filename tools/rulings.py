@@ -94,9 +94,10 @@ def ruling_of(text: str, line: int) -> Ruling:
     if not re.fullmatch("[0-9]{1,2}", words[1]) or not 1 <= int(words[1]) <= 40:
         raise ValueError(f"{words[1]} is no race: a number from 1 to 40")
     if at is None:
-        near = difflib.get_close_matches(words[3].upper(), KINDS, 1)
+        odd = next((word for word in words[3:] if word.isalpha()), words[3])
+        near = difflib.get_close_matches(odd.upper(), KINDS, 1)
         hint = f" Is {near[0]} meant?" if near else ""
-        raise ValueError(f"{words[3]} is no kind of decision, which are {joined(KINDS)}.{hint}")
+        raise ValueError(f"{odd} is no kind of decision, which are {joined(KINDS)}.{hint}")
     sail, kind = plain("".join(words[2:at])), words[at].upper()
     if fault := fault_of(sail):
         raise ValueError(fault)

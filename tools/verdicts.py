@@ -105,13 +105,26 @@ def weighed(program: str, options: list[str], journal: Sequence[str],
     """Each decision with its points and the lines that differ from what the journal holds."""
     held, series = holdings(journal), Series.read(list(journal))
     barred = {ruling: why_barred(ruling, series, held_by(held, ruling)) for ruling in rulings}
+    figures = figured(program, options, journal, rulings, barred)
+    lost = {ruling: why for ruling, why in figures.why.items() if ruling.kind == "TLE"}
+    if lost:
+        # Their boats stay as they are recorded, and so do the figures of the others.
+        barred |= lost
+        figures = figured(program, options, journal, rulings, barred)
+    return [Verdict(ruling, why=barred[ruling]) if barred[ruling]
+            else verdict(ruling, held_by(held, ruling), figures) for ruling in rulings]
+
+
+def figured(program: str, options: list[str], journal: Sequence[str], rulings: list[Ruling],
+            barred: dict[Ruling, str]) -> Figures:
+    """The figures of the decisions that aren't barred, with their points."""
+    held = holdings(journal)
     open_ones = [ruling for ruling in rulings if not barred[ruling]]
     base = [line for ruling in open_ones for line in without(ruling, held_by(held, ruling))]
     figures = Figures(program, options, journal, base, open_ones)
     for ruling in sorted(open_ones, key=lambda ruling: ruling.kind in AVERAGES):
         figures.work_out(ruling)
-    return [Verdict(ruling, why=barred[ruling]) if barred[ruling]
-            else verdict(ruling, held_by(held, ruling), figures) for ruling in rulings]
+    return figures
 
 
 def held_by(held: dict[tuple[int, str], Holding], ruling: Ruling) -> Holding:

@@ -11,7 +11,7 @@ import json
 import urllib.parse
 import zoneinfo
 from collections.abc import Sequence
-from dataclasses import dataclass
+from dataclasses import dataclass, field
 
 from entries import Boat
 from record import Race, Row, Score, Series, Standing, tie_break
@@ -49,6 +49,8 @@ class View:
     stamp: tuple[str, str] | None = None
     # What the names of places in a page begin with, if it has several series.
     ids: str = ""
+    # Texts that were made of it already.
+    memo: dict[str, str] = field(init=False, default_factory=dict, compare=False, repr=False)
 
     @property
     def label(self) -> str:
