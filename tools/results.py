@@ -12,7 +12,7 @@ import argparse
 import dataclasses
 import re
 import sys
-from collections.abc import Sequence
+from collections.abc import Callable, Sequence
 
 from folder import replace_whole
 from letters import mail
@@ -27,8 +27,13 @@ from words import count
 NUMBER = re.compile(r"\d+\.\d")
 
 
-def view_of(folder: str) -> View:
-    """The results of a series by its journal, with the standing after each race."""
+def warn(text: str) -> None:
+    sys.stderr.write(f"{text}\n")
+
+
+def view_of(folder: str, tell: Callable[[str], None] = warn) -> View:
+    """The results of a series by its journal, with the standing after each race. `tell` is told what
+    doesn't keep them from being shown."""
     source = Source(folder)
     try:
         source.show(source.from_journal())
@@ -36,7 +41,7 @@ def view_of(folder: str) -> View:
         raise Trouble(str(cause)) from None
     for text in source.notes.values():
         if text:
-            sys.stderr.write(f"{source.name}: {sentence(text)}\n")
+            tell(f"{source.name}: {sentence(text)}")
     view = source.view
     assert view is not None
     course = developed(source.folder.program, view.settings.options(), view.journal,
@@ -98,7 +103,7 @@ def main() -> int:
     try:
         write(asked, [view_of(folder) for folder in asked.folder])
     except Trouble as trouble:
-        sys.stderr.write(f"{sentence(trouble)}\n")
+        warn(sentence(trouble))
         return 1
     return 0
 

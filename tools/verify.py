@@ -10,6 +10,7 @@ then the first cell, line or setting that does is named. docs/VERIFY.md says wha
 from __future__ import annotations
 
 import argparse
+import datetime
 import os
 import re
 import sys
@@ -53,15 +54,16 @@ class Verifier:
 
     def rebuilt(self, kept: Kept) -> Rebuilt:
         if self.last is None or self.last[0] != kept:
-            views = tuple(self.view(series, kept.page.get("kind") == "results")
-                          for series in kept.series)
+            views = tuple(self.view(series, stamp, kept.page.get("kind") == "results")
+                          for series, stamp in zip(kept.series, kept.stamps))
             text = page_of(kept, views)
             self.last = (kept, Rebuilt(views, text, seen(text)))
         return self.last[1]
 
-    def view(self, series: dict, with_course: bool) -> View:
+    def view(self, series: dict, stamp: list[str], with_course: bool) -> View:
         """A series as the program scores it now."""
-        shown, journal = settings_of(series["settings"]), series["journal"]
+        version, changed, when, every = stamp
+        shown, journal = settings_of(series["settings"] | {"every": every}), series["journal"]
         sheet = self.sheet(shown, journal)
         standing, options = Standing.read(list(sheet.table)), shown.options()
         found = decided(self.program, options, journal, "\n".join(series["decisions"]))
@@ -70,14 +72,16 @@ class Verifier:
         course = (developed(self.program, options, journal, standing.races) if with_course else ())
         return View(series["name"], shown, labelled(standing, found.labels),
                     Series.read(list(sheet.journal)), proof.boats_of(series), totals,
-                    proof.changed_at(series), None, tuple(journal), found, series["program"], course,
-                    (series["version"], series["when"]))
+                    moment_of(changed), None, tuple(journal), found, series["program"], course,
+                    (version, when))
 
     def sheet(self, shown: Settings, journal: list[str]) -> Sheet:
         try:
             sheet = scored(self.program, shown.options(), journal)
         except Trouble as trouble:
-            raise Odd(refused(str(trouble), journal)) from None
+            if why := refused(str(trouble), journal):
+                raise Odd(why) from None
+            raise
         at = first_of(journal, list(sheet.journal))
         if at is not None:
             raise Odd(f"entry {at + 1} of the journal isn't written as the program writes it: "
@@ -99,7 +103,7 @@ class Verifier:
 
 
 def refused(trouble: str, journal: list[str]) -> str:
-    """Why the program doesn't score a journal, with the entry."""
+    """The entry for which the program doesn't score a journal, and why; empty if it is none."""
     fault = re.search(r"journal fault \d line (\d+)", trouble)
     start = re.search(r"start refused (\d+) at (\d+)", trouble)
     if fault:
@@ -107,8 +111,15 @@ def refused(trouble: str, journal: list[str]) -> str:
     elif start:
         at, why = int(start[2]), f"is refused: {refusal('NO ' + start[1])}"
     else:
-        return trouble
+        return ""
     return f"entry {at} of the journal {why}: {(journal + [''] * at)[at - 1]!r}"
+
+
+def moment_of(text: str) -> datetime.datetime:
+    try:
+        return datetime.datetime.fromisoformat(text)
+    except ValueError:
+        raise Odd(f"the time of change is {text!r}, which is none") from None
 
 
 def settings_of(values: dict[str, str]) -> Settings:
