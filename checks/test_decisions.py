@@ -1,6 +1,6 @@
 """Decisions: their points beside a script written from the rules, what makes one stale, and sending.
 
-`DECISIONS=1000` in the environment tries so many random series.
+`DECISIONS=1000` in the environment tries 1,000 random series.
 """
 from __future__ import annotations
 
@@ -93,12 +93,14 @@ class Made:
     def decision(self, number: int, boat: str) -> Decision:
         dice = self.dice
         held = self.series.races[number].boat(boat)
-        kind = "REINSTATE" if held.code in ("DSQ", "DNE") and dice.random() < 0.7 else \
-            dice.choice(KINDS)
+        kind = dice.choice(KINDS)
+        if held.code in ("DSQ", "DNE") and dice.random() < 0.7:
+            kind = "REINSTATE"
         points = f"{dice.randint(1, 9)}.{dice.choice('05')}"
         others = [str(race) for race in self.series.races if race != number]
+        percent = f"{dice.choice([25, 30, 50, dice.randint(1, 100)])}%"
         how = {"TLE": dice.choice([f"last+{dice.randint(1, 3)}", points]), "NSC": "",
-               "REINSTATE": ""}.get(kind, dice.choice([f"{dice.choice([25, 30, 50, dice.randint(1, 100)])}%", points]))
+               "REINSTATE": ""}.get(kind, dice.choice([percent, points]))
         if kind in ("AVG", "DUTY"):
             how = dice.choice(["sailed", "all", "before", ",".join(
                 dice.sample(others, dice.randint(1, len(others))))])
@@ -166,7 +168,7 @@ class Rules(unittest.TestCase):
         return sheet.journal
 
     def compare(self, made: Made, table: tuple[str, ...], decisions: list[Decision]) -> None:
-        """Compares each score of the table, but for what a decision that failed has left."""
+        """Compares each score of the table with that of the rules."""
         right = by_rules.settled(made.series, decisions)
         found = verdicts.cells_of(record.Standing.read(list(table)))
         self.assertEqual({place: Fraction(score.points) for place, score in found.items()}, right)

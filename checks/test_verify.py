@@ -1,6 +1,6 @@
 """A page that was changed anywhere is found, and what was changed is named.
 
-`CHANGES=1000` in the environment tries so many one-character changes.
+`CHANGES=100` in the environment tries 100 one-character changes, and not 1,000.
 """
 from __future__ import annotations
 

@@ -46,7 +46,7 @@ class State:
 
 
 class Desk:
-    """A series whose decisions are looked at; `link` leads to its office if one is open."""
+    """A series with its decisions; `link` leads to its office if one is open."""
 
     def __init__(self, path: str) -> None:
         self.folder = Folder(path)

@@ -591,6 +591,9 @@ def entry(view: View, above: Sequence[str]) -> str:
                         for row in first[:3])
     which = "Leads" if shown.state == "provisional" else "First"
     leads = f"<p>{which}: {lead}</p>" if lead else ""
+    if view.decided.stale:
+        leads += (f'<p class="reason stale">{count(len(view.decided.stale), "decision")} that these '
+                  "scores don’t have as they should.</p>")
     return (f'<li><h2><a href="{view.address}/index.html">{esc(view.label)}</a> '
             f'<span class="word {shown.state}">{shown.state.capitalize()}</span></h2>'
             f"<p class=sub>{esc(sub)}</p><p>{count(len(view.standing.rows), 'boat')}, "

@@ -50,7 +50,7 @@ def series_of(view: View) -> dict[str, object]:
     """What the scores of a series follow, with the names: the seal is that of this."""
     boats = [[sail, boat.sail, boat.helm, boat.name, boat.club] for sail, boat in view.boats.items()]
     return {"name": view.name, "program": view.program, "settings": settings_of(view),
-            "boats": boats, "decisions": [without_note(line) for line in view.decided.text.splitlines()],
+            "boats": boats, "decisions": list(map(without_note, view.decided.text.splitlines())),
             "journal": list(view.journal)}
 
 

@@ -84,8 +84,8 @@ def developed(program: str, options: list[str], journal: Sequence[str],
     """The standing after each race, by the scores as they are now.
 
     The program is asked with the later races unscored. The journal's beginnings would give other
-    standings: those of the moment, before a protest was heard or a late entry came. The last of
-    them would agree with the table, and the others with no column of it. No standings come back if
+    standings: those of the moment, before a hearing or a late entry. The last of them would agree
+    with the table, and the others with no column of it. No standings come back if
     the journal has no room for these lines.
     """
     typed = [line for race in reversed(races) for line in ("SHOW", f"UNSCORE {race}")]

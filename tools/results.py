@@ -32,8 +32,8 @@ def warn(text: str) -> None:
 
 
 def view_of(folder: str, tell: Callable[[str], None] = warn) -> View:
-    """The results of a series by its journal, with the standing after each race. `tell` is told what
-    doesn't keep them from being shown."""
+    """The results of a series by its journal, with the standing after each race. `tell` is called with
+    each trouble that doesn't keep them from being shown."""
     source = Source(folder)
     try:
         source.show(source.from_journal())

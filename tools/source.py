@@ -208,7 +208,7 @@ class Source:
         if self.weighed is None or self.weighed[0] != key:
             self.weighed = (key, decided(self.folder.program, shown.options(), sheet.journal, text))
         found = self.weighed[1]
-        self.note("stale", " ".join(found.stale))
+        self.note("stale", ". ".join(found.stale))
         return found
 
     def changed_at(self, sheet: Sheet, standing: Standing) -> datetime.datetime:
