@@ -10,16 +10,19 @@ import os
 import random
 import re
 import unittest
+import unittest.mock
 from fractions import Fraction
 
 import by_rules
 import helpers
+
+import decisions
 import record
 import replay
 import rulings
 import verdicts
 from by_rules import Decision
-from office import Link
+from office import Link, Trouble
 from replay import Line
 
 COUNT = int(os.environ.get("DECISIONS", "40"))
@@ -369,8 +372,36 @@ class Sent(helpers.Series):
         said, _ = self.decisions("send", lines="y\n")
         self.assertIn("PENALTY 1 GBR7 ZFP   (scorer)", said)
         self.assertEqual(self.decisions("check")[1], 0)
+        self.stopped()
         log = self.text("cup", "office.log")
         self.assertRegex(log, r"\tdecisions\t\tJURY\tREDRESS 1 GBR7 7.0\tOK \d+ ")
+
+    def stopped(self) -> None:
+        """If the office goes while lines are sent, those that it didn't take are listed."""
+        # Twelve boats: DNF is 13, a ZFP costs 3, 30% is 4, and she was second.
+        self.typed("ENTER ITA4", "ENTER ITA5")
+        desk = decisions.Desk(os.path.join(self.here, "cup"))
+        lines = desk.state().decided.lines
+        self.assertEqual([line.text for line in lines][:3],
+                         ["CLEAR 1 GBR7", "PENALTY 1 GBR7 ZFP", "REDRESS 1 GBR7 9.0"])
+        real, said = desk.link, []
+
+        class Gone:
+            """A link on which the office goes after the first line."""
+
+            def ask(self, line: str) -> str:
+                if line.startswith("PENALTY"):
+                    raise Trouble("the office has gone")
+                return real.ask(line)
+
+        desk.link = Gone()
+        with unittest.mock.patch("decisions.say", said.append):
+            self.assertEqual(desk.send(lines), 1)
+        real.close()
+        self.assertEqual(said[:4], [
+            "Stopped at PENALTY 1 GBR7 ZFP: the office has gone.",
+            "Not sent, and to be typed in this order:", "      PENALTY 1 GBR7 ZFP   (scorer)",
+            "      REDRESS 1 GBR7 9.0   (jury)"])
 
 
 if __name__ == "__main__":

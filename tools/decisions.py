@@ -32,6 +32,7 @@ from prompt import question, say, sentence
 from replay import Line
 from settings import Settings
 from source import Source, replayed
+from unsaved import UNANSWERED
 from verdicts import Decided, decided
 from words import count, refusal
 
@@ -71,19 +72,28 @@ class Desk:
         return State(decided(self.folder.program, self.settings(), journal, text), journal)
 
     def send(self, lines: list[Line]) -> int:
-        """Sends lines up to the first that is refused; how many were taken."""
-        assert self.link
-        role = ""
+        """Sends lines up to the first that isn't taken; how many were."""
         for at, line in enumerate(lines):
-            if line.role != role:
-                self.link.ask(f"ROLE {line.role}")
-            role = line.role
-            answer = self.link.ask(line.text)
-            self.folder.log(WHO, "", role, line.text, answer)
-            if not answer.startswith("OK "):
-                say(f"Stopped at {line}: {refusal(answer)}.")
+            if why := self.why_not_taken(line):
+                say(f"Stopped at {line}: {why}.")
+                # What a CLEAR before them took is in these lines alone.
+                say("Not sent, and to be typed in this order:")
+                for rest in lines[at:]:
+                    say(f"      {rest}   ({rest.role.lower()})")
                 return at
         return len(lines)
+
+    def why_not_taken(self, line: Line) -> str:
+        """Sends a line in its role, and logs it; why it wasn't taken, or nothing."""
+        assert self.link
+        try:
+            self.link.ask(f"ROLE {line.role}")
+            answer = self.link.ask(line.text)
+        except Trouble as trouble:
+            self.folder.log(WHO, "", line.role, line.text, UNANSWERED)
+            return str(trouble)
+        self.folder.log(WHO, "", line.role, line.text, answer)
+        return "" if answer.startswith("OK ") else refusal(answer)
 
 
 def shown(found: Decided) -> list[str]:
@@ -150,6 +160,8 @@ def send(desk: Desk) -> int:
         return 1
     taken = desk.send(lines)
     say(f"{taken} of {count(len(lines), 'line')} taken.")
+    if taken < len(lines):
+        return 1
     stale = desk.state().decided.stale
     for text in stale:
         say(sentence(text))

@@ -345,7 +345,9 @@ def absent_words(view: View) -> str:
 
 def rules(view: View) -> str:
     """The rules that the scores follow, and the races that count."""
-    shown, codes = view.settings, {s.code for row in view.standing.rows for s in row.scores}
+    shown, labels = view.settings, view.decided.labels
+    codes = {score.code for row in view.standing.rows
+             for race, score in zip(view.standing.races, row.scores) if (race, row.sail) not in labels}
     counts = [f"{TIMES[at]} from {races} races" for at, races in enumerate(shown.thresholds, 1)]
     says = [f"Worst scores excluded (RRS A2.1): {joined(counts)}." if counts else
             "No score is excluded.", absent_words(view)]

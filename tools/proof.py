@@ -137,8 +137,10 @@ def found_in(page: str) -> Kept:
     try:
         whole = json.loads(blocks[0])
     except json.JSONDecodeError as cause:
-        line = blocks[0].splitlines()[cause.lineno - 1:cause.lineno]
-        raise Odd(f"the block isn't JSON at its line {cause.lineno}: {''.join(line)[:80]}") from None
+        line = blocks[0].split("\n")[cause.lineno - 1][:80]
+        raise Odd(f"the block isn't JSON at its line {cause.lineno}: {line}") from None
+    except RecursionError:
+        raise Odd("the block has too many parts inside one another") from None
     if problem := changed_in(whole):
         raise Odd(problem)
     text, _, last = blocks[0].rpartition(',\n"seal": ')
