@@ -11,10 +11,14 @@ import re
 import stat
 import subprocess
 import unittest
+import unittest.mock
 
 import helpers
+
 import notice
+import page as pages
 import proof
+import record
 import results
 import verify
 import view
@@ -220,6 +224,23 @@ class Pages(helpers.Series):
                           (page.replace("</body>", "<p>More</p></body>"), "the text 'More'"),
                           (page.replace("</style>", ".r { display: none }</style>"), "all that is seen")]:
             self.assertIn(why, self.odd(text))
+
+    def test_wrong_tools(self) -> None:
+        """If the tools themselves wrote a cell wrongly, and would do so again, the cell is named."""
+        right = pages.cell
+        for was, now, why in [("3<i>.0", "4<i>.0", "(GBR 101 A. Moss)"), ("DNE", "DSQ", "(GBR 33 "),
+                              ("<s>)", "<s>", "")]:
+            def wrong(score: record.Score) -> str:
+                return right(score).replace(was, now)
+
+            with unittest.mock.patch("page.cell", wrong):
+                written = self.page()
+                self.verifier = verify.Verifier(helpers.PROGRAM)
+                self.assertIn(why, self.odd(written))
+        with unittest.mock.patch("page.rank", lambda *_: '<td class="rank"><span>1</span></td>'):
+            written = self.page()
+            self.verifier = verify.Verifier(helpers.PROGRAM)
+            self.assertIn("row 2 (", self.odd(written))
 
     def test_programs(self) -> None:
         """Another program is named apart; without any, or with one that isn't regatta, nothing is."""
