@@ -369,12 +369,33 @@ class Sent(helpers.Series):
             text = self.text(page)
             self.assertIn("Decisions that these scores don’t have as they should:", text)
             self.assertIn("line 1: race 1 GBR7 PRP 30%: 7.0 points", text)
+        self.make("other")
+        helpers.run("board.py", "cup", "other", "--page", "two", "--once", cwd=self.here)
+        self.assertIn("2 decisions that these scores don’t have as they should.",
+                      self.text("two/index.html"))
         said, _ = self.decisions("send", lines="y\n")
         self.assertIn("PENALTY 1 GBR7 ZFP   (scorer)", said)
         self.assertEqual(self.decisions("check")[1], 0)
         self.stopped()
         log = self.text("cup", "office.log")
         self.assertRegex(log, r"\tdecisions\t\tJURY\tREDRESS 1 GBR7 7.0\tOK \d+ ")
+
+    def test_no_office(self) -> None:
+        """Without an office decisions are listed and not sent; redress of no line is listed too."""
+        journal = replay.scored(helpers.PROGRAM, [], [], [
+            *(Line("SCORER", line) for line in ("ENTER GBR7", "ENTER GBR101", "FINISH 1 GBR7",
+                                                "SCORE 1")),
+            Line("JURY", "REDRESS 1 GBR101 2.5"), Line("JURY", "REDRESS 1 GBR7 1.5")]).journal
+        self.write("".join(f"{line}\n" for line in ("REGATTA 2", *journal)), "cup", "journal.txt")
+        self.assertEqual(self.decisions("check"),
+                         ("no decisions in the scores, no others out of date or in doubt.\n", 0))
+        self.write("race 1 gbr7 DPI 0.5\n", "cup", "decisions.txt")
+        said, status = self.decisions()
+        self.assertEqual(said, "   race 1 GBR7 DPI 0.5: 1.5 points.\n   Race 1, GBR101: the journal has "
+                         "redress of 2.5 points, and decisions.txt has no line for it.\n")
+        self.assertEqual(status, 0)
+        said, status = self.decisions("send", lines="y\n")
+        self.assertEqual((said, status), ("no office is open: open it, and send again.\n", 1))
 
     def stopped(self) -> None:
         """If the office goes while lines are sent, those that it didn't take are listed."""

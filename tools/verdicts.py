@@ -44,7 +44,7 @@ class Verdict:
         if self.why:
             return f"{self.ruling}: {self.why}"
         if self.is_kept:
-            return f"{self.ruling}: {self.points or 'done'}"
+            return f"{self.ruling}: {f'{self.points} points' if self.points else 'done'}"
         now = f"the journal has {self.held} points" if self.held else "the journal doesn't have it"
         wanted = f"{self.points} points by the scores as they are" if self.points else "to be sent"
         return f"{self.ruling}: {wanted}, and {now}"
