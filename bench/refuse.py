@@ -19,8 +19,8 @@ was for a thread, or well, if a session met the refusal. The client then reads w
 first lines, of which one may be `NO 1`. Each other answer is reported, and the script then ends with
 status 1.
 """
+import contextlib
 import os
-import socket
 import subprocess
 import sys
 import tempfile
@@ -29,6 +29,11 @@ import time
 
 from compiled import HERE, compiled
 
+sys.path.insert(0, os.path.join(HERE, os.pardir, "tools"))
+from office import Gone, Link, Trouble  # noqa: E402
+
+# Seconds that an answer may take.
+PATIENCE = 60.0
 EXAMPLES = os.path.join(os.path.dirname(HERE), "examples")
 NO_MEMORY = (3, b"regatta: no memory\n")
 DEVICE_FAULT = (3, b"regatta: device fault\n")
@@ -134,21 +139,20 @@ class Serving(Run):
     """A run of `serve`, with a client that sends all of its lines at once and reads to the end."""
 
     def asked(self, path, replies):
-        for _ in range(20_000):
+        """Sends all lines at once, and reads what comes; waits for the socket until the run is over."""
+        while not self.over.is_set():
             try:
-                with socket.socket(socket.AF_UNIX, socket.SOCK_STREAM) as client:
-                    client.settimeout(60)
-                    client.connect(path)
-                    client.sendall(self.text)
-                    while data := client.recv(65536):
-                        replies.append(data)
-                return
-            except (FileNotFoundError, ConnectionRefusedError):
+                link = Link(path, PATIENCE)
+            except Gone:
                 time.sleep(0.0005)
-            except OSError:
+                continue
+            except Trouble:
                 return
-            if self.over.is_set():
-                return
+            with contextlib.closing(link), contextlib.suppress(OSError):
+                link.socket.sendall(self.text)
+                while data := link.socket.recv(65536):
+                    replies.append(data)
+            return
 
     def served(self, library, refused):
         path = os.path.join(self.folder, "socket")
@@ -160,10 +164,9 @@ class Serving(Run):
                          stdin=subprocess.DEVNULL, stdout=pipe, stderr=pipe)
         printed, said = run.communicate(timeout=60)
         self.over.set()
-        if not os.path.exists(path):
-            open(path, "w").close()  # so that a client that waits for the socket gives up
         client.join()
-        os.unlink(path)
+        if os.path.exists(path):
+            os.unlink(path)
         return run.returncode, said, printed, b"".join(replies)
 
     def may_be(self, library, ended):

@@ -4,25 +4,27 @@
 # The last line is `N passed, M failed` of both, and the status is 1 if anything failed.
 set -uo pipefail
 cd "$(dirname "$(realpath "$0")")/.."
+printed=$(mktemp)
+trap 'rm -f "$printed"' EXIT
 passed=0 failed=0
 
 # Runs a command that ends with `N passed, M failed`, shows what it prints, and adds its numbers.
+# Another last line, nothing passed, or a status without a failure counts as one.
 count() {
-    local last status
-    last=$(set -o pipefail; "$@" 2>&1 | tee /dev/stderr | tail -n 1)
-    status=$?
-    if [[ $last =~ ([0-9]+)\ passed,\ ([0-9]+)\ failed ]]; then
+    local status wrong=1
+    "$@" 2>&1 | tee "$printed"
+    status=${PIPESTATUS[0]}
+    if [[ $(tail -n 1 "$printed") =~ ([0-9]+)\ passed,\ ([0-9]+)\ failed ]]; then
         passed=$((passed + BASH_REMATCH[1]))
-        failed=$((failed + BASH_REMATCH[2]))
-    else
-        failed=$((failed + 1))
+        wrong=${BASH_REMATCH[2]}
+        if ((wrong == 0 && (status != 0 || BASH_REMATCH[1] == 0))); then
+            wrong=1
+        fi
     fi
-    if [[ $status != 0 && $failed == 0 ]]; then
-        failed=1
-    fi
+    failed=$((failed + wrong))
 }
 
 count rt ci
 count checks/all.sh crates/regatta/out/regatta
 echo "$passed passed, $failed failed"
-[[ $failed == 0 ]]
+((failed == 0))

@@ -19,7 +19,8 @@ from collections.abc import Callable, Iterator
 TOP = os.path.dirname(os.path.dirname(os.path.abspath(__file__)))
 TOOLS = os.path.join(TOP, "tools")
 PROGRAM = os.path.realpath(os.environ.get("REGATTA", os.path.join(TOP, "crates/regatta/out/regatta")))
-PATIENCE = 30.0
+# Seconds for what has to come about. A slow machine with other work gets there, too.
+PATIENCE = 120.0
 ENTRIES = """\
 Boat,Sail,Helm,Club
 Kestrel,GBR 101,A. Moss,Sandhaven
@@ -50,10 +51,27 @@ def run(tool: str, *words: str, lines: str = "", cwd: str | None = None) -> tupl
     return done.stdout, done.returncode
 
 
-class Window:
-    """A terminal and the tool that runs in it, as at a person's desk."""
+def states(number: int, leader: bool = False) -> set[str]:
+    """The states of a process's threads, or of its first: R runs, S waits, T is stopped."""
+    names = [str(number)] if leader else os.listdir(f"/proc/{number}/task")
+    found = set()
+    for name in names:
+        # A thread may have ended meanwhile.
+        with contextlib.suppress(OSError), open(f"/proc/{number}/task/{name}/stat", "rb") as file:
+            found.add(file.read().rpartition(b")")[2].split()[0].decode())
+    return found
 
-    def __init__(self, *words: str, cwd: str | None = None) -> None:
+
+def freeze(number: int) -> None:
+    """Stops a process, and waits until all its threads have stopped."""
+    os.kill(number, signal.SIGSTOP)
+    until("a stopped process", lambda: states(number) == {"T"})
+
+
+class Terminal:
+    """A terminal and the command that runs in it, as at a person's desk."""
+
+    def __init__(self, *command: str, cwd: str | None = None, **environment: str) -> None:
         self.master, slave = pty.openpty()
         modes = termios.tcgetattr(slave)
         modes[1] &= ~termios.OPOST
@@ -65,12 +83,11 @@ class Window:
             fcntl.ioctl(0, termios.TIOCSCTTY, 0)
             signal.signal(signal.SIGINT, signal.SIG_DFL)
 
-        tool = [sys.executable, os.path.join(TOOLS, words[0]), *words[1:]]
         self.process = subprocess.Popen(
-            tool, cwd=cwd, stdin=slave, stdout=slave, stderr=slave, start_new_session=True,
-            preexec_fn=own, env={**os.environ, "TERM": "dumb", "PYTHONIOENCODING": "utf-8"})
+            command, cwd=cwd, stdin=slave, stdout=slave, stderr=slave, start_new_session=True,
+            preexec_fn=own, env={**os.environ, "TERM": "dumb", "PYTHONIOENCODING": "utf-8", **environment})
         os.close(slave)
-        self.text = ""
+        self.text, self.is_at_end = "", False
 
     def read(self, wanted: str, patience: float = PATIENCE) -> str:
         """What is printed up to a text, which a regular expression names."""
@@ -83,14 +100,15 @@ class Window:
         return text
 
     def more(self, left: float) -> bool:
-        """Reads what comes; whether anything did."""
-        if not select.select([self.master], [], [], left)[0]:
+        """Reads what comes; whether anything did. At the end of the tool nothing more does."""
+        if self.is_at_end or not select.select([self.master], [], [], left)[0]:
             return False
         try:
             data = os.read(self.master, 65536)
         except OSError:
-            return False
+            data = b""
         self.text += data.decode("utf-8", "replace")
+        self.is_at_end = not data
         return bool(data)
 
     def type(self, line: str) -> None:
@@ -102,21 +120,67 @@ class Window:
         return self.read(wanted)
 
     def press(self, key: str = "\x03") -> None:
+        """Presses a key once the tool waits: a signal just before it begins to would go unheard."""
+        until("a tool that waits", lambda: states(self.process.pid, leader=True) <= {"S", "Z"})
         os.write(self.master, key.encode())
 
     def rest(self) -> tuple[str, int]:
         """What is printed until the tool ends, and its status."""
         end = time.monotonic() + PATIENCE
-        while time.monotonic() < end and self.more(0.5) or self.process.poll() is None:
-            if time.monotonic() > end:
-                raise AssertionError(f"the tool didn't end; what came is\n{self.text}")
-        return self.text, self.process.wait(PATIENCE)
+        while self.more(max(0.0, end - time.monotonic())):
+            pass
+        try:
+            return self.text, self.process.wait(max(1.0, end - time.monotonic()))
+        except subprocess.TimeoutExpired:
+            raise AssertionError(f"the tool didn't end; what came is\n{self.text}") from None
 
     def close(self) -> None:
         if self.process.poll() is None:
             self.process.kill()
         self.process.wait()
         os.close(self.master)
+
+
+class Window(Terminal):
+    """A terminal in which one of the tools runs."""
+
+    def __init__(self, tool: str, *words: str, cwd: str | None = None) -> None:
+        super().__init__(sys.executable, os.path.join(TOOLS, tool), *words, cwd=cwd)
+
+
+@contextlib.contextmanager
+def served(*words: str, name: str = "race.sock",
+           folder: str | None = None) -> Iterator[tuple[str, subprocess.Popen]]:
+    """A program that serves, and the path of its socket, whose file it leaves behind."""
+    with contextlib.ExitStack() as stack:
+        folder = folder or stack.enter_context(tempfile.TemporaryDirectory())
+        path = os.path.join(folder, name)
+        if os.path.lexists(path):
+            os.remove(path)
+        serving = subprocess.Popen([PROGRAM, "serve", "--socket", name, *words], cwd=folder,
+                                   stdin=subprocess.DEVNULL, stdout=subprocess.PIPE,
+                                   stderr=subprocess.DEVNULL, text=True)
+        stack.enter_context(contextlib.closing(serving.stdout))
+        stack.callback(serving.wait)
+        stack.callback(serving.kill)
+        until("the socket", lambda: is_listening(path))
+        yield path, serving
+
+
+def is_listening(path: str) -> bool:
+    """Whether a program listens at a socket's file, which is there a moment before that."""
+    from office import sockets_at
+    return os.path.exists(path) and True in sockets_at(path)
+
+
+def kill_office(folder: str) -> None:
+    """Kills an office that a trial has left, by the number that its window has noted."""
+    with contextlib.suppress(OSError, ValueError):
+        with open(os.path.join(folder, "office", "pid"), encoding="ascii") as file:
+            number = int(file.read().split()[0])
+        # Another process may have this number by now.
+        if os.path.samefile(f"/proc/{number}/cwd", os.path.join(folder, "office")):
+            os.kill(number, signal.SIGKILL)
 
 
 class Series(unittest.TestCase):
@@ -140,12 +204,12 @@ class Series(unittest.TestCase):
                                          **values}))
         return folder
 
-    def window(self, *words: str) -> Window:
+    def window(self, *words: str) -> Terminal:
         window = Window(*words, cwd=self.here)
         self.addCleanup(window.close)
         return window
 
-    def open(self, name: str = "cup") -> Window:
+    def open(self, name: str = "cup") -> Terminal:
         """The window of an office that is open."""
         window = self.window("series.py", "open", name)
         window.read(r"The office is open")
@@ -153,12 +217,9 @@ class Series(unittest.TestCase):
         return window
 
     def stop(self, name: str) -> None:
-        """Kills an office that a trial has left, by the number that its window has noted."""
-        with contextlib.suppress(OSError, ValueError):
-            with open(os.path.join(self.here, name, "office", "pid")) as file:
-                os.kill(int(file.read().split()[0]), signal.SIGKILL)
+        kill_office(os.path.join(self.here, name))
 
-    def client(self, *words: str) -> Window:
+    def client(self, *words: str) -> Terminal:
         window = self.window("client.py", *words)
         window.read("> $")
         return window

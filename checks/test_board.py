@@ -268,7 +268,7 @@ class Boards(helpers.Series):
         self.send(*RACE, name="one")
         window, _ = self.board("one", "two")
         number = int(self.text("one", "office", "pid").split()[0])
-        os.kill(number, signal.SIGSTOP)
+        helpers.freeze(number)
         try:
             window.read(r"one: the office hasn't answered for 5 seconds\. The page says so in red\.")
             before = self.now("two")["checked"]
@@ -423,7 +423,7 @@ class Boards(helpers.Series):
                 (("cup", "./cup", "--page", "out"), "two of the folders are called cup, and each "
                  "needs a name of its own.\n"),
                 (("nowhere", "--page", "out"), "nowhere has no series.ini: it isn't a series. "
-                 "python3 series.py new nowhere makes one.\n")]:
+                 "python3 tools/series.py new nowhere makes one.\n")]:
             self.assertEqual(helpers.run("board.py", *words, cwd=self.here), (wanted, 1))
         self.assertIn("'cup' is no port", helpers.run("board.py", "--http", "cup", cwd=self.here)[0])
         self.write("REGATTA 2\n1 1 SCORER FINISH 1 A\n", "cup", "journal.txt")

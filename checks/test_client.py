@@ -3,16 +3,21 @@ from __future__ import annotations
 
 import os
 import signal
+import socket
+import threading
 import unittest
 
 import helpers
+from desk import Desk
+from folder import Folder
+from office import Trouble
 
 
 class Client(helpers.Series):
-    def typist(self, role: str = "finish", *more: str) -> helpers.Window:
+    def typist(self, role: str = "finish", *more: str) -> helpers.Terminal:
         return self.client("cup", "--role", role, *more)
 
-    def play(self, window: helpers.Window, talk: str) -> None:
+    def play(self, window: helpers.Terminal, talk: str) -> None:
         """Each line of a talk that begins with > is typed; the others have to come, in order."""
         for step in talk.strip("\n").split("\n> "):
             line, _, wanted = step.removeprefix("> ").partition("\n")
@@ -214,8 +219,8 @@ Nothing of race 1 has to be taken away.
         self.assertEqual(status, 1)
         self.assertIn("> FINISH 1 GBR78\nNO 7   Refused: a boat that is named isn't entered. Nothing "
                       "has changed.\nStopped at line 4. The lines above it were taken; the 2 below "
-                      "weren't sent.\nCorrect line 4 and send the rest: client.py cup --role finish "
-                      "--from 4 < lines.txt\n", said)
+                      "weren't sent.\nCorrect line 4 and send the rest: python3 tools/client.py cup "
+                      "--role finish --from 4 < lines.txt\n", said)
         said, status = helpers.run("client.py", "cup", "--role", "finish", "--from", "5", lines=lines,
                                    cwd=self.here)
         self.assertIn("OK 11   4th in race 1", said)
@@ -276,7 +281,7 @@ Not sent: the office of cup has gone. Write 12 down.
         window = self.typist("scorer")
         window.say("enter den 16", r"\[y/N\] $")
         number = int(self.text("cup", "office", "pid").split()[0])
-        os.kill(number, signal.SIGSTOP)
+        helpers.freeze(number)
         window.type("y")
         window.read("No answer came to: ENTER DEN16\nIt may be in the journal, or not.\nBeware: the "
                     "office hasn't answered for 10 seconds. Waiting")
@@ -294,7 +299,7 @@ Not sent: the office of cup has gone. Write 12 down.
         self.open()
         window = self.typist()
         number = int(self.text("cup", "office", "pid").split()[0])
-        os.kill(number, signal.SIGSTOP)
+        helpers.freeze(number)
         window.type("finish 1 7")
         window.read("Not sent: finish 1 7\nBeware: the office hasn't answered for 10 seconds. Waiting")
         os.kill(number, signal.SIGCONT)
@@ -367,6 +372,29 @@ Not sent: the office of cup has gone. Write 12 down.
         said, status = window.rest()
         self.assertIn("The office is being closed: this window ends.", said)
         self.assertEqual(status, 0)
+
+    def test_no_seat(self) -> None:
+        """A window waits for a seat, and gets the one that somebody leaves."""
+        self.make("two", seats="2")
+        self.open("two")
+        first = self.client("two", "--role", "finish")
+        second = self.window("client.py", "two", "--role", "jury")
+        second.read("Waiting: all seats of the office are taken: finish since .*Ctrl-C ends this window.")
+        first.type("quit")
+        self.assertEqual(first.rest()[1], 0)
+        second.read("you type as the jury(.|\\n)*> $")
+
+    def test_office_that_is_going(self) -> None:
+        """An office that lets somebody in and never answers is no office."""
+        place = os.path.join(self.here, "cup", "office")
+        os.mkdir(place)
+        with socket.socket(socket.AF_UNIX, socket.SOCK_STREAM) as door:
+            door.bind(os.path.join(place, "race.sock"))
+            door.listen()
+            threading.Thread(target=lambda: door.accept()[0].close(), daemon=True).start()
+            desk = Desk(Folder(os.path.join(self.here, "cup")), "FINISH", "", print, bool)
+            self.assertRaises(Trouble, desk.connect)
+            self.assertIsNone(desk.link)
 
     def test_block(self) -> None:
         """Several lines that are pasted at once; a list of sails is shown and agreed to first."""

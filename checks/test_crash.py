@@ -8,7 +8,6 @@ import re
 import signal
 import subprocess
 import sys
-import time
 import unittest
 
 import helpers
@@ -75,11 +74,11 @@ class Crashes(helpers.Series):
         self.addCleanup(self.stop, "cup")
         for turn in range(TURNS):
             kind = ("office", "window", "both")[turn % 3]
-            said = self.crash(window, kind, dice.uniform(0.3, 1.5), turn * 3)
+            said = self.crash(window, kind, dice.randint(15, 60), turn * 3)
             answered |= answered_in(said)
             window, opened = self.opened()
             self.agree(answered, listed_in(opened))
-        self.assertGreater(len(answered), 100)
+        self.assertGreater(len(answered), 50)
         window.press()
         self.assertEqual(window.rest()[1], 0)
 
@@ -92,11 +91,16 @@ class Crashes(helpers.Series):
             if number not in listed:
                 self.assertTrue(journal[number - 1].endswith(f" FINISH {line}"), (number, line))
 
-    def crash(self, window: helpers.Window, kind: str, moment: float, seed: int) -> str:
+    def wait_for_lines(self, lines: int) -> None:
+        """Waits until the writers have had this many more answers."""
+        held = self.text("cup", "office.log").count("\n")
+        helpers.until("the answers", lambda: self.text("cup", "office.log").count("\n") >= held + lines)
+
+    def crash(self, window: helpers.Window, kind: str, lines: int, seed: int) -> str:
         """Kills office, window or both while three write; all that the writers have said."""
         writers = [self.writer(seed + at) for at in range(3)]
         number = int(self.text("cup", "office", "pid").split()[0])
-        time.sleep(moment)
+        self.wait_for_lines(lines)
         if kind != "office":
             window.process.kill()
         if kind != "window":
@@ -104,7 +108,7 @@ class Crashes(helpers.Series):
         else:
             # The office outlives its window, and so do the writers.
             self.assertTrue(self.is_running(number))
-            time.sleep(moment)
+            self.wait_for_lines(lines)
             for writer in writers:
                 writer.terminate()
         window.process.wait()

@@ -4,10 +4,12 @@ from __future__ import annotations
 import os
 import signal
 import stat
+import tempfile
 import unittest
 
 import helpers
-from office import Link
+import keeper
+from office import Link, Trouble
 
 TIME = r"\d\d:\d\d:\d\d "
 LINES = ["FINISH 1 GBR101", "FINISH 1 NED12", "SCORE 1"]
@@ -55,7 +57,7 @@ class Opening(helpers.Series):
                              ("A5.3 apply .*] ", "y"), ("Scoring Penalty.*\\) ", "3"),
                              ("corrected time.*] ", ""), ("stick.*\\) ", "")])
         self.assertEqual(window.rest(), (
-            "Wrote dragon/series.ini. Next: python3 series.py open dragon\n", 0))
+            "Wrote dragon/series.ini. Next: python3 tools/series.py open dragon\n", 0))
         said, status = helpers.run("series.py", "check", "dragon", cwd=self.here)
         self.assertEqual((said, status), (
             "dragon can be opened: Winter: 7 boats, no races scored, 7 entries\n"
@@ -100,7 +102,7 @@ class Opening(helpers.Series):
         os.kill(self.number(), signal.SIGKILL)
         said, status = window.rest()
         self.assertRegex(said, TIME + r"The office has gone\. journal\.txt has 10 entries\. Open it "
-                         r"again: python3 series\.py open cup")
+                         r"again: python3 tools/series\.py open cup")
         self.assertEqual(status, 1)
         with open(os.path.join(self.here, "cup", "office.log"), "a") as file:
             file.write("2026-11-26T09:00:00+0000\t1\tAnn\t2\tFINISH\tFINISH 2 GBR7\tOK 11 3= 8.0\n"
@@ -275,6 +277,51 @@ class Opening(helpers.Series):
         self.assertTrue(self.saved(7))
 
 
+class Keeping(unittest.TestCase):
+    """How journal.txt is written."""
+    HELD = "1 1 SCORER ENTER A\n1 2 SCORER ENTER B\n"
+
+    def setUp(self) -> None:
+        holder = tempfile.TemporaryDirectory()
+        self.addCleanup(holder.cleanup)
+        self.path = os.path.join(holder.name, "journal.txt")
+
+    def text(self) -> str:
+        with open(self.path, encoding="ascii") as file:
+            return file.read()
+
+    def test_goes_on(self) -> None:
+        more = self.HELD + "2 1 SCORER ENTER C\n"
+        for held, text in [("", self.HELD), (self.HELD, more), ("REGATTA 2\n" + self.HELD, more)]:
+            with open(self.path, "w", encoding="ascii") as file:
+                file.write(held)
+            keeper.save_to(self.path, text)
+            self.assertEqual(self.text(), text)
+
+    def test_another_journal(self) -> None:
+        """A file is never replaced by a journal that lacks one of its entries."""
+        keeper.save_to(self.path, self.HELD)
+        for text in ["", self.HELD[:19], self.HELD.replace("B", "C") + "2 1 SCORER ENTER D\n"]:
+            with self.assertRaises(Trouble) as raised:
+                keeper.save_to(self.path, text)
+            self.assertIn("holds entries that the office doesn't have", str(raised.exception))
+            self.assertEqual(self.text(), self.HELD)
+
+    def test_no_folder(self) -> None:
+        with self.assertRaises(Trouble) as raised:
+            keeper.save_to(os.path.join(self.path, "none"), self.HELD)
+        self.assertIn("can't be written", str(raised.exception))
+
+    @unittest.skipUnless(os.path.exists("/dev/full"), "there is no /dev/full")
+    def test_full_disk(self) -> None:
+        """A file that can't be written whole stays as it was, and nothing else is left."""
+        keeper.save_to(self.path, self.HELD)
+        os.symlink("/dev/full", f"{self.path}.{os.getpid()}.new")
+        self.assertRaises(Trouble, keeper.save_to, self.path, self.HELD * 2)
+        self.assertEqual(self.text(), self.HELD)
+        self.assertEqual(os.listdir(os.path.dirname(self.path)), ["journal.txt"])
+
+
 class Faults(helpers.Series):
     def fault(self, *words: str) -> str:
         said, status = helpers.run("series.py", *(words or ("open", "cup")), cwd=self.here)
@@ -285,7 +332,7 @@ class Faults(helpers.Series):
         self.write("[series]\ntitle = Cup\n[rules]\nexlude = 4\n", "cup", "series.ini")
         self.assertEqual(self.fault(), "series.ini, line 4: [rules] has no key 'exlude'. Did you mean "
                          "'exclude'?\n")
-        self.assertIn("isn't a series. python3 series.py new none makes one", self.fault("open", "none"))
+        self.assertIn("isn't a series. python3 tools/series.py new none makes one", self.fault("open", "none"))
 
     def test_program(self) -> None:
         for program, words in [("none", "The program isn't at"), ("entries.csv", "may not be run"),

@@ -44,7 +44,7 @@ def send_file(asked: argparse.Namespace) -> int:
     lines = lines_of(sys.stdin.buffer.read(LARGEST))
     desk = Desk(folder, asked.role, asked.name, say, lambda _: True)
     desk.connect()
-    again = f"client.py {asked.folders[0]} --role {asked.role.lower()}"
+    again = f"python3 tools/client.py {asked.folders[0]} --role {asked.role.lower()}"
     return Batch(desk, lines, again).send(asked.start, asked.go_on)
 
 

@@ -166,7 +166,7 @@ class Hall:
         """Says that the program has ended by itself; the status."""
         held, said = len(self.folder.kept()), self.service.fault()
         say(f"{clock()} The office has gone{': ' + said if said else ''}. journal.txt has "
-            f"{count(held, 'entry', 'entries')}. Open it again: python3 series.py open "
+            f"{count(held, 'entry', 'entries')}. Open it again: python3 tools/series.py open "
             f"{shlex.quote(os.path.relpath(self.folder.path))}")
         return 1
 

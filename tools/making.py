@@ -124,7 +124,7 @@ def new(folder: str) -> None:
     if os.path.abspath(given) != os.path.abspath(list_path):
         replace_whole(list_path, data)
     replace_whole(path, settings.text_of(values).encode())
-    say(f"Wrote {path}. Next: python3 series.py open {shlex.quote(folder)}")
+    say(f"Wrote {path}. Next: python3 tools/series.py open {shlex.quote(folder)}")
 
 
 def asked_rules() -> dict[str, str]:

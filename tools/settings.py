@@ -189,7 +189,7 @@ def read(folder: str) -> Settings:
             text = file.read()
     except FileNotFoundError:
         raise Trouble(f"{folder} has no {NAME}: it isn't a series. "
-                      f"python3 series.py new {shlex.quote(folder)} makes one") from None
+                      f"python3 tools/series.py new {shlex.quote(folder)} makes one") from None
     except UnicodeDecodeError:
         raise Trouble(f"{path} isn't UTF-8 text: save it as UTF-8") from None
     except OSError as cause:

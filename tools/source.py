@@ -89,7 +89,7 @@ class Source:
             return self.view.boats if self.view else {}
         name = os.path.basename(self.folder.entries)
         self.note("names", "" if found else f"No names are shown: {name} has faults, which "
-                  f"python3 series.py check {os.path.relpath(self.folder.path)} lists")
+                  f"python3 tools/series.py check {os.path.relpath(self.folder.path)} lists")
         return found or (self.view.boats if self.view else {})
 
     def decisions(self) -> str:

@@ -6,7 +6,7 @@ import re
 
 from record import Change, Row, Score
 
-# What each number of a reply says. The guide's table says the same, and a check compares them.
+# What each number of a reply says. The guide's table has these words, and a check compares them.
 NUMBERS = {
     1: "the computer has no memory left for this line",
     2: "the journal is full: it holds 8,192 entries",

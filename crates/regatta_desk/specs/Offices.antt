@@ -35,10 +35,16 @@ first_published rules entries history = record {
   last = None;
 }
 
--- the pass of the seat after k others: it has seen the journal, and was told nothing
+-- the pass of the seat after k others: it has seen the journal, and was told and answered nothing
 abbrev pub seated : Journal → ℕ → PassValue
 seated entries k =
-    record { seat = k + 1; last = last_number entries (k + 1); seen = entries; told = [] }
+    record {
+      seat = k + 1;
+      last = last_number entries (k + 1);
+      seen = entries;
+      told = [];
+      sources = [];
+    }
 
 -- the passes come in order of seat, from 1
 abbrev pub AreSeated : Journal → List PassValue → Type 0

@@ -1,5 +1,6 @@
 -- What contracts see of a pass, and what holds of each.
-use Rattle.std.specs.Prelude.{◌≡◌, ℕ, ◌-◌, ◌<◌, ◌≤◌, List, length, slice_get, Some, IsTrue, All}
+use Rattle.std.specs.Prelude.{◌≡◌, ℕ, ◌-◌, ◌<◌, ◌≤◌, List, [], ◌∷◌, ◌++◌, length, slice_get, Some}
+use Rattle.std.specs.Prelude.{IsTrue, All}
 use mathlib.Core.List.{IsPrefix}
 use Rattle.atomic_table.specs.Seated.{TableId}
 use Rattle.regatta_terms.specs.Entries.{EntryParts, is_seat}
@@ -8,22 +9,29 @@ use Rattle.regatta_terms.specs.declared.command.Command.{Command}
 use Rattle.regatta_terms.specs.declared.command.Role.{Role}
 use Rattle.regatta_scores.specs.Journal.{Journal}
 use Rattle.regatta_board.specs.Refusals.{next_entry}
+use Rattle.regatta_watch.specs.Notes.{ListenerValue}
 use Rattle.regatta_watch.specs.Views.{journal_of, Names}
 use Rattle.regatta_watch.specs.declared.publication.ReaderView.{ReaderView}
 use Rattle.regatta_desk.specs.Receipts.{EndsWith}
 use Rattle.regatta_desk.specs.declared.pass.Seen.{Seen}
 use Rattle.regatta_desk.specs.declared.pass.Told.{Told}
 
--- seen: the journal that the pass was shown last. told: the journals that it was told of, in order
+-- seen: the journal that the pass was shown last. told: the journals that it was told of, in order.
+-- sources: those that the desk had when it answered the pass, in order
 pub record PassValue : Type 0 where
   pub seat : ℕ
   pub last : ℕ
   pub seen : Journal
   pub told : List Journal
+  pub sources : List Journal
 
 -- the entry for the next command of a pass
 abbrev pub entry_of : PassValue → Role → Command → EntryParts
 entry_of pass role command = next_entry pass.seat pass.last role command
+
+-- the pass after an answer that comes from this journal
+abbrev pub with_source : PassValue → Journal → PassValue
+with_source pass journal = record pass { sources = pass.sources ++ journal ∷ [] }
 
 -- the journal that was seen: that of its note, followed by the last entry if there is one
 abbrev pub seen_of : Seen → Journal
@@ -51,3 +59,8 @@ pub record IsPass (rules : RulesParts) (history : TableId) (seat : ℕ) (watcher
   pub shares : shared ≡ history
   pub longest : IsKnown told.listener.longest told.length told.last
   pub each : All (λ j. IsPrefix j told.listener.longest) told.listener.told
+
+-- journals that the history of this name has reached: each is a beginning of the longest
+abbrev pub AreSources : TableId → ListenerValue → Type 0
+AreSources history listener =
+    (listener.history ≡ history) × All (λ j. IsPrefix j listener.longest) listener.told

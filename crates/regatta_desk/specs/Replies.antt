@@ -24,22 +24,15 @@ use Rattle.regatta_desk.specs.Passes.{PassValue, entry_of}
 use Rattle.regatta_desk.specs.declared.answers.Next.{Next}
 use Rattle.regatta_desk.specs.declared.answers.Next.TheVariants.{Go, End}
 
--- the lines that the desk answers: commands and RANK
-abbrev pub is_for_desk : Line → Bool
-is_for_desk (Do command) = true
-is_for_desk (Rank sail) = true
-is_for_desk (SetRole role) = false
-is_for_desk Show = false
-is_for_desk Quit = false
-
--- the lines that a pass answers alone: the others, and those that can't be read
-abbrev pub is_for_pass : Result Line LineFault → Bool
-is_for_pass (Ok (Do command)) = false
-is_for_pass (Ok (Rank sail)) = false
-is_for_pass (Ok (SetRole role)) = true
-is_for_pass (Ok Show) = true
-is_for_pass (Ok Quit) = true
-is_for_pass (Err fault) = true
+-- the lines that the desk answers: commands and RANK; a pass alone answers the others, and those that
+-- can't be read
+abbrev pub is_for_desk : Result Line LineFault → Bool
+is_for_desk (Ok (Do command)) = true
+is_for_desk (Ok (Rank sail)) = true
+is_for_desk (Ok (SetRole role)) = false
+is_for_desk (Ok Show) = false
+is_for_desk (Ok Quit) = false
+is_for_desk (Err fault) = false
 
 -- ---- under the lock
 

@@ -1,12 +1,13 @@
 //! The answers to lines: from the desk, or from a pass alone.
-ghost use Rattle.std.specs.Prelude.{◌≡◌, ◌≢◌, ◌+◌, ◌≤◌, ◌++◌, true, Ok, IsOk, IfOk, OnOk, OnErr};
-ghost use Rattle.std.specs.Prelude.{vec_len, vec_capacity};
+ghost use Rattle.std.specs.Prelude.{◌≡◌, ◌≢◌, ◌+◌, ◌≤◌, ◌++◌, true, false, Ok, IsOk, IfOk, OnOk};
+ghost use Rattle.std.specs.Prelude.{OnErr, All, vec_len, vec_capacity};
+ghost use mathlib.Core.List.{IsPrefix};
 ghost use Rattle.regatta_terms.specs.declared.reply.Reply.{Reply as ReplyValue};
 ghost use Rattle.regatta_board.specs.Answers.{rank_of};
 ghost use Rattle.regatta_tables.specs.ReplyTexts.{reply_text};
 ghost use Rattle.regatta_talk.specs.Replies.{ranked as ranked_by, role_after};
 ghost use Rattle.regatta_tables.specs.declared.replies.TheConstants.{REPLY_ROOM};
-ghost use Rattle.regatta_desk.specs.Replies.{is_for_desk, is_for_pass, next_after};
+ghost use Rattle.regatta_desk.specs.Replies.{is_for_desk, next_after};
 ghost use Rattle.regatta_desk.specs.Replies.{DeskReplies, PassReplies};
 
 use crate::desk::Desk;
@@ -36,21 +37,26 @@ impl<N: OfficeName, R: Wait + Drop> Desk<N, R> {
 
     /// Does what a line asks of the desk, and returns the reply.
     fn reply<W: Wait>(&mut self, rt: &W, pass: &mut Pass<N>, role: Role, line: Line) -> Reply
-        requires { is_for_desk line ≡ true }
-        ensures { DeskReplies N.rules line role self.old self.new pass.old pass.new result }
+        requires { is_for_desk (Ok line) ≡ true }
+        ensures replied { DeskReplies N.rules line role self.old self.new pass.old pass.new result }
+        ensures told { All (λ j. IsPrefix j self.old.entries) pass.old.told }
     {
         match line {
             Line::Do(command) => match self.run(rt, pass, role, command) {
                 Ok(receipt) => reply_of(Ok(receipt.answer())),
                 Err(why) => reply_of(Err(why)),
             },
-            Line::Rank(sail) => self.rank_reply(sail),
+            Line::Rank(sail) => {
+                self.cover(pass);
+                self.rank_reply(sail)
+            }
             Line::SetRole(_) | Line::Show | Line::Quit => unreachable!(),
         }
     }
 
     /// Answers a line with a command or RANK: runs the command for the pass in this role, or looks
-    /// the boat up, and appends the reply. If `out` has room for a reply, its capacity stays.
+    /// the boat up, and appends the reply. Each journal that the pass had been told of is a beginning
+    /// of the one that the desk had before. If `out` has room for a reply, its capacity stays.
     ///
     /// # Errors
     ///
@@ -64,10 +70,11 @@ impl<N: OfficeName, R: Wait + Drop> Desk<N, R> {
         line: Line,
         out: &mut Vec<u8>,
     ) -> Result<(), AllocError>
-        requires { is_for_desk line ≡ true }
+        requires { is_for_desk (Ok line) ≡ true }
         ensures ok { OnOk result ((reply : ReplyValue)
             × DeskReplies N.rules line role self.old self.new pass.old pass.new reply
             × (out.new.items ≡ out.old.items ++ reply_text reply)) }
+        ensures told { OnOk result (All (λ j. IsPrefix j self.old.entries) pass.old.told) }
         ensures room { vec_capacity out.old ≤ vec_capacity out.new }
         ensures fits { vec_len out.old + REPLY_ROOM ≤ vec_capacity out.old → IsOk result }
         ensures stays { vec_len out.old + REPLY_ROOM ≤ vec_capacity out.old
@@ -118,7 +125,7 @@ pub fn answer_alone<N: OfficeName>(
     asked: Result<Line, LineFault>,
     out: &mut Vec<u8>,
 ) -> Result<Next, AllocError>
-    requires { is_for_pass asked ≡ true }
+    requires { is_for_desk asked ≡ false }
     ensures text { OnOk result
         (PassReplies N.rules asked pass.old pass.new out.old.items out.new.items) }
     ensures role { OnOk result (role.new ≡ role_after asked role.old) }

@@ -9,6 +9,7 @@ mod opening;
 mod pass;
 mod receipt;
 mod sheet;
+mod sources;
 
 pub use answers::{Next, answer_alone};
 pub use desk::Desk;
@@ -16,5 +17,5 @@ pub use office::{Office, Opened};
 pub use opening::OpenFault;
 pub use pass::Pass;
 pub use receipt::Receipt;
-pub use regatta_watch::{OfficeName, ShowFault};
+pub use regatta_watch::{Note, OfficeName, ShowFault};
 pub use sheet::Sheet;

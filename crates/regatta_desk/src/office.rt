@@ -9,9 +9,10 @@ ghost use Rattle.regatta_desk.specs.Offices.{IsOpenFault, AreSeated, seated};
 use crate::desk::Desk;
 use crate::opening::{OpenFault, board_of, watched};
 use crate::pass::{Pass, Seen};
+use crate::sources::Sources;
 use regatta_board::Board;
 use regatta_terms::{Entry, MAX_SEATS, Rules};
-use regatta_watch::{History, JournalNote, OfficeName, Publisher, SharedHistory, Watcher};
+use regatta_watch::{History, JournalNote, Note, OfficeName, Publisher, SharedHistory, Watcher};
 use std::alloc::{AllocError, Global};
 use std::marker::{Brand, Model};
 use std::sync::{Mutex, MutexGuard, Wait};
@@ -122,6 +123,15 @@ fn opened_with<R: Wait + Drop>(
 }
 
 impl<R: Wait + Drop> Opened<R> {
+    /// A note of the journal that the office starts with.
+    pub fn start_note(&mut self) -> Note
+        ensures same { self.new ≡ self.old }
+        ensures journal { result.journal ≡ self.old.entries }
+        ensures history { result.history ≡ self.old.history }
+    {
+        self.history.note()
+    }
+
     /// Puts the desk behind its lock, and returns it with a pass for each seat, in order from 1.
     /// The caller picks N for this office.
     ///
@@ -208,6 +218,7 @@ fn pass_of<N: OfficeName>(
         watcher,
         seen,
         history.listener(),
+        Sources::none(history.listener()),
         shared,
     )
 }

@@ -6,6 +6,7 @@ use std::fs::Files;
 use std::net::Net;
 use std::sync::Wait;
 use std::thread::Threads;
+use std::time::Clock;
 
 /// More bytes than any run of a test gives or takes.
 pub const PLENTY: usize = 4_000_000;
@@ -68,7 +69,7 @@ impl Streams {
 /// The status of a run of the program over these streams.
 pub fn status_of<R>(rt: &R, words: &[&str], streams: &mut Streams) -> u8
 where
-    R: Files + AllocGlobal + Threads + Wait + Net + Sync,
+    R: Files + AllocGlobal + Threads + Wait + Net + Clock + Sync,
 {
     let Streams {
         input,

@@ -1,9 +1,9 @@
 -- What a writer took, and a reader gave, over several steps of a run.
 use Rattle.std.proofs.Common.{◌≡◌, ℕ, ◌<◌, length, Bool, true, false, List, [], ◌∷◌, ◌++◌, Option}
 use Rattle.std.proofs.Common.{Some, None, Result, Ok, Err, IfOk, OnOk, IfSome, refl, sym, ap, ◌∙◌}
-use Rattle.std.proofs.Common.{subst, append_assoc, append-nil, arith, min, take, drop}
+use Rattle.std.proofs.Common.{subst, append_assoc, append-nil, arith, take, drop}
 use Rattle.std.proofs.Common.{length-append, ◌+◌, ◌-◌, ◌≤◌, inl, inr}
-use Rattle.std.proofs.lemmas.List.{take-append-drop, take-take, take_min, take-append-le}
+use Rattle.std.proofs.lemmas.List.{take-append-drop, take-take, take-append-le}
 use Rattle.std.proofs.Math.Seq.{take-append-add}
 use Rattle.regatta_streams.specs.Texts.{AppendsPrefix, GaveAtMost}
 use Rattle.std.proofs.Math.Seq.{take-append_seam}
@@ -142,17 +142,18 @@ went-quit a b xs ys p q u = record {
 -- some first part of a text is one of a longer text
 pub prefix-longer : (old new : Option (List ℕ)) (a b : List ℕ) → AppendsPrefix old new a
     → AppendsPrefix old new (a ++ b)
-prefix-longer old new a b (n, wrote) = (
-  min n (length a),
-  subst (Appends old new) (sym (take_min n a) ∙ sym
-      (take-append-le (min n (length a)) a b (omega arith))) wrote,
+prefix-longer old new a b (n, few, wrote) = (
+  n,
+  omega (arith, few, length-append a b),
+  subst (Appends old new) (sym (take-append-le n a b (omega (arith, few)))) wrote,
 )
 
 -- a text, and then some first part of another
 pub prefix-behind : (old mid new : Option (List ℕ)) (a b : List ℕ) → Appends old mid a
     → AppendsPrefix mid new b → AppendsPrefix old new (a ++ b)
-prefix-behind old mid new a b wrote (n, more) = (
+prefix-behind old mid new a b wrote (n, few, more) = (
   length a + n,
+  omega (arith, few, length-append a b),
   subst (Appends old new) (sym (take-append-add a b n))
       (appends-then old mid new a (take n b) wrote more),
 )

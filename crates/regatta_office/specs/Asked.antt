@@ -1,7 +1,9 @@
 -- What a run may be asked for, and a run that does it.
 use Rattle.std.specs.Prelude.{◌≡◌, ◌≤◌, ℕ, Bool, true, length, List, [], Option, Some, None}
-use Rattle.std.specs.Prelude.{IfSome, Ok}
-use Rattle.std.specs.Io.KnownBytes.{Appends}
+use Rattle.std.specs.Prelude.{IfSome, Ok, ◌⊎◌}
+use Rattle.std.specs.Io.KnownBytes.{Appends, Keeps}
+use mathlib.Core.List.{IsPrefix}
+use Rattle.regatta_streams.specs.Texts.{AppendsPrefix}
 use Rattle.regatta_terms.specs.Rules.{RulesParts, rules_of_texts}
 use Rattle.regatta_scores.specs.Journal.{Journal}
 use Rattle.regatta_board.specs.Refusals.{limits, is_lawful}
@@ -68,17 +70,39 @@ pub record IsReplayOf (asked : ReplayAsked) (given old new : Option (List ℕ)) 
   pub lawful : is_lawful limits rules start ≡ true
   pub wrote : IfSome given (λ text. Appends old new (run_text rules start asked.form text))
 
--- the table of a lawful journal was written
-pub record PrintsTable (rules : RulesParts) (old new : Option (List ℕ)) : Type 0 where
+-- the table of a lawful journal that begins with the start was written
+pub record PrintsTable (rules : RulesParts) (start : Journal) (old new : Option (List ℕ)) : Type 0
+  where
+    pub journal : Journal
+    pub begins : IsPrefix start journal
+    pub lawful : is_lawful limits rules journal ≡ true
+    pub wrote : Appends old new (final_text rules Table journal)
+
+-- a beginning of such a table was written, and not all of it
+pub record BreaksOffTable (rules : RulesParts) (start : Journal) (old new : Option (List ℕ)) :
+    Type 0 where
   pub journal : Journal
+  pub begins : IsPrefix start journal
   pub lawful : is_lawful limits rules journal ≡ true
-  pub wrote : Appends old new (final_text rules Table journal)
+  pub wrote : AppendsPrefix old new (final_text rules Table journal)
+
+-- nothing was written, or such a table or a beginning of it
+abbrev pub PrintsAtMostTable : RulesParts → Journal → Option (List ℕ) → Option (List ℕ) → Type 0
+PrintsAtMostTable rules start old new =
+    Keeps old new ⊎ (PrintsTable rules start old new ⊎ BreaksOffTable rules start old new)
+
+-- nothing was written; or at most such a table, under the rules and from the entries that the
+-- series starts with
+abbrev pub AtMostServingOf : ServingAsked → Option (List ℕ) → Option (List ℕ) → Type 0
+AtMostServingOf asked old new =
+    Keeps old new ⊎ ((rules : RulesParts) × (start : Journal) × Begins asked.series rules start
+    × PrintsAtMostTable rules start old new)
 
 -- clients were served under the rules and from the entries that the series starts with, and the
--- table was written; no type says what clients did to the journal
+-- table was written; no type says what clients did to the journal after the start
 pub record IsServingOf (asked : ServingAsked) (old new : Option (List ℕ)) : Type 0 where
   pub rules : RulesParts
   pub start : Journal
   pub begins : Begins asked.series rules start
   pub lawful : is_lawful limits rules start ≡ true
-  pub table : PrintsTable rules old new
+  pub table : PrintsTable rules start old new

@@ -1,6 +1,6 @@
 -- A run that does what the words ask for.
 use Rattle.std.specs.Prelude.{◌≡◌, ℕ, List, Option}
-use Rattle.regatta_office.specs.Asked.{IsReplayOf, IsServingOf}
+use Rattle.regatta_office.specs.Asked.{AtMostServingOf, IsReplayOf, IsServingOf}
 use Rattle.regatta_office.specs.declared.options.Asked.{Asked}
 use Rattle.regatta_office.specs.declared.options.Asked.TheVariants.{Replay, Serve}
 
@@ -11,3 +11,9 @@ IsRunOf remaining (Replay asked) before after old new =
     IsReplayOf asked (remaining before) old new
 IsRunOf remaining (Serve asked) before after old new =
     (after ≡ before) × IsServingOf asked old new
+
+-- the most that a run has written, however it ended: a serving at most its table; the contract of
+-- `replay` says what a replay has written
+abbrev pub AtMostRunOf : Asked → Option (List ℕ) → Option (List ℕ) → Type 0
+AtMostRunOf (Replay asked) old new = Unit {0}
+AtMostRunOf (Serve asked) old new = AtMostServingOf asked old new

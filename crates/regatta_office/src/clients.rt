@@ -1,23 +1,29 @@
 //! Serves a series to clients at a socket.
-ghost use Rattle.std.specs.Prelude.{◌≡◌, IfOk, OnOk};
+ghost use Rattle.std.specs.Prelude.{◌≡◌, ◌+◌, true, map, vec_len, IfOk, OnOk};
+ghost use Rattle.std.specs.List.Sorted.{IsPermutation};
 ghost use Rattle.regatta_service.specs.Doors.{streams_asked};
-ghost use Rattle.regatta_office.specs.Asked.{IsServingOf, PrintsTable};
+ghost use Rattle.regatta_service.specs.Faults.{IfBegun, door_failures_in};
+ghost use Rattle.regatta_office.specs.Asked.{AtMostServingOf, IsServingOf};
+ghost use Rattle.regatta_office.specs.Asked.{PrintsAtMostTable, PrintsTable};
 
 use crate::complaint::Complaint;
 use crate::final_part::print_final;
 use crate::form::Form;
 use crate::options::ServeOptions;
+use crate::scribe::ScribeFault;
 use crate::series::beginning_of;
-use regatta_desk::{Office, OfficeName, Opened};
-use regatta_service::{DoorFault, OpenGate, SocketDoor, serve};
-use regatta_streams::Sink;
+use regatta_desk::{Note, Office, OfficeName, Opened, Pass};
+use regatta_service::{Admitted, Door, DoorFault, OpenGate, ServeFault, SocketDoor, serve_each};
+use regatta_streams::{Device, Sink};
 use std::alloc::Global;
 use std::fs::Files;
 use std::marker::Brand;
 use std::net::Net;
 use std::sync::Wait;
 use std::thread::Threads;
+use std::time::Clock;
 
+/// The door that the options ask for.
 fn door_of<R: Files + Net>(rt: &R, options: &ServeOptions<'_>) -> Result<SocketDoor, DoorFault>
     ensures { IfOk result (λ door. door.left ≡ streams_asked options.now.sessions) }
 {
@@ -25,31 +31,125 @@ fn door_of<R: Files + Net>(rt: &R, options: &ServeOptions<'_>) -> Result<SocketD
     Ok(door)
 }
 
+/// How serving an office ended.
+#[derive(Drop)]
+struct Served<N: OfficeName> {
+    /// The passes of all seats, or why serving ended early.
+    back: Result<Vec<Pass<N>>, ServeFault>,
+    /// How many clients were admitted.
+    admitted: Admitted,
+    /// Whether the table was printed then.
+    printed: Result<(), ScribeFault>,
+}
+
+/// Serves the door's clients, and then prints the table of the office's journal, however serving
+/// ended: what was committed stays.
+fn serve_and_print<N, H, R, D, W>(
+    rt: &R,
+    alloc: Global,
+    office: &Office<N, H>,
+    door: &mut D,
+    passes: Vec<Pass<N>>,
+    start: Note,
+    output: &mut W,
+) -> Served<N>
+where
+    N: OfficeName + Send + Sync,
+    H: Wait + Drop + Send,
+    R: Threads + Wait + Clock + Sync,
+    D: Door,
+    W: Sink,
+    requires start { start.history ≡ N.history }
+    // The passes of all seats come back.
+    ensures seats { IfOk result.back (λ back.
+        IsPermutation (map (λ p. p.seat) passes.items) (map (λ p. p.seat) back.items)) }
+    ensures count { IfOk result.back (λ back. vec_len back ≡ vec_len passes) }
+    ensures door { D.failures door.new ≡ D.failures door.old + door_failures_in result.back }
+
+    // Each client that the door gave was admitted once, until the door closed.
+    ensures each { D.given door.new ≡ D.given door.old + result.admitted }
+    ensures closed { IfBegun result.back (D.closed door.new ≡ true) }
+
+    // The table is printed even if serving failed. Its journal begins with the start.
+    ensures printed { OnOk result.printed
+        (PrintsTable N.rules start.journal (W.contents output.old) (W.contents output.new)) }
+    ensures at_most { PrintsAtMostTable N.rules start.journal (W.contents output.old)
+        (W.contents output.new) }
+{
+    let (back, admitted) = serve_each(rt, alloc, office, door, passes, &OpenGate);
+    let mut guard = office.desk(rt);
+    let desk = &mut *guard;
+    desk.cover_note(start);
+    let printed = print_final(alloc, desk.board(), Form::Table, output);
+    Served {
+        back,
+        admitted,
+        printed,
+    }
+}
+
 /// Serves the socket's clients at the seats of this office. When the door is closed and all clients
-/// have gone, prints the table of the office's journal.
+/// have gone, or if serving fails, prints the table of the office's journal. Returns the passes of
+/// all seats.
+fn serve_seats<N, H, R, W>(
+    rt: &R,
+    alloc: Global,
+    opened: Opened<H>,
+    options: &ServeOptions<'_>,
+    output: &mut W,
+) -> Result<Vec<Pass<N>>, Complaint>
+where
+    N: OfficeName + Send + Sync,
+    H: Wait + Drop + Send,
+    R: Files + Net + Threads + Wait + Clock + Sync,
+    W: Sink,
+    requires history { opened.history ≡ N.history }
+    requires rules { opened.rules ≡ N.rules }
+    requires seats { opened.seats ≡ options.now.clients }
+    ensures table { OnOk result
+        (PrintsTable N.rules opened.entries (W.contents output.old) (W.contents output.new)) }
+    ensures at_most { PrintsAtMostTable N.rules opened.entries (W.contents output.old)
+        (W.contents output.new) }
+
+    // As many seats were served as were asked for.
+    ensures seats { IfOk result (λ back. vec_len back ≡ options.now.clients) }
+{
+    let mut opened = opened;
+    let start = opened.start_note();
+    let (office, passes) = opened.split::<N>()?;
+    let mut door = door_of(rt, options)?;
+    let served = serve_and_print(rt, alloc, &office, &mut door, passes, start, output);
+    let back = served.back?;
+    served.printed?;
+    Ok(back)
+}
+
+/// The same. Returns how many seats were served.
 fn serve_office<N, H, R, W>(
     rt: &R,
     alloc: Global,
     opened: Opened<H>,
     options: &ServeOptions<'_>,
     output: &mut W,
-) -> Result<(), Complaint>
+) -> Result<usize, Complaint>
 where
     N: OfficeName + Send + Sync,
     H: Wait + Drop + Send,
-    R: Files + Net + Threads + Wait + Sync,
+    R: Files + Net + Threads + Wait + Clock + Sync,
     W: Sink,
     requires history { opened.history ≡ N.history }
     requires rules { opened.rules ≡ N.rules }
     requires seats { opened.seats ≡ options.now.clients }
-    ensures { OnOk result (PrintsTable N.rules (W.contents output.old) (W.contents output.new)) }
+    ensures table { OnOk result
+        (PrintsTable N.rules opened.entries (W.contents output.old) (W.contents output.new)) }
+    ensures at_most { PrintsAtMostTable N.rules opened.entries (W.contents output.old)
+        (W.contents output.new) }
+
+    // As many seats were served as were asked for.
+    ensures seats { IfOk result (λ count. count ≡ options.now.clients) }
 {
-    let (office, passes) = opened.split::<N>()?;
-    let mut door = door_of(rt, options)?;
-    serve(rt, alloc, &office, &mut door, passes, &OpenGate)?;
-    let desk = office.desk(rt);
-    print_final(alloc, desk.board(), Form::Table, output)?;
-    Ok(())
+    let back = serve_seats::<N, H, R, W>(rt, alloc, opened, options, output)?;
+    Ok(back.len())
 }
 
 /// Serves the series that the options ask for: opens its office, serves clients at a new socket,
@@ -65,10 +165,12 @@ pub(crate) fn serve_series<R, W>(
     output: &mut W,
 ) -> Result<(), Complaint>
 where
-    R: Files + AllocGlobal + Net + Threads + Wait + Sync,
+    R: Files + AllocGlobal + Net + Threads + Wait + Clock + Sync,
     W: Sink,
-    ensures { OnOk result (IsServingOf options.now (W.contents output.old)
+    ensures done { OnOk result (IsServingOf options.now (W.contents output.old)
         (W.contents output.new)) }
+    ensures at_most { AtMostServingOf options.now (W.contents output.old)
+        (W.contents output.new) }
 {
     let alloc = rt.alloc();
     let begin = beginning_of(rt, &options.series)?;

@@ -4,7 +4,7 @@ ghost use Rattle.std.specs.Io.KnownBytes.{Appends};
 ghost use Rattle.clap.specs.Words.{kind_of};
 ghost use Rattle.clap.specs.declared.builder.value_parser.ValueParser.{ValueParser};
 ghost use Rattle.regatta_office.specs.Asked.{IsReplayOf};
-ghost use Rattle.regatta_office.specs.Runs.{IsRunOf};
+ghost use Rattle.regatta_office.specs.Runs.{AtMostRunOf, IsRunOf};
 ghost use Rattle.regatta_office.specs.Words.{AskHelp, AskRun, TakesForms};
 
 use crate::clients::serve_series;
@@ -19,6 +19,7 @@ use std::fs::Files;
 use std::net::Net;
 use std::sync::Wait;
 use std::thread::Threads;
+use std::time::Clock;
 
 /// The status for arguments that the program doesn't take.
 const BAD_WORDS: u8 = 2;
@@ -39,8 +40,10 @@ fn complain<E: Sink>(alloc: Global, errors: &mut E, complaint: Complaint) -> u8
 
 /// Writes the help that was asked for, and returns the program's status.
 fn help<W: Sink, E: Sink>(alloc: Global, error: &clap::Error, output: &mut W, errors: &mut E) -> u8
-    ensures { result ≡ 0 → (text : List ℕ)
+    ensures done { result ≡ 0 → (text : List ℕ)
         × Appends (W.contents output.old) (W.contents output.new) text }
+    ensures at_most { (output.new ≡ output.old) ⊎ ((text : List ℕ)
+        × Appends (W.contents output.old) (W.contents output.new) text) }
 {
     let Ok(text) = format!(in alloc; "{error}") else {
         return complain(alloc, errors, Complaint::NoMemory);
@@ -72,8 +75,10 @@ fn answer_words<W: Sink, E: Sink>(
     output: &mut W,
     errors: &mut E,
 ) -> u8
-    ensures { result ≡ 0 → (kind_of error.now ≡ ErrorKind.DisplayHelp) × ((text : List ℕ)
+    ensures done { result ≡ 0 → (kind_of error.now ≡ ErrorKind.DisplayHelp) × ((text : List ℕ)
         × Appends (W.contents output.old) (W.contents output.new) text) }
+    ensures at_most { (output.new ≡ output.old) ⊎ ((kind_of error.now ≡ ErrorKind.DisplayHelp)
+        × ((text : List ℕ) × Appends (W.contents output.old) (W.contents output.new) text)) }
 {
     match error.kind() {
         ErrorKind::DisplayHelp => help(alloc, error, output, errors),
@@ -101,11 +106,12 @@ fn replay_series<H: Files + AllocGlobal, R: Source, W: Sink>(
 
 fn run<H, R, W>(rt: &H, asked: &Asked<'_>, input: &mut R, output: &mut W) -> Result<(), Complaint>
 where
-    H: Files + AllocGlobal + Threads + Wait + Net + Sync,
+    H: Files + AllocGlobal + Threads + Wait + Net + Clock + Sync,
     R: Source,
     W: Sink,
-    ensures { OnOk result (IsRunOf R.remaining asked.now input.old input.new
+    ensures done { OnOk result (IsRunOf R.remaining asked.now input.old input.new
         (W.contents output.old) (W.contents output.new)) }
+    ensures at_most { AtMostRunOf asked.now (W.contents output.old) (W.contents output.new) }
 {
     match asked {
         Asked::Replay(options) => replay_series(rt, options, input, output),
@@ -135,7 +141,7 @@ pub fn program<H, R, W, E>(
     errors: &mut E,
 ) -> u8
 where
-    H: Files + AllocGlobal + Threads + Wait + Net + Sync,
+    H: Files + AllocGlobal + Threads + Wait + Net + Clock + Sync,
     R: Source,
     W: Sink,
     E: Sink,
@@ -147,6 +153,14 @@ where
         ⊎ ((asked : _) × AskRun forms (map (λ word. word.now) words.now) asked
         × IsRunOf R.remaining asked input.old input.new (W.contents output.old)
         (W.contents output.new))) }
+
+    // Whatever the status, nothing is written; or help, which the arguments ask for; or at most what
+    // the run that they ask for may write: of `serve`, the table.
+    ensures at_most { (output.new ≡ output.old) ⊎ ((forms : ValueParser) × TakesForms forms
+        × ((AskHelp forms (map (λ word. word.now) words.now)
+        × ((text : List ℕ) × Appends (W.contents output.old) (W.contents output.new) text))
+        ⊎ ((asked : _) × AskRun forms (map (λ word. word.now) words.now) asked
+        × AtMostRunOf asked (W.contents output.old) (W.contents output.new)))) }
 {
     let alloc = rt.alloc();
     let asked = match options_of(alloc, words) {

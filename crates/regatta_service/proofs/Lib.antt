@@ -1,2 +1,4 @@
 pub mod Lowest
+mod Points
 mod Taking
+mod Talking

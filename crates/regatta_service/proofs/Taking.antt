@@ -1,36 +1,61 @@
--- Bytes that a session takes: one more, and the end of a line.
-use Rattle.std.proofs.Common.{◌≡◌, ◌∷◌, ◌++◌, ◌+◌, ◌<◌, ◌∙◌, [], ℕ, List, true, false, refl}
+-- Bytes that a session takes: one more, the end of a line, and one piece after another.
+use Rattle.std.proofs.Common.{◌≡◌, ◌∷◌, ◌++◌, ◌+◌, ◌<◌, ◌∙◌, [], ℕ, List, Option, Some, None}
+use Rattle.std.proofs.Common.{true, false, refl, IfSome, map}
 use Rattle.std.proofs.Common.{ap, sym}
-use Rattle.std.proofs.Common.{append_assoc, drop, get_or, length, subst, take}
+use Rattle.std.proofs.Common.{append-nil, append_assoc, drop, get_or, length, subst, take}
 use Rattle.std.proofs.lemmas.List.{take-append-drop, take_more}
-use Rattle.std.proofs.lemmas.List.Elements.{All-push}
+use Rattle.std.proofs.lemmas.List.Elements.{All-append, All-nil, All-push}
 use Rattle.regatta_terms.specs.Lines.{line_of}
 use Rattle.regatta_terms.specs.Rules.{RulesParts}
-use Rattle.regatta_terms.specs.TextLines.{is_line_end}
-use Rattle.regatta_talk.specs.HeardLines.{heard_lines, heard_with}
-use Rattle.regatta_talk.proofs.HeardLines.{heard_byte, heard_end}
-use Rattle.regatta_desk.specs.Replies.{next_after}
-use Rattle.regatta_desk.specs.declared.answers.Next.{Next}
-use Rattle.regatta_service.specs.LinesTaken.{AreReplied, CameToQuit, GoesOn, IsReplied, Point}
-use Rattle.regatta_service.specs.LinesTaken.{WentOn}
+use Rattle.regatta_terms.specs.TextLines.{ended_lines, is_line_end, last_line}
+use Rattle.regatta_talk.specs.HeardLines.{heard, heard_lines, heard_with}
+use Rattle.regatta_talk.proofs.HeardLines.{heard_byte, heard_end, heard_of_text, heard_reads}
+use Rattle.regatta_service.specs.LinesTaken.{AllReplied, AreReplied, Asked, EndedAt, GoesOn}
+use Rattle.regatta_service.specs.LinesTaken.{IsCutOff, IsPassedOver, IsQuit, IsReplied, Point}
+use Rattle.regatta_service.specs.LinesTaken.{Stays, Took, WentOn, asked_from, asked_in}
+use Rattle.regatta_service.specs.declared.sessions.End.{End}
+use Rattle.regatta_service.proofs.Points.{are_back, are_both, are_more, stays_same}
 
--- one more line is answered
-replied_more : (rules : RulesParts) (lines : List (List ℕ)) (line : List ℕ)
-    (before between after : Point) → AreReplied rules lines before between
-    → IsReplied rules line between after → AreReplied rules (lines ++ line ∷ []) before after
-replied_more rules [] line before between after same last =
-    (after, subst (λ (s : Point). IsReplied rules line s after) same last, refl)
-replied_more rules (first ∷ lines) line before between after (next, one, more) last =
-    (next, one, replied_more rules lines line next between after more last)
+-- ---- what is asked for, byte by byte
 
--- what comes after one more byte
-behind_byte : (rules : RulesParts) (line bytes : List ℕ) (before : Point) (later : List ℕ)
+asked_byte : (line : List ℕ) (byte : ℕ) (text : List ℕ) → is_line_end byte ≡ false
+    → asked_from line (byte ∷ text) ≡ asked_from (heard_with line byte) text
+asked_byte line byte text is = ap (map line_of) (heard_byte false line byte text is)
+
+asked_end : (line : List ℕ) (byte : ℕ) (text : List ℕ) → is_line_end byte ≡ true
+    → asked_from line (byte ∷ text) ≡ line_of line ∷ asked_from [] text
+asked_end line byte text is = ap (map line_of) (heard_end false line byte text is)
+
+no_last : (line : List ℕ) → last_line false line ≡ []
+no_last [] = refl
+no_last (byte ∷ line) = refl
+
+-- a line that hasn't ended isn't asked
+asked_none : (line : List ℕ) → asked_from line [] ≡ []
+unfolding heard_lines
+asked_none line = ap (map line_of) (no_last line)
+
+-- what is kept of lines asks for the same as the lines
+heard_ask : (lines : List (List ℕ)) → map line_of (map heard lines) ≡ map line_of lines
+heard_ask [] = refl
+heard_ask (line ∷ lines) =
+    ap (λ (asked : Asked). asked ∷ map line_of (map heard lines)) (heard_reads line)
+    ∙ ap (λ (more : List Asked). line_of line ∷ more) (heard_ask lines)
+
+-- from the first byte on it is what the lines of the text ask for
+pub asked_of_text : (text : List ℕ) → asked_from [] text ≡ asked_in text
+asked_of_text text = ap (map line_of) (heard_of_text false text) ∙ heard_ask (ended_lines text)
+
+-- ---- one byte more
+
+-- what comes after it
+after_byte : (rules : RulesParts) (line bytes : List ℕ) (before : Point) (later : List ℕ)
     (after : Point) (byte : ℕ) (rest : List ℕ)
     → (w : WentOn rules line bytes before later after)
-    → heard_lines false line ((bytes ++ byte ∷ []) ++ rest)
-    ≡ w.lines ++ heard_lines false later (byte ∷ rest)
-behind_byte rules line bytes before later after byte rest w =
-    ap (heard_lines false line) (append_assoc bytes (byte ∷ []) rest) ∙ w.cut (byte ∷ rest)
+    → asked_from line ((bytes ++ byte ∷ []) ++ rest)
+    ≡ w.lines ++ asked_from later (byte ∷ rest)
+after_byte rules line bytes before later after byte rest w =
+    ap (asked_from line) (append_assoc bytes (byte ∷ []) rest) ∙ w.cut (byte ∷ rest)
 
 byte_more : (rules : RulesParts) (line bytes : List ℕ) (before : Point) (later : List ℕ)
     (after : Point) (byte : ℕ) → is_line_end byte ≡ false
@@ -39,25 +64,36 @@ byte_more : (rules : RulesParts) (line bytes : List ℕ) (before : Point) (later
 byte_more rules line bytes before later after byte is w = record {
   lines = w.lines;
   going = w.going;
-  cut = λ rest. behind_byte rules line bytes before later after byte rest w
-      ∙ ap (λ (ls : List (List ℕ)). w.lines ++ ls) (heard_byte false later byte rest is);
+  cut = λ rest. after_byte rules line bytes before later after byte rest w
+      ∙ ap (λ (more : List Asked). w.lines ++ more) (asked_byte later byte rest is);
   answered = w.answered;
 }
 
 line_more : (rules : RulesParts) (line bytes : List ℕ) (before : Point) (later : List ℕ)
-    (between : Point) (byte : ℕ) (after : Point) → is_line_end byte ≡ true → GoesOn later
-    → IsReplied rules later between after → WentOn rules line bytes before later between
+    (between : Point) (byte : ℕ) (after : Point) → is_line_end byte ≡ true
+    → GoesOn (line_of later) → IsReplied rules (line_of later) between after
+    → WentOn rules line bytes before later between
     → WentOn rules line (bytes ++ byte ∷ []) before [] after
 line_more rules line bytes before later between byte after is goes replied w = record {
-  lines = w.lines ++ later ∷ [];
-  going = All-push GoesOn w.lines later w.going goes;
-  cut = λ rest. behind_byte rules line bytes before later between byte rest w
-      ∙ ap (λ (ls : List (List ℕ)). w.lines ++ ls) (heard_end false later byte rest is)
-      ∙ sym (append_assoc w.lines (later ∷ []) (heard_lines false [] rest));
-  answered = replied_more rules w.lines later before between after w.answered replied;
+  lines = w.lines ++ line_of later ∷ [];
+  going = All-push GoesOn w.lines (line_of later) w.going goes;
+  cut = λ rest. after_byte rules line bytes before later between byte rest w
+      ∙ ap (λ (more : List Asked). w.lines ++ more) (asked_end later byte rest is)
+      ∙ sym (append_assoc w.lines (line_of later ∷ []) (asked_from [] rest));
+  answered = are_more rules w.lines (line_of later) before between after w.answered replied;
 }
 
 -- ---- the bytes of a piece, one after another
+
+-- none was taken yet
+pub none_taken : (rules : RulesParts) (line : List ℕ) (before : Point)
+    → WentOn rules line [] before line before
+none_taken rules line before = record {
+  lines = [];
+  going = All-nil GoesOn;
+  cut = λ rest. refl;
+  answered = stays_same before;
+}
 
 front_more : (piece : List ℕ) (i byte : ℕ) → i < length piece → get_or piece i 0 ≡ byte
     → take (i + 1) piece ≡ take i piece ++ byte ∷ []
@@ -75,30 +111,136 @@ byte_taken rules line piece before later after i byte now left within at is hear
 
 pub line_taken : (rules : RulesParts) (line piece : List ℕ) (before : Point) (later : List ℕ)
     (between : Point) (i byte : ℕ) (now : List ℕ) (left : Point) → i < length piece
-    → get_or piece i 0 ≡ byte → is_line_end byte ≡ true → GoesOn later → now ≡ []
-    → IsReplied rules later between left → WentOn rules line (take i piece) before later between
+    → get_or piece i 0 ≡ byte → is_line_end byte ≡ true → GoesOn (line_of later) → now ≡ []
+    → IsReplied rules (line_of later) between left
+    → WentOn rules line (take i piece) before later between
     → WentOn rules line (take (i + 1) piece) before now left
 line_taken rules line piece before later between i byte now left within at is goes none replied w =
     rw (none) (rw (front_more piece i byte within at)
     (line_more rules line (take i piece) before later between byte left is goes replied w))
 
--- a QUIT has ended the session, and other lines may follow it
-pub quit_taken : (rules : RulesParts) (line piece : List ℕ) (before : Point) (later : List ℕ)
-    (between : Point) (i byte : ℕ) (after : Point) → i < length piece
-    → get_or piece i 0 ≡ byte → is_line_end byte ≡ true → next_after (line_of later) ≡ Next.End
-    → IsReplied rules later between after → WentOn rules line (take i piece) before later between
-    → CameToQuit rules line piece before after
-quit_taken rules line piece before later between i byte after within at is quits replied w =
+-- a line has ended at which the session ends, and others may follow it
+line_ended : (Did : Asked → Point → Point → Type 0) (rules : RulesParts) (line piece : List ℕ)
+    (before : Point) (later : List ℕ) (between : Point) (i byte : ℕ) (after : Point)
+    → i < length piece → get_or piece i 0 ≡ byte → is_line_end byte ≡ true
+    → Did (line_of later) between after → WentOn rules line (take i piece) before later between
+    → EndedAt Did rules (asked_from line piece) before after
+line_ended Did rules line piece before later between i byte after within at is did w =
     let rest : List ℕ = drop (i + 1) piece in
     record {
       lines = w.lines;
       going = w.going;
-      quit = later;
-      is_quit = quits;
-      behind = heard_lines false [] rest;
-      cut = ap (heard_lines false line) (sym (take-append-drop (i + 1) piece)
+      last = line_of later;
+      unanswered = asked_from [] rest;
+      cut = ap (asked_from line) (sym (take-append-drop (i + 1) piece)
           ∙ ap (λ (front : List ℕ). front ++ rest) (front_more piece i byte within at))
-          ∙ behind_byte rules line (take i piece) before later between byte rest w
-          ∙ ap (λ (ls : List (List ℕ)). w.lines ++ ls) (heard_end false later byte rest is);
-      answered = replied_more rules w.lines later before between after w.answered replied;
+          ∙ after_byte rules line (take i piece) before later between byte rest w
+          ∙ ap (λ (more : List Asked). w.lines ++ more) (asked_end later byte rest is);
+      between = between;
+      answered = w.answered;
+      did = did;
     }
+
+-- what was done with the last line, if the session ended so after it
+pub record Last (rules : RulesParts) (ended : Option End) (asked : Asked) (before after : Point)
+    : Type 0 where
+  pub quit : ended ≡ Some End.Quit → IsQuit rules asked before after
+  pub cut_off : ended ≡ Some End.WriteFault → IsCutOff rules asked before after
+  pub stopped : ended ≡ Some End.Stopped → Stays before after
+  pub room : ended ≡ Some End.NoMemory → ⊥
+  pub closed : ended ≡ Some End.Closed → ⊥
+  pub read : ended ≡ Some End.ReadFault → ⊥
+
+pub last_taken : (rules : RulesParts) (line piece : List ℕ) (before : Point) (later : List ℕ)
+    (between : Point) (i byte : ℕ) (after : Point) (ended : Option End) → i < length piece
+    → get_or piece i 0 ≡ byte → is_line_end byte ≡ true
+    → Last rules ended (line_of later) between after
+    → WentOn rules line (take i piece) before later between
+    → IfSome ended (λ end. Took rules end (asked_from line piece) before after)
+last_taken rules line piece before later between i byte after None within at is last w = tt
+last_taken rules line piece before later between i byte after (Some End.Quit) within at is last w =
+    line_ended (IsQuit rules) rules line piece before later between i byte after within at is
+    (last.quit refl) w
+last_taken rules line piece before later between i byte after (Some End.WriteFault) within at is
+    last w =
+    line_ended (IsCutOff rules) rules line piece before later between i byte after within at is
+    (last.cut_off refl) w
+last_taken rules line piece before later between i byte after (Some End.Stopped) within at is
+    last w =
+    line_ended IsPassedOver rules line piece before later between i byte after within at is
+    (last.stopped refl) w
+last_taken rules line piece before later between i byte after (Some End.NoMemory) within at is
+    last w = absurd (last.room refl)
+last_taken rules line piece before later between i byte after (Some End.Closed) within at is
+    last w = absurd (last.closed refl)
+last_taken rules line piece before later between i byte after (Some End.ReadFault) within at is
+    last w = absurd (last.read refl)
+
+-- ---- one piece after another
+
+module _ (rules : RulesParts) (line bytes : List ℕ) (before : Point) (later : List ℕ)
+    (between now : Point) (stays : Stays between now) (piece : List ℕ) (after : Point)
+    (w : WentOn rules line bytes before later between) where
+  front : AreReplied rules w.lines before now
+  front = are_back rules w.lines before between now w.answered stays
+
+  -- the session goes on
+  pub went_both : (last : List ℕ) → WentOn rules later piece now last after
+      → WentOn rules line (bytes ++ piece) before last after
+  went_both last v = record {
+    lines = w.lines ++ v.lines;
+    going = All-append GoesOn w.lines v.lines w.going v.going;
+    cut = λ rest. ap (asked_from line) (append_assoc bytes piece rest) ∙ w.cut (piece ++ rest)
+        ∙ ap (λ (more : List Asked). w.lines ++ more) (v.cut rest)
+        ∙ sym (append_assoc w.lines v.lines (asked_from last rest));
+    answered = are_both rules w.lines v.lines before now after front v.answered;
+  }
+
+  -- it ends
+  all_both : AllReplied rules (asked_from later piece) now after
+      → AllReplied rules (asked_from line (bytes ++ piece)) before after
+  all_both v = subst (λ (asked : List Asked). AllReplied rules asked before after)
+      (sym (w.cut piece)) (record {
+        going = All-append GoesOn w.lines (asked_from later piece) w.going v.going;
+        answered = are_both rules w.lines (asked_from later piece) before now after front
+            v.answered;
+      })
+
+  ended_both : (Did : Asked → Point → Point → Type 0)
+      → EndedAt Did rules (asked_from later piece) now after
+      → EndedAt Did rules (asked_from line (bytes ++ piece)) before after
+  ended_both Did v = record {
+    lines = w.lines ++ v.lines;
+    going = All-append GoesOn w.lines v.lines w.going v.going;
+    last = v.last;
+    unanswered = v.unanswered;
+    cut = w.cut piece ∙ ap (λ (more : List Asked). w.lines ++ more) v.cut
+        ∙ sym (append_assoc w.lines v.lines (v.last ∷ v.unanswered));
+    between = v.between;
+    answered = are_both rules w.lines v.lines before now v.between front v.answered;
+    did = v.did;
+  }
+
+  pub took_both : (end : End) → (end ≡ End.NoMemory → ⊥)
+      → Took rules end (asked_from later piece) now after
+      → Took rules end (asked_from line (bytes ++ piece)) before after
+  took_both End.Closed room v = all_both v
+  took_both End.ReadFault room v = all_both v
+  took_both End.Quit room v = ended_both (IsQuit rules) v
+  took_both End.WriteFault room v = ended_both (IsCutOff rules) v
+  took_both End.Stopped room v = ended_both IsPassedOver v
+  took_both End.NoMemory room v = absurd (room refl)
+
+-- no more bytes come: all lines that ended were answered
+pub all_taken : (rules : RulesParts) (line bytes : List ℕ) (before : Point) (later : List ℕ)
+    (between now : Point) → Stays between now → WentOn rules line bytes before later between
+    → AllReplied rules (asked_from line bytes) before now
+all_taken rules line bytes before later between now stays w =
+    let all : asked_from line bytes ≡ w.lines =
+    ap (asked_from line) (sym (append-nil bytes)) ∙ w.cut []
+    ∙ ap (λ (more : List Asked). w.lines ++ more) (asked_none later)
+    ∙ append-nil w.lines in
+    subst (λ (asked : List Asked). AllReplied rules asked before now) (sym all) (record {
+      going = w.going;
+      answered = are_back rules w.lines before between now w.answered stays;
+    })

@@ -1,11 +1,34 @@
 -- What contracts see of a door over a socket.
-use Rattle.std.specs.Prelude.{ℕ, ◌-◌, Option, Some, None, nat_eq, if◌then◌else◌}
+use Rattle.std.specs.Prelude.{ℕ, Bool, true, false, ◌-◌, Option, Some, None, Result, Ok, Err, nat_eq}
+use Rattle.std.specs.Prelude.{if◌then◌else◌}
 
--- the number of streams that the door still gives, `None` for no limit, and the number of its calls
--- that have failed
+-- the number of streams that the door still gives, `None` for no limit, the number of its calls that
+-- have failed, and the number of streams that it has given
 pub record DoorParts : Type 0 where
   pub left : Option ℕ
   pub failures : ℕ
+  pub given : ℕ
+
+-- 1 if there is something
+abbrev pub one_if_some : {A : Type 0} → Option A → ℕ
+one_if_some None = 0
+one_if_some (Some _) = 1
+
+-- the number of streams that a call of a door returned
+abbrev pub streams_in : {A E : Type 0} → Result (Option A) E → ℕ
+streams_in (Ok next) = one_if_some next
+streams_in (Err _) = 0
+
+-- whether a call of a door was the last: it returned no stream
+abbrev pub is_last : {A E : Type 0} → Result (Option A) E → Bool
+is_last (Ok (Some _)) = false
+is_last (Ok None) = true
+is_last (Err _) = true
+
+-- whether no stream is left
+abbrev pub is_shut : Option ℕ → Bool
+is_shut (Some left) = nat_eq left 0
+is_shut None = false
 
 -- the number of streams for a number of sessions: 0 sessions is no limit
 abbrev pub streams_asked : ℕ → Option ℕ

@@ -12,7 +12,16 @@ failures_in End.WriteFault = 1
 failures_in End.Stopped = 0
 failures_in End.NoMemory = 0
 
--- the same for a part of a session, which may have ended there
+-- the number of failed reads
+abbrev pub failed_reads_in : End → ℕ
+failed_reads_in End.Quit = 0
+failed_reads_in End.Closed = 0
+failed_reads_in End.ReadFault = 1
+failed_reads_in End.WriteFault = 0
+failed_reads_in End.Stopped = 0
+failed_reads_in End.NoMemory = 0
+
+-- the number of failed calls for a part of a session, which may have ended there
 abbrev pub failures_so_far : Option End → ℕ
 failures_so_far None = 0
 failures_so_far (Some end) = failures_in end

@@ -9,3 +9,10 @@ door_failures_in (Ok _) = 0
 door_failures_in (Err ServeFault.Door) = 1
 door_failures_in (Err ServeFault.Thread) = 0
 door_failures_in (Err ServeFault.NoMemory) = 0
+
+-- what holds at the end of serving, unless memory ran out before it began
+abbrev pub IfBegun : {A : Type 0} → Result A ServeFault → Type 0 → Type 0
+IfBegun (Ok _) Holds = Holds
+IfBegun (Err ServeFault.Door) Holds = Holds
+IfBegun (Err ServeFault.Thread) Holds = Holds
+IfBegun (Err ServeFault.NoMemory) Holds = Unit {0}

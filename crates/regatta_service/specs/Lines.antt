@@ -1,6 +1,7 @@
 -- The replies to the lines of a session.
 use Rattle.std.specs.Prelude.{◌≡◌, ℕ, Bool, true, false, List, [], ◌++◌, Option, Some, None}
-use Rattle.std.specs.Prelude.{Result, Ok, Err}
+use Rattle.std.specs.Prelude.{Result, Ok, Err, All}
+use mathlib.Core.List.{IsPrefix}
 use Rattle.std.specs.Io.KnownBytes.{Appends}
 use Rattle.regatta_terms.specs.Rules.{RulesParts}
 use Rattle.regatta_terms.specs.declared.command.Role.{Role}
@@ -13,20 +14,24 @@ use Rattle.regatta_tables.specs.ReplyTexts.{reply_text}
 use Rattle.regatta_streams.specs.Texts.{AppendsPrefix}
 use Rattle.regatta_talk.specs.Replies.{role_after}
 use Rattle.regatta_desk.specs.Desks.{DeskValue}
-use Rattle.regatta_desk.specs.Passes.{PassValue}
+use Rattle.regatta_desk.specs.Passes.{PassValue, with_source}
 use Rattle.regatta_desk.specs.Replies.{DeskReplies, PassReplies}
 use Rattle.regatta_service.specs.declared.sessions.End.{End}
 
--- a line that a desk answered for a pass in this role: the desk had a lawful journal and did what
--- the line asks, and its reply is appended; no proof knows what a lock guards, so this says no more
--- of the desk found
+-- a line that a desk answered for a pass in this role: the desk did what the line asks, and its reply
+-- is appended. The journal that the desk had is lawful, is noted as the source of the answer, and
+-- begins with the journal that the pass has seen, with each that it was told of, and with those that
+-- its earlier answers came from
 pub record DeskAnswers (rules : RulesParts) (line : Line) (role : Role) (before after : PassValue)
     (old new : List ℕ) : Type 0 where
   pub found : DeskValue
   pub left : DeskValue
   pub reply : Reply
   pub lawful : is_lawful limits rules found.entries ≡ true
-  pub replied : DeskReplies rules line role found left before after reply
+  pub seen : IsPrefix before.seen found.entries
+  pub told : All (λ j. IsPrefix j found.entries) before.told
+  pub sources : All (λ j. IsPrefix j found.entries) before.sources
+  pub replied : DeskReplies rules line role found left (with_source before found.entries) after reply
   pub text : new ≡ old ++ reply_text reply
 
 -- the text appended for a line of a session, and what the line changes of the pass: a desk answers
@@ -63,7 +68,8 @@ pub record Replied (rules : RulesParts) (asked : Result Line LineFault) (role la
   pub role_set : later ≡ role_after asked role
   pub wrote : Appends old new text
 
--- a line that was answered so, but a write failed: a beginning of its reply was written
+-- a line that was answered so, where a write failed: a beginning of its reply was written, and not
+-- all of it
 pub record CutOff (rules : RulesParts) (asked : Result Line LineFault) (role later : Role)
     (before after : PassValue) (old new : Option (List ℕ)) : Type 0 where
   pub text : List ℕ

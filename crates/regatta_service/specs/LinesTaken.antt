@@ -1,13 +1,18 @@
 -- How far the lines of a session have come.
-use Rattle.std.specs.Prelude.{◌≡◌, List, [], ◌∷◌, ◌++◌, ℕ, Option, false, All}
+use Rattle.std.specs.Prelude.{◌≡◌, List, [], ◌∷◌, ◌++◌, ℕ, Option, Result, false, map, All}
+use Rattle.std.specs.Io.KnownBytes.{Consumes, Keeps}
 use Rattle.regatta_terms.specs.Lines.{line_of}
 use Rattle.regatta_terms.specs.Rules.{RulesParts}
+use Rattle.regatta_terms.specs.TextLines.{ended_lines}
 use Rattle.regatta_terms.specs.declared.command.Role.{Role}
+use Rattle.regatta_terms.specs.declared.line.Line.{Line}
+use Rattle.regatta_terms.specs.declared.line.LineFault.{LineFault}
 use Rattle.regatta_talk.specs.HeardLines.{heard_lines}
 use Rattle.regatta_desk.specs.Passes.{PassValue}
 use Rattle.regatta_desk.specs.Replies.{next_after}
 use Rattle.regatta_desk.specs.declared.answers.Next.{Next}
-use Rattle.regatta_service.specs.Lines.{Replied}
+use Rattle.regatta_service.specs.Lines.{CutOff, Replied}
+use Rattle.regatta_service.specs.declared.sessions.End.{End}
 
 -- the state of a session: the role of the next lines, the pass, and what was written
 pub record Point : Type 0 where
@@ -18,41 +23,103 @@ pub record Point : Type 0 where
 abbrev pub point : Role → PassValue → Option (List ℕ) → Point
 point role pass written = record { role = role; pass = pass; written = written }
 
--- a line that was answered
-abbrev pub IsReplied : RulesParts → List ℕ → Point → Point → Type 0
-IsReplied rules line before after =
-    Replied rules (line_of line) before.role after.role before.pass after.pass before.written
-    after.written
+-- nothing was done: role and pass are as they were, and nothing was written
+pub record Stays (before after : Point) : Type 0 where
+  pub role : after.role ≡ before.role
+  pub pass : after.pass ≡ before.pass
+  pub written : Keeps before.written after.written
 
--- lines that were answered one after another, each once and with exactly its reply
-abbrev pub AreReplied : RulesParts → List (List ℕ) → Point → Point → Type 0
-AreReplied rules [] before after = after ≡ before
-AreReplied rules (line ∷ lines) before after =
-    (between : Point) × IsReplied rules line before between
-    × AreReplied rules lines between after
+-- ---- what lines ask for
+
+-- what a line asks for, or why it can't be read
+abbrev pub Asked : Type 0
+Asked = Result Line LineFault
+
+-- what the lines ask for that have ended in a text: not a last piece, which no LF ends
+abbrev pub asked_in : List ℕ → List Asked
+asked_in text = map line_of (ended_lines text)
+
+-- the same of some bytes that continue a line, by what is kept of each line
+abbrev pub asked_from : List ℕ → List ℕ → List Asked
+asked_from line bytes = map line_of (heard_lines false line bytes)
 
 -- a line after which the session goes on: any except QUIT
-abbrev pub GoesOn : List ℕ → Type 0
-GoesOn line = next_after (line_of line) ≡ Next.Go
+abbrev pub GoesOn : Asked → Type 0
+GoesOn asked = next_after asked ≡ Next.Go
 
--- some bytes that continue the line so far: the lines that ended in them were answered, and none is
--- QUIT; the session goes on with the line `later`
+-- ---- what was done with a line
+
+-- it was answered, and exactly its reply was written
+abbrev pub IsReplied : RulesParts → Asked → Point → Point → Type 0
+IsReplied rules asked before after =
+    Replied rules asked before.role after.role before.pass after.pass before.written after.written
+
+-- it was answered, and a write failed: a beginning of its reply was written, and not all of it
+abbrev pub IsCutOff : RulesParts → Asked → Point → Point → Type 0
+IsCutOff rules asked before after =
+    CutOff rules asked before.role after.role before.pass after.pass before.written after.written
+
+-- it is QUIT, and was answered
+abbrev pub IsQuit : RulesParts → Asked → Point → Point → Type 0
+IsQuit rules asked before after = (next_after asked ≡ Next.End) × IsReplied rules asked before after
+
+-- nothing
+abbrev pub IsPassedOver : Asked → Point → Point → Type 0
+IsPassedOver asked before after = Stays before after
+
+-- ---- what was done with lines
+
+-- they were answered one after another, each once, in the role that those before it set, and exactly
+-- their replies were written
+abbrev pub AreReplied : RulesParts → List Asked → Point → Point → Type 0
+AreReplied rules [] before after = Stays before after
+AreReplied rules (asked ∷ more) before after =
+    (between : Point) × IsReplied rules asked before between × AreReplied rules more between after
+
+-- all were answered, and none of them is QUIT
+pub record AllReplied (rules : RulesParts) (asked : List Asked) (before after : Point) : Type 0
+  where
+    pub going : All GoesOn asked
+    pub answered : AreReplied rules asked before after
+
+-- those before one were answered, and none of them is QUIT; with that one this was done, and nothing
+-- with those after it
+pub record EndedAt (Did : Asked → Point → Point → Type 0) (rules : RulesParts) (asked : List Asked)
+    (before after : Point) : Type 0 where
+  pub lines : List Asked
+  pub going : All GoesOn lines
+  pub last : Asked
+  pub unanswered : List Asked
+  pub cut : asked ≡ lines ++ last ∷ unanswered
+  pub between : Point
+  pub answered : AreReplied rules lines before between
+  pub did : Did last between after
+
+-- what was done with the lines, by how the session ended
+abbrev pub Took : RulesParts → End → List Asked → Point → Point → Type 0
+Took rules End.Closed asked before after = AllReplied rules asked before after
+Took rules End.ReadFault asked before after = AllReplied rules asked before after
+Took rules End.Quit asked before after = EndedAt (IsQuit rules) rules asked before after
+Took rules End.WriteFault asked before after = EndedAt (IsCutOff rules) rules asked before after
+Took rules End.Stopped asked before after = EndedAt IsPassedOver rules asked before after
+Took rules End.NoMemory asked before after = (asked ≡ []) × Stays before after
+
+-- some bytes that continue a line: the lines that ended in them were answered, and none is QUIT; the
+-- session goes on with the line `later`
 pub record WentOn (rules : RulesParts) (line bytes : List ℕ) (before : Point) (later : List ℕ)
     (after : Point) : Type 0 where
-  pub lines : List (List ℕ)
+  pub lines : List Asked
   pub going : All GoesOn lines
-  pub cut : (rest : List ℕ) → heard_lines false line (bytes ++ rest)
-      ≡ lines ++ heard_lines false later rest
+  pub cut : (rest : List ℕ) → asked_from line (bytes ++ rest) ≡ lines ++ asked_from later rest
   pub answered : AreReplied rules lines before after
 
--- some bytes that continue the line so far: of the lines that ended in them, those up to the first
--- QUIT were answered, and none after it
-pub record CameToQuit (rules : RulesParts) (line bytes : List ℕ) (before after : Point) : Type 0
-  where
-    pub lines : List (List ℕ)
-    pub going : All GoesOn lines
-    pub quit : List ℕ
-    pub is_quit : next_after (line_of quit) ≡ Next.End
-    pub behind : List (List ℕ)
-    pub cut : heard_lines false line bytes ≡ lines ++ quit ∷ behind
-    pub answered : AreReplied rules (lines ++ quit ∷ []) before after
+-- ---- a whole session
+
+-- what was done with the bytes that a stream gave: the lines that ended in them were answered as the
+-- session's end says, starting in the scorer's role
+pub record Talked (rules : RulesParts) (end : End) (to_read left : Option (List ℕ))
+    (before after : PassValue) (old new : Option (List ℕ)) : Type 0 where
+  pub given : List ℕ
+  pub consumed : Consumes to_read left given
+  pub role : Role
+  pub took : Took rules end (asked_in given) (point Role.Scorer before old) (point role after new)

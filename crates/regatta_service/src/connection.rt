@@ -1,60 +1,115 @@
 //! The office's end of a client's socket.
+ghost use Rattle.std.specs.Prelude.{◌≡◌};
 
 use std::io;
 use std::io::{Read, Write};
 use std::net::Shutdown;
 use std::os::unix::net::UnixStream;
+use std::time::Duration;
+
+/// The reply to a client who finds no seat.
+pub(crate) const BUSY: &[u8] = b"BUSY\n";
 
 /// The most bytes that one read asks for.
 const PIECE: usize = 4096;
 
-/// The office's end of a client's socket.
+/// How long a write to a client may wait, in seconds. A write that was taken in part succeeds, so a
+/// client who never reads loses their seat after at most twice as long.
+const WRITE_LIMIT: u64 = 60;
+
+/// What ends a connection, by a handle of its own to the client's socket.
 ///
 /// If a Unix socket is closed with unread bytes, the client's connection is reset, and the client
-/// may not see how its session ended. So when a connection is dropped, the socket is shut and what
-/// came before is read. The client then reads its replies and the end of the stream.
-pub struct Connection {
-    stream: UnixStream,
+/// may not see how its session ended. So when this is dropped, the socket is shut and what came
+/// before is read. The client then reads its replies and the end of the stream.
+struct Ending {
+    socket: UnixStream,
 }
 
-impl Connection {
-    pub(crate) fn new(stream: UnixStream) -> Connection {
-        Connection { stream }
+impl Ending {
+    /// What ends the connection over this socket. `None` if the system gives no second handle, for
+    /// example because no descriptor is left.
+    fn of(socket: &UnixStream) -> Option<Ending> {
+        let socket = socket.try_clone().ok()?;
+        Some(Ending { socket })
     }
 }
 
-impl Read for Connection {
+/// Tells a client for whom the system has no descriptor that there is no seat, and ends the
+/// connection. Whether the client reads it changes nothing.
+fn turn_away(socket: UnixStream) {
+    let mut ending = Ending { socket };
+    let _ = ending.socket.write_all(BUSY);
+}
+
+impl Drop for Ending {
+    fn drop(self) {
+        let Ending { mut socket } = self;
+        if socket.shutdown(Shutdown::Both).is_ok() {
+            read_rest(&mut socket);
+        }
+    }
+}
+
+/// The connection over a socket that was accepted. `None` if the system has no second descriptor for
+/// it, or no time limit of its writes; the client is then turned away.
+pub(crate) fn connection_of(socket: UnixStream) -> Option<Connection<UnixStream>> {
+    let limit = Duration::from_secs(WRITE_LIMIT);
+    match Ending::of(&socket) {
+        Some(ending) if socket.set_write_timeout(Some(limit)).is_ok() => {
+            Some(Connection::new(socket, ending))
+        }
+        _ => {
+            turn_away(socket);
+            None
+        }
+    }
+}
+
+/// Reads what came before the socket was shut. It never waits, since no more can come.
+fn read_rest(socket: &mut UnixStream) {
+    let mut unread = [0; PIECE];
+    for _ in 0..u64::MAX {
+        match socket.read(&mut unread) {
+            Ok(0) | Err(_) => return,
+            Ok(_) => {}
+        }
+    }
+}
+
+/// The office's end of a client's socket, or of another such stream. It passes that stream's bytes
+/// through, and ends the connection when it is dropped.
+#[derive(Drop)]
+pub struct Connection<S> {
+    stream: S,
+    ending: Ending,
+}
+
+impl<S> Connection<S> {
+    /// The connection that was accepted.
+    fn new(stream: S, ending: Ending) -> Connection<S>
+        ensures { result.stream ≡ stream }
+    {
+        Connection { stream, ending }
+    }
+}
+
+impl<S: Read> Read for Connection<S> {
+    ghost remaining = { λ connection. S.remaining connection.stream };
+
     fn read(&mut self, buf: &mut [u8]) -> io::Result<usize> {
         self.stream.read(buf)
     }
 }
 
-impl Write for Connection {
+impl<S: Write> Write for Connection<S> {
+    ghost contents = { λ connection. S.contents connection.stream };
+
     fn write(&mut self, buf: &[u8]) -> io::Result<usize> {
         self.stream.write(buf)
     }
 
     fn flush(&mut self) -> io::Result<()> {
         self.stream.flush()
-    }
-}
-
-impl Drop for Connection {
-    fn drop(self) {
-        let Connection { mut stream } = self;
-        if stream.shutdown(Shutdown::Both).is_ok() {
-            read_rest(&mut stream);
-        }
-    }
-}
-
-/// Reads what came before the stream was shut. It never waits, since no more can come.
-fn read_rest(stream: &mut UnixStream) {
-    let mut unread = [0; PIECE];
-    for _ in 0..u64::MAX {
-        match stream.read(&mut unread) {
-            Ok(0) | Err(_) => return,
-            Ok(_) => {}
-        }
     }
 }

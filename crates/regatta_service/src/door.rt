@@ -1,15 +1,20 @@
 //! Where clients come from.
-ghost use Rattle.std.specs.Prelude.{◌≡◌, ◌≢◌, ◌+◌, ◌<◌, ◌↔◌, Ok, Some, None, length, IfOk, OnOk};
-ghost use Rattle.std.specs.Prelude.{OnErr, OnSome};
-ghost use Rattle.regatta_service.specs.Doors.{streams_asked, one_fewer};
+ghost use Rattle.std.specs.Prelude.{◌≡◌, ◌≢◌, ◌+◌, ◌<◌, ◌↔◌, ℕ, Bool, true, Ok, Some, None, length};
+ghost use Rattle.std.specs.Prelude.{IfOk, OnOk, OnErr, OnSome};
+ghost use Rattle.regatta_service.specs.Comings.{clients_in};
+ghost use Rattle.regatta_service.specs.Doors.{streams_asked, one_fewer, streams_in};
+ghost use Rattle.regatta_service.specs.Doors.{is_last, is_shut, one_if_some};
 
-use crate::connection::Connection;
+use crate::connection::{Connection, connection_of};
+use crate::count::Count;
 use regatta_streams::{Device, Failures, Foreign, Sink, Source};
 use std::marker::Model;
 use std::net::Net;
-use std::os::unix::net::UnixListener;
+use std::os::unix::net::{UnixListener, UnixStream};
 use std::rt::Files;
 use std::sync::Wait;
+use std::thread;
+use std::time::{Clock, Duration};
 use thiserror::Error;
 
 /// A door that failed, for whatever reason.
@@ -18,8 +23,12 @@ use thiserror::Error;
 pub struct DoorFault;
 
 /// What gives the streams of clients, one after another. It is seen with the number of its calls
-/// that have failed.
+/// that have failed, the number of streams that it has given, and whether it is closed.
 pub trait Door: Device {
+    ghost given: { Self → ℕ };
+
+    ghost closed: { Self → Bool };
+
     /// What a client's lines come from, and what their replies go to.
     type Stream: Source + Sink + Send + Drop + 'static;
 
@@ -28,9 +37,94 @@ pub trait Door: Device {
     /// # Errors
     ///
     /// If the door fails. The failure is counted.
-    fn next<R: Wait>(&mut self, rt: &R) -> Result<Option<Self::Stream>, DoorFault>
+    fn next<R: Wait + Clock>(&mut self, rt: &R) -> Result<Option<Self::Stream>, DoorFault>
         ensures well { OnOk result (Self.failures self.new ≡ Self.failures self.old) }
-        ensures failed { OnErr result (Self.failures self.new ≡ Self.failures self.old + 1) };
+        ensures failed { OnErr result (Self.failures self.new ≡ Self.failures self.old + 1) }
+
+        // Each stream that came is returned: one at a time, and none is lost.
+        ensures one { Self.given self.new ≡ Self.given self.old + streams_in result }
+
+        // Only a door that returns no stream is known to be closed.
+        ensures last { is_last result ≡ true → Self.closed self.new ≡ true };
+}
+
+/// How long a door waits before it tries a failed `accept` again, in milliseconds.
+static PAUSES: [u64; 6] = [10, 50, 250, 500, 1000, 2000];
+
+/// What came of a call of `accept`.
+#[derive(Drop)]
+enum Came {
+    Client(Connection<UnixStream>),
+    /// The client was turned away, since the system has no descriptor for them.
+    TurnedAway,
+    /// The call failed.
+    Nobody,
+}
+
+/// The next client's stream, for which it may wait. If the call fails, for example because no
+/// descriptor is left, it is made again once, without the spare descriptor.
+fn accept_with(listener: &UnixListener, spare: &mut Option<UnixListener>) -> Option<UnixStream> {
+    if spare.is_none() {
+        *spare = listener.try_clone().ok();
+    }
+    if let Ok((stream, _)) = listener.accept() {
+        return Some(stream);
+    }
+    *spare = None;
+    let (stream, _) = listener.accept().ok()?;
+    Some(stream)
+}
+
+/// Accepts the next client, and counts them unless they are turned away.
+fn accept_one(listener: &UnixListener, spare: &mut Option<UnixListener>, came: &mut Count) -> Came
+    ensures { came.new ≡ came.old + clients_in result }
+{
+    let Some(stream) = accept_with(listener, spare) else {
+        return Came::Nobody;
+    };
+    let Some(connection) = connection_of(stream) else {
+        return Came::TurnedAway;
+    };
+    *came = came.one_more();
+    Came::Client(connection)
+}
+
+/// The same. A call that fails is made again a few times, after pauses that grow.
+fn accept_again<R: Clock>(
+    rt: &R,
+    listener: &UnixListener,
+    spare: &mut Option<UnixListener>,
+    came: &mut Count,
+) -> Came
+    ensures { came.new ≡ came.old + clients_in result }
+{
+    for pause in PAUSES {
+        match accept_one(listener, spare, came) {
+            Came::Nobody => {}
+            some => return some,
+        }
+        thread::sleep(rt, Duration::from_millis(pause));
+    }
+    accept_one(listener, spare, came)
+}
+
+/// The connection to the next client who isn't turned away. `None` if `accept` keeps failing.
+fn accepted<R: Wait + Clock>(
+    rt: &R,
+    listener: &UnixListener,
+    spare: &mut Option<UnixListener>,
+    came: &mut Count,
+) -> Option<Connection<UnixStream>>
+    ensures { came.new ≡ came.old + one_if_some result }
+{
+    for _ in rt.forever() {
+        match accept_again(rt, listener, spare, came) {
+            Came::Client(connection) => return Some(connection),
+            Came::TurnedAway => {}
+            Came::Nobody => return None,
+        }
+    }
+    unreachable!()
 }
 
 /// A door over a new Unix socket. It closes after the last stream that it gives, or when it fails.
@@ -42,8 +136,12 @@ pub trait Door: Device {
 pub struct SocketDoor {
     /// `None` if the door is closed.
     listener: Option<UnixListener>,
+    /// A second handle of the listener. When no descriptor is left, it is given up, so that the next
+    /// client can be told that there is no seat.
+    spare: Option<UnixListener>,
     left: Option<u32>,
     failures: Failures,
+    came: Count,
 }
 
 impl Model for SocketDoor {
@@ -52,7 +150,11 @@ impl Model for SocketDoor {
 
     ghost Value = { DoorParts };
 
-    ghost view = { λ d. record { left = d.left; failures = d.failures.count } };
+    ghost view = { λ d. record {
+      left = d.left;
+      failures = d.failures.count;
+      given = d.came;
+    } };
 
     ghost invariant = { λ d. IsNone d.listener ↔ (d.left ≡ Some 0) };
 }
@@ -68,7 +170,7 @@ impl SocketDoor {
     /// path exists already. If an allocation fails.
     pub fn bind<R: Files + Net>(rt: &R, path: &str, sessions: u32) -> Result<SocketDoor, DoorFault>
         ensures door { IfOk result (λ door. door
-            ≡ record { left = streams_asked sessions; failures = 0 }) }
+            ≡ record { left = streams_asked sessions; failures = 0; given = 0 }) }
         ensures named { OnOk result (0 < length path.now) }
     {
         if path.is_empty() {
@@ -77,10 +179,13 @@ impl SocketDoor {
         let Ok(listener) = UnixListener::bind(rt, path) else {
             return Err(DoorFault);
         };
+        let spare = listener.try_clone().ok();
         Ok(SocketDoor {
             listener: Some(listener),
+            spare,
             left: if sessions == 0 { None } else { Some(sessions) },
             failures: Failures::none(),
+            came: Count::none(),
         })
     }
 
@@ -88,6 +193,7 @@ impl SocketDoor {
         ensures { self.new ≡ record self.old { left = Some 0 } }
     {
         self.listener = None;
+        self.spare = None;
         self.left = Some(0);
     }
 
@@ -100,6 +206,7 @@ impl SocketDoor {
             self.left = Some(left - 1);
             if left == 1 {
                 self.listener = None;
+                self.spare = None;
             }
         }
     }
@@ -110,11 +217,20 @@ impl Device for SocketDoor {
 }
 
 impl Door for SocketDoor {
-    type Stream = Foreign<Connection>;
+    ghost given = { λ door. door.given };
 
-    fn next<R: Wait>(&mut self, _rt: &R) -> Result<Option<Foreign<Connection>>, DoorFault>
+    ghost closed = { λ door. is_shut door.left };
+
+    type Stream = Foreign<Connection<UnixStream>>;
+
+    fn next<R: Wait + Clock>(
+        &mut self,
+        rt: &R,
+    ) -> Result<Option<Foreign<Connection<UnixStream>>>, DoorFault>
         ensures well { OnOk result (self.new.failures ≡ self.old.failures) }
         ensures failed { OnErr result (self.new.failures ≡ self.old.failures + 1) }
+        ensures one { self.new.given ≡ self.old.given + streams_in result }
+        ensures last { is_last result ≡ true → is_shut self.new.left ≡ true }
 
         // The result is `None` exactly when no stream is left to give.
         ensures closed { (result ≡ Ok None) ↔ (self.old.left ≡ Some 0) }
@@ -128,12 +244,12 @@ impl Door for SocketDoor {
         let Some(listener) = &self.listener else {
             return Ok(None);
         };
-        let Ok((stream, _)) = listener.accept() else {
+        let Some(connection) = accepted(rt, listener, &mut self.spare, &mut self.came) else {
             self.failures = self.failures.one_more();
             self.close();
             return Err(DoorFault);
         };
         self.count_given();
-        Ok(Some(Foreign::new(Connection::new(stream))))
+        Ok(Some(Foreign::new(connection)))
     }
 }

@@ -2,13 +2,16 @@
 #![tactic(auto)]
 
 mod connection;
+mod count;
 mod door;
 mod gate;
+mod parting;
 mod pool;
 mod serving;
 mod sessions;
 
 pub use door::{Door, DoorFault, SocketDoor};
 pub use gate::{Gate, OpenGate};
-pub use serving::{ServeFault, serve};
+pub use parting::Admitted;
+pub use serving::{ServeFault, serve, serve_each};
 pub use sessions::{End, session};

@@ -1,16 +1,32 @@
 //! The passes, while clients are served.
-ghost use Rattle.std.specs.Prelude.{◌≡◌, ◌+◌, ◌<◌, ◌++◌, Some, None, map, take, length, All};
-ghost use Rattle.std.specs.Prelude.{IfOk, IfSome, slice_get, slice_set, vec_len};
+ghost use Rattle.std.specs.Prelude.{◌≡◌, ◌+◌, ◌<◌, ◌++◌, ℕ, Some, None, map, take, length, All};
+ghost use Rattle.std.specs.Prelude.{IfOk, IfSome, OnErr, slice_get, slice_set};
 ghost use Rattle.regatta_service.specs.Pools.{Finds, IsLowest};
 
 use regatta_desk::{OfficeName, Pass};
 use std::alloc::{AllocError, Global};
+use std::thread::SpawnError;
 
 /// The passes, each in a slot of its own. The slot is empty while a session has the pass, so taking
-/// the pass back allocates nothing.
+/// the pass back allocates nothing. A booked pass waits at its slot for the session's thread.
 #[derive(Drop)]
 pub(crate) struct Pool<N: OfficeName> {
     slots: Vec<Option<Pass<N>>>,
+    waiting: Vec<Option<Result<Lent<N>, NoPlace>>>,
+}
+
+/// Shows that a client can't be served: no seat is free, or no thread is available. It has no bytes,
+/// and only this file makes one.
+#[derive(Drop)]
+pub(crate) struct NoPlace {
+    _made_here: (),
+}
+
+impl NoPlace {
+    /// No thread is available: a spawn failed.
+    pub(crate) fn without_thread<F>(_refused: &SpawnError<F>) -> NoPlace {
+        NoPlace { _made_here: () }
+    }
 }
 
 /// A pass that a session has, and its slot in the pool.
@@ -46,6 +62,18 @@ fn lowest_to<N: OfficeName>(
     }
 }
 
+/// `count` places at which no pass waits.
+fn no_waiting<N: OfficeName>(
+    alloc: Global,
+    count: usize,
+) -> Result<Vec<Option<Result<Lent<N>, NoPlace>>>, AllocError> {
+    let mut waiting = Vec::with_capacity(alloc, count)?;
+    for _ in 0..count {
+        waiting.push(None)?;
+    }
+    Ok(waiting)
+}
+
 impl<N: OfficeName> Pool<N> {
     /// A pool of these passes. None is lent yet.
     ///
@@ -56,11 +84,12 @@ impl<N: OfficeName> Pool<N> {
     pub(crate) fn new(alloc: Global, passes: Vec<Pass<N>>) -> Result<Pool<N>, AllocError>
         ensures { IfOk result (λ pool. pool.slots.items ≡ map Some passes.items) }
     {
+        let waiting = no_waiting(alloc, passes.len())?;
         let mut slots = Vec::with_capacity(alloc, passes.len())?;
         for pass in passes {
             slots.push(Some(pass))?;
         }
-        Ok(Pool { slots })
+        Ok(Pool { slots, waiting })
     }
 
     /// The slot of the free pass with the lowest seat, and that seat.
@@ -100,6 +129,54 @@ impl<N: OfficeName> Pool<N> {
         }
     }
 
+    /// Lends the pass with the lowest seat, if there is one. The pass waits at its slot, which is
+    /// returned.
+    pub(crate) fn book(&mut self) -> Result<usize, NoPlace>
+        ensures none { OnErr result (All (λ slot. slot ≡ None) self.old.slots.items) }
+        ensures lowest { IfOk result (λ slot. (seat : ℕ)
+            × IsLowest self.old.slots.items slot seat) }
+    {
+        let Some(lent) = self.take() else {
+            return Err(NoPlace { _made_here: () });
+        };
+        let slot = lent.slot;
+        match self.waiting.get_mut(slot) {
+            Some(place) => *place = Some(Ok(lent)),
+            None => self.give(lent),
+        }
+        Ok(slot)
+    }
+
+    /// What waits at this slot, if anything.
+    fn take_waiting(&mut self, slot: usize) -> Option<Result<Lent<N>, NoPlace>>
+        ensures { self.new.slots ≡ self.old.slots }
+    {
+        self.waiting.get_mut(slot)?.take()
+    }
+
+    /// The pass that waits at this slot, or why its client can't be served. If nothing waits there,
+    /// which no run has met, the pass with the lowest seat is lent.
+    pub(crate) fn fetch(&mut self, slot: usize) -> Result<Lent<N>, NoPlace> {
+        if let Some(waiting) = self.take_waiting(slot) {
+            return waiting;
+        }
+        match self.take() {
+            Some(lent) => Ok(lent),
+            None => Err(NoPlace { _made_here: () }),
+        }
+    }
+
+    /// Gives back the pass that waits at this slot. Why its client can't be served waits there
+    /// instead.
+    pub(crate) fn unbook(&mut self, slot: usize, why: NoPlace) {
+        if let Some(Ok(lent)) = self.take_waiting(slot) {
+            self.give(lent);
+        }
+        if let Some(place) = self.waiting.get_mut(slot) {
+            *place = Some(Err(why));
+        }
+    }
+
     /// Appends the passes, in the order of their slots, to a list that has room for them. `None` if
     /// one is still lent.
     #[tactic(auto, using(crate::proofs::Lowest::pass_more))]
@@ -107,7 +184,7 @@ impl<N: OfficeName> Pool<N> {
         ensures { IfSome result (λ back. map Some back.items
             ≡ map Some passes.items ++ self.slots.items) }
     {
-        let Pool { slots } = self;
+        let Pool { slots, waiting: _ } = self;
         for slot in slots {
             passes.push(slot?).ok()?;
         }

@@ -1,22 +1,20 @@
 //! Clients served side by side.
-ghost use Rattle.std.specs.Prelude.{◌≡◌, ◌+◌, map, IfOk, OnOk, IsErrOf, IsTrue};
+ghost use Rattle.std.specs.Prelude.{◌≡◌, ◌+◌, map, true, IfOk, IsTrue};
 ghost use Rattle.std.specs.List.Sorted.{IsPermutation, IsSorted};
 ghost use Rattle.std.specs.Ordering.{nat_cmp};
-ghost use Rattle.std.specs.Io.KnownBytes.{Appends};
-ghost use Rattle.regatta_terms.specs.declared.reply.Reply.TheVariants.{Busy};
-ghost use Rattle.regatta_tables.specs.ReplyTexts.{reply_text};
-ghost use Rattle.regatta_service.specs.Faults.{door_failures_in};
+ghost use Rattle.regatta_service.specs.Faults.{IfBegun, door_failures_in};
 
 use crate::door::Door;
 use crate::gate::Gate;
-use crate::pool::{Lent, Pool};
-use crate::sessions::session;
+use crate::parting::{Admitted, admit};
+use crate::pool::Pool;
 use regatta_desk::{Office, OfficeName, Pass};
-use regatta_streams::{Device, Sink, write_all};
+use regatta_streams::Device;
 use std::alloc::{AllocError, Global};
 use std::sync::{Mutex, Wait};
 use std::thread;
 use std::thread::{Scope, Threads};
+use std::time::Clock;
 use thiserror::Error;
 
 /// Why serving ended early.
@@ -25,7 +23,7 @@ pub enum ServeFault {
     /// The door failed.
     #[error("the door failed")]
     Door,
-    /// No thread was available, or a seat didn't come back.
+    /// A seat didn't come back.
     #[error("no thread, or a seat didn't come back")]
     Thread,
     /// An allocation failed.
@@ -33,18 +31,7 @@ pub enum ServeFault {
     NoMemory,
 }
 
-/// The reply to a client who finds no seat.
-const BUSY: &[u8] = b"BUSY\n";
-
-/// Tells a client that no seat is free. Whether the client reads it changes nothing.
-fn turn_away<S: Sink>(stream: &mut S)
-    ensures { S.failures stream.new ≡ S.failures stream.old →
-        Appends (S.contents stream.old) (S.contents stream.new) (reply_text Busy) }
-{
-    let _ = write_all(stream, BUSY);
-}
-
-/// Lets in one client after another, until the door is closed.
+/// Admits one client after another, until the door is closed. Returns how many, too.
 fn accept_all<'s, E: 's, N, H, R, D, G>(
     rt: &'s R,
     alloc: Global,
@@ -53,37 +40,27 @@ fn accept_all<'s, E: 's, N, H, R, D, G>(
     pool: &'s Mutex<Pool<N>>,
     door: &mut D,
     gate: &'s G,
-) -> Result<(), ServeFault>
+) -> (Result<(), ServeFault>, Admitted)
 where
     N: OfficeName + Send + Sync + 's,
     H: Wait + Drop + Send + 's,
-    R: Threads + Wait + Sync + 's,
+    R: Threads + Wait + Clock + Sync + 's,
     D: Door,
     D::Stream: 's,
     G: Gate + Sync + 's,
-    ensures { D.failures door.new ≡ D.failures door.old + door_failures_in result }
+    ensures door { D.failures door.new ≡ D.failures door.old + door_failures_in result.0 }
+    ensures each { D.given door.new ≡ D.given door.old + result.1 }
+    ensures closed { D.closed door.new ≡ true }
 {
+    let mut admitted = Admitted::none();
     for _ in rt.forever() {
         let Ok(next) = door.next(&*rt) else {
-            return Err(ServeFault::Door);
+            return (Err(ServeFault::Door), admitted);
         };
-        let Some(mut stream) = next else {
-            return Ok(());
+        let Some(stream) = next else {
+            return (Ok(()), admitted);
         };
-        let Some(mut lent) = pool.lock(&*rt).take() else {
-            turn_away(&mut stream);
-            continue;
-        };
-        let started = scope.spawn(move || {
-            let end = session(rt, alloc, &mut stream, office, &mut lent.pass, gate);
-            gate.ended(lent.pass.seat(), end);
-            // The seat is free before the stream is closed, so a client who sees the end of their
-            // session may come again at once.
-            pool.lock(rt).give(lent);
-        });
-        if started.is_err() {
-            return Err(ServeFault::Thread);
-        }
+        let _ = admit(rt, alloc, scope, office, pool, gate, &mut admitted, stream);
     }
     unreachable!()
 }
@@ -132,14 +109,80 @@ fn passes_back<N: OfficeName>(
     Ok(passes)
 }
 
-/// Serves the door's clients until it closes, each on a thread of its own, at the lowest free seat.
-/// A client who finds no free seat gets `BUSY` and is turned away. When this returns, all sessions
-/// have ended. The passes come back in order of seat.
+/// Serves the door's clients, as [`serve`] does, and counts them.
 ///
 /// # Errors
 ///
-/// `Door` if the door fails, `Thread` if no thread is available or a seat doesn't come back, and
-/// `NoMemory` if an allocation fails. What was committed stays. The passes are gone.
+/// As `serve`.
+pub fn serve_each<N, H, R, D, G>(
+    rt: &R,
+    alloc: Global,
+    office: &Office<N, H>,
+    door: &mut D,
+    passes: Vec<Pass<N>>,
+    gate: &G,
+) -> (Result<Vec<Pass<N>>, ServeFault>, Admitted)
+where
+    N: OfficeName + Send + Sync,
+    H: Wait + Drop + Send,
+    R: Threads + Wait + Clock + Sync,
+    D: Door,
+    G: Gate + Sync,
+    ensures seats { IfOk result.0 (λ back.
+        IsPermutation (map (λ p. p.seat) passes.items) (map (λ p. p.seat) back.items)) }
+    ensures sorted { IfOk result.0 (λ back. IsSorted nat_cmp (map (λ p. p.seat) back.items)) }
+    ensures door { D.failures door.new ≡ D.failures door.old + door_failures_in result.0 }
+
+    // Each client that the door gave was admitted once.
+    ensures each { D.given door.new ≡ D.given door.old + result.1 }
+
+    // The door was asked for clients until it closed.
+    ensures closed { IfBegun result.0 (D.closed door.new ≡ true) }
+{
+    let Ok(seats) = seats_of(alloc, &passes) else {
+        return (Err(ServeFault::NoMemory), Admitted::none());
+    };
+    // Allocated now, so that no allocation is left to fail after clients were served.
+    let Ok(empty) = Vec::with_capacity(alloc, passes.len()) else {
+        return (Err(ServeFault::NoMemory), Admitted::none());
+    };
+    let mut passes = passes;
+    passes.sort_unstable_by_key(|pass| pass.seat());
+    let Ok(pool) = Pool::new(alloc, passes) else {
+        return (Err(ServeFault::NoMemory), Admitted::none());
+    };
+    let pool = Mutex::new(pool);
+    let shared = &pool;
+    let (served, door_back) = thread::scope(
+        thread::scope_env(),
+        rt,
+        move |scope| -> ((Result<(), ServeFault>, Admitted), &mut D)
+            ensures same { result.1.ghost_name ≡ door.entry.ghost_name }
+            ensures failures { D.failures result.1.now
+                ≡ D.failures door.entry.now + door_failures_in result.0.0 }
+            ensures each { D.given result.1.now ≡ D.given door.entry.now + result.0.1 }
+            ensures closed { D.closed result.1.now ≡ true }
+        {
+            let served = accept_all(rt, alloc, scope, office, shared, &mut *door, gate);
+            (served, door)
+        },
+    );
+    take_back(door_back);
+    let (served, admitted) = served;
+    if let Err(fault) = served {
+        return (Err(fault), admitted);
+    }
+    (passes_back(pool.into_inner(), empty, &seats), admitted)
+}
+
+/// Serves the door's clients until it closes, each on a thread of its own, at the lowest free seat.
+/// A client who finds no free seat, or for whom no thread is available, gets `BUSY` and is turned
+/// away. When this returns, all sessions have ended. The passes come back in order of seat.
+///
+/// # Errors
+///
+/// `Door` if the door fails, `Thread` if a seat doesn't come back, and `NoMemory` if an allocation
+/// fails. What was committed stays. The passes are gone.
 pub fn serve<N, H, R, D, G>(
     rt: &R,
     alloc: Global,
@@ -151,7 +194,7 @@ pub fn serve<N, H, R, D, G>(
 where
     N: OfficeName + Send + Sync,
     H: Wait + Drop + Send,
-    R: Threads + Wait + Sync,
+    R: Threads + Wait + Clock + Sync,
     D: Door,
     G: Gate + Sync,
     // The seats given come back, each as often as it was given, the lowest first.
@@ -161,36 +204,10 @@ where
 
     // A failed call of the door ends serving and is reported as `Door`; otherwise no call failed.
     ensures door { D.failures door.new ≡ D.failures door.old + door_failures_in result }
+
+    // The door was asked for clients until it closed.
+    ensures closed { IfBegun result (D.closed door.new ≡ true) }
 {
-    let Ok(seats) = seats_of(alloc, &passes) else {
-        return Err(ServeFault::NoMemory);
-    };
-    // Allocated now, so that no allocation is left to fail after clients were served.
-    let Ok(empty) = Vec::with_capacity(alloc, passes.len()) else {
-        return Err(ServeFault::NoMemory);
-    };
-    let mut passes = passes;
-    passes.sort_unstable_by_key(|pass| pass.seat());
-    let Ok(pool) = Pool::new(alloc, passes) else {
-        return Err(ServeFault::NoMemory);
-    };
-    let pool = Mutex::new(pool);
-    let shared = &pool;
-    let (served, door_back) = thread::scope(
-        thread::scope_env(),
-        rt,
-        move |scope| -> (Result<(), ServeFault>, &mut D)
-            ensures same { result.1.ghost_name ≡ door.entry.ghost_name }
-            ensures failures { D.failures result.1.now
-                ≡ D.failures door.entry.now + door_failures_in result.0 }
-        {
-            let served = accept_all(rt, alloc, scope, office, shared, &mut *door, gate);
-            (served, door)
-        },
-    );
-    take_back(door_back);
-    if let Err(fault) = served {
-        return Err(fault);
-    }
-    passes_back(pool.into_inner(), empty, &seats)
+    let (back, _) = serve_each(rt, alloc, office, door, passes, gate);
+    back
 }

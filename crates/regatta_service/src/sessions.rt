@@ -1,22 +1,22 @@
 //! The session of one client, whose lines are answered one after another.
-ghost use Rattle.std.specs.Prelude.{◌≡◌, ◌≢◌, ◌+◌, [], true, Ok, Some, None, IfSome, IfOk, OnOk};
-ghost use Rattle.std.specs.Prelude.{◌<◌, ◌≤◌, IsOk, OnErr, vec_capacity, vec_len};
-ghost use Rattle.std.specs.Io.KnownBytes.{IsAtEnd};
+ghost use Rattle.std.specs.Prelude.{◌≡◌, ◌≢◌, ◌+◌, ◌≤◌, [], true, false, Ok, Some, None, IfSome};
+ghost use Rattle.std.specs.Prelude.{IsTrue, vec_capacity, vec_len};
+ghost use Rattle.std.specs.Io.KnownBytes.{IsAtEnd, Keeps};
 ghost use Rattle.regatta_terms.specs.Lines.{line_of};
 ghost use Rattle.regatta_talk.specs.Replies.{role_after};
 ghost use Rattle.regatta_tables.specs.declared.replies.TheConstants.{REPLY_ROOM};
-ghost use Rattle.regatta_desk.specs.Replies.{is_for_desk, is_for_pass, next_after};
-ghost use Rattle.regatta_service.specs.Ends.{failures_in, failures_so_far};
+ghost use Rattle.regatta_desk.specs.Replies.{is_for_desk, next_after};
+ghost use Rattle.regatta_service.specs.Ends.{failed_reads_in, failures_in, failures_so_far};
 ghost use Rattle.regatta_service.specs.Lines.{Answers, CutOff, DeskAnswers, Replied};
 ghost use Rattle.regatta_service.specs.Lines.{is_replied};
-ghost use Rattle.regatta_service.specs.LinesTaken.{CameToQuit, WentOn, point};
+ghost use Rattle.regatta_service.specs.LinesTaken.{Talked, Took, WentOn, asked_from, point};
 
 use crate::gate::Gate;
 use regatta_desk::{Next, Office, OfficeName, Pass, answer_alone};
 use regatta_streams::{Device, Sink, Source, write_all};
 use regatta_talk::{Cutter, make_room};
 use regatta_terms::{Line, LineFault, Role, read_line};
-use std::alloc::{AllocError, Global};
+use std::alloc::Global;
 use std::sync::Wait;
 use std::thread;
 
@@ -39,22 +39,19 @@ pub enum End {
     WriteFault,
     /// The gate stopped a line.
     Stopped,
-    /// There was no memory for a reply.
+    /// There was no memory for replies. The session has then read nothing.
     NoMemory,
 }
 
 /// The line, if the desk answers it.
 fn for_desk(asked: &Result<Line, LineFault>) -> Option<Line>
     ensures some { IfSome result (λ line.
-        (asked.now ≡ Ok line) × (is_for_desk line ≡ true)) }
-    ensures none { result ≡ None → is_for_pass asked.now ≡ true }
+        (asked.now ≡ Ok line) × (is_for_desk asked.now ≡ true)) }
+    ensures none { result ≡ None → is_for_desk asked.now ≡ false }
 {
     match asked {
-        Ok(line) => match line {
-            Line::Do(_) | Line::Rank(_) => Some(*line),
-            Line::SetRole(_) | Line::Show | Line::Quit => None,
-        },
-        Err(_) => None,
+        Ok(line @ (Line::Do(_) | Line::Rank(_))) => Some(*line),
+        Ok(Line::SetRole(_) | Line::Show | Line::Quit) | Err(_) => None,
     }
 }
 
@@ -68,13 +65,12 @@ fn make_way(asked: &Result<Line, LineFault>) {
     }
 }
 
-/// A client at a seat of the office, and what is kept from line to line: the role, the number of
-/// the last line, the buffered part of the current line, and the text of a reply. `ended` is `None`
-/// while the session goes on.
+/// A client of the office, and what is kept from line to line beside the pass: the role, the number
+/// of the last line, the buffered part of the current line, and the text of a reply, which always
+/// has room for the next one. `ended` is `None` while the session goes on.
 #[derive(Drop)]
 struct Talk<'a, N: OfficeName, H: Wait + Drop, G: Gate> {
     office: &'a Office<N, H>,
-    pass: &'a mut Pass<N>,
     gate: &'a G,
     role: Role,
     line: u64,
@@ -84,60 +80,73 @@ struct Talk<'a, N: OfficeName, H: Wait + Drop, G: Gate> {
 }
 
 impl<N: OfficeName, H: Wait + Drop, G: Gate> Talk<'_, N, H, G> {
-    /// Takes the lock and has the desk answer a line, in the session's role.
-    fn ask_desk<R: Wait>(&mut self, rt: &R, line: Line) -> Result<(), AllocError>
-        requires { is_for_desk line ≡ true }
-        ensures ok { OnOk result (DeskAnswers N.rules line self.old.role self.old.pass.now
-            self.new.pass.now self.old.reply.items self.new.reply.items) }
-        ensures fits { vec_len self.old.reply + REPLY_ROOM ≤ vec_capacity self.old.reply
-            → IsOk result }
-        ensures err { OnErr result (self.new.pass.now ≡ self.old.pass.now) }
+    /// Takes the lock and has the desk answer a line, in the session's role. The pass notes the
+    /// journal that the answer comes from.
+    ///
+    /// Nothing is done, and the result is false, if the desk's journal doesn't begin with the one
+    /// that the pass has seen. No run has returned false; no clause says so.
+    fn ask_desk<R: Wait>(&mut self, rt: &R, pass: &mut Pass<N>, line: Line) -> bool
+        requires for_desk { is_for_desk (Ok line) ≡ true }
+        requires room { vec_len self.old.reply + REPLY_ROOM ≤ vec_capacity self.old.reply }
+        ensures answered { IsTrue result → DeskAnswers N.rules line self.old.role pass.old pass.new
+            self.old.reply.items self.new.reply.items }
+        ensures unanswered { result ≡ false → pass.new ≡ pass.old }
+        ensures room { vec_capacity self.old.reply ≤ vec_capacity self.new.reply }
         ensures role { self.new.role ≡ self.old.role }
         ensures cutter { self.new.cutter ≡ self.old.cutter }
         ensures ended { self.new.ended ≡ self.old.ended }
     {
-        let mut desk = self.office.desk(rt);
+        let mut guard = self.office.desk(rt);
+        let desk = &mut *guard;
         // Called for its contract: the journal is lawful.
         let _ = desk.board();
-        desk.answer(rt, self.pass, self.role, line, &mut self.reply)?;
-        Ok(())
+        if !desk.confirm(pass) {
+            return false;
+        }
+        desk.note_source(pass);
+        let Ok(()) = desk.answer(rt, pass, self.role, line, &mut self.reply) else {
+            unreachable!()
+        };
+        true
     }
 
-    /// Does what a line asks for, and makes its reply. It makes room for the reply before it takes
-    /// the lock.
+    /// Does what a line asks for, and makes its reply. If there is no answer (`None`), nothing has
+    /// changed.
     fn answer<R: Wait>(
         &mut self,
         rt: &R,
+        pass: &mut Pass<N>,
         asked: Result<Line, LineFault>,
-    ) -> Result<Next, AllocError>
-        ensures ok { OnOk result (Answers N.rules asked self.old.role self.old.pass.now
-            self.new.pass.now [] self.new.reply.items) }
-        ensures role { OnOk result (self.new.role ≡ role_after asked self.old.role) }
-        ensures next { IfOk result (λ next. next ≡ next_after asked) }
-        ensures fits { REPLY_ROOM ≤ vec_capacity self.old.reply → IsOk result }
-        ensures err { OnErr result ((self.new.pass.now ≡ self.old.pass.now)
-            × (self.new.role ≡ self.old.role)) }
+    ) -> Option<Next>
+        requires room { REPLY_ROOM ≤ vec_capacity self.old.reply }
+        ensures answered { IfSome result (λ _. Answers N.rules asked self.old.role pass.old pass.new
+            [] self.new.reply.items) }
+        ensures role { IfSome result (λ _. self.new.role ≡ role_after asked self.old.role) }
+        ensures next { IfSome result (λ next. next ≡ next_after asked) }
+        ensures none { result ≡ None → (pass.new ≡ pass.old) × (self.new.role ≡ self.old.role) }
+        ensures room { REPLY_ROOM ≤ vec_capacity self.new.reply }
         ensures cutter { self.new.cutter ≡ self.old.cutter }
         ensures ended { self.new.ended ≡ self.old.ended }
     {
         self.reply.clear();
-        make_room(&mut self.reply)?;
         match for_desk(&asked) {
             Some(line) => {
-                self.ask_desk(rt, line)?;
-                Ok(Next::Go)
+                let answered = self.ask_desk(rt, pass, line);
+                answered.then_some(Next::Go)
             }
             None => {
-                let next = answer_alone(self.pass, &mut self.role, asked, &mut self.reply)?;
-                Ok(next)
+                let next = answer_alone(pass, &mut self.role, asked, &mut self.reply);
+                next.ok()
             }
         }
     }
 
     /// Answers the current line, which may end the session.
-    fn answer_line<R: Wait, S: Sink>(&mut self, rt: &R, stream: &mut S)
+    fn answer_line<R: Wait, S: Sink>(&mut self, rt: &R, stream: &mut S, pass: &mut Pass<N>)
         // No line is answered after the end.
-        requires { self.old.ended ≡ None }
+        requires going { self.old.ended ≡ None }
+        requires room { REPLY_ROOM ≤ vec_capacity self.old.reply }
+        ensures room { REPLY_ROOM ≤ vec_capacity self.new.reply }
         ensures failures { S.failures stream.new
             ≡ S.failures stream.old + failures_so_far self.new.ended }
 
@@ -149,43 +158,44 @@ impl<N: OfficeName, H: Wait + Drop, G: Gate> Talk<'_, N, H, G> {
         // The line is answered in the session's role, and exactly its reply is written. The next
         // line starts empty.
         ensures replied { is_replied self.new.ended ≡ true →
-            Replied N.rules (line_of self.old.cutter) self.old.role self.new.role
-            self.old.pass.now self.new.pass.now (S.contents stream.old) (S.contents stream.new) }
+            Replied N.rules (line_of self.old.cutter) self.old.role self.new.role pass.old pass.new
+            (S.contents stream.old) (S.contents stream.new) }
         ensures cut { is_replied self.new.ended ≡ true → self.new.cutter ≡ [] }
 
-        // A line has no effect if the gate stops it, or if there is no memory for its reply.
+        // A line has no effect if the session is stopped at it.
         ensures stopped { self.new.ended ≡ Some End.Stopped → (stream.new ≡ stream.old)
-            × (self.new.pass.now ≡ self.old.pass.now) × (self.new.role ≡ self.old.role)
+            × (pass.new ≡ pass.old) × (self.new.role ≡ self.old.role)
             × (self.new.cutter ≡ self.old.cutter) }
-        ensures wanting { self.new.ended ≡ Some End.NoMemory →
-            (stream.new ≡ stream.old) × (self.new.pass.now ≡ self.old.pass.now)
-            × (self.new.role ≡ self.old.role) × (vec_capacity self.old.reply < REPLY_ROOM) }
 
         // If the write of the reply fails, the line still took effect.
         ensures cut_off { self.new.ended ≡ Some End.WriteFault →
-            CutOff N.rules (line_of self.old.cutter) self.old.role self.new.role
-            self.old.pass.now self.new.pass.now (S.contents stream.old) (S.contents stream.new) }
+            CutOff N.rules (line_of self.old.cutter) self.old.role self.new.role pass.old pass.new
+            (S.contents stream.old) (S.contents stream.new) }
 
-        // No read is made here, so none ends the session.
+        // No read is made here, so none ends the session, and what is still to be read stays. Memory
+        // doesn't run out.
         ensures unread { (self.new.ended ≢ Some End.Closed)
             × (self.new.ended ≢ Some End.ReadFault) }
+        ensures room_left { self.new.ended ≢ Some End.NoMemory }
+        ensures no_read { S.failed_reads stream.new ≡ S.failed_reads stream.old }
+        ensures keeps { Keeps (S.remaining stream.old) (S.remaining stream.new) }
     {
         self.line = self.line.saturating_add(1);
-        if !self.gate.before(self.pass.seat(), self.line) {
+        if !self.gate.before(pass.seat(), self.line) {
             self.ended = Some(End::Stopped);
             return;
         }
         let asked = read_line(self.cutter.line());
-        self.cutter.clear();
-        let Ok(next) = self.answer(rt, asked) else {
-            self.ended = Some(End::NoMemory);
+        let Some(next) = self.answer(rt, pass, asked) else {
+            self.ended = Some(End::Stopped);
             return;
         };
+        self.cutter.clear();
         if write_all(stream, &self.reply).is_err() {
             self.ended = Some(End::WriteFault);
             return;
         }
-        self.gate.after(self.pass.seat(), self.line);
+        self.gate.after(pass.seat(), self.line);
         make_way(&asked);
         match next {
             Next::Go => {}
@@ -194,27 +204,40 @@ impl<N: OfficeName, H: Wait + Drop, G: Gate> Talk<'_, N, H, G> {
     }
 
     /// Answers the lines that end in these bytes, up to one that ends the session.
-    fn take_all<R: Wait, S: Sink>(&mut self, rt: &R, stream: &mut S, piece: &[u8])
-        requires { self.old.ended ≡ None }
+    fn take_all<R: Wait, S: Sink>(
+        &mut self,
+        rt: &R,
+        stream: &mut S,
+        pass: &mut Pass<N>,
+        piece: &[u8],
+    )
+        requires going { self.old.ended ≡ None }
+        requires room { REPLY_ROOM ≤ vec_capacity self.old.reply }
+        ensures room { REPLY_ROOM ≤ vec_capacity self.new.reply }
         ensures failures { S.failures stream.new
             ≡ S.failures stream.old + failures_so_far self.new.ended }
 
-        // Each line is answered once and in order, up to a QUIT. If there is none, the session goes
-        // on with what is then buffered of the current line.
+        // Each line is answered once and in order, up to one at which the session ends. If there is
+        // none, the session goes on with what is then buffered of the current line.
         ensures goes_on { self.new.ended ≡ None → WentOn N.rules self.old.cutter piece.now
-            (point self.old.role self.old.pass.now (S.contents stream.old)) self.new.cutter
-            (point self.new.role self.new.pass.now (S.contents stream.new)) }
-        ensures quit { self.new.ended ≡ Some End.Quit → CameToQuit N.rules self.old.cutter piece.now
-            (point self.old.role self.old.pass.now (S.contents stream.old))
-            (point self.new.role self.new.pass.now (S.contents stream.new)) }
+            (point self.old.role pass.old (S.contents stream.old)) self.new.cutter
+            (point self.new.role pass.new (S.contents stream.new)) }
+        ensures ended { IfSome self.new.ended (λ end. Took N.rules end
+            (asked_from self.old.cutter piece.now)
+            (point self.old.role pass.old (S.contents stream.old))
+            (point self.new.role pass.new (S.contents stream.new))) }
 
-        // No read is made here, so none ends the session.
+        // No read is made here, so none ends the session, and what is still to be read stays. Memory
+        // doesn't run out.
         ensures unread { (self.new.ended ≢ Some End.Closed)
             × (self.new.ended ≢ Some End.ReadFault) }
+        ensures room_left { self.new.ended ≢ Some End.NoMemory }
+        ensures no_read { S.failed_reads stream.new ≡ S.failed_reads stream.old }
+        ensures keeps { Keeps (S.remaining stream.old) (S.remaining stream.new) }
     {
         for byte in piece {
             if self.cutter.take(*byte) {
-                self.answer_line(rt, stream);
+                self.answer_line(rt, stream, pass);
                 if self.ended.is_some() {
                     return;
                 }
@@ -234,19 +257,33 @@ pub fn session<N: OfficeName, H: Wait + Drop, R: Wait, S: Source + Sink, G: Gate
     pass: &mut Pass<N>,
     gate: &G,
 ) -> End
-    // A failed call of the stream ends the session and is reported as what it is. Otherwise no call
-    // failed.
+    // A failed call of the stream ends the session and is reported as what it is, a read as a read
+    // and a write as a write. Otherwise no call failed.
     ensures failures { S.failures stream.new ≡ S.failures stream.old + failures_in result }
+    ensures reads { S.failed_reads stream.new
+        ≡ S.failed_reads stream.old + failed_reads_in result }
     ensures closed { result ≡ End.Closed → IsAtEnd (S.remaining stream.new) }
+
+    // The lines that ended in the bytes that the stream gave were answered as the session's end
+    // says, starting in the scorer's role, and exactly their replies were written.
+    ensures talked { Talked N.rules result (S.remaining stream.old) (S.remaining stream.new)
+        pass.old pass.new (S.contents stream.old) (S.contents stream.new) }
+    ensures seat { pass.new.seat ≡ pass.old.seat }
+
+    // Without memory for replies nothing is done.
+    ensures no_memory { result ≡ End.NoMemory → (stream.new ≡ stream.old) × (pass.new ≡ pass.old) }
 {
+    let mut reply = Vec::new(alloc);
+    if make_room(&mut reply).is_err() {
+        return End::NoMemory;
+    }
     let mut talk = Talk {
         office,
-        pass,
         gate,
         role: Role::Scorer,
         line: 0,
         cutter: Cutter::new(),
-        reply: Vec::new(alloc),
+        reply,
         ended: None,
     };
     let mut buffer = [0; PIECE];
@@ -257,7 +294,7 @@ pub fn session<N: OfficeName, H: Wait + Drop, R: Wait, S: Source + Sink, G: Gate
         if count == 0 {
             return End::Closed;
         }
-        talk.take_all(rt, stream, &buffer[..count]);
+        talk.take_all(rt, stream, pass, &buffer[..count]);
         if let Some(end) = talk.ended {
             return end;
         }

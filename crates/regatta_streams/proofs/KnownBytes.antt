@@ -1,10 +1,20 @@
 -- Known bytes over several reads and writes, here and in a run.
-use Rattle.std.proofs.Common.{sym, ap, ◌∙◌, ◌≡◌, ℕ, List, [], ◌++◌, Option, Some, None}
-use Rattle.std.proofs.Common.{length, take, drop, ◌-◌}
+use Rattle.std.proofs.Common.{refl, sym, ap, ◌∙◌, ◌≡◌, ℕ, List, [], ◌++◌, Option, Some, None}
+use Rattle.std.proofs.Common.{arith, length, length-append, take, drop, ◌-◌, ◌<◌}
 use Rattle.std.proofs.lemmas.List.{append-nil, append_assoc, length-drop, take-append-drop}
 use Rattle.std.proofs.Math.Seq.{take-length, take-append_seam}
 use Rattle.std.specs.Io.KnownBytes.{Appends, Consumes, Keeps}
 use Rattle.regatta_streams.specs.Texts.{AppendsPrefix}
+
+pub keeps-same : (a : Option (List ℕ)) → Keeps a a
+keeps-same None = tt
+keeps-same (Some xs) = refl
+
+pub keeps-then : (a b c : Option (List ℕ)) → Keeps a b → Keeps b c → Keeps a c
+keeps-then None b c h k = tt
+keeps-then (Some xs) None c h k = absurd h
+keeps-then (Some xs) (Some ys) None h k = k
+keeps-then (Some xs) (Some ys) (Some zs) h k = k ∙ h
 
 pub appends-none : (a : Option (List ℕ)) → Appends a a []
 appends-none None = tt
@@ -31,6 +41,17 @@ consumes-keeps (Some xs) None c x h k = absurd h
 consumes-keeps (Some xs) (Some ys) None x h k = k
 consumes-keeps (Some xs) (Some ys) (Some zs) x h k = h ∙ ap (λ t. x ++ t) (sym k)
 
+pub keeps-appends : (a b c : Option (List ℕ)) (x : List ℕ) → Keeps a b → Appends b c x
+    → Appends a c x
+keeps-appends None b c x h k = tt
+keeps-appends (Some xs) None c x h k = absurd h
+keeps-appends (Some xs) (Some ys) None x h k = k
+keeps-appends (Some xs) (Some ys) (Some zs) x h k = k ∙ ap (λ t. t ++ x) h
+
+pub consumes-none : (a : Option (List ℕ)) → Consumes a a []
+consumes-none None = tt
+consumes-none (Some xs) = refl
+
 pub consumes-then : (a b c : Option (List ℕ)) (x y : List ℕ) → Consumes a b x → Consumes b c y
     → Consumes a c (x ++ y)
 consumes-then None b c x y h k = tt
@@ -44,7 +65,11 @@ rest_split n xs =
     sym (take-append-drop n xs) ∙ ap (λ t. take n xs ++ t)
     (sym (take-length (drop n xs)) ∙ ap (λ k. take k (drop n xs)) (length-drop n xs))
 
--- a front of the bytes was written
+-- a front of the bytes was written, and others are left
 pub front-written : (a b : Option (List ℕ)) (bytes done rest : List ℕ) → bytes ≡ done ++ rest
-    → Appends a b done → AppendsPrefix a b bytes
-front-written a b bytes done rest e h = (length done, rw (e, take-append_seam done rest) h)
+    → 0 < length rest → Appends a b done → AppendsPrefix a b bytes
+front-written a b bytes done rest e some h = (
+  length done,
+  omega (arith, some, ap length e, length-append done rest),
+  rw (e, take-append_seam done rest) h,
+)

@@ -6,6 +6,10 @@ use Rattle.regatta_streams.specs.declared.foreign.Foreign.{Foreign}
 abbrev pub failed_calls : {X : Type 0} → Foreign X → ℕ
 failed_calls stream = stream.failures.count
 
+-- how many of its reads have failed
+abbrev pub failed_reads : {X : Type 0} → Foreign X → ℕ
+failed_reads stream = stream.failed_reads.count
+
 -- the bytes that its reader still gives, or that its writer holds, if they are known
 abbrev pub inner_bytes : {X : Type 0} → (X → Option (List ℕ)) → Foreign X → Option (List ℕ)
 inner_bytes bytes stream = bytes stream.inner

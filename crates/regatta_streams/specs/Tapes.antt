@@ -10,8 +10,9 @@ pub record TapeParts : Type 0 where
   -- how many more bytes it gives before its reads fail, and takes before its writes fail
   pub gives : ℕ
   pub takes : ℕ
-  -- how many of its calls have failed
+  -- how many of its calls have failed, and of its reads
   pub failures : ℕ
+  pub failed_reads : ℕ
 
 -- the number of bytes that a read gives into a buffer of `room` bytes
 abbrev pub piece_len : TapeParts → ℕ → ℕ
@@ -30,6 +31,11 @@ abbrev pub after_write : TapeParts → List ℕ → TapeParts
 after_write tape bytes =
     record tape { written = tape.written ++ bytes; takes = tape.takes - length bytes }
 
--- the tape after a failed call
-abbrev pub after_fault : TapeParts → TapeParts
-after_fault tape = record tape { failures = tape.failures + 1 }
+-- the tape after a failed read
+abbrev pub after_failed_read : TapeParts → TapeParts
+after_failed_read tape =
+    record tape { failures = tape.failures + 1; failed_reads = tape.failed_reads + 1 }
+
+-- the tape after a failed write
+abbrev pub after_failed_write : TapeParts → TapeParts
+after_failed_write tape = record tape { failures = tape.failures + 1 }

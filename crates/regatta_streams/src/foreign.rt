@@ -1,6 +1,6 @@
 //! Readers and writers of std as streams.
 ghost use Rattle.std.specs.Prelude.{◌≡◌, ◌+◌, ◌<◌, ◌≤◌, None, length, IfOk, OnOk, OnErr};
-ghost use Rattle.std.specs.Io.KnownBytes.{ReadConsumes, WriteAppends};
+ghost use Rattle.std.specs.Io.KnownBytes.{Keeps, ReadConsumes, WriteAppends};
 
 use crate::failures::Failures;
 use crate::stream::{Device, Sink, Source, StreamFault};
@@ -12,6 +12,7 @@ use std::io::{Read, Write};
 pub struct Foreign<X> {
     inner: X,
     failures: Failures,
+    failed_reads: Failures,
 }
 
 impl<X> Foreign<X> {
@@ -25,26 +26,30 @@ impl<X> Foreign<X> {
         Foreign {
             inner,
             failures: Failures::none(),
+            failed_reads: Failures::none(),
         }
     }
 }
 
 impl<X> Device for Foreign<X> {
-    ghost use Rattle.regatta_streams.specs.Foreigns.{failed_calls};
+    ghost use Rattle.regatta_streams.specs.Foreigns.{failed_calls, failed_reads};
 
     ghost failures = { failed_calls };
+
+    ghost failed_reads = { failed_reads };
 }
 
 impl<X: Read> Source for Foreign<X> {
-    ghost use Rattle.regatta_streams.specs.Foreigns.{failed_calls, inner_bytes};
-
-    ghost remaining = { λ _. None };
+    ghost use Rattle.regatta_streams.specs.Foreigns.{failed_calls, failed_reads, inner_bytes};
 
     fn read(&mut self, buf: &mut [u8]) -> Result<usize, StreamFault>
         ensures bound { IfOk result (λ n. n ≤ length buf.new) }
         ensures bytes { ReadConsumes None None result buf.new }
+        ensures keeps { Keeps None None }
         ensures well { OnOk result (failed_calls self.new ≡ failed_calls self.old) }
         ensures failed { OnErr result (failed_calls self.new ≡ failed_calls self.old + 1) }
+        ensures reads_well { OnOk result (failed_reads self.new ≡ failed_reads self.old) }
+        ensures read_failed { OnErr result (failed_reads self.new ≡ failed_reads self.old + 1) }
 
         // The reader's bytes, its end and its faults pass through as they are.
         ensures handed_on { ReadConsumes (inner_bytes X.remaining self.old)
@@ -54,6 +59,7 @@ impl<X: Read> Source for Foreign<X> {
             Ok(n) => Ok(n),
             Err(_) => {
                 self.failures = self.failures.one_more();
+                self.failed_reads = self.failed_reads.one_more();
                 Err(StreamFault)
             }
         }
@@ -61,16 +67,16 @@ impl<X: Read> Source for Foreign<X> {
 }
 
 impl<X: Write> Sink for Foreign<X> {
-    ghost use Rattle.regatta_streams.specs.Foreigns.{failed_calls, inner_bytes};
-
-    ghost contents = { λ _. None };
+    ghost use Rattle.regatta_streams.specs.Foreigns.{failed_calls, failed_reads, inner_bytes};
 
     fn write(&mut self, buf: &[u8]) -> Result<usize, StreamFault>
         ensures bound { IfOk result (λ n. n ≤ length buf.now) }
         ensures some { IfOk result (λ n. 0 < length buf.now → 0 < n) }
         ensures bytes { WriteAppends None None result buf.now }
+        ensures keeps { Keeps None None }
         ensures well { OnOk result (failed_calls self.new ≡ failed_calls self.old) }
         ensures failed { OnErr result (failed_calls self.new ≡ failed_calls self.old + 1) }
+        ensures no_read { failed_reads self.new ≡ failed_reads self.old }
 
         // The writer gets these bytes, and the result is the number that it took.
         ensures handed_on { WriteAppends (inner_bytes X.contents self.old)

@@ -1,7 +1,7 @@
 //! Streams over memory.
 ghost use Rattle.std.specs.Prelude.{◌≡◌, ◌+◌, ◌<◌, ◌≤◌, ◌↔◌, [], Some, length, take, IfOk, OnOk};
 ghost use Rattle.std.specs.Prelude.{OnErr, IsErr};
-ghost use Rattle.std.specs.Io.KnownBytes.{ReadConsumes, WriteAppends};
+ghost use Rattle.std.specs.Io.KnownBytes.{Keeps, ReadConsumes, WriteAppends};
 
 use crate::failures::Failures;
 use crate::stream::{Device, Sink, Source, StreamFault};
@@ -20,6 +20,7 @@ pub struct Tape {
     output: Vec<u8>,
     takes: usize,
     failures: Failures,
+    failed_reads: Failures,
 }
 
 impl Model for Tape {
@@ -35,6 +36,7 @@ impl Model for Tape {
       gives = t.gives;
       takes = t.takes;
       failures = t.failures.count;
+      failed_reads = t.failed_reads.count;
     } };
 
     ghost invariant = { λ t. (t.at ≤ vec_len t.input) × (0 < t.piece)
@@ -66,6 +68,7 @@ impl Tape {
           gives = give;
           takes = take;
           failures = 0;
+          failed_reads = 0;
         }) }
     {
         Ok(Tape {
@@ -76,6 +79,7 @@ impl Tape {
             output: Vec::with_capacity(alloc, take)?,
             takes: take,
             failures: Failures::none(),
+            failed_reads: Failures::none(),
         })
     }
 
@@ -96,28 +100,36 @@ impl Tape {
 
 impl Device for Tape {
     ghost failures = { λ tape. tape.failures };
+
+    ghost failed_reads = { λ tape. tape.failed_reads };
+
+    ghost remaining = { λ tape. Some tape.rest };
+
+    ghost contents = { λ tape. Some tape.written };
 }
 
 impl Source for Tape {
-    ghost use Rattle.regatta_streams.specs.Tapes.{piece_len, after_read, after_fault};
-
-    ghost remaining = { λ tape. Some tape.rest };
+    ghost use Rattle.regatta_streams.specs.Tapes.{piece_len, after_read, after_failed_read};
 
     fn read(&mut self, buf: &mut [u8]) -> Result<usize, StreamFault>
         ensures bound { IfOk result (λ n. n ≤ length buf.new) }
         ensures bytes { ReadConsumes (Some self.old.rest) (Some self.new.rest) result buf.new }
+        ensures keeps { Keeps (Some self.old.written) (Some self.new.written) }
         ensures well { OnOk result (self.new.failures ≡ self.old.failures) }
         ensures failed { OnErr result (self.new.failures ≡ self.old.failures + 1) }
+        ensures reads_well { OnOk result (self.new.failed_reads ≡ self.old.failed_reads) }
+        ensures read_failed { OnErr result (self.new.failed_reads ≡ self.old.failed_reads + 1) }
 
         // It fails exactly when it has given all that it may. Otherwise it gives as much as it can.
         ensures fails { IsErr result ↔ (self.old.gives ≡ 0) }
         ensures given { IfOk result (λ n. n ≡ piece_len self.old (length buf.old)) }
         ensures buffer { IfOk result (λ n. take n buf.new ≡ take n self.old.rest) }
         ensures ok { IfOk result (λ n. self.new ≡ after_read self.old n) }
-        ensures err { OnErr result (self.new ≡ after_fault self.old) }
+        ensures err { OnErr result (self.new ≡ after_failed_read self.old) }
     {
         if self.gives == 0 {
             self.failures = self.failures.one_more();
+            self.failed_reads = self.failed_reads.one_more();
             return Err(StreamFault);
         }
         let n = self.next_len(buf.len());
@@ -129,23 +141,23 @@ impl Source for Tape {
 }
 
 impl Sink for Tape {
-    ghost use Rattle.regatta_streams.specs.Tapes.{taken_len, after_write, after_fault};
-
-    ghost contents = { λ tape. Some tape.written };
+    ghost use Rattle.regatta_streams.specs.Tapes.{taken_len, after_write, after_failed_write};
 
     fn write(&mut self, buf: &[u8]) -> Result<usize, StreamFault>
         ensures bound { IfOk result (λ n. n ≤ length buf.now) }
         ensures some { IfOk result (λ n. 0 < length buf.now → 0 < n) }
         ensures bytes { WriteAppends (Some self.old.written) (Some self.new.written)
             result buf.now }
+        ensures keeps { Keeps (Some self.old.rest) (Some self.new.rest) }
         ensures well { OnOk result (self.new.failures ≡ self.old.failures) }
         ensures failed { OnErr result (self.new.failures ≡ self.old.failures + 1) }
+        ensures no_read { self.new.failed_reads ≡ self.old.failed_reads }
 
         // It fails exactly when there are bytes and no room. Otherwise it takes as many as fit.
         ensures fails { IsErr result ↔ ((self.old.takes ≡ 0) × (0 < length buf.now)) }
         ensures taken { IfOk result (λ n. n ≡ taken_len self.old buf.now) }
         ensures ok { IfOk result (λ n. self.new ≡ after_write self.old (take n buf.now)) }
-        ensures err { OnErr result (self.new ≡ after_fault self.old) }
+        ensures err { OnErr result (self.new ≡ after_failed_write self.old) }
     {
         let n = buf.len().min(self.takes);
         if n == 0 && !buf.is_empty() {

@@ -1,6 +1,6 @@
 //! Whole texts read from a stream or written to one.
 ghost use Rattle.std.specs.Prelude.{◌≡◌, ◌+◌, ◌<◌, ◌≤◌, length, IfOk, IfSome, OnOk, OnErr, IsErrOf};
-ghost use Rattle.std.specs.Io.KnownBytes.{Appends, IsAtEnd};
+ghost use Rattle.std.specs.Io.KnownBytes.{Appends, IsAtEnd, Keeps};
 ghost use Rattle.regatta_streams.specs.Texts.{GaveAtMost, AppendsPrefix};
 
 use crate::stream::{Sink, Source, StreamFault};
@@ -39,6 +39,9 @@ pub fn read_text<R: Source>(alloc: Global, input: &mut R, limit: u32) -> Result<
         IfSome (R.remaining input.old) (λ given. limit < length given) }
     ensures taken { GaveAtMost (limit + 1) (R.remaining input.old) (R.remaining input.new) }
 
+    // What was written stays.
+    ensures keeps { Keeps (R.contents input.old) (R.contents input.new) }
+
     // A failed read is reported as `Stream` and as nothing else.
     ensures failed { IsErrOf result ReadFault.Stream →
         R.failures input.new ≡ R.failures input.old + 1 }
@@ -70,7 +73,7 @@ pub fn read_text<R: Source>(alloc: Global, input: &mut R, limit: u32) -> Result<
 ///
 /// # Errors
 ///
-/// If a write fails. Some first part of the bytes is written then, perhaps none.
+/// If a write fails. Some first part of the bytes is written then, perhaps none, never all.
 pub fn write_all<W: Sink>(output: &mut W, bytes: &[u8]) -> Result<(), StreamFault>
     ensures ok { OnOk result
         (Appends (W.contents output.old) (W.contents output.new) bytes.now) }
@@ -78,6 +81,10 @@ pub fn write_all<W: Sink>(output: &mut W, bytes: &[u8]) -> Result<(), StreamFaul
         (AppendsPrefix (W.contents output.old) (W.contents output.new) bytes.now) }
     ensures well { OnOk result (W.failures output.new ≡ W.failures output.old) }
     ensures failed { OnErr result (W.failures output.new ≡ W.failures output.old + 1) }
+    ensures no_read { W.failed_reads output.new ≡ W.failed_reads output.old }
+
+    // What is still to be read stays.
+    ensures keeps { Keeps (W.remaining output.old) (W.remaining output.new) }
 {
     let mut rest = bytes;
     while !rest.is_empty() {

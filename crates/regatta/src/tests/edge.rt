@@ -8,6 +8,7 @@ use std::io::{Read, Write};
 use std::net::Net;
 use std::os::unix::net::UnixStream;
 use std::sync::Wait;
+use std::time::Clock;
 use std::{fs, thread};
 
 /// Where the sockets of these tests are bound.
@@ -29,7 +30,7 @@ fn six_clients<R: Net>(rt: &R, alloc: Global) -> Result<Vec<UnixStream>, Fail> {
 }
 
 /// Whether the next client that the door gives has sent this.
-fn is_next<R: Wait>(rt: &R, door: &mut SocketDoor, text: &[u8]) -> bool {
+fn is_next<R: Wait + Clock>(rt: &R, door: &mut SocketDoor, text: &[u8]) -> bool {
     let Ok(Some(mut stream)) = door.next(rt) else {
         return false;
     };

@@ -520,15 +520,32 @@ fn are_let_in<N: OfficeName>(mut pass: Pass<N>, shows: u32) -> bool {
     all
 }
 
-/// Two threads show again and again, and each is let in each time.
-fn show_at_once<N: OfficeName + Send + Sync, H: Wait + Drop, R: Threads + Abort + Sync>(
+/// Whether three boats are entered, so that each copy of the publication has been published.
+fn enters_three<N: OfficeName, H: Wait + Drop, R: Wait>(
+    rt: &R,
+    office: &Office<N, H>,
+    passes: &mut [Pass<N>],
+) -> bool {
+    match passes.first_mut() {
+        Some(pass) => {
+            enters(rt, office, pass, b"A")
+                && enters(rt, office, pass, b"B")
+                && enters(rt, office, pass, b"C")
+        }
+        None => false,
+    }
+}
+
+/// After three publications two threads show again and again, and each is let in each time.
+fn show_at_once<N: OfficeName + Send + Sync, H: Wait + Drop, R: Threads + Wait + Abort + Sync>(
     rt: &R,
     opened: Opened<H>,
 ) -> Option<()>
     requires history { opened.history ≡ N.history }
     requires rules { opened.rules ≡ N.rules }
 {
-    let (office, passes) = opened.split::<N>().ok()?;
+    let (office, mut passes) = opened.split::<N>().ok()?;
+    assert!(rt; enters_three(rt, &office, &mut passes));
     let let_in = map_vec(rt, passes, &|pass| are_let_in(pass, 2_000));
     drop(office);
     assert_eq!(rt; let_in.ok()?.as_slice(), [true, true].as_slice());

@@ -16,6 +16,7 @@ use std::net::Net;
 use std::os::unix::net::UnixStream;
 use std::sync::Wait;
 use std::thread::{self, Threads};
+use std::time::Clock;
 
 /// What serving should leave: how many passes come back, and the journal.
 #[derive(Drop)]
@@ -36,7 +37,7 @@ fn serve_doors<N, H, R, D, G>(
 where
     N: OfficeName + Send + Sync,
     H: Wait + Drop + Send,
-    R: Threads + Wait + Sync,
+    R: Threads + Wait + Clock + Sync,
     D: Door,
     G: Gate + Sync,
 {
@@ -59,7 +60,7 @@ fn leaves_at<N, H, R, D, G>(
 where
     N: OfficeName + Send + Sync,
     H: Wait + Drop + Send,
-    R: Threads + Wait + Sync,
+    R: Threads + Wait + Clock + Sync,
     D: Door,
     G: Gate + Sync,
     requires { (opened.history ≡ N.history) × (opened.rules ≡ N.rules) }
@@ -86,7 +87,7 @@ pub(crate) fn leaves<R, D, G>(
     left: &Served,
 ) -> bool
 where
-    R: Threads + Wait + Sync,
+    R: Threads + Wait + Clock + Sync,
     D: Door,
     G: Gate + Sync,
 {
@@ -132,22 +133,30 @@ fn a_client_finds_no_seat(rt: HostRuntime) -> Result<(), Fail> {
     Ok(())
 }
 
-/// The first client's stream fails; the second is served with the pass that came back.
+/// A read of the first client's stream fails, and a write to the second's. The third is served with
+/// the pass that came back.
 #[test]
 fn a_pass_serves_again(rt: HostRuntime) -> Result<(), Fail> {
     let alloc = rt.alloc();
     let writes = count(alloc)?;
     let gate = Hold::new(None, &writes)?;
     let (first, mut first_end) = door_of(&rt, alloc, b"ENTER A\n", true, &writes)?;
-    let (second, mut second_end) = door_of(&rt, alloc, b"ENTER B\n", false, &writes)?;
+    let (mut second, mut second_end) = door_of(&rt, alloc, b"ENTER B\n", false, &writes)?;
+    second.refuse_writes();
+    let (third, mut third_end) = door_of(&rt, alloc, b"ENTER C\n", false, &writes)?;
     let left = Served {
         back: Ok(1),
-        journal: b"1 1 SCORER ENTER A\n1 2 SCORER ENTER B\n",
+        journal: b"1 1 SCORER ENTER A\n1 2 SCORER ENTER B\n1 3 SCORER ENTER C\n",
     };
-    assert!(rt; leaves(&rt, alloc, 1, &mut [first, second], &gate, &left));
+    assert!(rt; leaves(&rt, alloc, 1, &mut [first, second, third], &gate, &left));
     assert!(rt; was_sent(alloc, &mut first_end, b"OK 1 1 0.0\n"));
-    assert!(rt; was_sent(alloc, &mut second_end, b"OK 2 1= 0.0\n"));
-    assert_eq!(rt; gate.ends(), 5, "a read fault, and then a close");
+    assert!(rt; was_sent(alloc, &mut second_end, b""));
+    assert!(rt; was_sent(alloc, &mut third_end, b"OK 3 1= 0.0\n"));
+    assert_eq!(rt;
+        gate.ends(),
+        9,
+        "a read fault, a write fault, and then a close"
+    );
     Ok(())
 }
 
@@ -171,7 +180,7 @@ const SOCKET: &str = "regatta_test.socket";
 
 /// A client's lines up to QUIT, and much that nobody reads.
 fn with_unread(alloc: Global) -> Result<Vec<u8>, AllocError> {
-    let unread = repeated(alloc, b'X', 2000)?;
+    let unread = repeated(alloc, b'X', 20_000)?;
     joined(alloc, &[b"ENTER A\nQUIT\nENTER B\n", unread.as_slice()])
 }
 
@@ -273,13 +282,13 @@ fn a_path_is_there_already(rt: HostRuntime) -> Result<(), Fail> {
 /// The start file of the test.
 const START: &str = "regatta_test.journal";
 
-/// The words that serve three clients at one seat, from a start file.
+/// The words that serve four clients at one seat, from a start file.
 const ONE_SEAT: [&str; 9] = [
     "serve",
     "--socket",
     SOCKET,
     "--sessions",
-    "3",
+    "4",
     "--clients",
     "1",
     "--journal",
@@ -296,27 +305,29 @@ fn seated<R: Net>(rt: &R, alloc: Global) -> Option<UnixStream> {
     (reply.as_slice() == wanted).then_some(stream)
 }
 
-/// Three clients: the first has a seat while the second comes, and has said goodbye when the third
-/// does. The second finds no seat, and what they sent is never read. Both keep their ends of the
-/// stream, so that nobody waits for them to go. None if one is answered otherwise.
-fn three_in_turn<R: Net>(rt: &R, alloc: Global) -> Option<[UnixStream; 2]> {
+/// Four clients: the first has a seat while the second and the third come, and has said goodbye when
+/// the fourth does. The second goes away before they can read that there is no seat. The third reads
+/// it, and what they sent is never read. The first and the third keep their ends of the stream, so
+/// that nobody waits for them to go. None if one is answered otherwise.
+fn four_in_turn<R: Net>(rt: &R, alloc: Global) -> Option<[UnixStream; 2]> {
     let mut first = seated(rt, alloc)?;
-    let mut second = connected(rt, SOCKET)?;
-    let _ = second.write_all(b"SHOW\n");
-    let are_answered = was_sent(alloc, &mut second, b"BUSY\n")
+    drop(connected(rt, SOCKET)?);
+    let mut third = connected(rt, SOCKET)?;
+    let _ = third.write_all(b"SHOW\n");
+    let are_answered = was_sent(alloc, &mut third, b"BUSY\n")
         && is_answered(alloc, &mut first, b"QUIT\n", b"BYE\n")
         && has_asked(rt, alloc, SOCKET, b"ENTER C\nQUIT\n", b"OK 3 1= 0.0\nBYE\n");
-    are_answered.then_some([first, second])
+    are_answered.then_some([first, third])
 }
 
 /// The program has as many seats, and ends after as many clients, as it was asked for.
 #[test]
-fn the_program_serves_three_at_one_seat(rt: HostRuntime) -> Result<(), Fail> {
+fn the_program_serves_four_at_one_seat(rt: HostRuntime) -> Result<(), Fail> {
     let alloc = rt.alloc();
     let _ = fs::remove_file(&rt, SOCKET);
     fs::write(&rt, START, "1 1 SCORER ENTER A\n")?;
     let mut streams = Streams::new(alloc, b"", 100)?;
-    let clients = thread::spawn(&rt, move || three_in_turn(&rt, alloc))?;
+    let clients = thread::spawn(&rt, move || four_in_turn(&rt, alloc))?;
     let status = status_of(&rt, &ONE_SEAT, &mut streams);
     let still_open = clients.join(&rt);
     assert!(rt; still_open.is_some());

@@ -1,6 +1,5 @@
 //! Clients made beforehand: streams that may fail, a door that gives them, and a gate that holds
 //! one line back.
-ghost use Rattle.std.specs.Prelude.{None};
 
 use super::*;
 use regatta_office::{
@@ -11,6 +10,7 @@ use std::net::{Net, Shutdown};
 use std::os::unix::net::UnixStream;
 use std::sync::atomic::{AtomicU64, Ordering};
 use std::sync::{Arc, Wait};
+use std::time::Clock;
 
 /// How often a line that is held back is checked before it is given up.
 const MOST_TURNS: u64 = 500_000_000;
@@ -22,27 +22,31 @@ pub(crate) fn count(alloc: Global) -> Result<Count, Fail> {
     Ok(Arc::new(alloc, AtomicU64::new(0))?)
 }
 
-/// The office's end of a client. It counts its writes, and may fail at the end of its lines.
+/// The office's end of a client. It counts its writes, and may fail at the end of its lines, or at
+/// each write.
 #[derive(Drop)]
 pub(crate) struct Wire {
     stream: Foreign<UnixStream>,
     fails_at_end: bool,
+    takes_nothing: bool,
     writes: Count,
     failures: Failures,
+    failed_reads: Failures,
 }
 
 impl Device for Wire {
     ghost failures = { λ w. w.failures.count };
+
+    ghost failed_reads = { λ w. w.failed_reads.count };
 }
 
 impl Source for Wire {
-    ghost remaining = { λ _. None };
-
     fn read(&mut self, buf: &mut [u8]) -> Result<usize, StreamFault> {
         match self.stream.read(buf) {
             Ok(count) if count > 0 || !self.fails_at_end => Ok(count),
             _ => {
                 self.failures = self.failures.one_more();
+                self.failed_reads = self.failed_reads.one_more();
                 Err(StreamFault)
             }
         }
@@ -50,9 +54,11 @@ impl Source for Wire {
 }
 
 impl Sink for Wire {
-    ghost contents = { λ _. None };
-
     fn write(&mut self, buf: &[u8]) -> Result<usize, StreamFault> {
+        if self.takes_nothing {
+            self.failures = self.failures.one_more();
+            return Err(StreamFault);
+        }
         match self.stream.write(buf) {
             Ok(taken) => {
                 self.writes.fetch_add(1, Ordering::SeqCst);
@@ -79,8 +85,10 @@ pub(crate) fn wire_of<R: Net>(
     let wire = Wire {
         stream: Foreign::new(ours),
         fails_at_end,
+        takes_nothing: false,
         writes: Arc::try_clone(writes)?,
         failures: Failures::none(),
+        failed_reads: Failures::none(),
     };
     Ok((wire, theirs))
 }
@@ -134,6 +142,8 @@ pub(crate) struct Wires {
     clients: Vec<Wire>,
     pub(crate) fails_at_end: bool,
     failures: Failures,
+    given: Failures,
+    is_closed: bool,
 }
 
 impl Wires {
@@ -142,6 +152,15 @@ impl Wires {
             clients,
             fails_at_end,
             failures: Failures::none(),
+            given: Failures::none(),
+            is_closed: false,
+        }
+    }
+
+    /// Makes each write to these clients fail.
+    pub(crate) fn refuse_writes(&mut self) {
+        for client in &mut self.clients {
+            client.takes_nothing = true;
         }
     }
 }
@@ -179,12 +198,18 @@ impl Device for Wires {
 }
 
 impl Door for Wires {
+    ghost given = { λ d. d.given.count };
+
+    ghost closed = { λ d. d.is_closed };
+
     type Stream = Wire;
 
-    fn next<R: Wait>(&mut self, _rt: &R) -> Result<Option<Wire>, DoorFault> {
+    fn next<R: Wait + Clock>(&mut self, _rt: &R) -> Result<Option<Wire>, DoorFault> {
         if let Some(client) = self.clients.pop() {
+            self.given = self.given.one_more();
             return Ok(Some(client));
         }
+        self.is_closed = true;
         if !self.fails_at_end {
             return Ok(None);
         }

@@ -6,6 +6,7 @@ use std::net::Net;
 use std::process::Abort;
 use std::sync::Wait;
 use std::thread::Threads;
+use std::time::Clock;
 use std::{env, fs};
 
 /// How a run is to end: its status, what it writes, and what it says.
@@ -19,7 +20,7 @@ struct Ending<'a> {
 /// Whether a run of these words over this text ends so.
 fn ends<R>(rt: &R, words: &[&str], text: &str, ending: &Ending) -> Result<bool, Fail>
 where
-    R: Files + AllocGlobal + Threads + Wait + Net + Sync,
+    R: Files + AllocGlobal + Threads + Wait + Net + Clock + Sync,
 {
     let mut streams = Streams::new(rt.alloc(), text.as_bytes(), PLENTY)?;
     let status = status_of(rt, words, &mut streams);
@@ -29,7 +30,7 @@ where
 /// Whether a run succeeds that prints these replies, and then this.
 fn prints<R>(rt: &R, words: &[&str], text: &str, replies: &str, last: &str) -> Result<bool, Fail>
 where
-    R: Files + AllocGlobal + Threads + Wait + Net + Sync,
+    R: Files + AllocGlobal + Threads + Wait + Net + Clock + Sync,
 {
     let mut streams = Streams::new(rt.alloc(), text.as_bytes(), PLENTY)?;
     let status = status_of(rt, words, &mut streams);
@@ -40,7 +41,7 @@ where
 /// Whether a run of these words writes nothing, says this, and ends with this status.
 fn refuses<R>(rt: &R, words: &[&str], status: u8, said: &str) -> Result<bool, Fail>
 where
-    R: Files + AllocGlobal + Threads + Wait + Net + Sync,
+    R: Files + AllocGlobal + Threads + Wait + Net + Clock + Sync,
 {
     let written = "";
     let ending = Ending {
@@ -121,7 +122,7 @@ fn places_follow_corrected_times_where_asked_for(rt: HostRuntime) -> Result<(), 
 /// Whether these words are refused with this fault of the rules.
 fn has_rules_fault<R>(rt: &R, words: &[&str], number: u8) -> Result<bool, Fail>
 where
-    R: Files + AllocGlobal + Threads + Wait + Net + Sync,
+    R: Files + AllocGlobal + Threads + Wait + Net + Clock + Sync,
 {
     let said = format!(in rt.alloc(); "regatta: rules fault {number}\n")?;
     refuses(rt, words, 2, said.as_str())
@@ -151,7 +152,7 @@ fn rules_are_refused_by_number(rt: HostRuntime) -> Result<(), Fail> {
 /// Whether these words are refused: something is said, and nothing printed.
 fn are_refused<R>(rt: &R, words: &[&str]) -> Result<bool, Fail>
 where
-    R: Files + AllocGlobal + Threads + Wait + Net + Sync,
+    R: Files + AllocGlobal + Threads + Wait + Net + Clock + Sync,
 {
     let mut streams = Streams::new(rt.alloc(), b"ENTER A\n", PLENTY)?;
     let status = status_of(rt, words, &mut streams);
@@ -194,7 +195,7 @@ fn are_named<R: Abort>(rt: &R, help: &[u8], names: &[&str]) {
 /// Asserts that a run of these words succeeds, and that all it prints is help with these names.
 fn helps<R>(rt: &R, words: &[&str], names: &[&str]) -> Result<(), Fail>
 where
-    R: Files + AllocGlobal + Threads + Wait + Net + Abort + Sync,
+    R: Files + AllocGlobal + Threads + Wait + Clock + Net + Abort + Sync,
 {
     let mut streams = Streams::new(rt.alloc(), b"ENTER A\n", PLENTY)?;
     assert_eq!(rt; status_of(rt, words, &mut streams), 0);
@@ -390,7 +391,7 @@ fn serves_to<R>(
     start: &Start,
 ) -> Result<bool, Fail>
 where
-    R: Files + AllocGlobal + Threads + Wait + Net + Sync,
+    R: Files + AllocGlobal + Threads + Wait + Net + Clock + Sync,
 {
     files.write(rt, start.entries, start.sails)?;
     let words = [
@@ -433,7 +434,7 @@ fn serving_needs_its_journal_file(rt: HostRuntime) -> Result<(), Fail> {
 /// Asserts that a journal of finishes is no start of corrected times, and the other way round.
 fn systems_are_kept_apart<R>(rt: &R, files: &StartFiles) -> Result<(), Fail>
 where
-    R: Files + AllocGlobal + Threads + Wait + Net + Abort + Sync,
+    R: Files + AllocGlobal + Threads + Wait + Clock + Net + Abort + Sync,
 {
     let journal = files.journal.as_str();
     let said = "regatta: start refused 16 at 2\n";
@@ -465,7 +466,7 @@ fn starts_of_the_other_system_are_refused(rt: HostRuntime) -> Result<(), Fail> {
 /// `takes`.
 fn has_device_fault<R>(rt: &R, words: &[&str], gives: usize, takes: usize) -> Result<bool, Fail>
 where
-    R: Files + AllocGlobal + Threads + Wait + Net + Sync,
+    R: Files + AllocGlobal + Threads + Wait + Net + Clock + Sync,
 {
     let mut streams = Streams::failing(rt.alloc(), b"ENTER A\n", gives, takes, 100)?;
     let status = status_of(rt, words, &mut streams);
@@ -475,7 +476,7 @@ where
 /// The status if standard error takes `room` bytes.
 fn status_saying<R>(rt: &R, words: &[&str], room: usize) -> Result<u8, Fail>
 where
-    R: Files + AllocGlobal + Threads + Wait + Net + Sync,
+    R: Files + AllocGlobal + Threads + Wait + Net + Clock + Sync,
 {
     let mut streams = Streams::failing(rt.alloc(), b"ENTER A\n", PLENTY, 10, room)?;
     Ok(status_of(rt, words, &mut streams))
@@ -628,7 +629,7 @@ static STARTS: [Start; 13] = [
 /// Whether a run of the program from these files, on one line, comes to this.
 fn comes_to<R>(rt: &R, files: &StartFiles, start: &Start) -> Result<bool, Fail>
 where
-    R: Files + AllocGlobal + Threads + Wait + Net + Sync,
+    R: Files + AllocGlobal + Threads + Wait + Net + Clock + Sync,
 {
     files.write(rt, start.entries, start.sails)?;
     let words = [
@@ -653,7 +654,7 @@ fn start_files_are_read(rt: HostRuntime) -> Result<(), Fail> {
 /// Whether a run from this journal file alone says this, and ends with status 1.
 fn refuses_file<R>(rt: &R, files: &StartFiles, text: &[u8], said: &str) -> Result<bool, Fail>
 where
-    R: Files + AllocGlobal + Threads + Wait + Net + Sync,
+    R: Files + AllocGlobal + Threads + Wait + Net + Clock + Sync,
 {
     let journal = files.journal.as_str();
     fs::write(rt, journal, text)?;
@@ -663,7 +664,7 @@ where
 /// Whether a start file of a version line and `count` entries is refused so.
 fn refuses_entries<R>(rt: &R, files: &StartFiles, count: u32, said: &str) -> Result<bool, Fail>
 where
-    R: Files + AllocGlobal + Threads + Wait + Net + Sync,
+    R: Files + AllocGlobal + Threads + Wait + Net + Clock + Sync,
 {
     let text = repeated_line(rt.alloc(), b"REGATTA 2\n", b"1 1 SCORER ENTER A\n", count)?;
     refuses_file(rt, files, &text, said)
@@ -672,7 +673,7 @@ where
 /// Whether a start file of `count` blank lines is refused so.
 fn refuses_blanks<R>(rt: &R, files: &StartFiles, count: usize, said: &str) -> Result<bool, Fail>
 where
-    R: Files + AllocGlobal + Threads + Wait + Net + Sync,
+    R: Files + AllocGlobal + Threads + Wait + Net + Clock + Sync,
 {
     let text = repeated(rt.alloc(), b'\n', count)?;
     refuses_file(rt, files, &text, said)
@@ -681,7 +682,7 @@ where
 /// Asserts that a start file of too many lines, and one of too many bytes, are refused as such.
 fn limits_hold<R>(rt: &R, files: &StartFiles) -> Result<(), Fail>
 where
-    R: Files + AllocGlobal + Threads + Wait + Net + Abort + Sync,
+    R: Files + AllocGlobal + Threads + Wait + Clock + Net + Abort + Sync,
 {
     let too_many = "regatta: journal fault 2 line 8194\n";
     assert!(rt; refuses_entries(rt, files, 8193, too_many)?);

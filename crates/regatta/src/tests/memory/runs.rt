@@ -11,6 +11,7 @@ use std::marker::Brand;
 use std::net::Net;
 use std::sync::Wait;
 use std::thread::Threads;
+use std::time::Clock;
 
 /// A race of two boats.
 static LINES: &[u8] = b"ENTER A\nENTER B\nFINISH 1 B\nFINISH 1 A\nSCORE 1\n";
@@ -90,7 +91,7 @@ fn run_outcome(call: &Words, status: u8, written: &[u8], said: &[u8]) -> Outcome
 /// The outcome of a run of the program with `bytes` bytes left.
 fn program_outcome<R>(rt: &R, hoard: &mut Hoard, bytes: usize, call: &Words) -> Outcome
 where
-    R: Files + AllocGlobal + Threads + Wait + Net + Sync,
+    R: Files + AllocGlobal + Threads + Wait + Net + Clock + Sync,
 {
     let Ok(mut streams) = Streams::new(rt.alloc(), LINES, 4000) else {
         return Outcome::Other;
@@ -114,7 +115,7 @@ const PROGRAM_FINE_RUNS: usize = 2048;
 /// proof knows that threads may share it.
 fn is_run_refused<R>(rt: &R, hoard: &mut Hoard, call: &Words) -> bool
 where
-    R: Files + AllocGlobal + Threads + Wait + Net + Sync,
+    R: Files + AllocGlobal + Threads + Wait + Net + Clock + Sync,
 {
     for run in 0..MOST_RUNS {
         let outcome = program_outcome(rt, hoard, bytes_left(run, PROGRAM_FINE_RUNS), call);
@@ -130,7 +131,7 @@ where
 /// hoard back.
 fn are_runs_refused<R>(rt: &R, calls: &[Words]) -> bool
 where
-    R: Files + AllocGlobal + Threads + Wait + Net + Sync,
+    R: Files + AllocGlobal + Threads + Wait + Net + Clock + Sync,
 {
     let is_sanitized = is_sanitized(rt);
     match Hoard::new(rt.alloc()) {
@@ -183,7 +184,7 @@ fn serve_at<N, H, R>(
 where
     N: OfficeName + Send + Sync,
     H: Wait + Drop + Send,
-    R: Threads + Wait + Net + Sync,
+    R: Threads + Wait + Net + Clock + Sync,
     requires { (opened.history ≡ N.history) × (opened.rules ≡ N.rules) }
 {
     match opened.split::<N>() {
@@ -198,7 +199,7 @@ where
 }
 
 /// The same, at an office that is opened for it.
-fn serve_once<R: Threads + Wait + Net + Sync>(
+fn serve_once<R: Threads + Wait + Net + Clock + Sync>(
     rt: &R,
     alloc: Global,
     hoard: &mut Hoard,
@@ -211,41 +212,55 @@ fn serve_once<R: Threads + Wait + Net + Sync>(
     }
 }
 
-/// The fault by which serving ends with `bytes` bytes left, if its client is sent nothing. Their line
-/// isn't read if there is no thread, so they are cut off.
-fn silent_fault<R: Threads + Wait + Net + Sync>(
+/// What a client is refused for lack of memory: the whole serving, or a thread of their own.
+#[derive(Clone, Copy, PartialEq, Eq)]
+enum Refused {
+    Serving,
+    Thread,
+}
+
+/// What a client is refused with `bytes` bytes left. If there is no thread, the client gets `BUSY`,
+/// and serving goes on. The client sends nothing, so that nothing unread resets the stream.
+fn refused_at<R: Threads + Wait + Net + Clock + Sync>(
     rt: &R,
     alloc: Global,
     hoard: &mut Hoard,
     bytes: usize,
-) -> Result<Option<ServeFault>, Fail> {
-    let (mut door, mut theirs) = door_of(rt, alloc, b"ENTER A\n", false, &count(alloc)?)?;
+) -> Result<Option<Refused>, Fail> {
+    let (mut door, mut theirs) = door_of(rt, alloc, b"", false, &count(alloc)?)?;
     let fault = serve_once(rt, alloc, hoard, bytes, &mut door);
     drop(door);
     let mut replies = Vec::new(alloc);
     let _ = theirs.read_to_end(&mut replies);
-    Ok(if replies.is_empty() { fault } else { None })
+    Ok(match fault {
+        Some(ServeFault::NoMemory) if replies.is_empty() => Some(Refused::Serving),
+        None if replies.as_slice() == b"BUSY\n".as_slice() => Some(Refused::Thread),
+        _ => None,
+    })
 }
 
 /// Whether serving is refused its memory, and then its thread, with each allocation refused first.
-fn is_serving_refused<R: Threads + Wait + Net + Sync>(
+fn is_serving_refused<R: Threads + Wait + Net + Clock + Sync>(
     rt: &R,
     alloc: Global,
     hoard: &mut Hoard,
 ) -> Result<bool, Fail> {
     let (mut memory, mut threads) = (0u32, 0u32);
     for turn in 0..512 {
-        match silent_fault(rt, alloc, hoard, bytes_left(turn, FINE_RUNS))? {
-            Some(ServeFault::NoMemory) => memory = memory.saturating_add(1),
-            Some(ServeFault::Thread) => threads = threads.saturating_add(1),
-            _ => return Ok(false),
+        match refused_at(rt, alloc, hoard, bytes_left(turn, FINE_RUNS))? {
+            Some(Refused::Serving) => memory = memory.saturating_add(1),
+            Some(Refused::Thread) => threads = threads.saturating_add(1),
+            None => return Ok(false),
         }
     }
     Ok(hoard.has_left() && 0 < memory && 0 < threads)
 }
 
 /// The same, with a hoard of its own. With a sanitizer's heap it isn't tried.
-fn is_refused<R: Files + AllocGlobal + Threads + Wait + Net + Sync>(rt: &R) -> Result<bool, Fail> {
+fn is_refused<R>(rt: &R) -> Result<bool, Fail>
+where
+    R: Files + AllocGlobal + Threads + Wait + Net + Clock + Sync,
+{
     let (alloc, is_sanitized) = (rt.alloc(), is_sanitized(rt));
     match Hoard::new(alloc)? {
         Some(mut hoard) => is_serving_refused(rt, alloc, &mut hoard),

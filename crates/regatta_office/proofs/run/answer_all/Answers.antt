@@ -20,9 +20,9 @@ loop-count-preserved g c =
       most = omega (arith, so_far);
       well_read = c.in-Ok-Some.ensures.well.0 ∙ c.loop-count.invariant.well_read;
       well_written = c.in-Ok-Some.ensures.well.1 ∙ c.loop-count.invariant.well_written;
-      talked = subst (λ (n : ℕ). Talked (g.R.Source.remaining c.args.input.now)
-          (g.R.Source.remaining c.turn.new.input) (g.W.Sink.contents c.args.output.now)
-          (g.W.Sink.contents c.turn.new.output) (point c.args.scribe.now) (point c.turn.new.scribe)
+      talked = subst (λ (n : ℕ). Talked (g.R.Device.remaining c.args.input.now)
+          (g.R.Device.remaining c.turn.new.input) (g.W.Device.contents c.args.output.now)
+          (g.W.Device.contents c.turn.new.output) (point c.args.scribe.now) (point c.turn.new.scribe)
           (Some n))
           sum (talked_more _ _ _ _ _ _ _ _ _ (INPUT_LIMIT - most) c.loop-count.invariant.talked
           count (rw c.in-Ok-Some.field-0-is at c.in-Ok-Some.ensures.talked));
@@ -31,8 +31,8 @@ loop-count-preserved g c =
 pub returns-in-Ok-None-clause-taken : goal.returns-in-Ok-None-clause-taken
 returns-in-Ok-None-clause-taken g c =
     let so_far = c.loop-count.invariant.most in
-    gave_more _ _ (g.R.Source.remaining c.turn.new.input) _ _
-    (g.W.Sink.contents c.turn.new.output) _ _ (point c.turn.new.scribe)
+    gave_more _ _ (g.R.Device.remaining c.turn.new.input) _ _
+    (g.W.Device.contents c.turn.new.output) _ _ (point c.turn.new.scribe)
     (INPUT_LIMIT - c.loop-count.most) c.loop-count.invariant.talked
     (c.loop-count.most + 1) 1048577 (omega (arith, so_far)) c.turn.ensures.taken
 
@@ -41,30 +41,30 @@ returns-in-Ok-None-clause-within g c =
     let most = c.loop-count.most in
     let so_far = c.loop-count.invariant.most in
     let sum : INPUT_LIMIT - most + most ≡ INPUT_LIMIT = omega (arith, so_far) in
-    subst (λ (n : ℕ). IfSome (g.R.Source.remaining c.args.input.now)
+    subst (λ (n : ℕ). IfSome (g.R.Device.remaining c.args.input.now)
     (IsWithin (point c.args.scribe.now) n)) sum
-    (within_at _ _ (g.R.Source.remaining c.turn.new.input) _ _
-    (g.W.Sink.contents c.turn.new.output) _ _ (point c.turn.new.scribe)
+    (within_at _ _ (g.R.Device.remaining c.turn.new.input) _ _
+    (g.W.Device.contents c.turn.new.output) _ _ (point c.turn.new.scribe)
     (INPUT_LIMIT - most) c.loop-count.invariant.talked most
     (c.in-Ok-None.ensures.within c.in-Ok-None.field-0-is))
 
 pub returns-in-Err-clause-taken : goal.returns-in-Err-clause-taken
 returns-in-Err-clause-taken g c =
     let so_far = c.loop-count.invariant.most in
-    gave_more _ _ (g.R.Source.remaining c.turn.new.input) _ _
-    (g.W.Sink.contents c.turn.new.output) _ _ (point c.turn.new.scribe)
+    gave_more _ _ (g.R.Device.remaining c.turn.new.input) _ _
+    (g.W.Device.contents c.turn.new.output) _ _ (point c.turn.new.scribe)
     (INPUT_LIMIT - c.loop-count.most) c.loop-count.invariant.talked
     (c.loop-count.most + 1) 1048577 (omega (arith, so_far)) c.turn.ensures.taken
 
 -- the turn wrote nothing
 pub returns-in-Err-clause-read : goal.returns-in-Err-clause-read
 returns-in-Err-clause-read g c = λ is.
-    let now = g.R.Source.remaining c.turn.new.input in
-    subst (λ (w : g.row.W.Denot). ReadSome (g.R.Source.remaining c.args.input.now) now
-    (g.W.Sink.contents c.args.output.now) (g.W.Sink.contents w)
+    let now = g.R.Device.remaining c.turn.new.input in
+    subst (λ (w : g.row.W.Denot). ReadSome (g.R.Device.remaining c.args.input.now) now
+    (g.W.Device.contents c.args.output.now) (g.W.Device.contents w)
     (λ given. (coming false (point c.args.scribe.now) given).text))
     (sym (c.in-Err.ensures.read (err_as (Option ℕ) _ _ is)))
-    (broke_off _ _ now _ _ (g.W.Sink.contents c.turn.new.output) _ _ (point c.turn.new.scribe)
+    (broke_off _ _ now _ _ (g.W.Device.contents c.turn.new.output) _ _ (point c.turn.new.scribe)
     (INPUT_LIMIT - c.loop-count.most) c.loop-count.invariant.talked
     (c.in-Err.ensures.stays (err_as (Option ℕ) _ _ is)))
 
@@ -73,21 +73,21 @@ returns-in-Err-clause-long g c = λ is.
     let most = c.loop-count.most in
     let so_far = c.loop-count.invariant.most in
     let sum : INPUT_LIMIT - most + most ≡ INPUT_LIMIT = omega (arith, so_far) in
-    subst (λ (n : ℕ). IfSome (g.R.Source.remaining c.args.input.now)
-    (λ text. IsTooLong (g.W.Sink.contents c.args.output.now)
-    (g.W.Sink.contents c.turn.new.output) (point c.args.scribe.now) n text)) sum
-    (too_long_at _ _ (g.R.Source.remaining c.turn.new.input) _ _ _ _ _ (point c.turn.new.scribe)
+    subst (λ (n : ℕ). IfSome (g.R.Device.remaining c.args.input.now)
+    (λ text. IsTooLong (g.W.Device.contents c.args.output.now)
+    (g.W.Device.contents c.turn.new.output) (point c.args.scribe.now) n text)) sum
+    (too_long_at _ _ (g.R.Device.remaining c.turn.new.input) _ _ _ _ _ (point c.turn.new.scribe)
     (INPUT_LIMIT - most) c.loop-count.invariant.talked most
     (c.in-Err.ensures.long (err_as (Option ℕ) _ _ is)))
 
 pub returns-in-Err-clause-cut : goal.returns-in-Err-clause-cut
 returns-in-Err-clause-cut g c = λ is.
-    cut_at _ _ (g.R.Source.remaining c.turn.new.input) _ _ _ _ _ (point c.turn.new.scribe)
+    cut_at _ _ (g.R.Device.remaining c.turn.new.input) _ _ _ _ _ (point c.turn.new.scribe)
     (INPUT_LIMIT - c.loop-count.most) c.loop-count.invariant.talked
     (c.in-Err.ensures.cut (err_as (Option ℕ) _ _ is))
 
 pub returns-in-Err-clause-stopped : goal.returns-in-Err-clause-stopped
 returns-in-Err-clause-stopped g c = λ is.
-    stop_at _ _ (g.R.Source.remaining c.turn.new.input) _ _ _ _ _ (point c.turn.new.scribe)
+    stop_at _ _ (g.R.Device.remaining c.turn.new.input) _ _ _ _ _ (point c.turn.new.scribe)
     (INPUT_LIMIT - c.loop-count.most) c.loop-count.invariant.talked
     (c.in-Err.ensures.stopped (err_as (Option ℕ) _ _ is))

@@ -10,8 +10,8 @@ invariant-loop-count g l = record {
   most : l.most ≤ INPUT_LIMIT;
   well_read : g.R.Device.failures l.input ≡ g.R.Device.failures l.fn.input;
   well_written : g.W.Device.failures l.output ≡ g.W.Device.failures l.fn.output;
-  talked : Talked (g.R.Source.remaining l.fn.input) (g.R.Source.remaining l.input)
-      (g.W.Sink.contents l.fn.output) (g.W.Sink.contents l.output)
+  talked : Talked (g.R.Device.remaining l.fn.input) (g.R.Device.remaining l.input)
+      (g.W.Device.contents l.fn.output) (g.W.Device.contents l.output)
       (point l.fn.scribe) (point l.scribe) (Some (INPUT_LIMIT - l.most));
 }
 

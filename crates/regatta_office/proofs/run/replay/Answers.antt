@@ -29,7 +29,7 @@ pub returns-in-Ok-print_final-clause-answered : goal.returns-in-Ok-print_final-c
 returns-in-Ok-print_final-clause-answered g c =
     whole_text c.args.rules.now c.args.start.now c.in-Ok.board
     (point c.new-scribe.result) c.in-Ok.ensures.board c.new-scribe.ensures Appends appends-then
-    (g.R.Source.remaining c.args.input.now) _ (g.W.Sink.contents c.answer_all.new.output) _
+    (g.R.Device.remaining c.args.input.now) _ (g.W.Device.contents c.answer_all.new.output) _
     c.args.form c.board.result.now _
     (c.board.ensures.rules ∙ c.in_default.ensures.rules) c.board.ensures.journal
     c.in_default.ensures.wrote c.in_default.ensures.after c.in-Ok-print_final.ensures.wrote
@@ -38,12 +38,12 @@ pub returns-in-Ok-print_final-clause-within : goal.returns-in-Ok-print_final-cla
 returns-in-Ok-print_final-clause-within g c =
     within_limit c.args.rules.now c.args.start.now c.in-Ok.board
     (point c.new-scribe.result) c.in-Ok.ensures.board c.new-scribe.ensures
-    (g.R.Source.remaining c.args.input.now) INPUT_LIMIT c.in_default.ensures.within
+    (g.R.Device.remaining c.args.input.now) INPUT_LIMIT c.in_default.ensures.within
 
 -- what was written by then
 pub returns-in-Err-clause-stopped : goal.returns-in-Err-clause-stopped
 returns-in-Err-clause-stopped g c = λ is. wrote_nothing c.args.rules.now c.args.start.now
-    (g.R.Source.remaining c.args.input.now) (g.W.Sink.contents c.args.output.now)
+    (g.R.Device.remaining c.args.input.now) (g.W.Device.contents c.args.output.now)
 
 pub returns-in-Err-answer_all-clause-cut : goal.returns-in-Err-answer_all-clause-cut
 returns-in-Err-answer_all-clause-cut g c = λ is.
@@ -61,9 +61,9 @@ pub returns-clause-stopped : goal.returns-clause-stopped
 returns-clause-stopped g c = λ is.
     let same = c.in-Err-print_final.ensures.silent (ap Err
     (memory_is c.in-Err-print_final.fault c.scribe_fault.result c.scribe_fault.ensures is)) in
-    subst (λ (w : g.row.W.Denot). IfSome (g.R.Source.remaining c.args.input.now)
-    (WroteSome c.args.rules.now c.args.start.now (g.W.Sink.contents c.args.output.now)
-    (g.W.Sink.contents w))) (sym same)
+    subst (λ (w : g.row.W.Denot). IfSome (g.R.Device.remaining c.args.input.now)
+    (WroteSome c.args.rules.now c.args.start.now (g.W.Device.contents c.args.output.now)
+    (g.W.Device.contents w))) (sym same)
     (all_said c.args.rules.now c.args.start.now c.in-Ok.board
     (point c.new-scribe.result) c.in-Ok.ensures.board c.new-scribe.ensures
     _ _ _ c.in_default.ensures.wrote)
@@ -74,8 +74,8 @@ returns-clause-cut g c = λ is.
     c.scribe_fault.ensures is) in
     whole_text c.args.rules.now c.args.start.now c.in-Ok.board
     (point c.new-scribe.result) c.in-Ok.ensures.board c.new-scribe.ensures AppendsPrefix
-    prefix-behind (g.R.Source.remaining c.args.input.now) _
-    (g.W.Sink.contents c.answer_all.new.output) _ c.args.form c.board.result.now _
+    prefix-behind (g.R.Device.remaining c.args.input.now) _
+    (g.W.Device.contents c.answer_all.new.output) _ c.args.form c.board.result.now _
     (c.board.ensures.rules ∙ c.in_default.ensures.rules) c.board.ensures.journal
     c.in_default.ensures.wrote c.in_default.ensures.after
     (c.in-Err-print_final.ensures.cut failed)

@@ -52,10 +52,10 @@ pub returns-in-Err-clause-stopped : goal.returns-in-Err-clause-stopped
 returns-in-Err-clause-stopped g c = λ is.
     let same = c.in-Err.ensures.silent (ap Err
     (memory_is c.in-Err.fault c.scribe_fault.result c.scribe_fault.ensures is)) in
-    subst (λ (w : g.row.W.Denot). IfSome (g.R.Source.remaining c.args.input.now)
-    (Stops (g.W.Sink.contents c.args.output.now) (g.W.Sink.contents w)
+    subst (λ (w : g.row.W.Denot). IfSome (g.R.Device.remaining c.args.input.now)
+    (Stops (g.W.Device.contents c.args.output.now) (g.W.Device.contents w)
     (point c.args.scribe.now)))
-    (sym same) (any_stop _ (g.W.Sink.contents c.args.output.now) (point c.args.scribe.now))
+    (sym same) (any_stop _ (g.W.Device.contents c.args.output.now) (point c.args.scribe.now))
 
 -- a write failed in the piece
 pub returns-in-Err-take_all-clause-cut : goal.returns-in-Err-take_all-clause-cut

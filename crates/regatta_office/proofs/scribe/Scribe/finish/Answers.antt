@@ -21,8 +21,8 @@ returns-in-Ok-write_all-clause-finished g c =
     ∙ ap (λ (t : List ℕ). t ++ text_after before.rules before.talk (line_of before.line))
     c.clear.ensures.items in
     finished_line _ _ before _ some
-    (subst (Appends (g.W.Sink.contents c.args.output.now)
-    (g.W.Sink.contents c.write_all.new.output)) due
+    (subst (Appends (g.W.Device.contents c.args.output.now)
+    (g.W.Device.contents c.write_all.new.output)) due
     (rw c.deref.ensures.value at c.in-Ok-write_all.ensures.ok))
     c.in-Ok.ensures.after
 
@@ -35,6 +35,6 @@ returns-in-Err-clause-cut g c = λ is.
     ∙ ap (λ (t : List ℕ). t ++ text_after before.rules before.talk (line_of before.line))
     c.clear.ensures.items in
     last_cut _ _ before some
-    (subst (AppendsPrefix (g.W.Sink.contents c.args.output.now)
-    (g.W.Sink.contents c.write_all.new.output)) due
+    (subst (AppendsPrefix (g.W.Device.contents c.args.output.now)
+    (g.W.Device.contents c.write_all.new.output)) due
     (rw c.deref.ensures.value at c.in-Err.ensures.cut))

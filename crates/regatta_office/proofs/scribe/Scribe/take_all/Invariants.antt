@@ -8,7 +8,7 @@ abbrev pub invariant-loop-taken : goal.invariant-loop-taken
 invariant-loop-taken g l = record {
   few : l.taken ≤ length l.piece;
   well : g.W.Device.failures l.output ≡ g.W.Device.failures l.fn.output;
-  went : Went (g.W.Sink.contents l.fn.output) (g.W.Sink.contents l.output)
+  went : Went (g.W.Device.contents l.fn.output) (g.W.Device.contents l.output)
       (take l.taken l.piece) (point l.fn.self) (point l.self) false;
 }
 

@@ -1,0 +1,48 @@
+"""The stored evening: three clients at one office, and a fourth who finds no seat."""
+from __future__ import annotations
+
+import os
+import unittest
+
+import helpers
+from office import Link, NoSeat, Trouble
+
+EXAMPLES = os.path.join(helpers.TOP, "examples")
+SEATS, SESSIONS = 3, 4
+
+
+def steps() -> list[tuple[str, bool, str]]:
+    """Whose line each of the talk is, whether she sends it, and the line."""
+    with open(os.path.join(EXAMPLES, "evening.talk"), encoding="ascii") as talk:
+        lines = [line.rstrip("\n").partition(" ") for line in talk]
+    return [(name[:-1], name[-1] == ">", line) for name, _, line in lines]
+
+
+class Evening(unittest.TestCase):
+    def test_talk(self) -> None:
+        """What a client reads is what the talk has, in its order. After BYE and BUSY the stream
+        ends; at last the program ends with status 0 and its table."""
+        words = ["--clients", str(SEATS), "--sessions", str(SESSIONS), "--entries",
+                 os.path.join(EXAMPLES, "boats.csv")]
+        links: dict[str, Link] = {}
+        with helpers.served(*words) as (path, serving):
+            for at, (name, is_sent, line) in enumerate(steps(), 1):
+                if name not in links:
+                    links[name] = Link(path, helpers.PATIENCE)
+                    self.addCleanup(links[name].close)
+                with self.subTest(line=at):
+                    if is_sent:
+                        links[name].socket.sendall(line.encode() + b"\n")
+                    elif line == "BUSY":
+                        self.assertRaises(NoSeat, links[name].line)
+                    else:
+                        self.assertEqual(links[name].line(), line)
+                    if line in ("BYE", "BUSY"):
+                        self.assertRaises(Trouble, links[name].line)
+            printed, _ = serving.communicate(timeout=helpers.PATIENCE)
+        with open(os.path.join(EXAMPLES, "evening.table"), encoding="ascii") as table:
+            self.assertEqual((printed, serving.returncode), (table.read(), 0))
+
+
+if __name__ == "__main__":
+    unittest.main()

@@ -1,0 +1,44 @@
+"""What the tools say of numbers, signs and faults."""
+from __future__ import annotations
+
+import os
+import unittest
+
+import helpers
+import words
+
+
+class Words(unittest.TestCase):
+    def test_numbers(self) -> None:
+        self.assertEqual([words.ordinal(number) for number in (1, 2, 3, 4, 11, 12, 13, 21, 111, 122)],
+                         ["1st", "2nd", "3rd", "4th", "11th", "12th", "13th", "21st", "111th", "122nd"])
+        self.assertEqual([words.count(number, "boat") for number in (0, 1, 2)],
+                         ["no boats", "1 boat", "2 boats"])
+        self.assertEqual(words.joined(["A", "B", "C"], "or"), "A, B or C")
+        self.assertEqual(words.spans([1, 2, 3, 5, 7, 8]), "1–3, 5, 7, 8")
+
+    def test_signs(self) -> None:
+        self.assertEqual(words.sign("\u00a0"), "a no-break space (U+00A0), which looks like a space")
+        self.assertEqual(words.sign("\u200b"), "the invisible sign U+200B")
+        self.assertEqual(words.sign("é"), "the sign 'é'")
+
+    def test_faults(self) -> None:
+        """A fault of a file is shown with the line that is meant."""
+        with helpers.folder() as name:
+            journal = os.path.join(name, "journal.txt")
+            with open(journal, "w", encoding="ascii") as file:
+                file.write("REGATTA 2\n1 1 SCORER ENTER A\n1 2 FINISH FINISH 1 B\n")
+            said = words.start_fault("regatta: start refused 7 at 2\n", journal, "entries.csv")
+            self.assertEqual(said[0], "Line 3 of journal.txt is refused: a boat that is named isn't "
+                             "entered. It is '1 2 FINISH FINISH 1 B'.")
+            for fault, text in [
+                    ("regatta: rules fault 3", "series.ini: exclude has to be none"),
+                    ("regatta: entries fault 4 row 9", "entries.csv, row 9: the sail is in an"),
+                    ("regatta: journal fault 1 line 2", "isn't a line of a journal: '1 1 SCORER"),
+                    ("regatta: start refused 16 at 2", "disagree on handicap"),
+                    ("regatta: no memory", "The program says: regatta: no memory.")]:
+                self.assertIn(text, words.start_fault(fault + "\n", journal, "entries.csv")[0])
+
+
+if __name__ == "__main__":
+    unittest.main()

@@ -1,0 +1,39 @@
+-- What was written when a table was printed.
+use Rattle.std.proofs.Common.{◌≡◌, ◌⊎◌, ℕ, List, Option, Result, Ok, Err, Some, None, OnOk, IsErrOf}
+use Rattle.std.proofs.Common.{refl, sym, inl, inr, subst}
+use Rattle.std.specs.Io.KnownBytes.{Keeps}
+use Rattle.regatta_terms.specs.Rules.{RulesParts}
+use Rattle.regatta_scores.specs.Journal.{Journal}
+use Rattle.regatta_office.specs.Asked.{BreaksOffTable, PrintsAtMostTable, PrintsTable}
+use Rattle.regatta_office.specs.declared.scribe.ScribeFault.{ScribeFault}
+
+-- equal bytes are kept
+pub keeps_same : (old : Option (List ℕ)) → Keeps old old
+keeps_same None = tt
+keeps_same (Some bytes) = refl
+
+-- what holds if a call succeeds, and what follows from it
+pub on_ok : {A E P Q : Type 0} → (r : Result A E) → (P → Q) → OnOk r P → OnOk r Q
+on_ok (Ok x) f p = f p
+on_ok (Err e) f p = tt
+
+-- what holds if a call succeeds, of a call that did
+pub of_ok : {A E P : Type 0} → (r : Result A E) (x : A) → r ≡ Ok x → OnOk r P → P
+of_ok {P = P} r x is p = subst (λ s. OnOk s P) is p
+
+-- one of two cases, and what follows from each
+pub either : {P Q R S : Type 0} → P ⊎ Q → (P → R) → (Q → S) → R ⊎ S
+either (inl p) f g = inl (f p)
+either (inr q) f g = inr (g q)
+
+-- whether or not printing failed, at most a table was written
+pub at_most : {S A : Type 0} (contents : S → Option (List ℕ)) (rules : RulesParts) (start : Journal)
+    (old new : S)
+    → (r : Result A ScribeFault) → OnOk r (PrintsTable rules start (contents old) (contents new))
+    → (IsErrOf r ScribeFault.Write → BreaksOffTable rules start (contents old) (contents new))
+    → (IsErrOf r ScribeFault.NoMemory → new ≡ old)
+    → PrintsAtMostTable rules start (contents old) (contents new)
+at_most contents rules start old new (Ok x) table cut silent = inr (inl table)
+at_most contents rules start old new (Err ScribeFault.Write) table cut silent = inr (inr (cut refl))
+at_most contents rules start old new (Err ScribeFault.NoMemory) table cut silent =
+    inl (subst (λ s. Keeps (contents old) (contents s)) (sym (silent refl)) (keeps_same (contents old)))

@@ -1,0 +1,38 @@
+use Rattle.std.proofs.Common.{inl, subst}
+use Rattle.regatta_scores.specs.Journal.{Journal}
+use Rattle.regatta_office.specs.Asked.{PrintsAtMostTable, PrintsTable}
+use Rattle.regatta_office.proofs.Printing.{keeps_same, of_ok}
+use Rattle.regatta_office.proofs.clients.serve_seats.Goals as goal
+
+-- nothing was written yet
+pub returns-in_err-office-clause-at_most : goal.returns-in_err-office-clause-at_most
+returns-in_err-office-clause-at_most g c = inl (keeps_same (g.W.Device.contents c.args.output.now))
+
+pub returns-in_err-door-clause-at_most : goal.returns-in_err-door-clause-at_most
+returns-in_err-door-clause-at_most g c = inl (keeps_same (g.W.Device.contents c.args.output.now))
+
+-- the clients were served, and the table was to be printed
+pub returns-in_err-back-clause-at_most : goal.returns-in_err-back-clause-at_most
+returns-in_err-back-clause-at_most g c = subst (λ (start : Journal). PrintsAtMostTable
+    g.N.OfficeName.rules start (g.W.Device.contents c.args.output.now)
+    (g.W.Device.contents c.serve_and_print-served.new.output)) c.start_note-start.ensures.journal
+    c.serve_and_print-served.ensures.at_most
+
+pub returns-in_err-served-clause-at_most : goal.returns-in_err-served-clause-at_most
+returns-in_err-served-clause-at_most g c = subst (λ (start : Journal). PrintsAtMostTable
+    g.N.OfficeName.rules start (g.W.Device.contents c.args.output.now)
+    (g.W.Device.contents c.serve_and_print-served.new.output)) c.start_note-start.ensures.journal
+    c.serve_and_print-served.ensures.at_most
+
+pub returns-clause-at_most : goal.returns-clause-at_most
+returns-clause-at_most g c = subst (λ (start : Journal). PrintsAtMostTable
+    g.N.OfficeName.rules start (g.W.Device.contents c.args.output.now)
+    (g.W.Device.contents c.serve_and_print-served.new.output)) c.start_note-start.ensures.journal
+    c.serve_and_print-served.ensures.at_most
+
+pub returns-clause-table : goal.returns-clause-table
+returns-clause-table g c = subst (λ (start : Journal). PrintsTable
+    g.N.OfficeName.rules start (g.W.Device.contents c.args.output.now)
+    (g.W.Device.contents c.serve_and_print-served.new.output)) c.start_note-start.ensures.journal
+    (of_ok c.serve_and_print-served.result.printed c.in_ok-served.field-0 c.in_ok-served.was
+    c.serve_and_print-served.ensures.printed)
