@@ -115,9 +115,11 @@ class Results(Made):
         entries = helpers.ENTRIES.replace("A. Moss", "=1+1").replace("Kestrel", "@x").replace(
             "Howth", "-1+1")
         self.make("other", entries, **{"class": "+A"})
-        self.results("cup", "other", "--csv", "all.csv")
+        self.make("third")
+        self.results("cup", "other", "third", "--csv", "all.csv")
         rows = self.rows("all.csv")
-        self.assertEqual([row["class"] for row in rows], ["Autumn Cup"] * 7 + ["'+A"] * 7)
+        self.assertEqual([row["class"] for row in rows],
+                         ["Autumn Cup (cup)"] * 7 + ["'+A"] * 7 + ["Autumn Cup (third)"] * 7)
         first = next(row for row in rows[7:] if row["sail"] == "GBR 101")
         self.assertEqual((first["helm"], first["boat"], first["R1"]), ("'=1+1", "'@x", ""))
         for row in rows:

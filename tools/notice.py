@@ -9,7 +9,7 @@ import page
 from chart import chart
 from page import esc
 from proof import block
-from view import View
+from view import View, labels_of
 
 
 def placed(views: Sequence[View]) -> list[View]:
@@ -22,7 +22,8 @@ def ways(views: Sequence[View]) -> str:
     """The way to each class."""
     if len(views) < 2:
         return ""
-    links = "".join(f'<li><a href="#{view.ids}class">{esc(view.label)}</a></li>' for view in views)
+    links = "".join(f'<li><a href="#{view.ids}class">{esc(label)}</a></li>'
+                    for label, view in zip(labels_of(views), views))
     return f'<nav aria-label="Classes"><ul class="classes">{links}</ul></nav>\n'
 
 

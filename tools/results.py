@@ -21,7 +21,7 @@ from office import Trouble
 from prompt import say, sentence
 from replay import developed
 from source import Source
-from view import View, csv_heads, csv_of, csv_row, unharmful
+from view import View, csv_heads, csv_of, csv_row, labels_of, unharmful
 from words import count
 
 NUMBER = re.compile(r"\d+\.\d")
@@ -54,8 +54,8 @@ def rows_of(views: Sequence[View]) -> list[list[str]]:
     races = sorted({race for view in views for race in view.standing.races})
     heads, several = csv_heads(races), len(views) > 1
     rows = [["class", *heads] if several else heads]
-    return rows + [[unharmful(view.label)] * several + csv_row(view, row, races)
-                   for view in views for row in view.standing.rows]
+    return rows + [[unharmful(label)] * several + csv_row(view, row, races)
+                   for label, view in zip(labels_of(views), views) for row in view.standing.rows]
 
 
 def sheet(views: Sequence[View], semicolons: bool) -> bytes:

@@ -142,6 +142,13 @@ class View:
         return f"{day}, {local:%H:%M} {zone}"
 
 
+def labels_of(views: Sequence[View]) -> list[str]:
+    """What each series is called, with its folder's name if another is called the same."""
+    labels = [view.label for view in views]
+    return [label if labels.count(label) == 1 else f"{label} ({view.name})"
+            for label, view in zip(labels, views)]
+
+
 # Not those of the computer's language: the pages are in English.
 DAYS = ["Mon", "Tue", "Wed", "Thu", "Fri", "Sat", "Sun"]
 MONTHS = ["Jan", "Feb", "Mar", "Apr", "May", "Jun", "Jul", "Aug", "Sep", "Oct", "Nov", "Dec"]
