@@ -284,8 +284,8 @@ def table(view: View, prefix: str | None) -> str:
     return f"""<div class="scroll" id="{view.ids}table" role="region" \
 aria-labelledby="{view.ids}caption" tabindex="0">
 <table>
-<caption id="{view.ids}caption" class="hidden">Overall results, {esc(view.label)}: rank, sail, names, net \
-points and the score of each race.{excluded}</caption>
+<caption id="{view.ids}caption" class="hidden">Overall results, {esc(view.label)}: rank, sail, \
+names, net points and the score of each race.{excluded}</caption>
 <thead>
 <tr><th scope="col" class="rank">Rank</th><th scope="col" class="sail">Sail</th><th scope="col" \
 class="who">{name_heads(view)}</th><th scope="col" class="net">Net</th>\
@@ -317,8 +317,8 @@ def second_table(view: View) -> str:
 
 
 def ties(view: View) -> str:
-    items = "".join(f'<li id="{view.ids}tie-{letter(at)}"><b>{letter(at)}</b>{tie_words(view, group)}</li>'
-                    for at, group in enumerate(view.ties()))
+    items = "".join(f'<li id="{view.ids}tie-{letter(at)}"><b>{letter(at)}</b>'
+                    f"{tie_words(view, group)}</li>" for at, group in enumerate(view.ties()))
     return (f'<section class="wide"><h2>How ties were broken</h2><ul class="ties">{items}</ul>'
             "</section>" if items else "")
 
@@ -541,7 +541,8 @@ def race_tables(view: View, race: Race) -> str:
     labels = view.decided.labels
     coded = {sail: code(labels.get((race.number, sail), race.codes[sail]))
              for sail in sorted(race.codes, key=lambda sail: (CODES.index(race.codes[sail]), sail))}
-    coded |= {sail: code(labels.get((race.number, sail), "RDG")) for sail in race.missing(view.series.boats) if sail in race.redress}
+    coded |= {sail: code(labels.get((race.number, sail), "RDG"))
+              for sail in race.missing(view.series.boats) if sail in race.redress}
     missing = {sail: code("DNC") if counts else "–" for sail in unrecorded(view, race)}
     return (race_table(view, race, "table", "Finished", "Place", places, view.settings.handicap)
             + race_table(view, race, "coded", "With a code", "Code", coded)
