@@ -15,7 +15,7 @@ import page
 from folder import replace_whole
 from office import Trouble
 from source import Source
-from view import Named, View, now_json, results_csv, results_json
+from view import Named, View, labels_of, now_json, results_csv, results_json
 
 HTML, CSV, JSON = "text/html; charset=utf-8", "text/csv; charset=utf-8", "application/json"
 # The least seconds between two writings of a file that has only been confirmed.
@@ -76,9 +76,7 @@ class Site:
     def texts(self, fresh: bool = False) -> dict[str, tuple[str, bytes]]:
         """All texts, by address, as files have it."""
         views = [source.view for source in self.sources if source.view]
-        labels = [view.label for view in views]
-        names = tuple(Named(view.label if labels.count(view.label) == 1 else
-                            f"{view.label} ({view.name})", view.address) for view in views)
+        names = tuple(Named(label, view.address) for label, view in zip(labels_of(views), views))
         found = self.front(views, fresh)
         for source in self.sources:
             if (view := source.view) is None:
