@@ -274,7 +274,7 @@ class Boards(helpers.Series):
             helpers.until("the other series", lambda: self.now("two")["checked"] > before)
             self.assertEqual((self.now("one")["office"], self.now("two")["office"]),
                              ("away", "open"))
-            self.assertEqual(json.loads(self.get("/now.json").data)["office"], "away: one")
+            self.assertEqual(json.loads(self.get("/now.json").data)["office"], "away:0")
         finally:
             os.kill(number, signal.SIGCONT)
         window.read("one: from the office, every 1 second")

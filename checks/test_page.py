@@ -434,7 +434,7 @@ class Pages(helpers.Series):
         text = self.text("out", "index.html")
         self.assertIn('<a href="fleet/results.csv">', text)
         self.assertIn('<a href="results.csv">', self.text("out", "fleet", "index.html"))
-        self.write(text.replace('data-office="open"', 'data-office="away: Folkboats"'), "out", "index.html")
+        self.write(text.replace('data-office="open"', 'data-office="away:1"'), "out", "index.html")
         self.browser.open(f"file://{self.here}/out/index.html")
         self.red(True)
         self.assertIn("The race office of Folkboats isn't answering just now.",
@@ -452,8 +452,8 @@ class Pages(helpers.Series):
             self.browser.open(f"file://{name}")
             time.sleep(2.5)
             self.assertFalse(self.browser.run(IS_RED))
-            self.assertRegex(self.browser.run("document.querySelector('header').innerText"),
-                             r"Made once, on \w{3} \d+ \w{3} \d{4}, \d\d:\d\d UTC")
+            self.assertIn("Thu 1 Jan", self.browser.run("once.innerText").replace(",", ""))
+            self.assertIn("not kept up to date", self.browser.run("once.innerText"))
 
 
 if __name__ == "__main__":

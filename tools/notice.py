@@ -1,75 +1,79 @@
-"""What is announced of the results: provisional, final or amended."""
+"""The notice board's page: the results of all classes in one file, for screens and for paper. It is
+never out of date, since it says up to which entry of the journal it is."""
 from __future__ import annotations
 
-import contextlib
+import dataclasses
+from collections.abc import Sequence
 
-import entries
-import settings
-from folder import Folder, replace_whole
-from moments import mark_of
-from office import Sheet, Trouble
-from prompt import question, say, typed
-from record import Race, Series
-from source import replayed
-from words import count, joined
+import page
+from chart import chart
+from page import esc
+from proof import block
+from view import View, labels_of
 
 
-def sheet_now(folder: Folder) -> Sheet:
-    """Journal and table, from the open office or else from journal.txt."""
-    with contextlib.suppress(Trouble):
-        link = folder.link()
-        with contextlib.closing(link):
-            return link.sheet()
-    return replayed(folder, folder.settings.options())
+def placed(views: Sequence[View]) -> list[View]:
+    """The classes, each with the beginning of the names of its places in the page."""
+    return [dataclasses.replace(view, ids=f"c{at}-" if len(views) > 1 else "")
+            for at, view in enumerate(views, 1)]
 
 
-def recorded_of(race: Race, names: dict[str, entries.Boat]) -> str:
-    """What is recorded of a race, in words."""
-    finished = sum(map(len, race.order))
-    held = [f"{names.get(sail, sail)} {joined(race.held(sail))}"
-            for sail in {**race.codes, **race.penalties, **race.redress}]
-    return joined([count(finished, "finisher")] * bool(finished) + held)
+def ways(views: Sequence[View]) -> str:
+    """The way to each class."""
+    if len(views) < 2:
+        return ""
+    links = "".join(f'<li><a href="#{view.ids}class">{esc(label)}</a></li>'
+                    for label, view in zip(labels_of(views), views))
+    return f'<nav aria-label="Classes"><ul class="classes">{links}</ul></nav>\n'
 
 
-def announce(path: str, state: str, reason: str) -> int:
-    """Writes whether the results are final; the board shows it within seconds. The status."""
-    folder, reason = Folder(path), " ".join(reason.split())
-    if state == "amended" and not reason and not (reason := asked_reason()):
-        raise Trouble("amended results need a reason. Nothing was announced")
-    mark = ""
-    if state != "provisional":
-        sheet = sheet_now(folder)
-        mark = mark_of(sheet.table)
-        if not is_agreed(folder, sheet, state):
-            say("Nothing was announced.")
-            return 1
-    write(folder, {"state": state, "reason": reason})
-    folder.log("", "", "", state, mark)
-    say(f"The results of {path} are {state}" + (f": {reason}" if reason else "") + ".")
-    return 0
+def section(view: View, at: int) -> str:
+    """One class."""
+    shown = view.settings
+    title = f"{shown.title}: {shown.group}" if shown.group else shown.title
+    return f"""<section class="standing class-{at}" id="{view.ids}class">
+{page.head(view, (), shown.club, title, page.overall_facts(view))}
+{page.table(view, None)}
+{page.second_table(view)}
+{chart(view)}
+<div class="notes">{page.notes(view)}</div>
+{page.foot(view)}
+</section>"""
 
 
-def asked_reason() -> str:
-    """Why the results were amended; empty if nobody says."""
-    return " ".join((typed("Why? The board shows it: ") or "").split())
+def style(views: Sequence[View]) -> str:
+    """The style of all classes: on paper that of the class with the most races, or else boats."""
+    most = max(views, key=lambda view: (len(view.standing.races), len(view.standing.rows)))
+    paper = page.paper_style(max(len(view.standing.rows) for view in views),
+                             len(most.standing.races))
+    each = "".join(page.overall_style(view, f".standing.class-{at}")
+                   for at, view in enumerate(views))
+    wide = max(map(page.fits, views)) + 60
+    return (f"main.results {{ --wide: {wide}px; }}\n{each}@media print {{ {paper} "
+            ".standing ~ .standing { break-before: page; } }\n")
 
 
-def is_agreed(folder: Folder, sheet: Sheet, state: str) -> bool:
-    """Whether all races are scored, or somebody agrees to leave some out."""
-    left = [race for _, race in sorted(Series.read(list(sheet.journal)).races.items())
-            if race.is_recorded and not race.counts]
-    names = entries.read_if_there(folder.entries)
-    for race in left:
-        say(f"Race {race.number} isn't scored. Recorded of it: {recorded_of(race, names)}.")
-    which = "that race" if len(left) == 1 else "those races"
-    return not left or question(f"Are the results {state} without {which}?")
+def title_of(views: Sequence[View]) -> str:
+    titles = list(dict.fromkeys(view.settings.title for view in views))
+    states = list(dict.fromkeys(view.settings.state for view in views))
+    name = titles[0] if len(titles) == 1 else "Results"
+    return f"{name} · {' and '.join(states)}"
 
 
-def write(folder: Folder, values: dict[str, str]) -> None:
-    """Writes what the notice says into series.ini."""
-    path = folder.file(settings.NAME)
-    with open(path, encoding="utf-8-sig") as file:
-        text = file.read()
-    for key, value in values.items():
-        text = settings.with_value(text, "notice", key, value)
-    replace_whole(path, text.encode())
+def results(views: Sequence[View]) -> str:
+    """The page of all classes."""
+    found = placed(views)
+    finder = ('<div class="bar"><div class="find"><label for="find" class="hidden">Find a boat by '
+              'sail or name</label><input type="search" id="find" placeholder="Find a sail or a '
+              'name" autocomplete="off" spellcheck="false"><span id="found" role="status"></span>'
+              f"{page.more_names(found[0])}</div></div>")
+    sections = "\n".join(section(view, at) for at, view in enumerate(found))
+    body = f"""<main class="results">
+{ways(found)}{finder}
+{sections}
+{block("results", views)}
+</main>"""
+    version = "-".join(view.version for view in found)
+    document = page.document(title_of(found), "no", found[0].settings.every, version, "", body,
+                             style(found))
+    return document.replace('href="#table"', f'href="#{found[0].ids}table"', 1)

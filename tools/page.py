@@ -8,7 +8,9 @@ import re
 from collections.abc import Sequence
 
 from entries import Boat
+from proof import block, named, seal_words
 from record import CODES, Race, Row, Score, tie_break
+from verdicts import words_of
 from view import Named, View
 from words import TIMES, count, duration, joined, ordinal, spans
 
@@ -26,6 +28,12 @@ MEANING = {
     "ZFP": ("20% penalty at the start (RRS 30.2)", "kind"),
     "SCP": ("Scoring Penalty (RRS 44.3)", "kind"),
     "RDG": ("redress given (RRS A9)", "given"),
+    "DPI": ("discretionary penalty", "kind"),
+    "PRP": ("Post-Race Penalty", "kind"),
+    "T1": ("Post-Race Penalty (RRS T1)", "kind"),
+    "TLE": ("time limit expired", ""),
+    "NSC": ("did not sail the course", ""),
+    "DUTY": ("on duty: the average of other races", "given"),
 }
 # On paper the races after these are in a second table.
 MOST_COLUMNS = 24
@@ -105,25 +113,20 @@ def state(view: View) -> str:
     word = view.settings.state
     return (f'<div class="state"><span class="word {word}">{word.capitalize()}</span>\n'
             f'<p class="when"><span>Last changed</span> <time datetime="{view.changed.isoformat()}">'
-            f"{esc(view.when(view.changed))}</time></p>{made(view)}</div>")
+            f"{esc(view.when(view.changed))}</time></p></div>")
 
 
-def made(view: View) -> str:
-    """When a page was made that nobody keeps up to date."""
-    return "" if view.made is None else (
-        f'<p class="when"><span>Made once, on</span> <time datetime="{view.made.isoformat()}">'
-        f"{esc(view.when(view.made))}</time></p>")
-
-
-def since(view: View) -> str:
-    """That the results aren't those that were declared final or amended."""
-    return f"The results have changed since they were declared {view.settings.state}."
+def stale(view: View) -> str:
+    """What the jury decided and the scores don't have as it has to be."""
+    items = "".join(f"<li>{esc(text)}.</li>" for text in view.decided.stale)
+    return (f'<div class="reason stale"><b>Decisions that these scores don’t have as they should:'
+            f"</b><ul>{items}</ul></div>\n" if items else "")
 
 
 def head(view: View, names: Sequence[Named], above: str, title: str, facts: list[str]) -> str:
     reason = view.settings.reason
     noted = f'<p class="reason {view.settings.state}">{esc(reason)}</p>' if reason else ""
-    noted += f'<p class="reason provisional">{since(view)}</p>' if view.is_changed_since else ""
+    noted += stale(view)
     small = f"<small>{esc(above)}</small>" if above else ""
     items = "".join(f"<li>{fact}</li>" if "<b>RRS" not in fact and "places by" not in fact
                     else f'<li class="aside">{fact}</li>' for fact in facts)
@@ -152,17 +155,19 @@ def bar(view: View, here: int, prefix: str, more: str = "") -> str:
             f'id="found" role="status"></span>{more}</div></div>')
 
 
-def foot(view: View, prefix: str) -> str:
+def foot(view: View, prefix: str | None = None) -> str:
+    """What a page ends with. `prefix` leads to the series' own folder, if the page is of one."""
+    sheet = ("" if prefix is None else
+             f' <a href="{prefix}results.csv">The results as a spreadsheet</a> (CSV).')
     return (f"<footer>\n<p>Scored by regatta under Appendix A (Low Point System), Racing Rules of "
-            f"Sailing 2025–2028. Entry {view.series.entries} of the journal. "
-            f'<a href="{prefix}results.csv">The results as a spreadsheet</a> (CSV).</p>\n<p>Spotted a '
-            "mistake? Ask the race office, within the time limit for requests for redress.</p>\n"
-            "</footer>")
+            f"Sailing 2025–2028. Entry {view.series.entries} of the journal. Seal {seal_words(view)}: "
+            f"verify.py checks it.{sheet}</p>\n<p>Spotted a mistake? Ask the race office, within the "
+            "time limit for requests for redress.</p>\n</footer>")
 
 
 def whole(view: View, title: str, body: str, style: str, prefix: str) -> str:
     """A page from its parts. `stamped` adds when it was confirmed."""
-    live = "yes" if view.is_live else "no"
+    live = "yes" if view.settings.state == "provisional" else "no"
     below = " · ".join([title, f"last changed {view.when(view.changed)}",
                         f"entry {view.series.entries}", "scored by regatta under Appendix A, "
                         "RRS 2025–2028"])
@@ -174,6 +179,10 @@ def whole(view: View, title: str, body: str, style: str, prefix: str) -> str:
 
 def document(title: str, live: str, every: int, version: str, now: str, body: str,
              style: str = "") -> str:
+    """A page. `now` is where its script asks whether it is out of date; none, if it never is."""
+    refresh = '<noscript><meta http-equiv="refresh" content="60"></noscript>\n' if now else ""
+    beware = ('<noscript><p class="reason provisional">Without scripts this page can\'t say whether '
+              "it is out of date: reload it to be sure.</p></noscript>\n" if now else "")
     return f"""<!DOCTYPE html>
 <html lang="en" data-live="{live}" data-every="{every}" {STAMP} data-version="{version}" \
 data-now="{now}">
@@ -184,15 +193,13 @@ data-now="{now}">
 <title>{esc(title)}</title>
 <style>
 {file("page.css")}{style}</style>
-<noscript><meta http-equiv="refresh" content="60"></noscript>
-</head>
+{refresh}</head>
 <body>
 <a class="skip" href="#table">To the table</a>
 <p class="alarm" id="alarm" role="alert" hidden><b>Out of date.</b> <span></span> \
 <a href="?">Reload</a></p>
-<noscript><p class="reason provisional">Without scripts this page can't say whether it is out of \
-date: reload it to be sure.</p></noscript>
-{body}
+<p class="once" id="once" hidden></p>
+{beware}{body}
 <script>
 {file("page.js")}</script>
 </body>
@@ -265,29 +272,34 @@ def rank(view: View, row: Row) -> str:
 def line(view: View, row: Row, mark: str) -> str:
     """A boat's row in the overall results."""
     boat = view.boat(row.sail)
-    tie = f'<a href="#tie-{mark}" aria-label="tie, note {mark}">{mark}</a>' if mark else ""
+    tie = f'<a href="#{view.ids}tie-{mark}" aria-label="tie, note {mark}">{mark}</a>' if mark else ""
     total = f'<td class="total">{points(view.totals[row.sail])}</td>' if view.totals else ""
     net = points(row.net) if view.standing.races else "–"
-    return (f'<tr id="{row.sail}" {row_head(view, row.sail)}>{rank(view, row)}'
+    return (f'<tr id="{view.ids}{row.sail}" {row_head(view, row.sail)}>{rank(view, row)}'
             f'<th scope="row" class="sail">{esc(boat.sail)}<span class="helm">'
             f'{esc(boat.helm or boat.name)}</span></th><td class="who">{who(boat)}</td>'
             f'<td class="net">{net}{tie}</td>{"".join(map(cell, row.scores))}{total}</tr>')
 
 
-def race_heads(races: Sequence[int], prefix: str) -> str:
+def race_heads(races: Sequence[int], prefix: str | None) -> str:
+    """The headings of the races, which lead to their pages unless there are none."""
+    if prefix is None:
+        return "".join(f'<th scope="col" class="r" aria-label="Race {number}">R{number}</th>'
+                       for number in races)
     return "".join(f'<th scope="col" class="r"><a href="{prefix}race-{number}.html" '
                    f'aria-label="Race {number}">R{number}</a></th>' for number in races)
 
 
-def table(view: View, prefix: str) -> str:
+def table(view: View, prefix: str | None) -> str:
     marks = {row.sail: letter(at) for at, group in enumerate(view.ties()) for row in group}
     total = '<th scope="col" class="total">Total</th>' if view.totals else ""
     rows = "\n".join(line(view, row, marks.get(row.sail, "")) for row in view.standing.rows)
     excluded = (" Scores in brackets and struck through are excluded." if view.totals else "")
-    return f"""<div class="scroll" id="table" role="region" aria-labelledby="caption" tabindex="0">
+    return f"""<div class="scroll" id="{view.ids}table" role="region" \
+aria-labelledby="{view.ids}caption" tabindex="0">
 <table>
-<caption id="caption" class="hidden">Overall results, {esc(view.label)}: rank, sail, names, net \
-points and the score of each race.{excluded}</caption>
+<caption id="{view.ids}caption" class="hidden">Overall results, {esc(view.label)}: rank, sail, \
+names, net points and the score of each race.{excluded}</caption>
 <thead>
 <tr><th scope="col" class="rank">Rank</th><th scope="col" class="sail">Sail</th><th scope="col" \
 class="who">{name_heads(view)}</th><th scope="col" class="net">Net</th>\
@@ -319,8 +331,8 @@ def second_table(view: View) -> str:
 
 
 def ties(view: View) -> str:
-    items = "".join(f'<li id="tie-{letter(at)}"><b>{letter(at)}</b>{tie_words(view, group)}</li>'
-                    for at, group in enumerate(view.ties()))
+    items = "".join(f'<li id="{view.ids}tie-{letter(at)}"><b>{letter(at)}</b>'
+                    f"{tie_words(view, group)}</li>" for at, group in enumerate(view.ties()))
     return (f'<section><h2>How ties were broken</h2><ul class="ties">{items}</ul>'
             "</section>" if items else "")
 
@@ -347,7 +359,9 @@ def absent_words(view: View) -> str:
 
 def rules(view: View) -> str:
     """The rules that the scores follow, and the races that count."""
-    shown, codes = view.settings, {s.code for row in view.standing.rows for s in row.scores}
+    shown, labels = view.settings, view.decided.labels
+    codes = {score.code for row in view.standing.rows
+             for race, score in zip(view.standing.races, row.scores) if (race, row.sail) not in labels}
     counts = [f"{TIMES[at]} from {races} races" for at, races in enumerate(shown.thresholds, 1)]
     says = [f"Worst scores excluded (RRS A2.1): {joined(counts)}." if counts else
             "No score is excluded.", absent_words(view)]
@@ -380,13 +394,18 @@ def repeated(kinds: list[str]) -> str:
 
 
 def decisions(view: View) -> str:
-    """What the table can't show: how redress was given, and penalties that were repeated."""
+    """What the table can't show: what was decided, how redress was given, and penalties that were
+    repeated."""
     races = [view.race(number) for number in view.standing.races]
-    says = [(race.number, sail, f"redress, {redress_words(how)}")
-            for race in races for sail, how in race.redress.items()]
+    ruled = {(verdict.ruling.race, verdict.ruling.sail): words_of(verdict)
+             for verdict in view.decided.verdicts if verdict.ruling.race in view.standing.races}
+    says = [(number, sail, text) for (number, sail), text in ruled.items()]
+    says += [(race.number, sail, f"redress, {redress_words(how)}")
+             for race in races for sail, how in race.redress.items()
+             if (race.number, sail) not in ruled]
     says += [(race.number, sail, repeated(kinds)) for race in races
              for sail, kinds in race.penalties.items() if len(kinds) > 1]
-    items = "".join(f"<li>Race {number}, {esc(view.boat(sail).sail)}: {text}.</li>"
+    items = "".join(f"<li>Race {number}, {esc(view.boat(sail).sail)}: {esc(text)}.</li>"
                     for number, sail, text in sorted(says))
     return (f"<section><h2>Redress and penalties</h2><ul>{items}</ul></section>" if items else "")
 
@@ -402,32 +421,37 @@ def overall_facts(view: View) -> list[str]:
             f"DNF etc. under <b>RRS A5.{view.settings.absent[-1]}</b>"]
 
 
-def overall_style(view: View) -> str:
-    """What depends on the number of columns. From the width `fits` on the table needs no scrolling
-    of its own: the page scrolls. Below it the table does."""
+def fits(view: View) -> int:
+    """The width from which on the table needs no scrolling of its own."""
+    return max(450 + 55 * len(view.standing.races) + (64 if view.totals else 0), 736)
+
+
+def paper_style(boats: int, races: int) -> str:
+    """The letters on paper, by the number of boats and races."""
+    if boats <= MOST_ROOMY and races <= 8:
+        return ROOMY
+    letters = (6.2, 5.2, 5.6, 6.2) if races > 19 else (7.2, 5.8, 6.4, 7.2)
+    return DENSE.format(*letters) if races > 14 else ""
+
+
+def overall_style(view: View, scope: str = "main.standing") -> str:
+    """What depends on the number of columns. From the width `fits` on the page scrolls, and below it
+    the table does."""
     races = len(view.standing.races)
-    fits = max(450 + 55 * races + (64 if view.totals else 0), 736)
-    if len(view.standing.rows) <= MOST_ROOMY and races <= 8:
-        paper = ROOMY
-    elif races > 14:
-        letters = (6.2, 5.2, 5.6, 6.2) if races > 19 else (7.2, 5.8, 6.4, 7.2)
-        paper = DENSE.format(*letters)
-    else:
-        paper = ""
-    hidden = (f".standing > .scroll .r:nth-child(n + {MOST_COLUMNS + 5}) {{ display: none; }}"
+    hidden = (f"{scope} > .scroll .r:nth-child(n + {MOST_COLUMNS + 5}) {{ display: none; }}"
               if races > MOST_COLUMNS else "")
-    return f"""main.standing {{ --wide: {fits + 160}px; }}
-@media print {{ {paper} {hidden} }}
-@media screen and (max-width: {fits}px) {{
-  .standing > .scroll {{ overflow: auto; max-height: calc(100dvh - 1rem); }}
+    return f"""{scope} {{ --wide: {fits(view) + 160}px; }}
+@media print {{ {hidden} }}
+@media screen and (max-width: {fits(view)}px) {{
+  {scope} > .scroll {{ overflow: auto; max-height: calc(100dvh - 1rem); }}
   .alarm:not([hidden]) ~ main thead th {{ top: 0; }}
 }}
-@media screen and (min-width: 737px) and (max-width: {fits}px) {{
-  .rank, th.sail {{ position: sticky; z-index: 2; }}
-  thead .rank, thead th.sail {{ z-index: 4; }}
-  .rank {{ left: 0; min-width: 2.9rem; }}
-  .who {{ min-width: 13rem; }}
-  th.sail {{ left: 2.9rem; min-width: 6.4rem; box-shadow: inset -1px 0 var(--line); }}
+@media screen and (min-width: 737px) and (max-width: {fits(view)}px) {{
+  {scope} .rank, {scope} th.sail {{ position: sticky; z-index: 2; }}
+  {scope} thead .rank, {scope} thead th.sail {{ z-index: 4; }}
+  {scope} .rank {{ left: 0; min-width: 2.9rem; }}
+  {scope} .who {{ min-width: 13rem; }}
+  {scope} th.sail {{ left: 2.9rem; min-width: 6.4rem; box-shadow: inset -1px 0 var(--line); }}
 }}
 """
 
@@ -442,32 +466,48 @@ th, td {{ padding: .65mm .3mm .35mm; }} thead th {{ font-size: {3}pt; }} thead t
 .net {{ width: 11mm; }}"""
 
 
+def more_names(view: View) -> str:
+    """The switch that shows more names on a phone."""
+    return ('<label class="more"><input type="checkbox" id="more"> '
+            f'{"Boat, club" if view.has_helms else "Club"}</label>')
+
+
+def notes(view: View) -> str:
+    """What is below the table."""
+    return ties(view) + overall_key(view) + rules(view) + decisions(view)
+
+
 def overall(view: View, names: Sequence[Named] = (), prefix: str = "") -> str:
     """The page of the overall results. `prefix` leads to the series' own folder."""
     shown = view.settings
     title = f"{shown.title}: {shown.group}" if shown.group else shown.title
-    more = ('<label class="more"><input type="checkbox" id="more"> '
-            f'{"Boat, club" if view.has_helms else "Club"}</label>')
-    notes = ties(view) + overall_key(view) + rules(view) + decisions(view)
+    more = more_names(view)
     body = f"""<main class="standing">
 {head(view, names, shown.club, title, overall_facts(view))}
 {bar(view, 0, prefix, more)}
 {table(view, prefix)}
 {second_table(view)}
-<div class="notes">{notes}</div>
+<div class="notes">{notes(view)}</div>
 {foot(view, prefix)}
+{block("overall", [view], names=named(names), prefix=prefix)}
 </main>"""
-    return whole(view, f"{title} · {shown.state}", body, overall_style(view), prefix)
+    boats, races = len(view.standing.rows), len(view.standing.races)
+    style = f"{overall_style(view)}@media print {{ {paper_style(boats, races)} }}\n"
+    return whole(view, f"{title} · {shown.state}", body, style, prefix)
 
 
 # One race
 
-def remarks(race: Race, sail: str) -> str:
+def remarks(view: View, race: Race, sail: str) -> str:
     """What a boat holds beside her place, below her name."""
     kinds = race.penalties.get(sail, [])
     says = [code(kind) + (f" × {kinds.count(kind)}" if kinds.count(kind) > 1 else "")
             for kind in dict.fromkeys(kinds)]
-    if sail in race.redress:
+    ruled = view.decided.verdict(race.number, sail)
+    if ruled:
+        label = ruled.ruling.label
+        says.append(f"{code(label)} {esc(words_of(ruled))}" if label else esc(words_of(ruled)))
+    elif sail in race.redress:
         how = {"ALL": "average of all other races", "PRIOR": "average of the races before"}.get(
             race.redress[sail], "points given by the jury")
         says.append(f"{code('RDG')} {how}")
@@ -481,7 +521,7 @@ def race_row(view: View, race: Race, sail: str, first: str, with_time: bool) -> 
     score = f'<td class="pts">{points(scores[sail].points)}{below}</td>' if scores else ""
     return (f'<tr {row_head(view, sail)}><td class="place">{first}</td><th scope="row" class="sail">'
             f'{esc(view.boat(sail).sail)}</th><td class="who">{who(view.boat(sail))}'
-            f"{remarks(race, sail)}</td>{time}{score}</tr>")
+            f"{remarks(view, race, sail)}</td>{time}{score}</tr>")
 
 
 def race_table(view: View, race: Race, label: str, caption: str, first: str,
@@ -515,9 +555,11 @@ def race_tables(view: View, race: Race) -> str:
     counts = race.number in view.standing.races
     places = {sail: f"{place}{'=' if shared else ''}"
               for sail, (place, shared) in race.places().items()}
-    coded = {sail: code(race.codes[sail])
+    labels = view.decided.labels
+    coded = {sail: code(labels.get((race.number, sail), race.codes[sail]))
              for sail in sorted(race.codes, key=lambda sail: (CODES.index(race.codes[sail]), sail))}
-    coded |= {sail: code("RDG") for sail in race.missing(view.series.boats) if sail in race.redress}
+    coded |= {sail: code(labels.get((race.number, sail), "RDG"))
+              for sail in race.missing(view.series.boats) if sail in race.redress}
     missing = {sail: code("DNC") if counts else "–" for sail in unrecorded(view, race)}
     return (race_table(view, race, "table", "Finished", "Place", places, view.settings.handicap)
             + race_table(view, race, "coded", "With a code", "Code", coded)
@@ -541,6 +583,7 @@ def race(view: View, number: int, names: Sequence[Named] = ()) -> str:
     shown, seen = view.settings, view.race(number)
     used = [*seen.codes.values(), *(kind for kinds in seen.penalties.values() for kind in kinds)]
     used += ["RDG"] if seen.redress else []
+    used += [label for (race, _), label in view.decided.labels.items() if race == number]
     used += ["DNC"] if view.scores(number) and unrecorded(view, seen) else []
     title = f"{shown.group} · Race {number}" if shown.group else f"Race {number}"
     above = " · ".join(text for text in (shown.club, shown.title) if text)
@@ -550,6 +593,7 @@ def race(view: View, number: int, names: Sequence[Named] = ()) -> str:
 {race_tables(view, seen)}
 <div class="notes">{key(used)}</div>
 {foot(view, "")}
+{block("race", [view], race=number, names=named(names))}
 </main>"""
     style = "@media print { @page { size: A4 portrait; } }\n"
     return whole(view, f"Race {number} · {view.label} · {shown.state}", body, style, "")
@@ -567,13 +611,15 @@ def entry(view: View, above: Sequence[str]) -> str:
                         for row in first[:3])
     which = "Leads" if shown.state == "provisional" else "First"
     leads = f"<p>{which}: {lead}</p>" if lead else ""
-    leads += f"<p>{since(view)}</p>" if view.is_changed_since else ""
+    if view.decided.stale:
+        leads += (f'<p class="reason stale">{count(len(view.decided.stale), "decision")} that these '
+                  "scores don’t have as they should.</p>")
     return (f'<li><h2><a href="{view.address}/index.html">{esc(view.label)}</a> '
             f'<span class="word {shown.state}">{shown.state.capitalize()}</span></h2>'
             f"<p class=sub>{esc(sub)}</p><p>{count(len(view.standing.rows), 'boat')}, "
             f"{count(races, 'race')} scored</p>{leads}"
             f'<p class="when"><span>Last changed</span> {esc(view.when(view.changed))}</p>'
-            f'{made(view)}<p class="sub"><a href="{view.address}/results.csv">Spreadsheet</a> (CSV)</p>'
+            f'<p class="sub"><a href="{view.address}/results.csv">Spreadsheet</a> (CSV)</p>'
             "</li>")
 
 
@@ -584,7 +630,7 @@ def series_list(views: Sequence[View], version: str) -> str:
     title = titles[0] if len(titles) == 1 else "Results"
     small = f"<small>{esc(clubs[0])}</small>" if len(clubs) == 1 else ""
     above = titles[:1] * (len(titles) == 1) + clubs[:1] * (len(clubs) == 1)
-    live = "yes" if any(view.is_live for view in views) else "no"
+    live = "yes" if any(view.settings.state == "provisional" for view in views) else "no"
     body = f"""<main class="series">
 <header><h1>{small}{esc(title)}</h1></header>
 <ul class="list" id="table">
@@ -592,6 +638,7 @@ def series_list(views: Sequence[View], version: str) -> str:
 </ul>
 <footer><p>Scored by regatta under Appendix A (Low Point System), Racing Rules of Sailing \
 2025–2028.</p></footer>
+{block("list", views, version=version)}
 </main>"""
     every = max((view.settings.every for view in views), default=5)
     return document(title, live, every, version, "now.json", body)

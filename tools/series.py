@@ -19,11 +19,11 @@ import shutil
 import sys
 
 import settings
+from declare import announce
 from folder import Folder
 from hall import Hall
 from keeper import copy_fault, fullest_copy
 from making import mended_list, new
-from notice import announce
 from office import Trouble
 from prompt import question, say, sentence
 from removal import remove

@@ -1,7 +1,6 @@
 """The pages of some series by address, and how they are kept as files."""
 from __future__ import annotations
 
-import dataclasses
 import datetime
 import glob
 import hashlib
@@ -13,11 +12,10 @@ from collections.abc import Callable, Mapping
 from dataclasses import dataclass
 
 import page
-import words
 from folder import replace_whole
 from office import Trouble
-from source import Source, now
-from view import Named, View, now_json, results_csv, results_json
+from source import Source
+from view import Named, View, labels_of, now_json, results_csv, results_json
 
 HTML, CSV, JSON = "text/html; charset=utf-8", "text/csv; charset=utf-8", "application/json"
 # The least seconds between two writings of a file that has only been confirmed.
@@ -37,15 +35,12 @@ class Site:
     """The pages of some series. One is made when what it shows changes, and only then."""
 
     def __init__(self, sources: list[Source], is_once: bool = False) -> None:
-        self.sources = sources
+        self.sources, self.is_once = sources, is_once
         self.made: dict[str, Made] = {}
-        self.made_once = now() if is_once else None
 
-    def view_of(self, source: Source) -> View | None:
-        """What is shown of a series; pages that are made once say when they were."""
-        if source.view is None or self.made_once is None:
-            return source.view
-        return dataclasses.replace(source.view, made=self.made_once)
+    def office(self, source: Source) -> str:
+        """Where the results of a series come from; pages that are made once aren't kept up to date."""
+        return "once" if self.is_once else source.office
 
     def kept(self, name: str, key: object, make: Callable[[], dict[str, str]], fresh: bool,
              checked: datetime.datetime, office: str) -> dict[str, tuple[str, bytes]]:
@@ -77,30 +72,31 @@ class Site:
         joined = "".join(view.name + view.version for view in views)
         version = hashlib.sha256(joined.encode()).hexdigest()[:8]
         checked = min(source.checked for source in self.sources)
-        away = [source.name for source in self.sources if source.office == "away"]
-        office = f"away: {words.joined(away)}" if away else "open"
+        shown = [source for source in self.sources if source.view]
+        away = [str(at) for at, source in enumerate(shown) if source.office == "away"]
+        is_away = len(away) > 0 or len(shown) < len(self.sources)
+        office = ("once" if self.is_once else "open" if not is_away
+                  else ":".join(["away", *[",".join(away)] * bool(away)]))
         pages = self.kept("", version, lambda: {"/index.html": page.series_list(views, version)},
                           fresh, checked, office)
         return {**pages, "/now.json": (JSON, now_json(version, checked, office))}
 
     def texts(self, fresh: bool = False) -> dict[str, tuple[str, bytes]]:
         """All texts, by address, as files have it."""
-        views = [view for source in self.sources if (view := self.view_of(source))]
-        labels = [view.label for view in views]
-        names = tuple(Named(view.label if labels.count(view.label) == 1 else
-                            f"{view.label} ({view.name})", view.address) for view in views)
+        views = [source.view for source in self.sources if source.view]
+        names = tuple(Named(label, view.address) for label, view in zip(labels_of(views), views))
         found = self.front(views, fresh)
         for source in self.sources:
-            if (view := self.view_of(source)) is None:
+            if (view := source.view) is None:
                 continue
             here = f"/{view.address}/"
             found |= self.kept(view.name, (view.version, names),
                                lambda: self.of_series(view, names), fresh, source.checked,
-                               source.office)
+                               self.office(source))
             found |= {f"{here}results.csv": (CSV, results_csv(view)),
                       f"{here}results.json": (JSON, results_json(view)),
                       f"{here}now.json": (JSON, now_json(view.version, source.checked,
-                                                         source.office))}
+                                                         self.office(source)))}
         return found
 
 

@@ -4,53 +4,29 @@ from __future__ import annotations
 import dataclasses
 import datetime
 import os
-import subprocess
 
 import entries
+import rulings
 import settings
 from folder import Folder
 from moments import is_changed_since, time_of_entry, time_of_notice, time_of_rules
 from office import Link, Sheet, Trouble
+from prompt import sentence
 from record import Series, Standing, last_scored
+from replay import digest_of, nets_before_exclusion, printed, sheet_of
 from settings import Settings
-from view import View
+from verdicts import Decided, decided
+from view import View, labelled
 
-# Seconds that an office may take for its answer, and the program for a replay.
-PATIENCE, REPLAY = 5.0, 60.0
-
-
-def replayed(folder: Folder, options: list[str], journal: bytes | None = None) -> Sheet:
-    """The sheet of a series under these rules, from a journal or the folder's own files."""
-    words = [folder.program, "replay", *options]
-    if journal is not None:
-        held = os.memfd_create("journal")
-        os.write(held, journal)
-        words += ["--journal", f"/proc/self/fd/{held}"]
-    else:
-        held = -1
-        is_begun = os.path.exists(folder.journal)
-        words += (["--journal", folder.journal] if is_begun else ["--entries", folder.entries])
-    try:
-        done = subprocess.run(words, input="SHOW\nQUIT\n", capture_output=True, encoding="utf-8",
-                              errors="replace", timeout=REPLAY, pass_fds=[held] if held >= 0 else [])
-    except (OSError, subprocess.TimeoutExpired) as cause:
-        raise Trouble(f"the program at {folder.program} can't be run: "
-                      f"{getattr(cause, 'strerror', '') or 'it does not end'}") from None
-    finally:
-        if held >= 0:
-            os.close(held)
-    if done.returncode:
-        raise Trouble(f"the program says {done.stderr.strip() or 'nothing'}")
-    return sheet_of(done.stdout.splitlines())
+# Seconds that an office may take for its answer.
+PATIENCE = 5.0
 
 
-def sheet_of(lines: list[str]) -> Sheet:
-    """The sheet that a replay prints for SHOW."""
-    words = lines[0].split() if lines else []
-    if len(words) != 2 or words[0] != "JOURNAL" or "END" not in lines:
-        raise Trouble("the program doesn't show its journal: is it regatta?")
-    count = int(words[1])
-    return Sheet(tuple(lines[1:count + 1]), tuple(lines[count + 1:lines.index("END")]))
+def replayed(folder: Folder, options: list[str]) -> Sheet:
+    """The sheet of a series under these rules, from the folder's own files."""
+    is_begun = os.path.exists(folder.journal)
+    start = ["--journal", folder.journal] if is_begun else ["--entries", folder.entries]
+    return sheet_of(printed(folder.program, [*options, *start], "SHOW\nQUIT\n"))
 
 
 def rules_of(options: list[str]) -> dict[str, object]:
@@ -77,6 +53,7 @@ class Source:
         self.notes: dict[str, str] = {}
         self.replayed: tuple[object, Sheet] | None = None
         self.summed: tuple[object, dict[str, str]] | None = None
+        self.weighed: tuple[object, Decided] | None = None
         self.due = 0.0
 
     @property
@@ -109,6 +86,16 @@ class Source:
         self.note("names", "" if found else f"No names are shown: {name} has faults, which "
                   f"python3 tools/series.py check {os.path.relpath(self.folder.path)} lists")
         return found or (self.view.boats if self.view else {})
+
+    def decisions(self) -> str:
+        """The text of decisions.txt; that of before if it can't be read."""
+        try:
+            found = rulings.read(self.folder.path)
+        except Trouble as trouble:
+            self.note("decisions", trouble)
+            return self.view.decided.text if self.view else ""
+        self.note("decisions", "")
+        return found
 
     def opened_rules(self) -> dict[str, object]:
         """The rules that the open office has: series.ini may have been changed since."""
@@ -183,20 +170,29 @@ class Source:
         self.note("rules", "" if shown.options() == self.settings.options() else
                   "series.ini has other rules than the open office. Close and open the office to "
                   "change them: until then its own are shown")
-        is_changed = shown.state != "provisional" and is_changed_since(
-            self.folder.logged(), shown.state, sheet.table)
-        key = (sheet, shown, self.boats(), is_changed)
+        shown = dataclasses.replace(shown, reason=self.reason(sheet))
+        digest = digest_of(self.folder.program)
+        key = (sheet, shown, self.boats(), self.decisions(), digest)
         old = self.view
         if old is not None and old.key == key:
             return
         standing = Standing.read(list(sheet.table))
         series = Series.read(list(sheet.journal))
-        fresh = View(self.folder.name, shown, standing, series, key[2],
-                     self.totals(sheet, standing, shown), now(), key, is_changed)
+        found = self.decided(sheet, shown, key[3])
+        fresh = View(self.folder.name, shown, labelled(standing, found.labels), series, key[2],
+                     self.totals(sheet, standing, shown), now(), key, sheet.journal, found, digest)
         is_same = old is not None and old.results() == fresh.results()
-        is_seen = old is not None and old.standing != standing
+        is_seen = old is not None and old.standing != fresh.standing
         changed = old.changed if is_same else self.changed_at(sheet, standing, is_seen)
         self.view = dataclasses.replace(fresh, changed=changed)
+
+    def reason(self, sheet: Sheet) -> str:
+        """What is shown below the title; also that the results aren't those that were declared."""
+        said, state = self.settings.reason, self.settings.state
+        if state == "provisional" or not is_changed_since(self.folder.logged(), state, sheet.table):
+            return said
+        before = f"{sentence(said)} " if said else ""
+        return f"{before}The results have changed since they were declared {state}."
 
     def totals(self, sheet: Sheet, standing: Standing, shown: Settings) -> dict[str, str]:
         """The net of each boat without exclusions, by the program; none if nothing is excluded.
@@ -205,13 +201,20 @@ class Source:
         """
         if not any(score.excluded for row in standing.rows for score in row.scores):
             return {}
-        options = dataclasses.replace(shown, exclude="none").options()
+        options = shown.options()
         if self.summed is None or self.summed[0] != (sheet.table, options):
-            journal = "".join(f"{line}\n" for line in sheet.journal).encode()
-            table = replayed(self.folder, options, journal).table
-            totals = {row.sail: row.net for row in Standing.read(list(table)).rows}
+            totals = nets_before_exclusion(self.folder.program, options, sheet.journal)
             self.summed = ((sheet.table, options), totals)
         return self.summed[1]
+
+    def decided(self, sheet: Sheet, shown: Settings, text: str) -> Decided:
+        """What the decisions come to now; they are worked out when the journal has changed."""
+        key = (sheet.journal, shown.options(), text)
+        if self.weighed is None or self.weighed[0] != key:
+            self.weighed = (key, decided(self.folder.program, shown.options(), sheet.journal, text))
+        found = self.weighed[1]
+        self.note("stale", ". ".join(found.stale))
+        return found
 
     def changed_at(self, sheet: Sheet, standing: Standing, is_seen: bool) -> datetime.datetime:
         """When the results changed last, as far as the log and the files know. If a change is seen just

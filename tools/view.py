@@ -2,6 +2,7 @@
 from __future__ import annotations
 
 import csv
+import dataclasses
 import datetime
 import functools
 import hashlib
@@ -9,11 +10,13 @@ import io
 import json
 import urllib.parse
 import zoneinfo
-from dataclasses import dataclass
+from collections.abc import Sequence
+from dataclasses import dataclass, field
 
 from entries import Boat
 from record import Race, Row, Score, Series, Standing, tie_break
 from settings import Settings
+from verdicts import Decided
 
 
 @dataclass(frozen=True)
@@ -25,9 +28,12 @@ class Named:
 
 @dataclass(frozen=True)
 class View:
-    """One series at one moment; `key` is all that it was made from. `is_changed_since` says whether
-    the table isn't the one that was declared final or amended; `made` is when its pages were made, if
-    nobody keeps them up to date."""
+    """One series at one moment; `key` is all that it was made from.
+
+    `journal` and `program`, the SHA-256 of the program's file, are what a page carries for those who
+    verify it. `course` has the standing after each race, for a chart. A page that is made again to
+    be verified has the `stamp`, which are the version and the words of its time.
+    """
     name: str
     settings: Settings
     standing: Standing
@@ -36,14 +42,15 @@ class View:
     totals: dict[str, str]
     changed: datetime.datetime
     key: object = None
-    is_changed_since: bool = False
-    made: datetime.datetime | None = None
-
-    @property
-    def is_live(self) -> bool:
-        """Whether its pages have to be kept up to date: until the results are final, by a board that
-        is there."""
-        return self.settings.state == "provisional" and self.made is None
+    journal: tuple[str, ...] = ()
+    decided: Decided = Decided()
+    program: str = ""
+    course: tuple[Standing, ...] = ()
+    stamp: tuple[str, str] | None = None
+    # What the names of places in a page begin with, if it has several series.
+    ids: str = ""
+    # Texts that were made of it already.
+    memo: dict[str, str] = field(init=False, default_factory=dict, compare=False, repr=False)
 
     @property
     def label(self) -> str:
@@ -62,11 +69,13 @@ class View:
         """All whose change is a change of the results."""
         shown = self.settings
         return (self.standing, self.boats, shown.title, shown.group, shown.club, shown.state,
-                shown.reason, shown.options())
+                shown.reason, shown.options(), self.decided)
 
     @functools.cached_property
     def version(self) -> str:
         """Another text whenever anything that is shown is another."""
+        if self.stamp:
+            return self.stamp[0]
         made = hashlib.sha256(repr((self.key, self.changed)).encode())
         return f"{self.series.entries}-{made.hexdigest()[:8]}"
 
@@ -121,6 +130,8 @@ class View:
 
     def when(self, moment: datetime.datetime) -> str:
         """A moment with its zone and the hours from UTC, as `Thu 26 Nov 2026, 08:52 WET (UTC+0)`."""
+        if self.stamp and moment == self.changed:
+            return self.stamp[1]
         local = self.local(moment)
         offset, name = local.strftime("%z"), local.strftime("%Z")
         minutes = f":{offset[3:5]}" if offset[3:5] != "00" else ""
@@ -128,6 +139,13 @@ class View:
         zone = "UTC" if name == "UTC" else hours if name[:1] in "+-" else f"{name} ({hours})"
         day = f"{DAYS[local.weekday()]} {local.day} {MONTHS[local.month - 1]} {local.year}"
         return f"{day}, {local:%H:%M} {zone}"
+
+
+def labels_of(views: Sequence[View]) -> list[str]:
+    """What each series is called, with its folder's name if another is called the same."""
+    labels = [view.label for view in views]
+    return [label if labels.count(label) == 1 else f"{label} ({view.name})"
+            for label, view in zip(labels, views)]
 
 
 # Not those of the computer's language: the pages are in English.
@@ -140,22 +158,46 @@ def unharmful(text: str) -> str:
     return f"'{text}" if text[:1] in ("=", "+", "-", "@", "\t", "\r") else text
 
 
-def results_csv(view: View) -> bytes:
-    """A row for each boat, in UTF-8 with the mark by which a spreadsheet knows it."""
-    races = view.standing.races
-    heads = ["rank", "tied", "sail", "helm", "boat", "club", "net", "total"]
-    heads += [f"R{number}{what}" for number in races for what in ("", " code", " excluded")]
+def labelled(standing: Standing, labels: dict[tuple[int, str], str]) -> Standing:
+    """The table with each decision's own abbreviation in its cell."""
+    def shown(row: Row) -> Row:
+        scores = [dataclasses.replace(score, code=labels.get((race, row.sail), score.code))
+                  for race, score in zip(standing.races, row.scores)]
+        return dataclasses.replace(row, scores=tuple(scores))
+
+    return dataclasses.replace(standing, rows=tuple(map(shown, standing.rows))) if labels else standing
+
+
+HEADS = ["rank", "tied", "sail", "helm", "boat", "club", "net", "total"]
+
+
+def csv_row(view: View, row: Row, races: Sequence[int]) -> list[str]:
+    """A boat's row: names, then points, code and whether it is excluded of each of these races."""
+    boat = view.boat(row.sail)
+    found = dict(zip(view.standing.races, row.scores))
+    scores = [text for race in races for text in (
+        (found[race].points, found[race].code, "yes" if found[race].excluded else "no")
+        if race in found else ("", "", ""))]
+    return [str(row.rank), "yes" if row.shared else "no",
+            *map(unharmful, (boat.sail, boat.helm, boat.name, boat.club)), row.net,
+            view.totals.get(row.sail, row.net), *scores]
+
+
+def csv_heads(races: Sequence[int]) -> list[str]:
+    return HEADS + [f"R{number}{what}" for number in races for what in ("", " code", " excluded")]
+
+
+def csv_of(rows: list[list[str]], separator: str = ",") -> bytes:
+    """Rows in UTF-8 with the mark by which a spreadsheet knows it."""
     made = io.StringIO(newline="")
-    writer = csv.writer(made, lineterminator="\r\n")
-    writer.writerow(heads)
-    for row in view.standing.rows:
-        boat = view.boat(row.sail)
-        names = map(unharmful, (boat.sail, boat.helm, boat.name, boat.club))
-        scores = [text for score in row.scores
-                  for text in (score.points, score.code, "yes" if score.excluded else "no")]
-        writer.writerow([row.rank, "yes" if row.shared else "no", *names, row.net,
-                         view.totals.get(row.sail, row.net), *scores])
+    csv.writer(made, delimiter=separator, lineterminator="\r\n").writerows(rows)
     return b"\xef\xbb\xbf" + made.getvalue().encode()
+
+
+def results_csv(view: View) -> bytes:
+    """A row for each boat."""
+    races = view.standing.races
+    return csv_of([csv_heads(races), *(csv_row(view, row, races) for row in view.standing.rows)])
 
 
 def results_json(view: View) -> bytes:
@@ -174,6 +216,7 @@ def results_json(view: View) -> bytes:
     whole = {"title": shown.title, "class": shown.group, "club": shown.club, "state": shown.state,
              "reason": shown.reason, "changed": view.local(view.changed).isoformat(),
              "version": view.version, "rules": shown.options(), "races": view.standing.races,
+             "stale": view.decided.stale,
              "boats": [boat_of(row) for row in view.standing.rows]}
     return json.dumps(whole, ensure_ascii=False, indent=1).encode() + b"\n"
 
