@@ -1,4 +1,4 @@
-"""What is announced of the results, what isn't scored then, and when the results changed last."""
+"""What is declared of the results, what isn't scored then, and when the results changed last."""
 from __future__ import annotations
 
 import datetime
@@ -16,7 +16,7 @@ RACES = ["FINISH 1 GBR101", "FINISH 1 NED12", "SCORE 1"]
 SINCE = "The results have changed since they were declared final."
 
 
-class Notice(helpers.Series):
+class Declared(helpers.Series):
     def send(self, *lines: str) -> None:
         link = Link(os.path.join(self.here, "cup", "office", "race.sock"))
         for line in lines:
@@ -81,6 +81,9 @@ class Notice(helpers.Series):
         page = self.shown()[0]
         self.assertIn(SINCE, page)
         self.assertIn('<span class="word final">Final</span>', page)
+        said, status = helpers.run("verify.py", "out/cup/index.html", "--program", helpers.PROGRAM,
+                                   cwd=self.here)
+        self.assertEqual(status, 0, said)
         self.assertNotIn("declared", window.say("clear 1 12", "> $").partition("Next")[2])
         self.assertNotIn(SINCE, self.shown()[0])
         window.say("penalty 1 12 zfp", "declared final(.|\n)*> $")
