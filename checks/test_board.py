@@ -407,7 +407,7 @@ class Boards(helpers.Series):
                                            "results.json"))]))
         page = self.text("out", "cup", "index.html")
         self.assertIn('<a href="../fleet/index.html">Folk boat</a>', page)
-        self.assertIn('data-office="journal"', page)
+        self.assertIn('data-office="once"', page)
         now = json.loads(self.text("out", "cup", "now.json"))
         self.assertIn(f'data-version="{now["version"]}"', page)
         self.assertIn(f'data-checked="{now["checked"]}"', page)

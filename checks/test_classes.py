@@ -1,11 +1,14 @@
 """One window for two classes: which one a line is for, and what is said of each."""
 from __future__ import annotations
 
+import contextlib
 import os
 import signal
+import time
 import unittest
 
 import helpers
+from office import Link
 
 FLEET = "Boat,Sail\nFulmar,GBR 33\nSterna,NED 80\nPetrel,NED 84\n"
 
@@ -162,8 +165,14 @@ OK 8   cup: 1st in race 1
         office.say("n", "The office stays open\\.\n$")
         office.press()
         office.read(r"\[y/N\] $")
-        office.say("y", "Closed\\. journal\\.txt")
-        said = window.read("> ") + window.say("80", "OK 4   fleet: 1st in race 1; .*\n.*> $")
+        # Somebody who doesn't leave at once holds the closing up.
+        with contextlib.closing(Link(os.path.join(self.here, "cup", "office", "race.sock"))) as link:
+            link.ask("ROLE JURY")
+            office.type("y")
+            said = window.read("The others go on.(.|\n)*> ")
+            time.sleep(2)
+        office.read("Closed\\. journal\\.txt")
+        said += window.say("80", "OK 4   fleet: 1st in race 1; .*\n.*> $")
         self.assertEqual(said.count("Beware: "), 1, said)
         self.assertNotIn("is back", said)
 
