@@ -1,14 +1,12 @@
 """One window for two classes: which one a line is for, and what is said of each."""
 from __future__ import annotations
 
-import contextlib
 import os
 import signal
 import time
 import unittest
 
 import helpers
-from office import Link
 
 FLEET = "Boat,Sail\nFulmar,GBR 33\nSterna,NED 80\nPetrel,NED 84\n"
 
@@ -165,16 +163,23 @@ OK 8   cup: 1st in race 1
         office.say("n", "The office stays open\\.\n$")
         office.press()
         office.read(r"\[y/N\] $")
-        # Somebody who doesn't leave at once holds the closing up.
-        with contextlib.closing(Link(os.path.join(self.here, "cup", "office", "race.sock"))) as link:
-            link.ask("ROLE JURY")
-            office.type("y")
-            said = window.read("The others go on.(.|\n)*> ")
-            time.sleep(2)
-        office.read("Closed\\. journal\\.txt")
+        office.say("y", "Closed\\. journal\\.txt")
+        said = window.read("> ")
         said += window.say("80", "OK 4   fleet: 1st in race 1; .*\n.*> $")
         self.assertEqual(said.count("Beware: "), 1, said)
         self.assertNotIn("is back", said)
+
+    def test_closing_takes_its_time(self) -> None:
+        """An office that still lets in while it is being closed isn't back."""
+        self.open()
+        self.open("fleet")
+        window = self.client("cup", "fleet", "--role", "finish")
+        self.write("", "cup", "office", "closing")
+        window.read("Beware: the office is being closed, that of cup. The others go on.\n")
+        time.sleep(2)
+        os.remove(os.path.join(self.here, "cup", "office", "closing"))
+        said = window.read("The office of cup is back with 7 entries.\n")
+        self.assertNotIn("Beware", said)
 
     def test_a_class_that_opens_later(self) -> None:
         self.open()
