@@ -177,9 +177,10 @@ OK 8   cup: 1st in race 1
         self.write("", "cup", "office", "closing")
         window.read("Beware: the office is being closed, that of cup. The others go on.\n")
         time.sleep(2)
+        window.more(0.1)
+        self.assertNotIn("is back", window.text)
         os.remove(os.path.join(self.here, "cup", "office", "closing"))
-        said = window.read("The office of cup is back with 7 entries.\n")
-        self.assertNotIn("Beware", said)
+        window.read("The office of cup is back with 7 entries.\n")
 
     def test_a_class_that_opens_later(self) -> None:
         self.open()
