@@ -205,13 +205,33 @@ class Ways(unittest.TestCase):
             self.assertTrue(remove_socket("race.sock"))
             self.assertTrue(os.path.exists("other/race.sock"))
 
-    def test_failed_door(self) -> None:
-        """An office whose `accept` has failed lets nobody in, and still serves those who are there."""
+    def test_no_descriptor(self) -> None:
+        """A client for whom the office has no descriptor gets BUSY, and the office goes on."""
         with helpers.served(folder=self.here) as (path, serving):
             with contextlib.closing(Link(path)) as link:
                 link.ask("ENTER A")
                 most = 1 + max(map(int, os.listdir(f"/proc/{serving.pid}/fd")))
                 resource.prlimit(serving.pid, resource.RLIMIT_NOFILE, (most, most))
+                with socket.socket(socket.AF_UNIX, socket.SOCK_STREAM) as turned_away:
+                    turned_away.settimeout(helpers.PATIENCE)
+                    turned_away.connect(path)
+                    self.assertEqual(turned_away.recv(100), b"BUSY\n")
+                self.assertTrue(helpers.is_listening(path))
+                self.assertEqual(link.ask("ENTER B"), "OK 2 1= 0.0")
+                self.assertEqual(link.ask("QUIT"), "BYE")
+
+            def is_served() -> bool:
+                with contextlib.closing(Link(path)) as again:
+                    return again.ask("RANK A") == "RANK 1= 0.0"
+
+            helpers.until("a client after the first", is_served)
+
+    def test_failed_door(self) -> None:
+        """An office whose `accept` keeps failing lets nobody in, and still serves those who are there."""
+        with helpers.served(folder=self.here) as (path, serving):
+            with contextlib.closing(Link(path)) as link:
+                link.ask("ENTER A")
+                resource.prlimit(serving.pid, resource.RLIMIT_NOFILE, (3, 3))
                 with socket.socket(socket.AF_UNIX, socket.SOCK_STREAM) as refused:
                     refused.connect(path)
                     helpers.until("the end at the door", lambda: not helpers.is_listening(path))
@@ -219,6 +239,7 @@ class Ways(unittest.TestCase):
                 self.assertEqual(link.ask("ENTER B"), "OK 2 1= 0.0")
                 self.assertEqual(link.ask("QUIT"), "BYE")
             self.assertEqual(serving.wait(helpers.PATIENCE), 3)
+            self.assertEqual(serving.stdout.read(), "TABLE 2 RACES\n1= A 0.0\n1= B 0.0\n")
         self.assertTrue(remove_socket("race.sock"))
 
 
