@@ -432,11 +432,13 @@ class Faults(helpers.Series):
         said, status = helpers.run("series.py", "final", "cup", "fleet", cwd=self.here)
         self.assertEqual((said, status), ("The results of cup are final.\n"
                                           "The results of fleet are final.\n", 0))
-        said, status = helpers.run("series.py", "amended", "cup", "fleet", "Appeal", cwd=self.here)
-        self.assertEqual((said, status), ("The results of cup are amended: Appeal.\n"
-                                          "The results of fleet are amended: Appeal.\n", 0))
+        said, status = helpers.run("series.py", "amended", "cup", "fleet", "Appeal upheld",
+                                   cwd=self.here)
+        self.assertEqual((said, status), ("The results of cup are amended: Appeal upheld.\n"
+                                          "The results of fleet are amended: Appeal upheld.\n", 0))
         os.mkdir(os.path.join(self.here, "other"))
         for words, why in [(["cup", "other"], "other has no series.ini"),
+                           (["cup", "flet"], "flet is no folder of a series"),
                            (["cup", "Appeal", "upheld"], 'quotation marks: "Appeal upheld"')]:
             said, status = helpers.run("series.py", "final", *words, cwd=self.here)
             self.assertIn(why, said)

@@ -92,13 +92,13 @@ def arguments() -> argparse.Namespace:
 
 
 def folders_and_reason(words: list[str]) -> tuple[list[str], str]:
-    """The series that words name, and a reason if the last one names none. All are read before
-    anything is done."""
-    is_reason = len(words) > 1 and not os.path.isdir(words[-1])
+    """The series that words name, and a reason if the last one names none. A reason has two words or
+    more, so that a misspelt folder isn't taken for one. All are read before anything is done."""
+    is_reason = len(words) > 1 and not os.path.isdir(words[-1]) and len(words[-1].split()) > 1
     folders, reason = (words[:-1], words[-1]) if is_reason else (words, "")
     for path in folders:
         if not os.path.isdir(path) and path != words[0]:
-            raise Trouble(f"{path} is no folder of a series. A reason of several words is written in "
+            raise Trouble(f"{path} is no folder of a series. A reason has two words or more, in "
                           f'quotation marks: "{" ".join(words[words.index(path):])}"')
         Folder(path)
     return folders, reason
