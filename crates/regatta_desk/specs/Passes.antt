@@ -9,12 +9,11 @@ use Rattle.regatta_terms.specs.declared.command.Command.{Command}
 use Rattle.regatta_terms.specs.declared.command.Role.{Role}
 use Rattle.regatta_scores.specs.Journal.{Journal}
 use Rattle.regatta_board.specs.Refusals.{next_entry}
-use Rattle.regatta_watch.specs.Notes.{ListenerValue}
 use Rattle.regatta_watch.specs.Views.{journal_of, Names}
 use Rattle.regatta_watch.specs.declared.publication.ReaderView.{ReaderView}
 use Rattle.regatta_desk.specs.Receipts.{EndsWith}
 use Rattle.regatta_desk.specs.declared.pass.Seen.{Seen}
-use Rattle.regatta_desk.specs.declared.pass.Told.{Told}
+use Rattle.regatta_desk.specs.declared.told.Told.{Told}
 
 -- seen: the journal that the pass was shown last. told: the journals that it was told of, in order.
 -- sources: those that the desk had when it answered the pass, in order
@@ -46,8 +45,14 @@ abbrev pub Reaches : Journal → ℕ → EntryParts → Type 0
 Reaches journal count last =
     (count ≤ length journal) × (0 < count → slice_get journal (count - 1) ≡ Some last)
 
+-- journals that the history of this name has reached: each is a beginning of the longest
+pub record IsTold (history : TableId) (told : Told) : Type 0 where
+  pub listens : told.listener.history ≡ history
+  pub longest : IsKnown told.listener.longest told.length told.last
+  pub each : All (λ j. IsPrefix j told.listener.longest) told.listener.told
+
 -- what holds of each pass of the office with these rules and this history: its watcher sees no less
--- than the pass has seen, and each journal that it was told of is a beginning of the longest
+-- than the pass has seen, and it was told of journals of this history
 pub record IsPass (rules : RulesParts) (history : TableId) (seat : ℕ) (watcher : ReaderView)
     (seen : Seen) (told : Told) (shared : TableId) : Type 0 where
   pub seated : IsTrue (is_seat seat)
@@ -55,12 +60,5 @@ pub record IsPass (rules : RulesParts) (history : TableId) (seat : ℕ) (watcher
   pub noted : seen.journal.note.history ≡ history
   pub sees : seen.length ≡ length (seen_of seen)
   pub names : Names watcher rules history
-  pub listens : told.listener.history ≡ history
+  pub heard : IsTold history told
   pub shares : shared ≡ history
-  pub longest : IsKnown told.listener.longest told.length told.last
-  pub each : All (λ j. IsPrefix j told.listener.longest) told.listener.told
-
--- journals that the history of this name has reached: each is a beginning of the longest
-abbrev pub AreSources : TableId → ListenerValue → Type 0
-AreSources history listener =
-    (listener.history ≡ history) × All (λ j. IsPrefix j listener.longest) listener.told

@@ -10,6 +10,7 @@ mod pass;
 mod receipt;
 mod sheet;
 mod sources;
+mod told;
 
 pub use answers::{Next, answer_alone};
 pub use desk::Desk;
