@@ -1,5 +1,5 @@
 //! Serves a series to clients at a socket.
-ghost use Rattle.std.specs.Prelude.{◌≡◌, ◌+◌, true, map, vec_len, IfOk, OnOk};
+ghost use Rattle.std.specs.Prelude.{◌≡◌, ◌+◌, true, map, vec_len, IfOk, OnOk, IsErrOf};
 ghost use Rattle.std.specs.List.Sorted.{IsPermutation};
 ghost use Rattle.regatta_service.specs.Doors.{streams_asked};
 ghost use Rattle.regatta_service.specs.Faults.{IfBegun, door_failures_in};
@@ -75,6 +75,12 @@ where
         (PrintsTable N.rules start.journal (W.contents output.old) (W.contents output.new)) }
     ensures at_most { PrintsAtMostTable N.rules start.journal (W.contents output.old)
         (W.contents output.new) }
+
+    // A failed write is reported as `Write` and as nothing else. Without memory nothing is written.
+    ensures well { OnOk result.printed (W.failures output.new ≡ W.failures output.old) }
+    ensures write { IsErrOf result.printed ScribeFault.Write →
+        W.failures output.new ≡ W.failures output.old + 1 }
+    ensures silent { IsErrOf result.printed ScribeFault.NoMemory → output.new ≡ output.old }
 {
     let (back, admitted) = serve_each(rt, alloc, office, door, passes, &OpenGate);
     let mut guard = office.desk(rt);

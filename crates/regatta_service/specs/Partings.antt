@@ -1,30 +1,43 @@
 -- How a client was parted with.
-use Rattle.std.specs.Prelude.{◌≡◌, ◌+◌, ℕ, List, Option, Result, Ok, Err}
-use Rattle.std.specs.Io.KnownBytes.{Appends, IsAtEnd}
+use Rattle.std.specs.Prelude.{◌≡◌, ◌≢◌, ◌+◌, ◌⊎◌, ℕ, List, Option, Result, Ok, Err}
+use Rattle.std.specs.Io.KnownBytes.{Appends, IsAtEnd, Keeps}
 use Rattle.regatta_terms.specs.Rules.{RulesParts}
 use Rattle.regatta_terms.specs.declared.reply.Reply.TheVariants.{Busy}
+use Rattle.regatta_streams.specs.Texts.{AppendsPrefix}
 use Rattle.regatta_tables.specs.ReplyTexts.{reply_text}
 use Rattle.regatta_desk.specs.Passes.{PassValue}
-use Rattle.regatta_service.specs.Ends.{failures_in}
+use Rattle.regatta_service.specs.Ends.{failed_reads_in, failures_in}
 use Rattle.regatta_service.specs.LinesTaken.{Talked}
 use Rattle.regatta_service.specs.declared.sessions.End.{End}
 
 -- a session with some pass took the stream from its state `given` to `left`, as the session's end
--- says, also of the failed calls of the stream
+-- says, also of the failed calls of the stream; it had memory for its replies
 pub record IsServed {S : Type 0} (rules : RulesParts) (remaining contents : S → Option (List ℕ))
-    (failures : S → ℕ) (given left : S) (end : End) : Type 0 where
+    (failures failed_reads : S → ℕ) (given left : S) (end : End) : Type 0 where
   pub before : PassValue
   pub after : PassValue
   pub failed : failures left ≡ failures given + failures_in end
+  pub reads : failed_reads left ≡ failed_reads given + failed_reads_in end
   pub closed : end ≡ End.Closed → IsAtEnd (remaining left)
   pub talked : Talked rules end (remaining given) (remaining left) before after (contents given)
       (contents left)
+  pub room : end ≢ End.NoMemory
 
--- that; or, if there is a reason why no session began, the client was told that there is no seat,
--- unless a call of the stream failed
+-- the client was told that there is no seat, or a write failed and they were told a beginning of
+-- that; nothing was read
+pub record IsTurnedAway {S : Type 0} (remaining contents : S → Option (List ℕ))
+    (failures failed_reads : S → ℕ) (given left : S) : Type 0 where
+  pub wrote : ((failures left ≡ failures given)
+      × Appends (contents given) (contents left) (reply_text Busy))
+      ⊎ ((failures left ≡ failures given + 1)
+      × AppendsPrefix (contents given) (contents left) (reply_text Busy))
+  pub keeps : Keeps (remaining given) (remaining left)
+  pub no_read : failed_reads left ≡ failed_reads given
+
+-- served; or, if there is a reason why no session began, turned away
 abbrev pub IsParted : {S Why : Type 0} → RulesParts → (S → Option (List ℕ))
-    → (S → Option (List ℕ)) → (S → ℕ) → S → S → Result End Why → Type 0
-IsParted rules remaining contents failures given left (Ok end) =
-    IsServed rules remaining contents failures given left end
-IsParted rules remaining contents failures given left (Err why) =
-    failures left ≡ failures given → Appends (contents given) (contents left) (reply_text Busy)
+    → (S → Option (List ℕ)) → (S → ℕ) → (S → ℕ) → S → S → Result End Why → Type 0
+IsParted rules remaining contents failures failed_reads given left (Ok end) =
+    IsServed rules remaining contents failures failed_reads given left end
+IsParted rules remaining contents failures failed_reads given left (Err why) =
+    IsTurnedAway remaining contents failures failed_reads given left

@@ -37,7 +37,7 @@ impl Ending {
 
 /// Tells a client for whom the system has no descriptor that there is no seat, and ends the
 /// connection. Whether the client reads it changes nothing.
-fn turn_away(socket: UnixStream) {
+fn refuse(socket: UnixStream) {
     let mut ending = Ending { socket };
     let _ = ending.socket.write_all(BUSY);
 }
@@ -60,7 +60,7 @@ pub(crate) fn connection_of(socket: UnixStream) -> Option<Connection<UnixStream>
             Some(Connection::new(socket, ending))
         }
         _ => {
-            turn_away(socket);
+            refuse(socket);
             None
         }
     }

@@ -1,15 +1,12 @@
 //! Clients, from the door to the end of their session.
-ghost use Rattle.std.specs.Prelude.{◌≡◌, ◌+◌, Some, None, IfOk, IfErr};
-ghost use Rattle.std.specs.Io.KnownBytes.{Appends};
-ghost use Rattle.regatta_terms.specs.declared.reply.Reply.TheVariants.{Busy};
-ghost use Rattle.regatta_tables.specs.ReplyTexts.{reply_text};
-ghost use Rattle.regatta_service.specs.Partings.{IsParted};
+ghost use Rattle.std.specs.Prelude.{◌≡◌, ◌+◌, Some, None, IfOk, IfErr, OnErr};
+ghost use Rattle.regatta_service.specs.Partings.{IsParted, IsServed, IsTurnedAway};
 
 use crate::connection::BUSY;
 use crate::count::Count;
 use crate::gate::Gate;
-use crate::pool::{NoPlace, Pool};
-use crate::sessions::{End, session};
+use crate::pool::{NoPlace, Pool, reply_room};
+use crate::sessions::{End, session_with};
 use regatta_desk::{Office, OfficeName};
 use regatta_streams::{Device, Sink, Source, write_all};
 use std::alloc::Global;
@@ -18,18 +15,20 @@ use std::snapshot::Snapshot;
 use std::sync::{Mutex, Wait};
 use std::thread::{Promise, PromisedHandle, Scope};
 
-/// Tells a client that there is no seat. Whether the client reads it changes nothing.
-fn turn_away<S: Sink>(stream: &mut S)
-    ensures { S.failures stream.new ≡ S.failures stream.old →
-        Appends (S.contents stream.old) (S.contents stream.new) (reply_text Busy) }
+/// Tells a client that there is no seat. Whether the client reads it changes nothing. Returns the
+/// stream as it was left.
+fn turned_away<S: Source + Sink + Drop>(stream: S) -> Snapshot<S>
+    ensures { IsTurnedAway S.remaining S.contents S.failures S.failed_reads stream result.value }
 {
-    let _ = write_all(stream, BUSY);
+    let mut stream = stream;
+    let _ = write_all(&mut stream, BUSY);
+    Snapshot::of(&stream)
 }
 
 /// How a client was parted with. The stream itself is closed by then.
 #[derive(Drop)]
 pub(crate) struct Parted<S> {
-    /// How the session ended, or why there was none: no seat was free, or no thread was available.
+    /// How the session ended, or why there was none.
     end: Result<End, NoPlace>,
     /// The stream as it was left.
     left: Snapshot<S>,
@@ -44,7 +43,7 @@ pub(crate) struct Serves<N, S> {
 
 impl<N: OfficeName, S: Source + Sink> Promise<Parted<S>> for Serves<N, S> {
     ghost kept_by = { λ promise parted. IsParted N.rules S.remaining S.contents S.failures
-        promise.given.value parted.left.value parted.end };
+        S.failed_reads promise.given.value parted.left.value parted.end };
 }
 
 /// The number of clients admitted: each was given to a thread that promised them a session, or was
@@ -80,26 +79,48 @@ impl Admitted {
     }
 }
 
-/// Turns away a client who can't be served, and parts with them.
-fn sent_away<N: OfficeName, S: Source + Sink>(
-    stream: S,
-    why: NoPlace,
-    _office: PhantomData<N>,
-) -> Parted<S>
+/// Serves a client with the pass that is booked at this slot, and frees the seat.
+///
+/// # Errors
+///
+/// If nothing is booked there, or there is no memory for replies. The stream is then untouched.
+fn serve_booked<N, H, R, S, G>(
+    rt: &R,
+    alloc: Global,
+    stream: &mut S,
+    slot: usize,
+    office: &Office<N, H>,
+    pool: &Mutex<Pool<N>>,
+    gate: &G,
+) -> Result<End, NoPlace>
 where
-    S: Drop,
-    ensures { IsParted N.rules S.remaining S.contents S.failures stream result.left.value
-        result.end }
+    N: OfficeName,
+    H: Wait + Drop,
+    R: Wait,
+    S: Source + Sink,
+    G: Gate,
+    ensures served { IfOk result (λ end. IsServed N.rules S.remaining S.contents S.failures
+        S.failed_reads stream.old stream.new end) }
+    ensures err { OnErr result (stream.new ≡ stream.old) }
 {
-    let mut stream = stream;
-    turn_away(&mut stream);
-    Parted {
-        end: Err(why),
-        left: Snapshot::of(&stream),
-    }
+    let fetched = pool.lock(rt).fetch(slot);
+    let mut lent = fetched?;
+    let end = match reply_room(alloc) {
+        Ok(reply) => {
+            let end = session_with(rt, reply, stream, office, &mut lent.pass, gate);
+            gate.ended(lent.pass.seat(), end);
+            Ok(end)
+        }
+        Err(why) => Err(why),
+    };
+    // The seat is free before the stream is closed, so a client who sees the end of their session
+    // may come again at once.
+    pool.lock(rt).give(lent);
+    end
 }
 
-/// Serves a client with the pass that waits at this slot. If they can't be served, turns them away.
+/// Serves a client with the pass that is booked at this slot. If they can't be served, turns them
+/// away.
 fn attend<N, H, R, S, G>(
     rt: &R,
     alloc: Global,
@@ -115,22 +136,20 @@ where
     R: Wait,
     S: Source + Sink + Drop,
     G: Gate,
-    ensures { IsParted N.rules S.remaining S.contents S.failures stream result.left.value
-        result.end }
+    ensures { IsParted N.rules S.remaining S.contents S.failures S.failed_reads stream
+        result.left.value result.end }
 {
-    let fetched = pool.lock(rt).fetch(slot);
-    let mut lent = match fetched {
-        Ok(lent) => lent,
-        Err(why) => return sent_away::<N, S>(stream, why, PhantomData),
-    };
     let mut stream = stream;
-    let end = session(rt, alloc, &mut stream, office, &mut lent.pass, gate);
-    let left = Snapshot::of(&stream);
-    gate.ended(lent.pass.seat(), end);
-    // The seat is free before the stream is closed, so a client who sees the end of their session
-    // may come again at once.
-    pool.lock(rt).give(lent);
-    Parted { end: Ok(end), left }
+    match serve_booked(rt, alloc, &mut stream, slot, office, pool, gate) {
+        Ok(end) => Parted {
+            end: Ok(end),
+            left: Snapshot::of(&stream),
+        },
+        Err(why) => Parted {
+            end: Err(why),
+            left: turned_away(stream),
+        },
+    }
 }
 
 /// Admits a client to the lowest free seat, where a thread of their own serves them. If no seat is
@@ -156,13 +175,18 @@ where
     // The thread promises to serve this stream, or it was parted with here.
     ensures seated { IfOk result (λ thread. thread.promise.given.value ≡ stream) }
     ensures away { IfErr result (λ parted. IsParted N.rules S.remaining S.contents S.failures
-        stream parted.left.value parted.end) }
+        S.failed_reads stream parted.left.value parted.end) }
 {
     admitted.count();
     let booked = pool.lock(rt).book();
     let slot = match booked {
         Ok(slot) => slot,
-        Err(why) => return Err(sent_away::<N, S>(stream, why, PhantomData)),
+        Err(why) => {
+            return Err(Parted {
+                end: Err(why),
+                left: turned_away(stream),
+            });
+        }
     };
     let promise = Serves {
         given: Snapshot::of(&stream),
@@ -173,9 +197,8 @@ where
     }) {
         Ok(thread) => Ok(thread),
         Err(refused) => {
-            // The refused closure finds at the slot why the client can't be served.
-            let why = NoPlace::without_thread(&refused);
-            pool.lock(rt).unbook(slot, why);
+            // The refused closure finds nothing booked, and turns the client away.
+            pool.lock(rt).unbook(slot, &refused);
             Err((refused.value)())
         }
     }

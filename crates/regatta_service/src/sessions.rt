@@ -1,6 +1,6 @@
 //! The session of one client, whose lines are answered one after another.
 ghost use Rattle.std.specs.Prelude.{◌≡◌, ◌≢◌, ◌+◌, ◌≤◌, [], true, false, Ok, Some, None, IfSome};
-ghost use Rattle.std.specs.Prelude.{IsTrue, vec_capacity, vec_len};
+ghost use Rattle.std.specs.Prelude.{IsSome, IsTrue, vec_capacity, vec_len};
 ghost use Rattle.std.specs.Io.KnownBytes.{IsAtEnd, Keeps};
 ghost use Rattle.regatta_terms.specs.Lines.{line_of};
 ghost use Rattle.regatta_talk.specs.Replies.{role_after};
@@ -12,9 +12,10 @@ ghost use Rattle.regatta_service.specs.Lines.{is_replied};
 ghost use Rattle.regatta_service.specs.LinesTaken.{Talked, Took, WentOn, asked_from, point};
 
 use crate::gate::Gate;
+use crate::pool::reply_room;
 use regatta_desk::{Next, Office, OfficeName, Pass, answer_alone};
 use regatta_streams::{Device, Sink, Source, write_all};
-use regatta_talk::{Cutter, make_room};
+use regatta_talk::Cutter;
 use regatta_terms::{Line, LineFault, Role, read_line};
 use std::alloc::Global;
 use std::sync::Wait;
@@ -37,7 +38,8 @@ pub enum End {
     ReadFault,
     /// A write to the stream failed.
     WriteFault,
-    /// The gate stopped a line.
+    /// The gate stopped a line. Or the desk's journal didn't begin with what the pass has seen,
+    /// which no run has met.
     Stopped,
     /// There was no memory for replies. The session has then read nothing.
     NoMemory,
@@ -124,6 +126,9 @@ impl<N: OfficeName, H: Wait + Drop, G: Gate> Talk<'_, N, H, G> {
         ensures role { IfSome result (λ _. self.new.role ≡ role_after asked self.old.role) }
         ensures next { IfSome result (λ next. next ≡ next_after asked) }
         ensures none { result ≡ None → (pass.new ≡ pass.old) × (self.new.role ≡ self.old.role) }
+
+        // A line that the pass answers alone is always answered.
+        ensures alone { is_for_desk asked ≡ false → IsSome result }
         ensures room { REPLY_ROOM ≤ vec_capacity self.new.reply }
         ensures cutter { self.new.cutter ≡ self.old.cutter }
         ensures ended { self.new.ended ≡ self.old.ended }
@@ -246,6 +251,52 @@ impl<N: OfficeName, H: Wait + Drop, G: Gate> Talk<'_, N, H, G> {
     }
 }
 
+/// Serves one client, as [`session`] does, with room for replies.
+pub(crate) fn session_with<N: OfficeName, H: Wait + Drop, R: Wait, S: Source + Sink, G: Gate>(
+    rt: &R,
+    reply: Vec<u8>,
+    stream: &mut S,
+    office: &Office<N, H>,
+    pass: &mut Pass<N>,
+    gate: &G,
+) -> End
+    requires room { REPLY_ROOM ≤ vec_capacity reply }
+    ensures failures { S.failures stream.new ≡ S.failures stream.old + failures_in result }
+    ensures reads { S.failed_reads stream.new
+        ≡ S.failed_reads stream.old + failed_reads_in result }
+    ensures closed { result ≡ End.Closed → IsAtEnd (S.remaining stream.new) }
+    ensures talked { Talked N.rules result (S.remaining stream.old) (S.remaining stream.new)
+        pass.old pass.new (S.contents stream.old) (S.contents stream.new) }
+    ensures seat { pass.new.seat ≡ pass.old.seat }
+
+    // Memory doesn't run out.
+    ensures room_left { result ≢ End.NoMemory }
+{
+    let mut talk = Talk {
+        office,
+        gate,
+        role: Role::Scorer,
+        line: 0,
+        cutter: Cutter::new(),
+        reply,
+        ended: None,
+    };
+    let mut buffer = [0; PIECE];
+    for _ in rt.forever() {
+        let Ok(count) = stream.read(&mut buffer) else {
+            return End::ReadFault;
+        };
+        if count == 0 {
+            return End::Closed;
+        }
+        talk.take_all(rt, stream, pass, &buffer[..count]);
+        if let Some(end) = talk.ended {
+            return end;
+        }
+    }
+    unreachable!()
+}
+
 /// Serves one client: answers each line that ends in LF, up to QUIT. A line that is too long gets
 /// one reply, which says so. The session starts in the scorer's role. What was committed stays,
 /// however the session ends.
@@ -273,31 +324,8 @@ pub fn session<N: OfficeName, H: Wait + Drop, R: Wait, S: Source + Sink, G: Gate
     // Without memory for replies nothing is done.
     ensures no_memory { result ≡ End.NoMemory → (stream.new ≡ stream.old) × (pass.new ≡ pass.old) }
 {
-    let mut reply = Vec::new(alloc);
-    if make_room(&mut reply).is_err() {
+    let Ok(reply) = reply_room(alloc) else {
         return End::NoMemory;
-    }
-    let mut talk = Talk {
-        office,
-        gate,
-        role: Role::Scorer,
-        line: 0,
-        cutter: Cutter::new(),
-        reply,
-        ended: None,
     };
-    let mut buffer = [0; PIECE];
-    for _ in rt.forever() {
-        let Ok(count) = stream.read(&mut buffer) else {
-            return End::ReadFault;
-        };
-        if count == 0 {
-            return End::Closed;
-        }
-        talk.take_all(rt, stream, pass, &buffer[..count]);
-        if let Some(end) = talk.ended {
-            return end;
-        }
-    }
-    unreachable!()
+    session_with(rt, reply, stream, office, pass, gate)
 }

@@ -3,7 +3,7 @@ use Rattle.regatta_terms.specs.declared.command.Role.{Role}
 use Rattle.regatta_tables.specs.declared.replies.TheConstants.{REPLY_ROOM}
 use Rattle.regatta_service.specs.LinesTaken.{point}
 use Rattle.regatta_service.proofs.Talking.{SoFar}
-use Rattle.regatta_service.proofs.sessions.session.Given as goal
+use Rattle.regatta_service.proofs.sessions.session_with.Given as goal
 
 -- no call of the stream has failed, a reply has room, and the session goes on after the bytes so far
 abbrev pub invariant-loop : goal.invariant-loop
