@@ -230,7 +230,7 @@ class Ways(unittest.TestCase):
         """An office whose `accept` keeps failing lets nobody in, and still serves those who are there."""
         with helpers.served(folder=self.here) as (path, serving):
             with contextlib.closing(Link(path)) as link:
-                link.ask("ENTER A")
+                self.assertEqual(link.ask("ENTER A"), "OK 1 1 0.0")
                 resource.prlimit(serving.pid, resource.RLIMIT_NOFILE, (3, 3))
                 with socket.socket(socket.AF_UNIX, socket.SOCK_STREAM) as refused:
                     refused.connect(path)
