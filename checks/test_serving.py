@@ -276,10 +276,14 @@ class Leaving(Office):
         """A client reads the replies and the end of the stream, whatever was sent after QUIT. When
         they come again they get the lowest seat once more, and nobody is let in after them."""
         path, serving = self.serve("--clients", "2", "--sessions", "2")
+        opened = os.listdir(f"/proc/{serving.pid}/fd")
         with frozen(serving):
             client = connected(path)
             self.addCleanup(client.close)
             client.sendall(b"ENTER A\nQUIT\nENTER B\n" + b"X" * 100_000)
+        # The client reads when the office has let go of the stream: bytes left unread would reset it.
+        self.assertEqual(client.recv(100, socket.MSG_PEEK)[:2], b"OK")
+        helpers.until("a closed stream", lambda: os.listdir(f"/proc/{serving.pid}/fd") == opened)
         self.assertEqual(rest(client), b"OK 1 1 0.0\nBYE\n")
         self.assertEqual(answers(path, b"ENTER B\nSHOW\nQUIT\n"),
                          b"OK 2 1= 0.0\nJOURNAL 2\n1 1 SCORER ENTER A\n1 2 SCORER ENTER B\n"

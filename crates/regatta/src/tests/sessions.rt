@@ -87,8 +87,15 @@ fn are_answered<N: OfficeName, H: Wait + Drop, R: Wait>(
     pass: &mut Pass<N>,
 ) -> bool {
     let (text, replies) = (b"ENTER B\nQUIT\n", b"OK 2 1= 0.0\nBYE\n");
-    is_answered(rt, alloc, office, pass, LOOKS_FIRST, End::Closed, FIRST_REPLIES)
-        && is_answered(rt, alloc, office, pass, text, End::Quit, replies)
+    is_answered(
+        rt,
+        alloc,
+        office,
+        pass,
+        LOOKS_FIRST,
+        End::Closed,
+        FIRST_REPLIES,
+    ) && is_answered(rt, alloc, office, pass, text, End::Quit, replies)
 }
 
 /// Whether a boat that is entered through the lock is the entry at this place, or is refused so.
@@ -262,20 +269,19 @@ fn are_stopped<N: OfficeName, H: Wait + Drop, R: Wait>(
     match one_seat::<N, H>(opened) {
         Some((office, mut pass)) => {
             are_ended(rt, alloc, &office, &mut pass, one, two, gate)
-                & has_journal(rt, alloc, &office, b"1 1 SCORER ENTER A\n1 2 SCORER ENTER C\n")
+                & has_journal(
+                    rt,
+                    alloc,
+                    &office,
+                    b"1 1 SCORER ENTER A\n1 2 SCORER ENTER C\n",
+                )
         }
         None => false,
     }
 }
 
 /// Whether it is so at an office that is opened for it.
-fn is_heeded<R: Wait>(
-    rt: &R,
-    alloc: Global,
-    one: &mut Wire,
-    two: &mut Wire,
-    gate: &Notes,
-) -> bool {
+fn is_heeded<R: Wait>(rt: &R, alloc: Global, one: &mut Wire, two: &mut Wire, gate: &Notes) -> bool {
     match opened_office(rt, alloc, 1) {
         Some(opened) => are_stopped::<Brand, _, _>(rt, alloc, opened, one, two, gate),
         None => false,

@@ -58,10 +58,7 @@ pub(crate) fn door_of<R: Net>(
 
 /// A door that gives two clients, of whom the first enters A and the other B, and the clients' own
 /// ends.
-pub(crate) fn door_of_two<R: Net>(
-    rt: &R,
-    alloc: Global,
-) -> Result<(Wires, [UnixStream; 2]), Fail> {
+pub(crate) fn door_of_two<R: Net>(rt: &R, alloc: Global) -> Result<(Wires, [UnixStream; 2]), Fail> {
     let (one, first) = ends_of(rt, b"ENTER A\n")?;
     let (two, second) = ends_of(rt, b"ENTER B\n")?;
     let clients = vec![in alloc; Foreign::new(two), Foreign::new(one)]?;

@@ -71,8 +71,10 @@ static KINDS: [(ErrorKind, Complaint); 2] = [
     (ErrorKind::NotFound, Complaint::Device),
 ];
 
-static RULES: [(RulesFault, Complaint); 1] =
-    [(RulesFault::NotRising, Complaint::Rules { number: 3 })];
+static RULES: [(RulesFault, Complaint); 1] = [(
+    RulesFault::NotRising,
+    Complaint::Rules { number: 3 },
+)];
 
 static ENTRIES: [(EntriesFault, Complaint); 2] = [
     (

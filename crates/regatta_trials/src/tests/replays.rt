@@ -107,11 +107,7 @@ fn lines_are_answered_and_the_table_is_printed(rt: HostRuntime) -> Result<(), Fa
     for talk in &TALKS {
         for piece in [1, 7, 5000] {
             let (text, written) = (talk.text.as_bytes(), talk.written.as_bytes());
-            assert!(rt;
-                says(rt.alloc(), text, piece, written)?,
-                "at {}",
-                talk.text
-            );
+            assert!(rt; says(rt.alloc(), text, piece, written)?, "at {}", talk.text);
         }
     }
     Ok(())

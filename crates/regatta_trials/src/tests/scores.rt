@@ -31,7 +31,7 @@ enum Step {
     Ahead(u16, u16),
     /// She goes out of the order.
     Out(u16),
-    /// She holds so many penalties under RRS 30.2, and Scoring Penalties (44.3).
+    /// The number of her penalties under RRS 30.2, and of her Scoring Penalties (44.3).
     Penalised(u16, u8, u8),
     /// She holds a code.
     Coded(u16, Code),
