@@ -51,6 +51,20 @@ def run(tool: str, *words: str, lines: str = "", cwd: str | None = None) -> tupl
     return done.stdout, done.returncode
 
 
+def replayed(*words: str, lines: str | bytes = b"") -> tuple[str, str, int]:
+    """What a replay prints and says of these lines, with these options, and its status."""
+    return ran("replay", *words, lines=lines)
+
+
+def ran(*words: str, lines: str | bytes = b"", **more: object) -> tuple[str, str, int]:
+    """What the program prints and says for these words, over this input, and its status."""
+    data = lines.encode() if isinstance(lines, str) else lines
+    given = {} if "stdin" in more else {"input": data}
+    done = subprocess.run([PROGRAM, *words], timeout=PATIENCE,
+                          **{"stdout": subprocess.PIPE, "stderr": subprocess.PIPE, **given, **more})
+    return *((part or b"").decode("ascii", "replace") for part in (done.stdout, done.stderr)), done.returncode
+
+
 def states(number: int, leader: bool = False) -> set[str]:
     """The states of a process's threads, or of its first: R runs, S waits, T is stopped."""
     names = [str(number)] if leader else os.listdir(f"/proc/{number}/task")

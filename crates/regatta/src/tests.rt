@@ -1,12 +1,9 @@
-use regatta_fixtures::{
-    PLENTY, Streams, default_rules, handicap_rules, joined, repeated, repeated_line, status_of,
-};
+use regatta_fixtures::{PLENTY, Streams, default_rules, handicap_rules, status_of};
 use regatta_office::Tape;
 use regatta_terms::{Entry, Rules};
 use std::alloc::{AllocError, Global};
 use std::test::Fail;
 
-mod edge;
 mod memory;
 mod offices;
 mod serving;

@@ -32,37 +32,16 @@ impl Streams {
     ///
     /// If an allocation fails.
     pub fn new(alloc: Global, text: &[u8], takes: usize) -> Result<Streams, AllocError> {
-        Streams::failing(alloc, text, PLENTY, takes, MOST_SAID)
-    }
-
-    /// An input of this text that fails once it has given `gives` bytes, an output that fails once
-    /// it has taken `takes` bytes, and room to say `said` bytes.
-    ///
-    /// # Errors
-    ///
-    /// If an allocation fails.
-    pub fn failing(
-        alloc: Global,
-        text: &[u8],
-        gives: usize,
-        takes: usize,
-        said: usize,
-    ) -> Result<Streams, AllocError> {
         Ok(Streams {
-            input: Tape::new(alloc, text, PIECE, gives, 0)?,
+            input: Tape::new(alloc, text, PIECE, PLENTY, 0)?,
             output: Tape::new(alloc, b"", PIECE, 0, takes)?,
-            errors: Tape::new(alloc, b"", PIECE, 0, said)?,
+            errors: Tape::new(alloc, b"", PIECE, 0, MOST_SAID)?,
         })
     }
 
-    /// Whether just this was written to standard output, and just this to standard error.
-    pub fn has_written(&self, written: &str, said: &str) -> bool {
-        self.output.written() == written.as_bytes() && self.has_said(said)
-    }
-
-    /// Whether just this was written to standard error.
-    pub fn has_said(&self, said: &str) -> bool {
-        self.errors.written() == said.as_bytes()
+    /// Whether just this was written to standard output, and nothing to standard error.
+    pub fn has_written(&self, written: &str) -> bool {
+        self.output.written() == written.as_bytes() && self.errors.written().is_empty()
     }
 }
 

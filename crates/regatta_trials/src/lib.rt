@@ -1,6 +1,6 @@
-//! Tests of the race office through its public calls: worked races and series, journals, lists,
-//! streams that fail, and runs of the program. What needs threads or sockets is tested beside the
-//! program.
+//! Tests of the race office through its public calls: worked races and series, boards, replays over
+//! memory, and the texts of faults. What needs threads or all of the memory is tested beside the
+//! program, and what needs the built program by `checks/`.
 #![tactic(auto)]
 
 #[cfg(test)]

@@ -2,10 +2,10 @@
 //! they agree, and these tests that the calls do answer.
 
 use super::*;
-use regatta_board::{Board, ReplayFault, next_entry, standing_of};
+use regatta_board::{Board, ReplayFault, standing_of};
 use regatta_scores::Standing;
 use regatta_tables::{Journal, read_journal, write_table};
-use regatta_terms::{Absent, Answer, Code, Command, RaceNo, Refusal, Role, Sail, Touched};
+use regatta_terms::{Absent, Command, Refusal, Role, Sail};
 
 /// A and B tie for first, and C is third. Then A is disqualified.
 static DISQUALIFIED: &[u8] = b"1 1 SCORER ENTER A\n1 2 SCORER ENTER B\n1 3 SCORER ENTER C\n\
@@ -37,10 +37,6 @@ static TIMED: &[u8] = b"1 1 SCORER ENTER A\n1 2 SCORER ENTER B\n1 3 SCORER ENTER
     1 4 FINISH TIME 1 A 3605\n1 5 FINISH TIME 1 B 3600\n1 6 FINISH TIME 1 C 3605\n\
     1 7 SCORER SCORE 1\n1 8 SCORER STRIKE 1 A\n1 9 SCORER TIME 1 A 3605\n\
     1 10 SCORER STRIKE 1 A\n1 11 SCORER TIME 1 A 3599\n1 12 JURY MARK 1 A DSQ\n";
-
-/// A and B tie for first, and C is third.
-static TIED_FIRST: &[u8] = b"1 1 SCORER ENTER A\n1 2 SCORER ENTER B\n1 3 SCORER ENTER C\n\
-    1 4 FINISH FINISH 1 A\n1 5 FINISH TIE 1 B A\n1 6 FINISH FINISH 1 C\n1 7 SCORER SCORE 1\n";
 
 /// The journal with this text.
 fn journal_of(alloc: Global, text: &[u8]) -> Result<Journal, Fail> {
@@ -111,81 +107,6 @@ fn board_of(alloc: Global, text: &[u8]) -> Result<Board, Fail> {
     Ok(board.ok().ok_or("a lawful journal")?)
 }
 
-/// The sail of a boat.
-fn sail(text: &str) -> Result<Sail, Fail> {
-    let sail = Sail::read(text.as_bytes()).ok_or("a sail")?;
-    Ok(sail)
-}
-
-/// Where A is while she is tied for first (RRS A7).
-const TIED: Touched = Touched {
-    rank: 1,
-    tied: true,
-    net: 15,
-};
-
-/// Where she is once she is disqualified (RRS A5.2).
-const LAST: Touched = Touched {
-    rank: 3,
-    tied: false,
-    net: 40,
-};
-
-/// Whether the board returns its rules and its length, the last numbers of two seats, and where the
-/// first boat is, but nothing of the other, who isn't entered.
-fn has_what_it_took(board: &Board, tied: Sail, unknown: Sail) -> bool {
-    board.rank(tied) == Some(TIED)
-        && board.rank(unknown).is_none()
-        && *board.rules() == default_rules()
-        && board.len() == 7
-        && board.last_of(1) == 7
-        && board.last_of(2) == 0
-}
-
-#[test]
-fn a_board_has_what_it_took(rt: HostRuntime) -> Result<(), Fail> {
-    let (tied, unknown) = (sail("A")?, sail("D")?);
-    let board = board_of(rt.alloc(), TIED_FIRST)?;
-    assert!(rt; has_what_it_took(&board, tied, unknown));
-    Ok(())
-}
-
-/// The place of a prepared command, which holds this entry, and for which one race was scored.
-fn prepared(board: &Board, entry: Entry) -> Option<u32> {
-    match board.prepare(entry) {
-        Ok(staged) => {
-            let (found, rescored, place) = (*staged.entry(), staged.rescored(), staged.place());
-            (found == entry && rescored == 1).then_some(place)
-        }
-        Err(_) => None,
-    }
-}
-
-/// Prepares an entry and commits it.
-fn committed(board: &mut Board, entry: Entry) -> Option<Answer> {
-    match board.prepare(entry) {
-        Ok(staged) => Some(board.commit(staged)),
-        Err(_) => None,
-    }
-}
-
-/// Whether the entry is prepared and committed, and answered so.
-fn is_committed(board: &mut Board, entry: Entry, answer: Answer) -> bool {
-    prepared(board, entry) == Some(answer.place) && committed(board, entry) == Some(answer)
-}
-
-#[test]
-fn a_prepared_command_is_committed(rt: HostRuntime) -> Result<(), Fail> {
-    let race = RaceNo::new(1).ok_or("a race")?;
-    let (sail, code) = (sail("A")?, Code::Dsq);
-    let entry = next_entry(2, 0, Role::Jury, Command::Mark { race, sail, code });
-    let touched = Some(LAST);
-    let answer = Answer { place: 8, touched };
-    let mut board = board_of(rt.alloc(), TIED_FIRST)?;
-    assert!(rt; is_committed(&mut board, entry, answer) && board.rank(sail) == touched);
-    Ok(())
-}
-
 /// For how many races a command was scored that the board takes.
 fn rescored(board: &mut Board, entry: Entry) -> Option<u32> {
     match board.prepare(entry) {
@@ -232,7 +153,8 @@ fn a_command_scores_few_races(rt: HostRuntime) -> Result<(), Fail> {
 #[test]
 fn a_number_of_a_seat_is_used_once(rt: HostRuntime) -> Result<(), Fail> {
     let mut board = board_of(rt.alloc(), DISQUALIFIED)?;
-    let late = Command::Enter { sail: sail("D")? };
+    let sail = Sail::read(b"D").ok_or("a sail")?;
+    let late = Command::Enter { sail };
     let entry = Entry::new(1, 8, Role::Scorer, late).ok_or("an entry")?;
     let refused = board.apply(entry);
     assert!(rt; refused == Err(Refusal::OldNumber { last: 8 }) && board.len() == 8);

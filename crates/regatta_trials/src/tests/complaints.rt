@@ -1,3 +1,5 @@
+//! What the program says of each fault, and its status: no contract says so.
+
 use super::*;
 use regatta_office::{Complaint, DoorFault, OpenFault, ServeFault};
 use regatta_streams::ReadFault;
@@ -5,119 +7,148 @@ use regatta_tables::{EntriesFault, JournalFault};
 use regatta_terms::{LineFault, Refusal, RulesFault};
 use std::alloc::AllocError;
 use std::io::ErrorKind;
-use std::process::Abort;
+
+static TEXTS: [(Complaint, &str, u8); 7] = [
+    (Complaint::Rules { number: 6 }, "regatta: rules fault 6", 2),
+    (
+        Complaint::Entries {
+            number: 5,
+            row: 502,
+        },
+        "regatta: entries fault 5 row 502",
+        1,
+    ),
+    (
+        Complaint::Journal {
+            number: 2,
+            line: 8194,
+        },
+        "regatta: journal fault 2 line 8194",
+        1,
+    ),
+    (
+        Complaint::Start { number: 15, at: 9 },
+        "regatta: start refused 15 at 9",
+        1,
+    ),
+    (Complaint::TooLong, "regatta: input too long", 1),
+    (Complaint::Device, "regatta: device fault", 3),
+    (Complaint::NoMemory, "regatta: no memory", 3),
+];
 
 #[test]
 fn complaints_have_their_texts_and_statuses(rt: HostRuntime) -> Result<(), Fail> {
-    let cases = [
-        (Complaint::Rules { number: 6 }, "regatta: rules fault 6", 2),
-        (
-            Complaint::Entries {
-                number: 5,
-                row: 502,
-            },
-            "regatta: entries fault 5 row 502",
-            1,
-        ),
-        (
-            Complaint::Journal {
-                number: 2,
-                line: 8194,
-            },
-            "regatta: journal fault 2 line 8194",
-            1,
-        ),
-        (
-            Complaint::Start { number: 15, at: 9 },
-            "regatta: start refused 15 at 9",
-            1,
-        ),
-        (Complaint::TooLong, "regatta: input too long", 1),
-        (Complaint::Device, "regatta: device fault", 3),
-        (Complaint::NoMemory, "regatta: no memory", 3),
-    ];
-    for (complaint, text, status) in cases {
+    for (complaint, text, status) in &TEXTS {
         let said = format!(in rt.alloc(); "{complaint}")?;
-        assert_eq!(rt; said.as_str(), text);
-        assert_eq!(rt; complaint.status(), status);
+        assert_eq!(rt; said.as_str(), *text);
+        assert_eq!(rt; complaint.status(), *status);
     }
     Ok(())
 }
 
-/// Asserts that each complaint is the one beside it.
-fn are_alike<R: Abort>(rt: &R, cases: &[(Complaint, Complaint)]) {
-    for (found, wanted) in cases {
-        assert_eq!(rt; found, wanted);
+static RUNS: [(RunFault, Complaint); 5] = [
+    (
+        RunFault::Start {
+            at: 3,
+            refusal: Refusal::AlreadyEntered,
+        },
+        Complaint::Start { number: 6, at: 3 },
+    ),
+    (RunFault::Read, Complaint::Device),
+    (RunFault::Write, Complaint::Device),
+    (RunFault::InputTooLong, Complaint::TooLong),
+    (RunFault::NoMemory, Complaint::NoMemory),
+];
+
+static READS: [(ReadFault, Complaint); 3] = [
+    (ReadFault::Stream, Complaint::Device),
+    (ReadFault::TooLong, Complaint::TooLong),
+    (ReadFault::NoMemory, Complaint::NoMemory),
+];
+
+static KINDS: [(ErrorKind, Complaint); 2] = [
+    (ErrorKind::OutOfMemory, Complaint::NoMemory),
+    (ErrorKind::NotFound, Complaint::Device),
+];
+
+static RULES: [(RulesFault, Complaint); 1] = [(
+    RulesFault::NotRising,
+    Complaint::Rules { number: 3 },
+)];
+
+static ENTRIES: [(EntriesFault, Complaint); 2] = [
+    (
+        EntriesFault::TooMany { row: 502 },
+        Complaint::Entries {
+            number: 5,
+            row: 502,
+        },
+    ),
+    (EntriesFault::NoMemory, Complaint::NoMemory),
+];
+
+static JOURNALS: [(JournalFault, Complaint); 4] = [
+    (
+        JournalFault::BadLine {
+            line: 7,
+            fault: LineFault::NoSuchWord,
+        },
+        Complaint::Journal { number: 1, line: 7 },
+    ),
+    (
+        JournalFault::TooMany { line: 8194 },
+        Complaint::Journal {
+            number: 2,
+            line: 8194,
+        },
+    ),
+    (
+        JournalFault::BadVersion,
+        Complaint::Journal { number: 4, line: 1 },
+    ),
+    (JournalFault::NoMemory, Complaint::NoMemory),
+];
+
+static OPENINGS: [(OpenFault, Complaint); 4] = [
+    (
+        OpenFault::Refused {
+            at: 2,
+            refusal: Refusal::AlreadyEntered,
+        },
+        Complaint::Start { number: 6, at: 2 },
+    ),
+    (OpenFault::BadSeats, Complaint::Device),
+    (OpenFault::NoReader, Complaint::Device),
+    (OpenFault::NoMemory, Complaint::NoMemory),
+];
+
+static SERVINGS: [(ServeFault, Complaint); 3] = [
+    (ServeFault::Door, Complaint::Device),
+    (ServeFault::Thread, Complaint::Device),
+    (ServeFault::NoMemory, Complaint::NoMemory),
+];
+
+/// Whether each of these faults becomes the complaint beside it.
+fn are_complaints<F: Copy + Into<Complaint>>(cases: &[(F, Complaint)]) -> bool {
+    for (fault, wanted) in cases {
+        let found: Complaint = (*fault).into();
+        if found != *wanted {
+            return false;
+        }
     }
+    true
 }
 
 #[test]
-fn faults_of_a_run_have_their_complaints(rt: HostRuntime) {
-    let refusal = Refusal::AlreadyEntered;
-    let start = Complaint::Start { number: 6, at: 3 };
-    let cases = [
-        (Complaint::from(RunFault::Start { at: 3, refusal }), start),
-        (Complaint::from(RunFault::Read), Complaint::Device),
-        (Complaint::from(RunFault::Write), Complaint::Device),
-        (Complaint::from(RunFault::InputTooLong), Complaint::TooLong),
-        (Complaint::from(RunFault::NoMemory), Complaint::NoMemory),
-        (Complaint::from(ReadFault::Stream), Complaint::Device),
-        (Complaint::from(ReadFault::TooLong), Complaint::TooLong),
-        (Complaint::from(ReadFault::NoMemory), Complaint::NoMemory),
-        (Complaint::from(AllocError), Complaint::NoMemory),
-        (Complaint::from(ErrorKind::OutOfMemory), Complaint::NoMemory),
-        (Complaint::from(ErrorKind::NotFound), Complaint::Device),
-    ];
-    are_alike(&rt, &cases);
-}
-
-#[test]
-fn faults_of_rules_and_files_have_their_complaints(rt: HostRuntime) {
-    let (number, row, line) = (5, 502, 8194);
-    let fault = LineFault::NoSuchWord;
-    let cases = [
-        (
-            Complaint::from(RulesFault::NotRising),
-            Complaint::Rules { number: 3 },
-        ),
-        (
-            Complaint::from(EntriesFault::TooMany { row }),
-            Complaint::Entries { number, row },
-        ),
-        (Complaint::from(EntriesFault::NoMemory), Complaint::NoMemory),
-        (
-            Complaint::from(JournalFault::BadLine { line: 7, fault }),
-            Complaint::Journal { number: 1, line: 7 },
-        ),
-        (
-            Complaint::from(JournalFault::TooMany { line }),
-            Complaint::Journal { number: 2, line },
-        ),
-        (
-            Complaint::from(JournalFault::BadVersion),
-            Complaint::Journal { number: 4, line: 1 },
-        ),
-        (Complaint::from(JournalFault::NoMemory), Complaint::NoMemory),
-    ];
-    are_alike(&rt, &cases);
-}
-
-#[test]
-fn faults_of_serving_have_their_complaints(rt: HostRuntime) {
-    let refusal = Refusal::AlreadyEntered;
-    let start = Complaint::Start { number: 6, at: 2 };
-    let cases = [
-        (
-            Complaint::from(OpenFault::Refused { at: 2, refusal }),
-            start,
-        ),
-        (Complaint::from(OpenFault::BadSeats), Complaint::Device),
-        (Complaint::from(OpenFault::NoReader), Complaint::Device),
-        (Complaint::from(OpenFault::NoMemory), Complaint::NoMemory),
-        (Complaint::from(DoorFault), Complaint::Device),
-        (Complaint::from(ServeFault::Door), Complaint::Device),
-        (Complaint::from(ServeFault::Thread), Complaint::Device),
-        (Complaint::from(ServeFault::NoMemory), Complaint::NoMemory),
-    ];
-    are_alike(&rt, &cases);
+fn faults_have_their_complaints(rt: HostRuntime) {
+    assert!(rt; are_complaints(&RUNS));
+    assert!(rt; are_complaints(&READS));
+    assert!(rt; are_complaints(&KINDS));
+    assert!(rt; are_complaints(&RULES));
+    assert!(rt; are_complaints(&ENTRIES));
+    assert!(rt; are_complaints(&JOURNALS));
+    assert!(rt; are_complaints(&OPENINGS));
+    assert!(rt; are_complaints(&SERVINGS));
+    assert!(rt; are_complaints(&[(AllocError, Complaint::NoMemory)]));
+    assert!(rt; are_complaints(&[(DoorFault, Complaint::Device)]));
 }

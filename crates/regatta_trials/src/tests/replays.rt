@@ -1,5 +1,7 @@
-use super::faults::says;
+ghost use Rattle.std.specs.Prelude.{◌<◌};
+
 use super::*;
+use regatta_fixtures::{Streams, status_of};
 use regatta_tables::read_journal;
 use regatta_terms::Refusal;
 
@@ -67,16 +69,45 @@ static TALKS: [Talk; 9] = [
     },
 ];
 
+/// How a run over these tapes ends. It has no contract, so that its callers are proved quickly.
+fn end_of(
+    alloc: Global,
+    input: &mut Tape,
+    output: &mut Tape,
+    start: &[Entry],
+) -> Result<(), RunFault> {
+    replay(alloc, input, output, &default_rules(), start, Form::Table)
+}
+
+/// What a run over memory writes for a text that it reads in pieces of `piece` bytes, and how it ends.
+fn replayed(
+    alloc: Global,
+    text: &[u8],
+    piece: usize,
+    start: &[Entry],
+) -> Result<(Tape, Result<(), RunFault>), Fail>
+    requires { 0 < piece }
+{
+    let mut input = Tape::new(alloc, text, piece, PLENTY, 0)?;
+    let mut output = Tape::new(alloc, b"", 1, 0, 1000)?;
+    let ended = end_of(alloc, &mut input, &mut output, start);
+    Ok((output, ended))
+}
+
+/// Whether a run over this text, in pieces of `piece` bytes, succeeds and writes this.
+fn says(alloc: Global, text: &[u8], piece: usize, written: &[u8]) -> Result<bool, Fail>
+    requires { 0 < piece }
+{
+    let (output, ended) = replayed(alloc, text, piece, &[])?;
+    Ok(ended == Ok(()) && output.written() == written)
+}
+
 #[test]
 fn lines_are_answered_and_the_table_is_printed(rt: HostRuntime) -> Result<(), Fail> {
     for talk in &TALKS {
         for piece in [1, 7, 5000] {
             let (text, written) = (talk.text.as_bytes(), talk.written.as_bytes());
-            assert!(rt;
-                says(rt.alloc(), text, piece, Ok(()), written)?,
-                "at {}",
-                talk.text
-            );
+            assert!(rt; says(rt.alloc(), text, piece, written)?, "at {}", talk.text);
         }
     }
     Ok(())
@@ -110,7 +141,7 @@ static STARTED: [Started; 2] = [
 fn starts(alloc: Global, run: &Started) -> Result<bool, Fail> {
     let start = read_journal(alloc, run.start).ok().ok_or("a journal")?;
     let entries = start.as_slice();
-    let (output, ended) = replayed(alloc, b"ENTER B\n", &default_rules(), entries, Form::Table)?;
+    let (output, ended) = replayed(alloc, b"ENTER B\n", 7, entries)?;
     Ok(ended == run.how && output.written() == run.written.as_bytes())
 }
 
@@ -119,5 +150,16 @@ fn a_start_is_replayed_or_refused(rt: HostRuntime) -> Result<(), Fail> {
     for run in &STARTED {
         assert!(rt; starts(rt.alloc(), run)?);
     }
+    Ok(())
+}
+
+/// The whole program replays lines over memory, and prints the results in the form asked for.
+#[test]
+fn the_program_replays(rt: HostRuntime) -> Result<(), Fail> {
+    let mut streams = Streams::new(rt.alloc(), b"ENTER A\nFINISH 1 A\nSCORE 1\n", PLENTY)?;
+    let status = status_of(&rt, &["replay", "--print", "csv"], &mut streams);
+    assert_eq!(rt; status, 0);
+    let written = "OK 1 1 0.0\nOK 2 1 0.0\nOK 3\nrank,sail,net,R1\n1,A,1.0,1.0\n";
+    assert!(rt; streams.has_written(written));
     Ok(())
 }

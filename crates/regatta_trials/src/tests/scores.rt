@@ -7,6 +7,7 @@ use regatta_scores::{
     better, excluded, net, race_points, race_scores, ranks,
 };
 use regatta_terms::{Code, Redress, Seconds, Tenths};
+use std::alloc::AllocError;
 use std::cmp::Ordering;
 
 /// Points in tenths.
@@ -19,122 +20,154 @@ fn are_tenths(points: &[Tenths], wanted: &[u32]) -> bool {
     points.iter().map(|p| p.get()).eq(wanted.iter().copied())
 }
 
+/// A change of a race's sheet, as plain data.
+#[derive(Clone, Copy)]
+enum Step {
+    /// The boat finishes last.
+    Last(u16),
+    /// She finishes with the other.
+    Join(u16, u16),
+    /// She goes ahead of the other.
+    Ahead(u16, u16),
+    /// She goes out of the order.
+    Out(u16),
+    /// The number of her penalties under RRS 30.2, and of her Scoring Penalties (44.3).
+    Penalised(u16, u8, u8),
+    /// She holds a code.
+    Coded(u16, Code),
+}
+
+/// The change that a step is.
+fn change_of(step: Step) -> Change {
+    match step {
+        Step::Last(boat) => Change::Last { boat },
+        Step::Join(boat, other) => Change::Join { boat, other },
+        Step::Ahead(boat, other) => Change::Ahead { boat, other },
+        Step::Out(boat) => Change::Out { boat },
+        Step::Penalised(boat, zfp, scp) => {
+            let held = Held {
+                zfp,
+                scp,
+                ..NOTHING_HELD
+            };
+            Change::Hold { boat, held }
+        }
+        Step::Coded(boat, code) => {
+            let held = Held {
+                code: Some(code),
+                ..NOTHING_HELD
+            };
+            Change::Hold { boat, held }
+        }
+    }
+}
+
+/// The changes of a race.
+fn changes_of(alloc: Global, steps: &[Step]) -> Result<Vec<Change>, AllocError> {
+    let mut changes = Vec::with_capacity(alloc, steps.len())?;
+    for step in steps {
+        changes.push(change_of(*step))?;
+    }
+    Ok(changes)
+}
+
 /// A race: its boats, the rules that matter, what happened, and the points of each boat in tenths.
-#[derive(Drop)]
-struct Race<'a> {
+struct Race {
     boats: u16,
     absent: Absent,
     scp: Option<u8>,
-    changes: &'a [Change],
-    points: &'a [u32],
+    steps: &'static [Step],
+    points: &'static [u32],
 }
 
-/// The boat holds penalties under RRS 30.2, and Scoring Penalties (44.3).
-fn penalised(boat: u16, zfp: u8, scp: u8) -> Change {
-    let held = Held {
-        zfp,
-        scp,
-        ..NOTHING_HELD
-    };
-    Change::Hold { boat, held }
-}
-
-/// The boat holds a code.
-fn coded(boat: u16, code: Code) -> Change {
-    let held = Held {
-        code: Some(code),
-        ..NOTHING_HELD
-    };
-    Change::Hold { boat, held }
-}
-
-/// Ten boats finish. The DNF score is 11 points, so a 20% penalty is 2 (RRS 44.3(c)); a stated
-/// Scoring Penalty is 3 points.
-#[test]
-fn penalties_add_up_to_the_cap(rt: HostRuntime) -> Result<(), Fail> {
-    let changes = [
-        Change::Last { boat: 0 },
-        Change::Last { boat: 1 },
-        Change::Last { boat: 2 },
-        Change::Last { boat: 3 },
-        Change::Last { boat: 4 },
-        Change::Last { boat: 5 },
-        Change::Last { boat: 6 },
-        Change::Last { boat: 7 },
-        Change::Last { boat: 8 },
-        Change::Last { boat: 9 },
-        penalised(0, 0, 1),
-        penalised(1, 1, 1),
-        penalised(7, 1, 0),
-        penalised(8, 1, 0),
-        penalised(9, 1, 0),
-    ];
-    let race = Race {
+static RACES: [Race; 5] = [
+    // Ten boats finish. The DNF score is 11 points, so a 20% penalty is 2 (RRS 44.3(c)); a stated
+    // Scoring Penalty is 3 points.
+    Race {
         boats: 10,
         absent: Absent::A52,
         scp: Some(3),
-        changes: &changes,
+        steps: &[
+            Step::Last(0),
+            Step::Last(1),
+            Step::Last(2),
+            Step::Last(3),
+            Step::Last(4),
+            Step::Last(5),
+            Step::Last(6),
+            Step::Last(7),
+            Step::Last(8),
+            Step::Last(9),
+            Step::Penalised(0, 0, 1),
+            Step::Penalised(1, 1, 1),
+            Step::Penalised(7, 1, 0),
+            Step::Penalised(8, 1, 0),
+            Step::Penalised(9, 1, 0),
+        ],
         points: &[40, 70, 30, 40, 50, 60, 70, 100, 110, 110],
-    };
-    assert!(rt; is_scored(rt.alloc(), &race)?);
-    Ok(())
-}
-
-/// Ten boats are entered and six come to the starting area, of which one doesn't finish: by RRS A5.3
-/// the DNF score is 7 points, and a 20% penalty is 1.
-#[test]
-fn boats_that_came_make_the_cap(rt: HostRuntime) -> Result<(), Fail> {
-    let changes = [
-        Change::Last { boat: 0 },
-        Change::Last { boat: 1 },
-        Change::Last { boat: 2 },
-        Change::Last { boat: 3 },
-        Change::Last { boat: 4 },
-        coded(5, Code::Dnf),
-        penalised(2, 1, 0),
-        penalised(9, 1, 0),
-        penalised(4, 3, 0),
-    ];
-    let race = Race {
+    },
+    // Ten boats are entered and six come to the starting area, of which one doesn't finish: by RRS
+    // A5.3 the DNF score is 7 points, and a 20% penalty is 1.
+    Race {
         boats: 10,
         absent: Absent::A53,
         scp: None,
-        changes: &changes,
+        steps: &[
+            Step::Last(0),
+            Step::Last(1),
+            Step::Last(2),
+            Step::Last(3),
+            Step::Last(4),
+            Step::Coded(5, Code::Dnf),
+            Step::Penalised(2, 1, 0),
+            Step::Penalised(9, 1, 0),
+            Step::Penalised(4, 3, 0),
+        ],
         points: &[10, 20, 40, 40, 70, 70, 110, 110, 110, 110],
-    };
-    assert!(rt; is_scored(rt.alloc(), &race)?);
-    Ok(())
-}
-
-/// The third boat wins, two tie, and the fourth is last. Then the first is disqualified, and then
-/// the third is struck out of the order.
-#[test]
-fn ties_share_their_places(rt: HostRuntime) -> Result<(), Fail> {
-    let changes = [
-        Change::Last { boat: 0 },
-        Change::Join { boat: 1, other: 0 },
-        Change::Ahead { boat: 2, other: 1 },
-        Change::Last { boat: 3 },
-        coded(0, Code::Dsq),
-        Change::Out { boat: 2 },
-    ];
-    let races: [(&[Change], &[u32]); 3] = [
-        (&changes[..4], &[25, 25, 10, 40]),
-        (&changes[..5], &[50, 20, 10, 30]),
-        (&changes, &[50, 10, 50, 20]),
-    ];
-    for (changes, points) in races {
-        let race = Race {
-            boats: 4,
-            absent: Absent::A52,
-            scp: None,
-            changes,
-            points,
-        };
-        assert!(rt; is_scored(rt.alloc(), &race)?);
-    }
-    Ok(())
-}
+    },
+    // The third boat wins, two tie, and the fourth is last.
+    Race {
+        boats: 4,
+        absent: Absent::A52,
+        scp: None,
+        steps: &[
+            Step::Last(0),
+            Step::Join(1, 0),
+            Step::Ahead(2, 1),
+            Step::Last(3),
+        ],
+        points: &[25, 25, 10, 40],
+    },
+    // Then the first is disqualified.
+    Race {
+        boats: 4,
+        absent: Absent::A52,
+        scp: None,
+        steps: &[
+            Step::Last(0),
+            Step::Join(1, 0),
+            Step::Ahead(2, 1),
+            Step::Last(3),
+            Step::Coded(0, Code::Dsq),
+        ],
+        points: &[50, 20, 10, 30],
+    },
+    // And then the third is struck out of the order.
+    Race {
+        boats: 4,
+        absent: Absent::A52,
+        scp: None,
+        steps: &[
+            Step::Last(0),
+            Step::Join(1, 0),
+            Step::Ahead(2, 1),
+            Step::Last(3),
+            Step::Coded(0, Code::Dsq),
+            Step::Out(2),
+        ],
+        points: &[50, 10, 50, 20],
+    },
+];
 
 /// Whether these are the scores of a race: its points, of which each is before redress.
 fn have_points(scores: &[RaceScore], wanted: &[u32]) -> bool {
@@ -145,11 +178,12 @@ fn have_points(scores: &[RaceScore], wanted: &[u32]) -> bool {
 }
 
 /// Whether both calls that score a race give its points, and count one race each.
-fn is_scored(alloc: Global, race: &Race<'_>) -> Result<bool, Fail> {
+fn is_scored(alloc: Global, race: &Race) -> Result<bool, Fail> {
     if race.boats > 500 {
         return Err(Fail::new("more than 500 boats"));
     }
-    let sheet = sheet_after(alloc, race.boats, race.changes)?.ok_or("changes that are allowed")?;
+    let changes = changes_of(alloc, race.steps)?;
+    let sheet = sheet_after(alloc, race.boats, &changes)?.ok_or("changes that are allowed")?;
     let rules = Rules::new(race.absent, race.scp, &[], false)
         .ok()
         .ok_or("rules")?;
@@ -161,6 +195,14 @@ fn is_scored(alloc: Global, race: &Race<'_>) -> Result<bool, Fail> {
             && have_points(scores.as_slice(), race.points)
             && work.count() == 2,
     )
+}
+
+#[test]
+fn races_are_scored(rt: HostRuntime) -> Result<(), Fail> {
+    for race in &RACES {
+        assert!(rt; is_scored(rt.alloc(), race)?);
+    }
+    Ok(())
 }
 
 /// The scores of a boat: in tenths, and whether each is for a disqualification that isn't

@@ -3,7 +3,7 @@ ghost use Rattle.std.specs.Prelude.{◌≡◌};
 
 use super::super::offices::opened_office;
 use super::super::serving::{Served, leaves};
-use super::super::wires::{Wires, count, door_of, was_sent};
+use super::super::wires::{Wires, door_of, was_sent};
 use super::*;
 use regatta_office::{Form, OfficeName, OpenGate, Opened, RunFault, ServeFault, replay, serve};
 use std::io::Read;
@@ -227,7 +227,7 @@ fn refused_at<R: Threads + Wait + Net + Clock + Sync>(
     hoard: &mut Hoard,
     bytes: usize,
 ) -> Result<Option<Refused>, Fail> {
-    let (mut door, mut theirs) = door_of(rt, alloc, b"", false, &count(alloc)?)?;
+    let (mut door, mut theirs) = door_of(rt, alloc, b"")?;
     let fault = serve_once(rt, alloc, hoard, bytes, &mut door);
     drop(door);
     let mut replies = Vec::new(alloc);
@@ -274,12 +274,12 @@ where
 fn serving_runs_out_of_memory(rt: HostRuntime) -> Result<(), Fail> {
     let alloc = rt.alloc();
     assert!(rt; is_refused(&rt)?);
-    let (door, mut end) = door_of(&rt, alloc, b"ENTER A\n", false, &count(alloc)?)?;
+    let (mut door, mut end) = door_of(&rt, alloc, b"ENTER A\n")?;
     let left = Served {
-        back: Ok(1),
+        passes: 1,
         journal: b"1 1 SCORER ENTER A\n",
     };
-    assert!(rt; leaves(&rt, alloc, 1, &mut [door], &OpenGate, &left));
+    assert!(rt; leaves(&rt, alloc, 1, &mut door, &OpenGate, &left));
     assert!(rt; was_sent(alloc, &mut end, b"OK 1 1 0.0\n"));
     Ok(())
 }

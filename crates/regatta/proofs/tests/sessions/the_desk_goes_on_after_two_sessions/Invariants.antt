@@ -1,5 +1,5 @@
 use Rattle.regatta.proofs.tests.sessions.the_desk_goes_on_after_two_sessions.Given as goal
 
 -- the office that was just opened
-abbrev pub ghosts-go_on : goal.ghosts-go_on
-ghosts-go_on g a = record { history = a.opened.history; rules = a.opened.rules }
+abbrev pub ghosts-goes_on : goal.ghosts-goes_on
+ghosts-goes_on g a = record { history = a.opened.history; rules = a.opened.rules }
