@@ -1,14 +1,19 @@
 #!/usr/bin/env python3
 """Makes full seasons and times `regatta replay` on them.
 
-    bench/season.py [--boats B] [--races N] [--entries E] [--rounds R] [--beside WORDS]
-                    PROGRAM [WORD..]
-    bench/season.py [--boats B] [--races N] [--entries E] --write FILE
+    bench/season.py [--boats B] [--races N] [--entries E] [--corrected] [--rounds R]
+                    [--beside WORDS] PROGRAM [WORD..]
+    bench/season.py [--boats B] [--races N] [--entries E] [--corrected] --instructions
+                    [--beside WORDS] PROGRAM
+    bench/season.py [--boats B] [--races N] [--entries E] [--corrected] [--shows] [--handicap]
+                    --write FILE
 
 A season has B boats, N races and at most E commands, all of them accepted. The defaults are 500, 40
 and 8,192, which is as large as a series may grow. First the boats enter. Then every command of a race
-is a finish, a tie, a code, a penalty or redress, and one of the last scores it. PROGRAM (the built
-`regatta`) is run R times (default 9) as `PROGRAM replay WORD..` on each of:
+is a finish, a tie, a code, a penalty or redress, and one of the last scores it. With --corrected, as
+in most real seasons, a third of the commands come after the race counts: boats are struck out and
+placed again, given codes, penalties and redress, or cleared, and now and then a race is unscored and
+scored. PROGRAM (the built `regatta`) is run R times (default 9) as `PROGRAM replay WORD..` on each of:
 
 - the season;
 - the season with a SHOW after each sixteenth command;
@@ -17,11 +22,15 @@ is a finish, a tie, a code, a penalty or redress, and one of the last scores it.
 - the season with 40 late entries, and with 40 times UNSCORE and SCORE, when all races count; the time
   of one of these is printed.
 
-With --handicap among the WORDs each finish and each tie is a corrected time, in no order.
+With --handicap among the WORDs each finish, tie and place before another is a corrected time, in no
+order.
 
 The least processor time of each is printed, and the peak memory. With --beside the program of those
 words runs, too, in each round, and the two are compared. With --write the season's lines are written
-to FILE.
+to FILE, with --shows or --handicap if these are given.
+
+With --instructions the instructions of the season, of the season with SHOWs and of the season by
+corrected times are counted instead, by valgrind. They are the same on a busy machine.
 """
 import argparse
 import math
@@ -32,6 +41,8 @@ import subprocess
 import sys
 import tempfile
 import zlib
+
+import corrected
 
 BOATS, RACES, ENTRIES, SHOW_EVERY, LATE = 500, 40, 8192, 16, 40
 
@@ -94,13 +105,14 @@ def journal(lines):
 
 
 def by_times(lines):
-    """The lines with a corrected time instead of each finish and each tie."""
+    """The lines with a corrected time instead of each place."""
     timed = []
     for line in lines:
-        place = re.search(r"(FINISH|TIE) (\d+) (\S+)(?: (\S+))?$", line)
+        place = re.search(r"(FINISH|TIE|BEFORE) (\d+) (\S+)(?: (\S+))?$", line)
         if place:
-            _, race, sail, other = place.groups()
+            how, race, sail, other = place.groups()
             seconds = 3000 + zlib.crc32(f"{race} {other or sail}".encode()) % 3000
+            seconds -= how == "BEFORE"
             line = f"{line[:place.start()]}TIME {race} {sail} {seconds}"
         timed.append(line)
     return timed
@@ -127,6 +139,28 @@ def run(program, words, data):
             accepted += reply.startswith(b"OK")
             refused += reply.startswith(b"NO")
     return use.ru_utime + use.ru_stime, use.ru_maxrss / 1024, accepted, refused
+
+
+def instructions(program, words, data):
+    """The number of instructions of one run."""
+    counted = subprocess.run(
+        ["valgrind", "--tool=callgrind", "--callgrind-out-file=/dev/null", *program, "replay", *words],
+        input=data, stdout=subprocess.DEVNULL, stderr=subprocess.PIPE)
+    found = re.search(rb"Collected : (\d+)", counted.stderr)
+    if counted.returncode != 0 or not found:
+        sys.exit(f"{program[0]} ended with {counted.returncode} under valgrind")
+    return int(found[1])
+
+
+def count(programs, full):
+    """Prints the instructions of each program, in millions."""
+    for name, words, lines in (("a season", [], full), ("a season with SHOWs", [], with_shows(full)),
+                               ("a season by times", ["--handicap"], by_times(full))):
+        counts = [instructions(program, words, text(lines)) for program in programs]
+        parts = [f"{number / 1e6:9.1f} million" for number in counts]
+        if len(counts) > 1:
+            parts.append(f"{counts[0] / counts[1]:.2f} times the other")
+        print(f"{name:34} {'   '.join(parts)}")
 
 
 class Bench:
@@ -164,20 +198,20 @@ class Bench:
         self.show(name, found)
 
 
-def measure(bench, boats, races, entries):
-    full = season(boats, races, entries)
+def measure(bench, make, boats, races, entries):
+    full = make(boats, races, entries)
     found = bench.least(full)
     print(f"{found[0][2]} commands accepted and {found[0][3]} refused")
     bench.show("a season", found)
     bench.show("a season with SHOWs", bench.least(with_shows(full)))
     bench.show("the standing of its journal", bench.least([], journal(full)))
     sizes = [boats // part for part in (8, 4, 2, 1)]
-    growth = [bench.least(season(size, races, entries)) for size in sizes]
+    growth = [bench.least(make(size, races, entries)) for size in sizes]
     for size, found in zip(sizes, growth):
         bench.show(f"{size} boats, {found[0][2]} commands", found)
     times = growth[-1][0][0] / growth[0][0][0]
     print(f"{times:.1f} times as long for {sizes[-1]} boats as for {sizes[0]}")
-    base = season(boats - LATE, races, entries - 4 * LATE)
+    base = make(boats - LATE, races, entries - 4 * LATE)
     late = [f"ENTER NED{boat + 1}" for boat in range(LATE)]
     bench.each(f"one late entry, {races} races counting", base, late, LATE)
     again = [f"UNSCORE {races}", f"SCORE {races}"] * LATE
@@ -191,19 +225,32 @@ def main():
     words.add_argument("--entries", type=int, default=ENTRIES)
     words.add_argument("--rounds", type=int, default=9)
     words.add_argument("--beside", type=shlex.split)
+    words.add_argument("--corrected", action="store_true")
+    words.add_argument("--shows", action="store_true")
+    words.add_argument("--handicap", action="store_true")
+    words.add_argument("--instructions", action="store_true")
     words.add_argument("--write")
     words.add_argument("program", nargs="?")
     words.add_argument("words", nargs=argparse.REMAINDER)
     given = words.parse_args()
     size = given.boats, given.races, given.entries
-    if given.boats <= LATE or not 1 <= given.races <= RACES or given.entries < sum(size[:2]) * 3:
-        words.error(f"more than {LATE} boats, 1 to {RACES} races, and entries for them")
+    if not 1 <= given.races <= RACES or given.entries < sum(size[:2]) * 3:
+        words.error(f"1 to {RACES} races, and entries for them and the boats")
+    if given.program and not given.instructions and given.boats <= LATE:
+        words.error(f"more than {LATE} boats")
+    make = corrected.season if given.corrected else season
     if given.write:
+        lines = make(*size)
+        lines = with_shows(lines) if given.shows else lines
+        lines = by_times(lines) if given.handicap else lines
         with open(given.write, "wb") as file:
-            file.write(text(season(*size)))
+            file.write(text(lines))
     if given.program:
         programs = [[given.program]] + ([given.beside] if given.beside else [])
-        measure(Bench(programs, given.words, given.rounds), *size)
+        if given.instructions:
+            count(programs, make(*size))
+        else:
+            measure(Bench(programs, given.words, given.rounds), make, *size)
     return 0
 
 

@@ -1,5 +1,6 @@
 #!/usr/bin/env bash
-# Tries a built program over the stored runs, the links of the pages, and the tools over the program.
+# Tries a built program over the stored runs, the pages (their links, the statement), and the tools
+# over the program.
 #   checks/all.sh PROGRAM
 # The last line is `N passed, M failed`, and the status is 1 if anything failed.
 set -uo pipefail
@@ -22,6 +23,7 @@ part() {
 
 part 'the stored runs of examples/' "$here/../examples/check.sh" "$program"
 part 'the links of the pages' "$here/../bench/links.py"
+part 'docs/STATEMENT.md as its script makes it' "$here/../bench/statement.py" --check
 printed=$("$here/run.py" "$program" 2>&1)
 status=$?
 grep '^not tried: ' <<< "$printed"

@@ -1,11 +1,11 @@
 -- `==` of outcomes is equality.
-use Rattle.std.proofs.Common.{◌≡◌, ℕ, Bool, true, false, ◌&&◌, refl, ap, Option, Some, None}
+use Rattle.std.proofs.Common.{◌≡◌, Bool, true, false, ◌&&◌, refl, ap, Option, Some, None}
 use Rattle.std.specs.Option.{option_eq}
-use Rattle.std.specs.Prelude.{◌==◌, List, [], ◌∷◌}
+use Rattle.std.specs.Prelude.{List, [], ◌∷◌}
 use Rattle.std.specs.Cmp.Lexicographic.{pointwise}
-use Rattle.std.proofs.lemmas.Bool.Decides.{Decides-eqb}
 use Rattle.regatta_terms.specs.contracts.command.Code as code
 use Rattle.regatta_terms.proofs.EqualFacts.{redress_one}
+use Rattle.regatta_scores.proofs.EqualLines.{bool_one, number_one, pointwise_one}
 use Rattle.regatta_board.specs.declared.outcomes.Outcome.{Outcome}
 use Rattle.regatta_board.specs.contracts.outcomes.OutcomePartialEq.TheImpl as outcomes
 use Rattle.regatta_board.specs.contracts.outcomes.OutcomeEq.TheImpl.Laws.{laws-law}
@@ -16,21 +16,12 @@ both : (a b : Bool) → (a && b) ≡ true → (a ≡ true) × (b ≡ true)
 both true b h = (refl, h)
 both false b h = absurd (cc)
 
-number_one : (m n : ℕ) → (m == n) ≡ true → m ≡ n
-number_one m n h = (Decides-eqb m n).0 h
-
 option_one : {X : Type 0} (same : X → X → Bool) → ((x y : X) → same x y ≡ true → x ≡ y)
     → (a b : Option X) → option_eq same a b ≡ true → a ≡ b
 option_one same one None None h = refl
 option_one same one None (Some y) h = absurd (cc)
 option_one same one (Some x) None h = absurd (cc)
 option_one same one (Some x) (Some y) h = ap Some (one x y h)
-
-bool_one : (a b : Bool) → mathlib.Core.Bool.beq a b ≡ true → a ≡ b
-bool_one true true h = refl
-bool_one true false h = absurd (cc)
-bool_one false true h = absurd (cc)
-bool_one false false h = refl
 
 pub outcome_one : (a b : Outcome) → outcomes.ghosts.eq a b ≡ true → a ≡ b
 outcome_one a b h =
@@ -52,12 +43,7 @@ outcome_one a b h =
     }
 
 pub outcomes_one : (xs ys : List Outcome) → pointwise outcomes.ghosts.eq xs ys ≡ true → xs ≡ ys
-outcomes_one [] [] h = refl
-outcomes_one [] (y ∷ ys) h = absurd (cc)
-outcomes_one (x ∷ xs) [] h = absurd (cc)
-outcomes_one (x ∷ xs) (y ∷ ys) h =
-    let p = both _ _ h in
-    λ i. outcome_one x y p.0 i ∷ outcomes_one xs ys p.1 i
+outcomes_one xs ys h = pointwise_one outcomes.ghosts.eq outcome_one xs ys h
 
 pub outcomes_same : (xs ys : List Outcome) → xs ≡ ys → pointwise outcomes.ghosts.eq xs ys ≡ true
 outcomes_same xs ys e = subst (λ zs. pointwise outcomes.ghosts.eq xs zs ≡ true) e (itself xs)

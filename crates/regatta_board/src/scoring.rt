@@ -24,7 +24,7 @@ use crate::column::{
 use crate::kept::{Draft, Kept, Revision};
 use crate::outcomes::Outcome;
 use crate::table::{all_lines, boat_line, races, sorted_rows};
-use regatta_scores::{BoatLine, Items, Places, Standing, Work, ranks, ranks_of};
+use regatta_scores::{BoatLine, Items, Places, Standing, Work, ranks, ranks_near};
 use regatta_terms::{MAX_RACES, RaceNo, Rules, Touched};
 use std::alloc::{AllocError, Global};
 use std::marker::Model;
@@ -102,8 +102,13 @@ fn current_lines<'a>(
     Ok(each)
 }
 
-/// The ranks of all boats, after new lines replace the old ones.
-fn new_ranks(alloc: Global, old: &[BoatLine], new: &NewLines) -> Result<Places, AllocError>
+/// The ranks of all boats, after new lines replace the old ones. `near` are the ranks before.
+fn new_ranks(
+    alloc: Global,
+    old: &[BoatLine],
+    new: &NewLines,
+    near: &Places,
+) -> Result<Places, AllocError>
     requires each { IsOfEach old.now new.now }
     requires few { length (with_lines old.now new.now) ≤ limits.boats }
     ensures { IfOk result (λ made. made ≡ places_of (with_lines old.now new.now)) }
@@ -111,7 +116,7 @@ fn new_ranks(alloc: Global, old: &[BoatLine], new: &NewLines) -> Result<Places, 
     match new {
         NewLines::Changed { lines } => {
             let each = current_lines(alloc, old, lines)?;
-            ranks_of(alloc, &each)
+            ranks_near(alloc, &each, near)
         }
         NewLines::All { lines } => ranks(alloc, lines),
     }
@@ -287,7 +292,7 @@ pub(crate) fn new_scores(
         });
     }
     let lines = new_lines(alloc, scoring, kept, revision, &columns, rules)?;
-    let ranks = new_ranks(alloc, &scoring.lines, &lines)?;
+    let ranks = new_ranks(alloc, &scoring.lines, &lines, &scoring.ranks)?;
     Ok(NewScores {
         columns,
         ranked: Some(Ranked { lines, ranks }),

@@ -14,7 +14,7 @@ use Rattle.regatta_scores.specs.RacePoints.{Race, status, status_by, finishers, 
 use Rattle.regatta_scores.specs.RaceLaws.{NobodyTwice, TiesShareEqually, PlacesAreSharedOut}
 use Rattle.regatta_scores.specs.RaceLaws.{is_finished, finish_points, points_of_places}
 use Rattle.regatta_scores.proofs.Counts.{count_cons}
-use Rattle.regatta_scores.proofs.Places.{place_points_at}
+use Rattle.regatta_scores.proofs.PlacePoints.{place_points_at}
 
 -- ---- the points of places
 

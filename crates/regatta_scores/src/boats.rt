@@ -43,6 +43,3 @@ pub struct Place {
     /// Whether another boat has this rank.
     pub tied: bool,
 }
-
-/// The places of some boats, in their order.
-pub type Places = Items<Place>;

@@ -3,7 +3,7 @@ use Rattle.std.proofs.Common.{◌∙◌, Some, None, []}
 use Rattle.std.proofs.lemmas.List.Sums.{sum_by_more}
 use Rattle.regatta_scores.specs.Order.{in_group}
 use Rattle.regatta_scores.specs.RacePoints.{race_of, finishers, shared_points}
-use Rattle.regatta_scores.proofs.Places.{given_more, few_more, written_whole}
+use Rattle.regatta_scores.proofs.PlacePoints.{given_more, few_more, written_whole}
 use Rattle.regatta_scores.proofs.points.placed_points.Goals as goal
 
 -- the boats of one more group have their points
