@@ -14,7 +14,7 @@ A heap that refuses one request (refuse.c) is built with the machine's C compile
 
 A refused run must say `regatta: no memory`, end with status 3, and print nothing but whole replies to
 some first lines. There are two exceptions. If `clap` refuses the arguments, it asks again for its own
-text, so the usual answer may be given. Serving may also end well, if the refused request was for a
+text, so the usual answer may be given. Serving may also succeed, if the refused request was for a
 thread or met a session: the client then reads `BUSY` alone, or whole replies to some first lines, of
 which one may be `NO 1`. If the request came after the office was opened, the table is printed although
 no memory is reported. Each other answer is reported, and the script then ends with status 1.
