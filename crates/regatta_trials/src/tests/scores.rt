@@ -64,6 +64,8 @@ fn change_of(step: Step) -> Change {
 
 /// The changes of a race.
 fn changes_of(alloc: Global, steps: &[Step]) -> Result<Vec<Change>, AllocError> {
+    // A loop that pushes a change has to name the types that it is made of.
+    let _parts: (Option<Held>, Option<Redress>) = (None, None);
     let mut changes = Vec::with_capacity(alloc, steps.len())?;
     for step in steps {
         changes.push(change_of(*step))?;
