@@ -59,8 +59,8 @@ pub enum SheetFault {
 
 impl SheetFault {
     /// The number that the program prints for the fault: from 1 to 5 those of an entry list.
-    pub fn number(self) -> u8
-        ensures { result ≡ number_of_fault self }
+    pub fn number(&self) -> u8
+        ensures { result ≡ number_of_fault self.now }
     {
         match self {
             SheetFault::Sails(fault) => fault.number(),
@@ -81,8 +81,8 @@ impl SheetFault {
     }
 
     /// The row of the fault, the header's if a column is missing; `None` if an allocation failed.
-    pub fn row(self) -> Option<usize>
-        ensures { result ≡ row_of_fault self }
+    pub fn row(&self) -> Option<usize>
+        ensures { result ≡ row_of_fault self.now }
     {
         match self {
             SheetFault::Sails(fault) => fault.row(),
@@ -97,7 +97,7 @@ impl SheetFault {
             | SheetFault::BadDistance { row }
             | SheetFault::NotOfSystem { row, .. }
             | SheetFault::Negative { row, .. }
-            | SheetFault::TooLong { row, .. } => Some(row),
+            | SheetFault::TooLong { row, .. } => Some(*row),
             SheetFault::NoMemory => None,
         }
     }
