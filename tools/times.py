@@ -125,7 +125,7 @@ def in_words(fault: str, sheet: str, ratings: str) -> str:
     """What the program says of a list, with the file and the row."""
     if found := FAULT.fullmatch(fault):
         name = sheet if found[1] == "sheet" else ratings
-        said = re.sub(r"^entries fault \d+: (.*) in row \d+.*$", r"\1", found[3])
+        said = re.sub(r"^entries fault \d+: |,? (?:in|from) row \d+", "", found[3])
         return f"{name}, row {found[2]}: {said}"
     return f"the program says {fault.removeprefix('times: ') or 'nothing'}"
 
@@ -229,6 +229,7 @@ def compared(race: int, times: list[Time], journal: Sequence[str]) -> Compared:
             lines.append(f"STRIKE {race} {time.sail}")
         if was != time.seconds:
             lines.append(f"TIME {race} {time.sail} {time.seconds}")
+        # Cut and not rounded: a time just below a half has to look so.
         exact = f"{int(time.exact * 10000) / 10000:.4f}"
         shown.append(f"   {time.sail:<12} {time.sum:<36} {exact:>12} {time.seconds:>7}   "
                      f"{duration(time.seconds)}   {note}")
