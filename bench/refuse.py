@@ -14,10 +14,10 @@ A heap that refuses one request (refuse.c) is built with the machine's C compile
 
 A refused run must say `regatta: no memory`, end with status 3, and print nothing but whole replies to
 some first lines. There are two exceptions. If `clap` refuses the arguments, it asks again for its own
-text, so the usual answer may be given. Serving may also end as a device fault, if the refused request
-was for a thread, or well, if a session met the refusal. The client then reads whole replies to some
-first lines, of which one may be `NO 1`. Each other answer is reported, and the script then ends with
-status 1.
+text, so the usual answer may be given. Serving may also end well, if the refused request was for a
+thread or met a session: the client then reads `BUSY` alone, or whole replies to some first lines, of
+which one may be `NO 1`. If the request came after the office was opened, the table is printed although
+no memory is reported. Each other answer is reported, and the script then ends with status 1.
 """
 import contextlib
 import os
@@ -172,10 +172,10 @@ class Serving(Run):
     def may_be(self, library, ended):
         """Whether a refused run may end in this way."""
         status, said, printed, replies = ended
-        if (status, said) in (NO_MEMORY, DEVICE_FAULT):
-            return printed == b"" and (replies in self.replies or b"NO 1\n" in replies)
         is_whole = printed.endswith(b"\n") and printed.startswith(b"TABLE ")
-        is_cut = replies in self.replies or b"NO 1\n" in replies
+        is_cut = replies in self.replies or b"NO 1\n" in replies or replies == b"BUSY\n"
+        if (status, said) in (NO_MEMORY, DEVICE_FAULT):
+            return is_cut and (printed == b"" or is_whole)
         return (status, said) == (0, b"") and is_whole and is_cut and ended != self.whole
 
     def sweep(self, library):

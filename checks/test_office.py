@@ -227,6 +227,12 @@ class Ways(unittest.TestCase):
                 return False
 
             helpers.until("a client after the first", is_served)
+            resource.prlimit(serving.pid, resource.RLIMIT_NOFILE, (3, 3))
+            with socket.socket(socket.AF_UNIX, socket.SOCK_STREAM) as refused:
+                refused.connect(path)
+                helpers.until("the end at the door", lambda: not helpers.is_listening(path))
+            self.assertEqual(serving.wait(helpers.PATIENCE), 3)
+            self.assertEqual(serving.stdout.read(), "TABLE 2 RACES\n1= A 0.0\n1= B 0.0\n")
 
     def test_failed_door(self) -> None:
         """An office whose `accept` keeps failing lets nobody in, and still serves those who are there."""

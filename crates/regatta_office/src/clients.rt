@@ -33,11 +33,11 @@ fn door_of<R: Files + Net>(rt: &R, options: &ServeOptions<'_>) -> Result<SocketD
 
 /// How serving an office ended.
 #[derive(Drop)]
-struct Served<N: OfficeName> {
+struct Served<N: OfficeName, S> {
     /// The passes of all seats, or why serving ended early.
     back: Result<Vec<Pass<N>>, ServeFault>,
     /// How many clients were admitted.
-    admitted: Admitted,
+    admitted: Admitted<S>,
     /// Whether the table was printed then.
     printed: Result<(), ScribeFault>,
 }
@@ -52,7 +52,7 @@ fn serve_and_print<N, H, R, D, W>(
     passes: Vec<Pass<N>>,
     start: Note,
     output: &mut W,
-) -> Served<N>
+) -> Served<N, D::Stream>
 where
     N: OfficeName + Send + Sync,
     H: Wait + Drop + Send,
@@ -69,6 +69,7 @@ where
     // Each client that the door gave was admitted once, until the door closed.
     ensures each { D.given door.new ≡ D.given door.old + result.admitted }
     ensures closed { IfBegun result.back (D.closed door.new ≡ true) }
+    ensures unbegun { IsErrOf result.back ServeFault.NoMemory → door.new ≡ door.old }
 
     // The table is printed even if serving failed. Its journal begins with the start.
     ensures printed { OnOk result.printed
@@ -163,8 +164,8 @@ where
 ///
 /// # Errors
 ///
-/// The fault of the rules or the start, before any client is served. `Device` if a socket, a thread
-/// or a write fails, and `NoMemory` if an allocation fails.
+/// The fault of the rules or the start, before any client is served. `Device` if a socket or a write
+/// fails, or a seat doesn't come back, and `NoMemory` if an allocation fails.
 pub(crate) fn serve_series<R, W>(
     rt: &R,
     options: &ServeOptions<'_>,

@@ -46,14 +46,16 @@ impl<N: OfficeName, S: Source + Sink> Promise<Parted<S>> for Serves<N, S> {
         S.failed_reads promise.given.value parted.left.value parted.end };
 }
 
-/// The number of clients admitted: each was given to a thread that promised them a session, or was
-/// turned away with `BUSY`. It has no bytes: only contracts see the number.
+/// The number of clients with such a stream who were admitted: each was given to a thread that
+/// promised them a session, or was turned away with `BUSY`. It has no bytes: only contracts see the
+/// number.
 #[derive(Drop)]
-pub struct Admitted {
+pub struct Admitted<S> {
     clients: Count,
+    of: PhantomData<S>,
 }
 
-impl Model for Admitted {
+impl<S> Model for Admitted<S> {
     ghost use Rattle.std.specs.Prelude.{ℕ};
 
     ghost Value = { ℕ };
@@ -61,13 +63,14 @@ impl Model for Admitted {
     ghost view = { λ a. a.clients };
 }
 
-impl Admitted {
+impl<S> Admitted<S> {
     /// No client yet.
-    pub(crate) fn none() -> Admitted
+    pub(crate) fn none() -> Admitted<S>
         ensures { result ≡ 0 }
     {
         Admitted {
             clients: Count::none(),
+            of: PhantomData,
         }
     }
 
@@ -161,7 +164,7 @@ pub(crate) fn admit<'s, E: 's, N, H, R, S, G>(
     office: &'s Office<N, H>,
     pool: &'s Mutex<Pool<N>>,
     gate: &'s G,
-    admitted: &mut Admitted,
+    admitted: &mut Admitted<S>,
     stream: S,
 ) -> Result<PromisedHandle<Parted<S>, Serves<N, S>>, Parted<S>>
 where

@@ -1,5 +1,5 @@
 //! Clients served side by side.
-ghost use Rattle.std.specs.Prelude.{◌≡◌, ◌+◌, map, true, IfOk, IsTrue};
+ghost use Rattle.std.specs.Prelude.{◌≡◌, ◌+◌, map, true, IfErr, IfOk, IsErrOf, IsTrue};
 ghost use Rattle.std.specs.List.Sorted.{IsPermutation, IsSorted};
 ghost use Rattle.std.specs.Ordering.{nat_cmp};
 ghost use Rattle.regatta_service.specs.Faults.{IfBegun, door_failures_in};
@@ -40,7 +40,7 @@ fn accept_all<'s, E: 's, N, H, R, D, G>(
     pool: &'s Mutex<Pool<N>>,
     door: &mut D,
     gate: &'s G,
-) -> (Result<(), ServeFault>, Admitted)
+) -> (Result<(), ServeFault>, Admitted<D::Stream>)
 where
     N: OfficeName + Send + Sync + 's,
     H: Wait + Drop + Send + 's,
@@ -51,6 +51,7 @@ where
     ensures door { D.failures door.new ≡ D.failures door.old + door_failures_in result.0 }
     ensures each { D.given door.new ≡ D.given door.old + result.1 }
     ensures closed { D.closed door.new ≡ true }
+    ensures fault { IfErr result.0 (λ f. f ≡ ServeFault.Door) }
 {
     let mut admitted = Admitted::none();
     for _ in rt.forever() {
@@ -99,6 +100,7 @@ fn passes_back<N: OfficeName>(
 ) -> Result<Vec<Pass<N>>, ServeFault>
     ensures seats { IfOk result (λ passes. map (λ p. p.seat) passes.items ≡ seats.now) }
     ensures door { door_failures_in result ≡ 0 }
+    ensures fault { IfErr result (λ f. f ≡ ServeFault.Thread) }
 {
     let Some(passes) = pool.into_passes(empty) else {
         return Err(ServeFault::Thread);
@@ -121,7 +123,7 @@ pub fn serve_each<N, H, R, D, G>(
     door: &mut D,
     passes: Vec<Pass<N>>,
     gate: &G,
-) -> (Result<Vec<Pass<N>>, ServeFault>, Admitted)
+) -> (Result<Vec<Pass<N>>, ServeFault>, Admitted<D::Stream>)
 where
     N: OfficeName + Send + Sync,
     H: Wait + Drop + Send,
@@ -136,8 +138,9 @@ where
     // Each client that the door gave was admitted once.
     ensures each { D.given door.new ≡ D.given door.old + result.1 }
 
-    // The door was asked for clients until it closed.
+    // The door was asked for clients until it closed, unless memory ran out before.
     ensures closed { IfBegun result.0 (D.closed door.new ≡ true) }
+    ensures unbegun { IsErrOf result.0 ServeFault.NoMemory → door.new ≡ door.old }
 {
     let Ok(seats) = seats_of(alloc, &passes) else {
         return (Err(ServeFault::NoMemory), Admitted::none());
@@ -156,12 +159,13 @@ where
     let (served, door_back) = thread::scope(
         thread::scope_env(),
         rt,
-        move |scope| -> ((Result<(), ServeFault>, Admitted), &mut D)
+        move |scope| -> ((Result<(), ServeFault>, Admitted<D::Stream>), &mut D)
             ensures same { result.1.ghost_name ≡ door.entry.ghost_name }
             ensures failures { D.failures result.1.now
                 ≡ D.failures door.entry.now + door_failures_in result.0.0 }
             ensures each { D.given result.1.now ≡ D.given door.entry.now + result.0.1 }
             ensures closed { D.closed result.1.now ≡ true }
+            ensures fault { IfErr result.0.0 (λ f. f ≡ ServeFault.Door) }
         {
             let served = accept_all(rt, alloc, scope, office, shared, &mut *door, gate);
             (served, door)
@@ -176,8 +180,8 @@ where
 }
 
 /// Serves the door's clients until it closes, each on a thread of its own, at the lowest free seat.
-/// A client who finds no free seat, or for whom no thread is available, gets `BUSY` and is turned
-/// away. When this returns, all sessions have ended. The passes come back in order of seat.
+/// A client who finds no free seat, or for whom there is no thread or no memory for replies, gets
+/// `BUSY` and is turned away. When this returns, all sessions have ended. The passes come back in order of seat.
 ///
 /// # Errors
 ///
@@ -205,8 +209,9 @@ where
     // A failed call of the door ends serving and is reported as `Door`; otherwise no call failed.
     ensures door { D.failures door.new ≡ D.failures door.old + door_failures_in result }
 
-    // The door was asked for clients until it closed.
+    // The door was asked for clients until it closed, unless memory ran out before.
     ensures closed { IfBegun result (D.closed door.new ≡ true) }
+    ensures unbegun { IsErrOf result ServeFault.NoMemory → door.new ≡ door.old }
 {
     let (back, _) = serve_each(rt, alloc, office, door, passes, gate);
     back
