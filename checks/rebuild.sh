@@ -19,8 +19,8 @@ hash_in() {
 # The names have different lengths: a folder's name that got into the program would show.
 first=$(hash_in "$room/first") || cat "$room/first.log"
 second=$(hash_in "$room/a_folder_with_a_longer_name") || cat "$room/a_folder_with_a_longer_name.log"
-echo "first  ${first:-wasn\'t built}"
-echo "second ${second:-wasn\'t built}"
+echo "first  ${first:-not built}"
+echo "second ${second:-not built}"
 if [[ $first =~ ^[0-9a-f]{64}$ && $first == "$second" ]]; then
     echo "$crate: two folders, one hash"
     echo '1 passed, 0 failed'
