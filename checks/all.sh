@@ -1,12 +1,14 @@
 #!/usr/bin/env bash
 # Tries a built program over the stored runs, the pages (their links, the statement), and the tools
-# over the program.
+# over the program; and the program of corrected times, which is crates/times/out/times if TIMES
+# names no other.
 #   checks/all.sh PROGRAM
 # The last line is `N passed, M failed`, and the status is 1 if anything failed.
 set -uo pipefail
 program=$(realpath "${1:?checks/all.sh PROGRAM}")
 here=$(dirname "$(realpath "$0")")
 export PYTHONDONTWRITEBYTECODE=1
+export TIMES=${TIMES:-$here/../crates/times/out/times}
 passed=0 failed=0
 
 # Counts a part that passes or fails as a whole: part NAME COMMAND...
@@ -24,6 +26,7 @@ part() {
 part 'the stored runs of examples/' "$here/../examples/check.sh" "$program"
 part 'the links of the pages' "$here/../bench/links.py"
 part 'docs/STATEMENT.md as its script makes it' "$here/../bench/statement.py" --check
+part 'corrected times beside exact fractions' "$here/times_exact.py" "$TIMES"
 printed=$("$here/run.py" "$program" 2>&1)
 status=$?
 grep '^not tried: ' <<< "$printed"

@@ -4,7 +4,7 @@
     checks/guide.py PROGRAM [--fill]
 
 Every box of the guide, between ``` and ```, is played, one after another, in an empty folder that
-has the program and tools/:
+has both programs and tools/:
 
 - ```file NAME: the text of a file, which is made.
 - ```window NAME: what somebody types in a window, and what is printed there. A line that begins
@@ -35,7 +35,7 @@ from office import Link
 
 GUIDE = os.path.join(helpers.TOP, "docs", "GUIDE.md")
 STEP = re.compile(r"^```([^\n]*)\n(.*?)^```$|^<!-- (freeze|kill) (\S+) -->$", re.MULTILINE | re.DOTALL)
-COMMAND = re.compile(r"\$ python3 tools/(?:series|client|board)\.py ")
+COMMAND = re.compile(r"\$ python3 tools/(?:series|client|board|times)\.py ")
 # What varies from one play to the next, and what it is compared as.
 VARIES = [(re.compile(r"\b\d{4}-\d\d-\d\d-\d{6}\b"), "DATE"), (re.compile(r"\b\d\d:\d\d(:\d\d)?\b"), "TIME"),
           (re.compile(r"http://[^/\s]+/(   \(or [^)]*\))?"), "ADDRESS")]
@@ -59,7 +59,7 @@ class Window:
         if self.terminal:
             raise Wrong("something is still running in this window")
         if not COMMAND.match(command):
-            raise Wrong(f"the guide needs no other command than its three tools: {command}")
+            raise Wrong(f"the guide needs no other command than its four tools: {command}")
         words = shlex.split(command[2:].replace(SHOWN_PORT, self.port))
         # No other program is found, so that what is printed is the same on each computer.
         self.terminal = helpers.Terminal(sys.executable, *words[1:], cwd=self.folder, PATH="/nowhere")
@@ -286,6 +286,7 @@ def play(guide: str, fill: bool = False) -> str:
     """A guide as it went."""
     with tempfile.TemporaryDirectory() as folder:
         os.symlink(helpers.PROGRAM, os.path.join(folder, "regatta"))
+        os.symlink(helpers.TIMES, os.path.join(folder, "times"))
         os.symlink(helpers.TOOLS, os.path.join(folder, "tools"))
         return Play(folder, fill).run(guide)
 

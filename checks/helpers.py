@@ -19,6 +19,8 @@ from collections.abc import Callable, Iterator
 TOP = os.path.dirname(os.path.dirname(os.path.abspath(__file__)))
 TOOLS = os.path.join(TOP, "tools")
 PROGRAM = os.path.realpath(os.environ.get("REGATTA", os.path.join(TOP, "crates/regatta/out/regatta")))
+# The program of corrected times.
+TIMES = os.path.realpath(os.environ.get("TIMES", os.path.join(TOP, "crates/times/out/times")))
 # Seconds for what has to come about. A slow machine with other work gets there, too.
 PATIENCE = 120.0
 ENTRIES = """\

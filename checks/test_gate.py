@@ -86,17 +86,19 @@ class All(Scripts):
         self.stand_in("examples/check.sh", ("as it was", 0))
         self.stand_in("bench/links.py", ("9 links, 0 broken", 0))
         self.stand_in("bench/statement.py", ("", 0))
+        self.stand_in("checks/times_exact.py", ("9 passed, 0 failed", 0))
         for said, passed, failed in ENDS:
             if not said[0].startswith("0 "):
                 with self.subTest(said=said):
                     self.stand_in("checks/run.py", said)
                     self.assertEqual(self.ran("checks/all.sh", "/bin/true"), (
-                        f"{3 + passed} passed, {failed} failed", 1 if failed else 0))
+                        f"{4 + passed} passed, {failed} failed", 1 if failed else 0))
         self.stand_in("checks/run.py", GOOD)
-        for part in ("examples/check.sh", "bench/links.py", "bench/statement.py"):
+        for part in ("examples/check.sh", "bench/links.py", "bench/statement.py",
+                     "checks/times_exact.py"):
             with self.subTest(part=part):
                 self.stand_in(part, ("1c1", 1))
-                self.assertEqual(self.ran("checks/all.sh", "/bin/true"), ("63 passed, 1 failed", 1))
+                self.assertEqual(self.ran("checks/all.sh", "/bin/true"), ("64 passed, 1 failed", 1))
             self.stand_in(part, ("as it was", 0))
 
     def test_run(self) -> None:

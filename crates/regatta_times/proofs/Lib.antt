@@ -1,0 +1,8 @@
+pub mod EveryBoat
+pub mod FaultFacts
+pub mod LapFacts
+pub mod OrderFacts
+pub mod PrintFacts
+pub mod RoundingFacts
+pub mod SheetFacts
+pub mod TextFacts

@@ -1,0 +1,15 @@
+pub mod Clock
+pub mod Columns
+pub mod Corrected
+pub mod Faults
+pub mod Fractions
+pub mod Laps
+pub mod Names
+pub mod Printed
+pub mod Ratings
+pub mod Sheets
+pub mod Texts
+pub mod Timings
+pub mod WorkedSheets
+pub mod WorkedTexts
+pub mod WorkedTimes

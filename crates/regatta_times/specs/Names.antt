@@ -1,0 +1,27 @@
+-- The names of races, systems and rules for rounding.
+use Rattle.std.specs.Prelude.{ℕ, List, Option, Some, None, codes, if◌then◌else◌}
+use Rattle.std.specs.Str.{bytes_eq}
+use Rattle.regatta_terms.specs.Numbers.{race_of}
+use Rattle.regatta_times.specs.declared.fraction.Rounding.{Rounding}
+use Rattle.regatta_times.specs.declared.fraction.Rounding.TheVariants.{HalfUp, HalfDown, Down, Up}
+use Rattle.regatta_times.specs.declared.system.System.{System}
+use Rattle.regatta_times.specs.declared.system.System.TheVariants.{Tcf, Py, Tod}
+
+-- the race that a text names, as in a line of the office
+abbrev pub race_of_text : List ℕ → Option ℕ
+race_of_text text = race_of text
+
+-- the system of rating that a text names
+abbrev pub system_of : List ℕ → Option System
+system_of text =
+    if bytes_eq text (codes "tcf") then Some Tcf
+    else (if bytes_eq text (codes "py") then Some Py
+    else (if bytes_eq text (codes "tod") then Some Tod else None))
+
+-- the rule for rounding that a text names
+abbrev pub rounding_of : List ℕ → Option Rounding
+rounding_of text =
+    if bytes_eq text (codes "half-up") then Some HalfUp
+    else (if bytes_eq text (codes "half-down") then Some HalfDown
+    else (if bytes_eq text (codes "down") then Some Down
+    else (if bytes_eq text (codes "up") then Some Up else None)))

@@ -1,0 +1,21 @@
+use Rattle.std.proofs.Common.{◌≡◌, List, Bor, ℕ, Option, Some, IfSome, map, inl, inr, rules, subst}
+use Rattle.times.specs.Words.{AskRun}
+use Rattle.times.specs.declared.options.Asked.{Asked}
+use Rattle.times.proofs.command_line.program.Goals as goal
+
+-- the words ask for help
+pub returns-in-Err : goal.returns-in-Err
+returns-in-Err g c = λ zero.
+    let said = c.answer_words.ensures zero in
+    inl (c.in-Err.ensures.help said.0, said.1)
+
+-- they ask for a run, which is done
+pub returns-in-Ok-run_asked : goal.returns-in-Ok-run_asked
+returns-in-Ok-run_asked g c =
+    let same : c.in-Ok.asked ≡ Some c.in-Some.asked = search rules in
+    let run : AskRun (map {A = Bor (List ℕ)} {B = List ℕ} (λ word. word.now) c.args.words.now)
+    c.in-Some.asked =
+    subst (λ (o : Option Asked). IfSome o (AskRun
+    (map {A = Bor (List ℕ)} {B = List ℕ} (λ word. word.now) c.args.words.now))) same
+    c.in-Ok.ensures.asked in
+    λ zero. inr (c.in-Some.asked, run, c.in-Ok-run_asked.ensures)

@@ -1,0 +1,4 @@
+pub mod Asked
+pub mod Complaints
+pub mod Runs
+pub mod Words
