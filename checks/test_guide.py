@@ -64,11 +64,12 @@ class Guide(unittest.TestCase):
 
     def test_roles(self) -> None:
         """The lines of each role are those that the program takes of it."""
-        rows = re.findall(r"^\| `([A-Z]+)[^|]*\| [^|]* \| ([a-z, ]+) \|$", self.text, re.MULTILINE)
+        table = self.text.partition("\n## Who types what")[2].partition("\n## ")[0]
         said: dict[str, set[str]] = {role: set() for role in spoken.MAY}
-        for line, who in rows:
-            for role in ROLES.values() if who == "all" else map(ROLES.get, who.split(", ")):
-                said[role].add(line)
+        for whose, rows in re.findall(r"^\| \*\*([^*]*)\*\* \| \|\n((?:\| `.*\n)*)", table, re.MULTILINE):
+            lines = re.findall(r"`([A-Z]+) ", rows)
+            for role in ROLES.values() if whose == "all" else map(ROLES.get, whose.split(" and ")):
+                said[role].update(lines)
         self.assertEqual(said, spoken.MAY)
 
     def test_contents(self) -> None:
