@@ -29,7 +29,7 @@ import time
 
 from compiled import HERE, compiled
 
-sys.path.insert(0, os.path.join(HERE, os.pardir, "tools"))
+sys.path.append(os.path.join(HERE, os.pardir, "tools"))
 from office import Gone, Link, Trouble  # noqa: E402
 
 # Seconds that an answer may take.

@@ -32,7 +32,7 @@ import time
 
 from compiled import compiled
 
-sys.path.insert(0, os.path.join(os.path.dirname(os.path.abspath(__file__)), os.pardir, "tools"))
+sys.path.append(os.path.join(os.path.dirname(os.path.abspath(__file__)), os.pardir, "tools"))
 from office import Link  # noqa: E402
 
 SEATS, COMMANDS, RACES, JOURNAL = 16, 4000, 40, 8192
