@@ -71,7 +71,7 @@ def answers(path: str, text: bytes) -> bytes:
 
 @contextlib.contextmanager
 def frozen(serving: subprocess.Popen) -> Iterator[None]:
-    """An office that stands still, so that what clients do is there at once when it goes on."""
+    """An office that is stopped, so that what clients do is there at once when it goes on."""
     helpers.freeze(serving.pid)
     try:
         yield

@@ -172,7 +172,7 @@ def whole(view: View, title: str, body: str, style: str, prefix: str) -> str:
                         f"entry {view.series.entries}", "scored by regatta under Appendix A, "
                         "RRS 2025–2028"])
     style += (f"@page {{ @bottom-left {{ content: {styles(below)}; font: 7pt sans-serif; }} "
-              '@bottom-right { content: "Page " counter(page) " of " counter(pages); '
+              '@bottom-right { content: "Page " counter(page) " of " counter(pages); white-space: nowrap; '
               "font: 7pt sans-serif; } }\n")
     return document(title, live, view.settings.every, view.version, f"{prefix}now.json", body, style)
 
@@ -449,9 +449,9 @@ def overall_style(view: View, scope: str = "main.standing") -> str:
 @media screen and (min-width: 737px) and (max-width: {fits(view)}px) {{
   {scope} .rank, {scope} th.sail {{ position: sticky; z-index: 2; }}
   {scope} thead .rank, {scope} thead th.sail {{ z-index: 4; }}
-  {scope} .rank {{ left: 0; min-width: 2.9rem; }}
+  {scope} .rank {{ left: 0; min-width: 3.2rem; }}
   {scope} .who {{ min-width: 13rem; }}
-  {scope} th.sail {{ left: 2.9rem; min-width: 6.4rem; box-shadow: inset -1px 0 var(--line); }}
+  {scope} th.sail {{ left: 3.2rem; min-width: 6.4rem; box-shadow: inset -1px 0 var(--line); }}
 }}
 """
 

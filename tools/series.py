@@ -93,7 +93,7 @@ def arguments() -> argparse.Namespace:
 
 def folders_and_reason(words: list[str]) -> tuple[list[str], str]:
     """The series that words name, and a reason if the last one names none. A reason has two words or
-    more, so that a misspelt folder isn't taken for one. All are read before anything is done."""
+    more, so that a misspelt folder isn't mistaken for a reason. All are read before anything is done."""
     is_reason = len(words) > 1 and not os.path.isdir(words[-1]) and len(words[-1].split()) > 1
     folders, reason = (words[:-1], words[-1]) if is_reason else (words, "")
     for path in folders:
