@@ -9,9 +9,9 @@ Each edit plants one bug in the code. The gate tries the edits of `crates/CRATE/
 since each of them costs it half a minute. The others are in `plants/CRATE/`. Run those of a crate
 after you change one of its contracts.
 
-In the copy they replace the crate's own must-fail edits, and `rt must-fail` tries them. It begins
-with what `rt check` kept in this checkout, so check the crate first: otherwise the crate and all
-below it are proved from scratch. What an earlier run tried over the same files isn't tried again.
+In the copy they stand in place of all must-fail edits, and `rt ci CRATE` tries them. It takes what
+an earlier `rt ci` on this machine passed over the same files, so run that of the crate first:
+otherwise the crate and all below it are proved from scratch.
 
 A line for each edit says why it is refused. It counts as failed if the prover accepts it, if it
 can't be applied or read, or if the refusal shows no open goal of a contract (for example, if only
@@ -64,13 +64,14 @@ def copy_to(copy: Path) -> None:
 
 def verdicts(copy: Path, crate: str, edits: list[Path]) -> Iterator[tuple[str, str]]:
     """Has `rt` try the edits of one crate, and gives the name and the verdict of each."""
+    for room in copy.glob("crates/*/must-fail"):
+        shutil.rmtree(room)
     room = copy / "crates" / crate / "must-fail"
-    shutil.rmtree(room, ignore_errors=True)
-    room.mkdir(parents=True)
+    room.mkdir()
     for edit in edits:
         shutil.copy(edit, room)
     print(f"{crate}: trying {len(edits)} edits", file=sys.stderr)
-    ran = subprocess.run(["rt", "must-fail", crate], cwd=copy, text=True, errors="replace",
+    ran = subprocess.run(["rt", "ci", crate], cwd=copy, text=True, errors="replace",
                          stdin=subprocess.DEVNULL, stdout=subprocess.PIPE, stderr=subprocess.STDOUT)
     said = dict(re.findall(rf"^(?:rt: )?must-fail {crate}/(\S+)\.edit: (.*)$", ran.stdout, re.M))
     if len(said) < len(edits):
