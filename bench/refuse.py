@@ -1,25 +1,30 @@
 #!/usr/bin/env python3
-"""Runs a built `regatta` with each of its requests for memory refused in turn.
+"""Runs the built programs with each of their requests for memory refused in turn.
 
-    bench/refuse.py PROGRAM
+    bench/refuse.py PROGRAM [TIMES]
 
-The Nth request of a run is refused, for N = 1, 2, .. up to as many as the run makes. The runs are:
+The Nth request of a run is refused, for N = 1, 2, .. up to as many as the run makes. The runs of
+`regatta` are:
 
 - replays of all commands, by finishes and by corrected times;
 - replays of the weekend of `examples/`, with and without start files, in each form;
 - help, and arguments that are refused;
 - serving one client.
 
+Those of `times`, if that program is named too, are lines and sums of each system, with the ratings in
+the sheet or in a list; help; and arguments, settings, lists and sheets that are refused.
+
 A heap that refuses one request (refuse.c) is built with the machine's C compiler and preloaded.
 
-A refused run must say `regatta: no memory`, end with status 3, and print nothing but whole replies to
-some first lines. There are two exceptions. If `clap` refuses the arguments, it asks again for its own
+A refused run must say `regatta: no memory` or `times: no memory`, end with status 3, and print nothing
+but whole replies to some first lines. There are two exceptions. If `clap` refuses the arguments, it asks again for its own
 text, so the usual answer may be given. Serving may also succeed, if the refused request was for a
 thread or met a session: the client then reads `BUSY` alone, or whole replies to some first lines, of
 which one may be `NO 1`. If the request came after the office was opened, the table is printed although
 no memory is reported. Each other answer is reported, and the script then ends with status 1.
 """
 import contextlib
+import itertools
 import os
 import subprocess
 import sys
@@ -35,7 +40,9 @@ from office import Gone, Link, Trouble  # noqa: E402
 # Seconds that an answer may take.
 PATIENCE = 60.0
 EXAMPLES = os.path.join(os.path.dirname(HERE), "examples")
+SHEET = os.path.join(os.path.dirname(HERE), "crates", "times")
 NO_MEMORY = (3, b"regatta: no memory\n")
+NO_MEMORY_FOR_TIMES = (3, b"times: no memory\n")
 DEVICE_FAULT = (3, b"regatta: device fault\n")
 COMMANDS = b"""ENTER A
 ENTER B
@@ -75,13 +82,29 @@ QUIT
 """
 
 
-def example(name):
-    with open(os.path.join(EXAMPLES, name), "rb") as file:
+RATED = b"""Sail,Rating,Start,Finish,Elapsed,Laps,Distance
+GBR 201,1103,23:05:00,0:07:31,,3,
+NED 80,985,,23:54:02,,4,
+FRA 9,1150,,,1:02:31,,
+"""
+BY_DISTANCE = b"""Sail,Rating,Elapsed,Distance
+A,-12.5,1:02:31,6.25
+B,120.25,3600,
+"""
+
+
+def text_at(folder, name):
+    with open(os.path.join(folder, name), "rb") as file:
         return file.read()
+
+
+def example(name):
+    return text_at(EXAMPLES, name)
 
 
 class Run:
     """A run of the program that is repeated, each time with a later request refused."""
+    no_memory = NO_MEMORY
 
     def __init__(self, folder, program, name, words, text=b"", asks_again=False):
         self.folder, self.program, self.name = folder, program, name
@@ -128,11 +151,16 @@ class Run:
             status, said, printed = self.ended(library, refused)
             if self.asks_again and (status, said, printed) == whole:
                 self.again += 1
-            elif (status, said) != NO_MEMORY or printed not in replies:
+            elif (status, said) != self.no_memory or printed not in replies:
                 same = " (the ordinary answer)" if (status, said, printed) == whole else ""
                 others.append(f"request {refused}: status {status}, {said[:60]!r}, "
                               f"{len(printed)} bytes printed{same}")
         return requests, others
+
+
+class Timing(Run):
+    """A run of `times`, which prints nothing before all is computed."""
+    no_memory = NO_MEMORY_FOR_TIMES
 
 
 class Serving(Run):
@@ -219,14 +247,38 @@ def runs(folder, program):
               b"FINISH 1 GBR7\nSCORE 1\nRANK GBR7\nSHOW\nQUIT\n", Serving)
 
 
+def runs_of_times(folder, program):
+    def run(name, words, text=b"", asks_again=False):
+        return Timing(folder, program, name, words, text, asks_again)
+
+    race = ["--race", "1", "--system"]
+    boats = ["--entries", os.path.join(SHEET, "data", "boats.csv")]
+    sheet = text_at(SHEET, "stdin")
+    yield run("times, from a list", ["lines", *race, "py", *boats], sheet)
+    yield run("the sums", ["sums", *race, "py", *boats], sheet)
+    yield run("ratings in the sheet, overnight", ["lines", *race, "py", "--overnight"], RATED)
+    yield run("time on distance", ["sums", *race, "tod", "--rounding", "down"], BY_DISTANCE)
+    yield run("time on time", ["lines", *race, "tcf", "--rating", "tcf"], b"Sail,TCF,Elapsed\nA,0.985,3700\n")
+    yield run("a sheet without boats", ["lines", *race, "py"], b"Sail,Rating\n")
+    yield run("help of times", ["--help"])
+    yield run("help of lines", ["lines", "--help"])
+    yield run("an unknown option of lines", ["lines", *race, "py", "--speed"], asks_again=True)
+    yield run("an option that is missing", ["lines", "--race", "1"], asks_again=True)
+    yield run("an unknown system", ["lines", *race, "irc"], RATED)
+    yield run("a bad list", ["lines", *race, "tcf", *boats], sheet)
+    yield run("a bad sheet", ["lines", *race, "py"], RATED)
+    yield run("no sheet", ["lines", *race, "py"])
+
+
 def main():
-    if len(sys.argv) != 2:
+    if len(sys.argv) not in (2, 3):
         sys.exit(__doc__)
-    program = os.path.abspath(sys.argv[1])
+    program, *times = map(os.path.abspath, sys.argv[1:])
     total, wrong = 0, 0
     with tempfile.TemporaryDirectory() as folder:
         library = compiled(folder, "refuse.c", "-shared", "-fPIC")
-        for run in runs(folder, program):
+        every = itertools.chain(runs(folder, program), *(runs_of_times(folder, it) for it in times))
+        for run in every:
             requests, others = run.sweep(library)
             total += requests
             wrong += len(others)
