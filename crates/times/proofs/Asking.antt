@@ -24,6 +24,11 @@ use Rattle.times.specs.declared.options.Asked.TheVariants.{Lines, Sums}
 use Rattle.times.specs.Words.{AskHelp, AskRun, asked_by, asked_of, race_with, times}
 use Rattle.times.specs.Words.{with_race, with_rules}
 
+-- one of two cases, and what follows from each
+pub either : {P Q R S : Type 0} → P ⊎ Q → (P → R) → (Q → S) → R ⊎ S
+either (inl p) f g = inl (f p)
+either (inr q) f g = inr (g q)
+
 -- what the program understands, with one more option
 pub with_one_more : (new old app : App) (rule known : Rule) → new ≡ with_rule old rule
     → old ≡ app → rule ≡ known → new ≡ with_rule app known

@@ -1,7 +1,8 @@
 -- What a run may be asked for, and a run that does it.
-use Rattle.std.specs.Prelude.{◌≡◌, ◌≤◌, ℕ, Bool, List, Option, Some, None, IfSome, Result, Ok}
+use Rattle.std.specs.Prelude.{◌≡◌, ◌≤◌, ◌⊎◌, ℕ, Bool, List, Option, Some, None, IfSome, Result, Ok}
 use Rattle.std.specs.Prelude.{length}
 use Rattle.std.specs.Io.KnownBytes.{Appends}
+use Rattle.regatta_streams.specs.Texts.{AppendsPrefix}
 use Rattle.regatta_terms.specs.Lines.{◌>>=◌}
 use Rattle.regatta_times.specs.declared.fault.SheetFault.{SheetFault}
 use Rattle.regatta_times.specs.declared.fraction.Rounding.{Rounding}
@@ -56,9 +57,10 @@ abbrev pub IsListAt : Option (List ℕ) → List ℕ → List ℕ → Type 0
 IsListAt None sheet list = list ≡ sheet
 IsListAt (Some path) sheet list = length list ≤ FILE_LIMIT
 
--- the lines or the sums of the race were written, and nothing else: from the whole input as its
--- sheet, and with the ratings of the entry list
-pub record IsRunOf (form : Form) (asked : Race) (given old new : Option (List ℕ)) : Type 0 where
+-- `Wrote` holds of the lines or the sums of the race: from the whole input as its sheet, and with the
+-- ratings of the entry list
+pub record RunThat (Wrote : List ℕ → Type 0) (form : Form) (asked : Race) (given : Option (List ℕ))
+    : Type 0 where
   pub settings : Settings
   pub settled : settings_of asked.race asked.system asked.rounding ≡ Some settings
   pub sheet : List ℕ
@@ -67,4 +69,18 @@ pub record IsRunOf (form : Form) (asked : Race) (given old new : Option (List �
   pub named : IsListAt asked.entries sheet list
   pub times : List Timed
   pub timed : times_from settings asked.rating asked.overnight list sheet ≡ Ok times
-  pub wrote : Appends old new (text_in form settings times)
+  pub wrote : Wrote (text_in form settings times)
+
+-- the lines or the sums of the race were written, and nothing else
+abbrev pub IsRunOf : Form → Race → Option (List ℕ) → Option (List ℕ) → Option (List ℕ) → Type 0
+IsRunOf form asked given old new = RunThat (λ text. Appends old new text) form asked given
+
+-- a first part of them was written, not all
+abbrev pub BreaksOffRunOf : Form → Race → Option (List ℕ) → Option (List ℕ) → Option (List ℕ)
+    → Type 0
+BreaksOffRunOf form asked given old new = RunThat (λ text. AppendsPrefix old new text) form asked given
+
+-- they were written, or a first part of them
+abbrev pub AtMostRunOf : Form → Race → Option (List ℕ) → Option (List ℕ) → Option (List ℕ) → Type 0
+AtMostRunOf form asked given old new =
+    IsRunOf form asked given old new ⊎ BreaksOffRunOf form asked given old new

@@ -2,7 +2,7 @@
 ghost use Rattle.std.specs.Prelude.{◌≡◌, ◌≢◌, ◌⊎◌, ℕ, List, OnOk, map};
 ghost use Rattle.std.specs.Io.KnownBytes.{Appends};
 ghost use Rattle.clap.specs.Words.{kind_of};
-ghost use Rattle.times.specs.Runs.{IsRunOfAsked};
+ghost use Rattle.times.specs.Runs.{AtMostRunOfAsked, IsRunOfAsked};
 ghost use Rattle.times.specs.Words.{AskHelp, AskRun};
 
 use crate::complaint::Complaint;
@@ -33,8 +33,10 @@ fn complain<E: Sink>(alloc: Global, errors: &mut E, complaint: Complaint) -> u8
 
 /// Writes the help that was asked for, and returns the program's status.
 fn help<W: Sink, E: Sink>(alloc: Global, error: &clap::Error, output: &mut W, errors: &mut E) -> u8
-    ensures { result ≡ 0 → (text : List ℕ)
+    ensures done { result ≡ 0 → (text : List ℕ)
         × Appends (W.contents output.old) (W.contents output.new) text }
+    ensures at_most { (output.new ≡ output.old) ⊎ ((text : List ℕ)
+        × Appends (W.contents output.old) (W.contents output.new) text) }
 {
     let Ok(text) = format!(in alloc; "{error}") else {
         return complain(alloc, errors, Complaint::NoMemory);
@@ -66,8 +68,10 @@ fn answer_words<W: Sink, E: Sink>(
     output: &mut W,
     errors: &mut E,
 ) -> u8
-    ensures { result ≡ 0 → (kind_of error.now ≡ ErrorKind.DisplayHelp) × ((text : List ℕ)
+    ensures done { result ≡ 0 → (kind_of error.now ≡ ErrorKind.DisplayHelp) × ((text : List ℕ)
         × Appends (W.contents output.old) (W.contents output.new) text) }
+    ensures at_most { (output.new ≡ output.old) ⊎ ((kind_of error.now ≡ ErrorKind.DisplayHelp)
+        × ((text : List ℕ) × Appends (W.contents output.old) (W.contents output.new) text)) }
 {
     match error.kind() {
         ErrorKind::DisplayHelp => help(alloc, error, output, errors),
@@ -82,8 +86,10 @@ fn run_asked<H: Files + AllocGlobal, R: Source, W: Sink>(
     input: &mut R,
     output: &mut W,
 ) -> Result<(), Complaint>
-    ensures { OnOk result (IsRunOfAsked asked.now (R.remaining input.old)
+    ensures done { OnOk result (IsRunOfAsked asked.now (R.remaining input.old)
         (W.contents output.old) (W.contents output.new)) }
+    ensures at_most { (output.new ≡ output.old) ⊎ AtMostRunOfAsked asked.now
+        (R.remaining input.old) (W.contents output.old) (W.contents output.new) }
 {
     match asked {
         Asked::Lines(options) => run(rt, Form::TimeLines, options, input, output),
@@ -115,12 +121,21 @@ where
     E: Sink,
     // At status 0 the arguments ask for help, and it is written. Or `clap` finds no fault in them,
     // and what the race that they ask for comes to is written, and nothing else.
-    ensures { result ≡ 0 →
+    ensures done { result ≡ 0 →
         (AskHelp (map (λ word. word.now) words.now)
         × ((text : List ℕ) × Appends (W.contents output.old) (W.contents output.new) text))
         ⊎ ((asked : _) × AskRun (map (λ word. word.now) words.now) asked
         × IsRunOfAsked asked (R.remaining input.old) (W.contents output.old)
         (W.contents output.new)) }
+
+    // Whatever the status, nothing is written; or help, which the arguments ask for; or what the
+    // race that they ask for comes to, or a first part of it.
+    ensures at_most { (output.new ≡ output.old)
+        ⊎ ((AskHelp (map (λ word. word.now) words.now)
+        × ((text : List ℕ) × Appends (W.contents output.old) (W.contents output.new) text))
+        ⊎ ((asked : _) × AskRun (map (λ word. word.now) words.now) asked
+        × AtMostRunOfAsked asked (R.remaining input.old) (W.contents output.old)
+        (W.contents output.new))) }
 {
     let alloc = rt.alloc();
     let asked = match options_of(alloc, words) {

@@ -1,7 +1,7 @@
 //! A run: a sheet is read and corrected, and the lines or the sums are written.
-ghost use Rattle.std.specs.Prelude.{◌≡◌, ◌≤◌, Ok, IfOk, IfSome, OnOk, length};
+ghost use Rattle.std.specs.Prelude.{◌≡◌, ◌≤◌, ◌⊎◌, Ok, IfOk, IfSome, OnOk, length};
 ghost use Rattle.std.specs.Option.{option_copied};
-ghost use Rattle.times.specs.Asked.{IsListAt, IsRunOf, text_in, times_from};
+ghost use Rattle.times.specs.Asked.{AtMostRunOf, IsListAt, IsRunOf, text_in, times_from};
 ghost use Rattle.times.specs.declared.run.TheConstants.{FILE_LIMIT};
 
 use crate::complaint::Complaint;
@@ -100,8 +100,12 @@ pub(crate) fn run<H: Files + AllocGlobal, R: Source, W: Sink>(
     input: &mut R,
     output: &mut W,
 ) -> Result<(), Complaint>
-    ensures { OnOk result (IsRunOf form asked.now (R.remaining input.old)
+    ensures done { OnOk result (IsRunOf form asked.now (R.remaining input.old)
         (W.contents output.old) (W.contents output.new)) }
+
+    // Whether or not it succeeds, nothing else is written.
+    ensures at_most { (output.new ≡ output.old) ⊎ AtMostRunOf form asked.now
+        (R.remaining input.old) (W.contents output.old) (W.contents output.new) }
 {
     let alloc = rt.alloc();
     let settings = settings_of(asked.race, asked.system, asked.rounding)?;
