@@ -10,8 +10,9 @@ use Rattle.regatta_service.specs.Ends.{failed_reads_in, failures_in}
 use Rattle.regatta_service.specs.LinesTaken.{Talked}
 use Rattle.regatta_service.specs.declared.sessions.End.{End}
 
--- a session took the stream from its state `given` to `left`, and the pass from `before` to `after`,
--- as the session's end says, also of the failed calls of the stream; it had memory for its replies
+-- a session took the stream from its state `given` to `left`, and the pass from `before` to
+-- `after`, as the session's end says, also of the failed calls of the stream; it had memory for its
+-- replies
 pub record IsServed {S : Type 0} (rules : RulesParts) (remaining contents : S → Option (List ℕ))
     (failures failed_reads : S → ℕ) (given left : S) (before after : PassValue) (end : End)
     : Type 0 where

@@ -10,8 +10,8 @@ use regatta_streams::{Device, Sink, Source};
 use std::snapshot::Snapshot;
 use std::sync::Wait;
 
-/// A session at the desk of N's office that has ended: how, and its stream and its pass as they were
-/// before and after. Only this file makes one, of a session that it ran.
+/// A session at the desk of N's office that has ended: how, and its stream and its pass as they
+/// were before and after. Only this file makes one, of a session that it ran.
 #[derive(Drop)]
 pub(crate) struct Ended<N: OfficeName, S> {
     end: End,
@@ -21,8 +21,8 @@ pub(crate) struct Ended<N: OfficeName, S> {
     after: Snapshot<Pass<N>>,
 }
 
-/// Serves a client, as [`session`](crate::session) does, with room for replies, and tells the gate
-/// of the end.
+/// Serves a client, as [`session`](crate::session) does, with room for replies, and then calls
+/// `Gate::ended`.
 pub(crate) fn ended_session<N, H, R, S, G>(
     rt: &R,
     reply: Vec<u8>,

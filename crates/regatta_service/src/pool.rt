@@ -21,8 +21,8 @@ pub(crate) enum Lack {
     Memory,
 }
 
-/// A client with the pass that is lent to them, and the pass's slot in the pool. Only a pool lends a
-/// pass, and only a pool takes it back, so no one else parts the client's stream from it.
+/// A client with the pass that is lent to them, and the pass's slot in the pool. Only a pool lends
+/// a pass, and only a pool takes it back, so no one else parts the client's stream from it.
 #[derive(Drop)]
 pub(crate) struct Seated<N: OfficeName, S> {
     slot: usize,

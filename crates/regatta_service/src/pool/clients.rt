@@ -36,7 +36,7 @@ impl<N: OfficeName, S: Source + Sink> Seated<N, S> {
         Snapshot::of(&self.pass)
     }
 
-    /// Serves the client with their pass, and tells the gate of the session's end.
+    /// Serves the client with their pass, and then calls `Gate::ended`.
     pub(crate) fn serve<H: Wait + Drop, R: Wait, G: Gate>(
         &mut self,
         rt: &R,
