@@ -1,5 +1,5 @@
 -- How a client was parted with.
-use Rattle.std.specs.Prelude.{◌≡◌, ◌≢◌, ◌+◌, ◌⊎◌, ℕ, List, Option, Result, Ok, Err}
+use Rattle.std.specs.Prelude.{◌≡◌, ◌≢◌, ◌+◌, ◌⊎◌, ℕ, List, Option}
 use Rattle.std.specs.Io.KnownBytes.{Appends, IsAtEnd, Keeps}
 use Rattle.regatta_terms.specs.Rules.{RulesParts}
 use Rattle.regatta_terms.specs.declared.reply.Reply.TheVariants.{Busy}
@@ -10,12 +10,12 @@ use Rattle.regatta_service.specs.Ends.{failed_reads_in, failures_in}
 use Rattle.regatta_service.specs.LinesTaken.{Talked}
 use Rattle.regatta_service.specs.declared.sessions.End.{End}
 
--- a session with some pass took the stream from its state `given` to `left`, as the session's end
--- says, also of the failed calls of the stream; it had memory for its replies
+-- a session took the stream from its state `given` to `left`, and the pass from `before` to
+-- `after`, as the session's end says, also of the failed calls of the stream; it had memory for its
+-- replies
 pub record IsServed {S : Type 0} (rules : RulesParts) (remaining contents : S → Option (List ℕ))
-    (failures failed_reads : S → ℕ) (given left : S) (end : End) : Type 0 where
-  pub before : PassValue
-  pub after : PassValue
+    (failures failed_reads : S → ℕ) (given left : S) (before after : PassValue) (end : End)
+    : Type 0 where
   pub failed : failures left ≡ failures given + failures_in end
   pub reads : failed_reads left ≡ failed_reads given + failed_reads_in end
   pub closed : end ≡ End.Closed → IsAtEnd (remaining left)
@@ -33,11 +33,3 @@ pub record IsTurnedAway {S : Type 0} (remaining contents : S → Option (List �
       × AppendsPrefix (contents given) (contents left) (reply_text Busy))
   pub keeps : Keeps (remaining given) (remaining left)
   pub no_read : failed_reads left ≡ failed_reads given
-
--- served; or, if there is a reason why no session began, turned away
-abbrev pub IsParted : {S Why : Type 0} → RulesParts → (S → Option (List ℕ))
-    → (S → Option (List ℕ)) → (S → ℕ) → (S → ℕ) → S → S → Result End Why → Type 0
-IsParted rules remaining contents failures failed_reads given left (Ok end) =
-    IsServed rules remaining contents failures failed_reads given left end
-IsParted rules remaining contents failures failed_reads given left (Err why) =
-    IsTurnedAway remaining contents failures failed_reads given left

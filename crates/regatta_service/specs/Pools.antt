@@ -15,28 +15,18 @@ abbrev pub Finds : List (Option PassValue) → Option (ℕ × ℕ) → Type 0
 Finds slots None = All (λ slot. slot ≡ None) slots
 Finds slots (Some found) = IsLowest slots found.0 found.1
 
--- the passes that are free, each in its slot, and those that are booked for a client, each at the
--- place of its slot
+-- the passes that are free, each in its slot, and the slot whose client is refused a thread, if any
 pub record PoolParts : Type 0 where
   pub slots : List (Option PassValue)
-  pub booked : List (Option PassValue)
+  pub refused : Option ℕ
 
--- the free pass with the lowest seat was booked at its slot
-pub record Books (old new : PoolParts) (slot : ℕ) : Type 0 where
-  pub pass : PassValue
+-- the free pass with the lowest seat was lent from this slot, and its client isn't refused
+pub record Lends (old new : PoolParts) (slot : ℕ) (pass : PassValue) : Type 0 where
   pub here : slice_get old.slots slot ≡ Some (Some pass)
   pub lowest : IsLowest old.slots slot pass.seat
   pub taken : new.slots ≡ slice_set old.slots slot None
-  pub waits : new.booked ≡ slice_set old.booked slot (Some pass)
+  pub unrefused : new.refused ≡ None
 
--- no pass is booked at this slot
-abbrev pub IsUnbooked : PoolParts → ℕ → Type 0
-IsUnbooked pool slot = IfSome (slice_get pool.booked slot) (λ place. place ≡ None)
-
--- the pass that was booked at this slot is free again; if none was, nothing has changed
-pub record Unbooks (old new : PoolParts) (slot : ℕ) : Type 0 where
-  pub back : (pass : PassValue) → slice_get old.booked slot ≡ Some (Some pass) → new ≡ record {
-    slots = slice_set old.slots slot (Some pass);
-    booked = slice_set old.booked slot None;
-  }
-  pub same : IsUnbooked old slot → new ≡ old
+-- the pass is back in its slot
+abbrev pub with_pass : PoolParts → ℕ → PassValue → PoolParts
+with_pass pool slot pass = record pool { slots = slice_set pool.slots slot (Some pass) }

@@ -7,7 +7,7 @@ use std::net::Shutdown;
 use std::os::unix::net::UnixStream;
 use std::time::Duration;
 
-/// The reply to a client who finds no seat.
+/// The text of `Reply::Busy`, for a client who can't be served.
 pub(crate) const BUSY: &[u8] = b"BUSY\n";
 
 /// The most bytes that one read asks for.
@@ -51,8 +51,8 @@ impl Drop for Ending {
     }
 }
 
-/// The connection over a socket that was accepted. `None` if the system has no second descriptor for
-/// it, or no time limit of its writes; the client is then turned away.
+/// The connection over a socket that was accepted. `None` if the system gives no second descriptor
+/// for it, or no time limit for its writes; the client is then turned away.
 pub(crate) fn connection_of(socket: UnixStream) -> Option<Connection<UnixStream>> {
     let limit = Duration::from_secs(WRITE_LIMIT);
     match Ending::of(&socket) {

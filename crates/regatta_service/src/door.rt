@@ -136,8 +136,8 @@ fn accepted<R: Wait + Clock>(
 pub struct SocketDoor {
     /// `None` if the door is closed.
     listener: Option<UnixListener>,
-    /// A second handle of the listener. When no descriptor is left, it is given up, so that the next
-    /// client can be told that there is no seat.
+    /// A second handle of the listener. When no descriptor is left, it is given up, so that the
+    /// next client can be told that there is no seat.
     spare: Option<UnixListener>,
     left: Option<u32>,
     failures: Failures,

@@ -4,9 +4,11 @@
 mod connection;
 mod count;
 mod door;
+mod ended;
 mod gate;
 mod parting;
 mod pool;
+mod room;
 mod serving;
 mod sessions;
 

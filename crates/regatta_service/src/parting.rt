@@ -1,49 +1,44 @@
 //! Clients, from the door to the end of their session.
-ghost use Rattle.std.specs.Prelude.{◌≡◌, ◌+◌, Some, None, IfOk, IfErr, OnErr};
-ghost use Rattle.regatta_service.specs.Partings.{IsParted, IsServed, IsTurnedAway};
+ghost use Rattle.std.specs.Prelude.{◌≡◌, ◌≢◌, ◌+◌, IfOk, IfErr};
+ghost use Rattle.regatta_service.specs.Partings.{IsServed, IsTurnedAway};
 
-use crate::connection::BUSY;
 use crate::count::Count;
+use crate::ended::Ended;
 use crate::gate::Gate;
-use crate::pool::{NoPlace, Pool, reply_room};
-use crate::sessions::{End, session_with};
-use regatta_desk::{Office, OfficeName};
-use regatta_streams::{Device, Sink, Source, write_all};
+use crate::pool::{Lack, Pool, Seated, TurnedAway};
+use crate::room::reply_room;
+use regatta_desk::{Office, OfficeName, Pass};
+use regatta_streams::{Device, Sink, Source};
 use std::alloc::Global;
 use std::marker::{Model, PhantomData};
 use std::snapshot::Snapshot;
 use std::sync::{Mutex, Wait};
 use std::thread::{Promise, PromisedHandle, Scope};
 
-/// Tells a client that there is no seat. Whether the client reads it changes nothing. Returns the
-/// stream as it was left.
-fn turned_away<S: Source + Sink + Drop>(stream: S) -> Snapshot<S>
-    ensures { IsTurnedAway S.remaining S.contents S.failures S.failed_reads stream result.value }
-{
-    let mut stream = stream;
-    let _ = write_all(&mut stream, BUSY);
-    Snapshot::of(&stream)
-}
+/// How a client was parted with: the session that they had, or that they were turned away. The
+/// stream itself is closed by then.
+pub(crate) type Parted<N, S> = Result<Ended<N, S>, TurnedAway<S>>;
 
-/// How a client was parted with. The stream itself is closed by then.
+/// What a thread promises when it is given a client: they have a session with the pass that is lent
+/// to them, or are turned away for lack of a thread or of memory.
 #[derive(Drop)]
-pub(crate) struct Parted<S> {
-    /// How the session ended, or why there was none.
-    end: Result<End, NoPlace>,
-    /// The stream as it was left.
-    left: Snapshot<S>,
-}
-
-/// What a thread promises when it is given a client's stream.
-#[derive(Drop)]
-pub(crate) struct Serves<N, S> {
+pub(crate) struct Serves<N: OfficeName, S> {
     given: Snapshot<S>,
-    office: PhantomData<N>,
+    lent: Snapshot<Pass<N>>,
 }
 
-impl<N: OfficeName, S: Source + Sink> Promise<Parted<S>> for Serves<N, S> {
-    ghost kept_by = { λ promise parted. IsParted N.rules S.remaining S.contents S.failures
-        S.failed_reads promise.given.value parted.left.value parted.end };
+impl<N: OfficeName, S: Source + Sink> Promise<Parted<N, S>> for Serves<N, S> {
+    ghost use Rattle.regatta_service.specs.declared.pool.Lack.{Lack};
+
+    ghost kept_by = { λ promise parted.
+        IfOk parted (λ ended. (ended.given.value ≡ promise.given.value)
+        × (ended.before.value ≡ promise.lent.value)
+        × IsServed N.rules S.remaining S.contents S.failures S.failed_reads
+        promise.given.value ended.left.value promise.lent.value ended.after.value ended.end)
+        × IfErr parted (λ away. (away.given.value ≡ promise.given.value)
+        × (away.why ≢ Lack.Seat)
+        × IsTurnedAway S.remaining S.contents S.failures S.failed_reads
+        promise.given.value away.left.value) };
 }
 
 /// The number of clients with such a stream who were admitted: each was given to a thread that
@@ -82,76 +77,51 @@ impl<S> Admitted<S> {
     }
 }
 
-/// Serves a client with the pass that is booked at this slot, and frees the seat.
-///
-/// # Errors
-///
-/// If nothing is booked there, or there is no memory for replies. The stream is then untouched.
-fn serve_booked<N, H, R, S, G>(
-    rt: &R,
-    alloc: Global,
-    stream: &mut S,
-    slot: usize,
-    office: &Office<N, H>,
-    pool: &Mutex<Pool<N>>,
-    gate: &G,
-) -> Result<End, NoPlace>
-where
-    N: OfficeName,
-    H: Wait + Drop,
-    R: Wait,
-    S: Source + Sink,
-    G: Gate,
-    ensures served { IfOk result (λ end. IsServed N.rules S.remaining S.contents S.failures
-        S.failed_reads stream.old stream.new end) }
-    ensures err { OnErr result (stream.new ≡ stream.old) }
-{
-    let fetched = pool.lock(rt).fetch(slot);
-    let mut lent = fetched?;
-    let end = match reply_room(alloc) {
-        Ok(reply) => {
-            let end = session_with(rt, reply, stream, office, &mut lent.pass, gate);
-            gate.ended(lent.pass.seat(), end);
-            Ok(end)
-        }
-        Err(why) => Err(why),
-    };
-    // The seat is free before the stream is closed, so a client who sees the end of their session
-    // may come again at once.
-    pool.lock(rt).give(lent);
-    end
-}
-
-/// Serves a client with the pass that is booked at this slot. If they can't be served, turns them
-/// away.
+/// Serves a client with the pass that is lent to them, and frees the seat. If they can't be served,
+/// turns them away.
 fn attend<N, H, R, S, G>(
     rt: &R,
     alloc: Global,
-    stream: S,
-    slot: usize,
+    client: Seated<N, S>,
     office: &Office<N, H>,
     pool: &Mutex<Pool<N>>,
     gate: &G,
-) -> Parted<S>
+) -> Parted<N, S>
 where
     N: OfficeName,
     H: Wait + Drop,
     R: Wait,
     S: Source + Sink + Drop,
     G: Gate,
-    ensures { IsParted N.rules S.remaining S.contents S.failures S.failed_reads stream
-        result.left.value result.end }
+    // A session was run on this client's stream and with their pass.
+    ensures session { IfOk result (λ ended. (ended.given.value ≡ client.stream)
+        × (ended.before.value ≡ client.pass)) }
+    ensures served { IfOk result (λ ended. IsServed N.rules S.remaining S.contents S.failures
+        S.failed_reads client.stream ended.left.value client.pass ended.after.value ended.end) }
+
+    // Or they were turned away, but not for lack of a seat.
+    ensures away { IfErr result (λ away. (away.given.value ≡ client.stream)
+        × (away.why ≢ Lack.Seat)) }
+    ensures told { IfErr result (λ away. IsTurnedAway S.remaining S.contents S.failures
+        S.failed_reads client.stream away.left.value) }
 {
-    let mut stream = stream;
-    match serve_booked(rt, alloc, &mut stream, slot, office, pool, gate) {
-        Ok(end) => Parted {
-            end: Ok(end),
-            left: Snapshot::of(&stream),
-        },
-        Err(why) => Parted {
-            end: Err(why),
-            left: turned_away(stream),
-        },
+    let begun = pool.lock(rt).begin(client);
+    let mut client = match begun {
+        Ok(client) => client,
+        Err(unseated) => return Err(unseated.turn_away()),
+    };
+    match reply_room(alloc) {
+        Ok(reply) => {
+            let ended = client.serve(rt, reply, office, gate);
+            // The seat is free before the stream is closed, so a client who sees the end of their
+            // session may come again at once.
+            let _leaving = pool.lock(rt).take_back(client);
+            Ok(ended)
+        }
+        Err(why) => {
+            let unseated = pool.lock(rt).give_up(client, &why);
+            Err(unseated.turn_away())
+        }
     }
 }
 
@@ -166,7 +136,7 @@ pub(crate) fn admit<'s, E: 's, N, H, R, S, G>(
     gate: &'s G,
     admitted: &mut Admitted<S>,
     stream: S,
-) -> Result<PromisedHandle<Parted<S>, Serves<N, S>>, Parted<S>>
+) -> Result<PromisedHandle<Parted<N, S>, Serves<N, S>>, Parted<N, S>>
 where
     N: OfficeName + Send + Sync + 's,
     H: Wait + Drop + Send + 's,
@@ -177,31 +147,33 @@ where
 
     // The thread promises to serve this stream, or it was parted with here.
     ensures seated { IfOk result (λ thread. thread.promise.given.value ≡ stream) }
-    ensures away { IfErr result (λ parted. IsParted N.rules S.remaining S.contents S.failures
-        S.failed_reads stream parted.left.value parted.end) }
+    ensures session { IfErr result (λ parted. IfOk parted (λ ended.
+        (ended.given.value ≡ stream)
+        × IsServed N.rules S.remaining S.contents S.failures S.failed_reads stream
+        ended.left.value ended.before.value ended.after.value ended.end)) }
+    ensures away { IfErr result (λ parted. IfErr parted (λ away.
+        (away.given.value ≡ stream)
+        × IsTurnedAway S.remaining S.contents S.failures S.failed_reads stream
+        away.left.value)) }
 {
     admitted.count();
-    let booked = pool.lock(rt).book();
-    let slot = match booked {
-        Ok(slot) => slot,
-        Err(why) => {
-            return Err(Parted {
-                end: Err(why),
-                left: turned_away(stream),
-            });
-        }
+    let lent = pool.lock(rt).lend(stream);
+    let (ticket, client) = match lent {
+        Ok(seated) => seated,
+        Err(unseated) => return Err(Err(unseated.turn_away())),
     };
     let promise = Serves {
-        given: Snapshot::of(&stream),
-        office: PhantomData,
+        given: client.given(),
+        lent: client.lent(),
     };
-    match scope.spawn_with(promise, move || {
-        attend(rt, alloc, stream, slot, office, pool, gate)
-    }) {
+    match scope.spawn_with(
+        promise,
+        move || attend(rt, alloc, client, office, pool, gate),
+    ) {
         Ok(thread) => Ok(thread),
         Err(refused) => {
-            // The refused closure finds nothing booked, and turns the client away.
-            pool.lock(rt).unbook(slot, &refused);
+            // The refused closure finds the refusal, and turns the client away.
+            pool.lock(rt).refuse(ticket, &refused);
             Err((refused.value)())
         }
     }

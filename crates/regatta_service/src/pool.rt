@@ -1,66 +1,70 @@
-//! What a session needs: a free pass, and room for replies.
-ghost use Rattle.std.specs.Prelude.{◌≡◌, ◌+◌, ◌<◌, ◌++◌, Some, None, map, take, length, All};
-ghost use Rattle.std.specs.Prelude.{◌≤◌, IfOk, IfSome, OnOk, OnErr, slice_get, slice_set};
-ghost use Rattle.std.specs.Prelude.{IsTrue, false, vec_capacity};
-ghost use Rattle.regatta_desk.specs.Passes.{PassValue};
-ghost use Rattle.regatta_tables.specs.declared.replies.TheConstants.{REPLY_ROOM};
-ghost use Rattle.regatta_service.specs.Pools.{Books, Finds, IsUnbooked, Unbooks};
+//! The passes that are free, and the clients to whom the others are lent.
+ghost use Rattle.std.specs.Prelude.{◌≡◌, ◌≢◌, ◌+◌, ◌<◌, ◌++◌, Some, None, map, take, length, All};
+ghost use Rattle.std.specs.Prelude.{IfOk, IfErr, IfSome, OnOk, OnErr};
+ghost use Rattle.regatta_service.specs.Pools.{Finds, Lends, with_pass};
 
+use crate::room::NoRoom;
 use regatta_desk::{OfficeName, Pass};
-use regatta_talk::make_room;
 use std::alloc::{AllocError, Global};
 use std::marker::Model;
 use std::thread::SpawnError;
 
-/// The passes, each in a slot of its own. The slot is empty while a session has the pass, so taking
-/// the pass back allocates nothing. A pass that is booked for a client waits, at the same place of
-/// another list, for the thread of the session.
+mod clients;
+
+pub(crate) use clients::TurnedAway;
+
+/// What there is none of for a client.
+#[derive(Clone, Copy, Debug, PartialEq, Eq)]
+pub(crate) enum Lack {
+    Seat,
+    Thread,
+    Memory,
+}
+
+/// A client with the pass that is lent to them, and the pass's slot in the pool. Only a pool lends
+/// a pass, and only a pool takes it back, so no one else parts the client's stream from it.
+#[derive(Drop)]
+pub(crate) struct Seated<N: OfficeName, S> {
+    slot: usize,
+    pass: Pass<N>,
+    stream: S,
+}
+
+/// A client who can't be served, and why. Only a pool makes one.
+#[derive(Drop)]
+pub(crate) struct Unseated<S> {
+    stream: S,
+    why: Lack,
+}
+
+/// A client whose session has ended and whose pass is back. The stream closes when this is dropped.
+#[derive(Drop)]
+pub(crate) struct Leaving<S> {
+    _stream: S,
+}
+
+/// What it takes to refuse a client a thread. It comes with the pass that is lent to them.
+#[derive(Drop)]
+pub(crate) struct Ticket {
+    slot: usize,
+}
+
+/// The passes, each in a slot of its own. The slot is empty while a client has the pass, so taking
+/// the pass back allocates nothing.
 ///
-/// A pool is seen as both lists.
+/// A pool is seen as its slots, and the one whose client is refused a thread, if any.
 #[derive(Drop)]
 pub(crate) struct Pool<N: OfficeName> {
     slots: Vec<Option<Pass<N>>>,
-    booked: Vec<Option<Pass<N>>>,
+    refused: Option<usize>,
 }
 
 impl<N: OfficeName> Model for Pool<N> {
-    ghost use Rattle.std.specs.Prelude.{◌≡◌, length};
     ghost use Rattle.regatta_service.specs.Pools.{PoolParts};
 
     ghost Value = { PoolParts };
 
-    ghost view = { λ p. record { slots = p.slots.items; booked = p.booked.items } };
-
-    ghost invariant = { λ p. length p.booked.items ≡ length p.slots.items };
-}
-
-/// Shows why a client can't be served: no seat is free, no thread is available, or there is no memory
-/// for replies. It has no bytes, and only this file makes one.
-#[derive(Drop)]
-pub(crate) struct NoPlace {
-    _made_here: (),
-}
-
-/// A pass that a session has, and its slot in the pool.
-#[derive(Drop)]
-pub(crate) struct Lent<N: OfficeName> {
-    slot: usize,
-    pub(crate) pass: Pass<N>,
-}
-
-/// Room for the replies of a session.
-///
-/// # Errors
-///
-/// If there is no memory for it.
-pub(crate) fn reply_room(alloc: Global) -> Result<Vec<u8>, NoPlace>
-    ensures { IfOk result (λ reply. REPLY_ROOM ≤ vec_capacity reply) }
-{
-    let mut reply = Vec::new(alloc);
-    match make_room(&mut reply) {
-        Ok(()) => Ok(reply),
-        Err(AllocError) => Err(NoPlace { _made_here: () }),
-    }
+    ghost view = { λ p. record { slots = p.slots.items; refused = p.refused } };
 }
 
 /// The slot of the pass with the lowest seat, with that seat, among the slots up to `slot`. `found`
@@ -90,7 +94,7 @@ fn lowest_to<N: OfficeName>(
 }
 
 impl<N: OfficeName> Pool<N> {
-    /// A pool of these passes. None is lent or booked yet.
+    /// A pool of these passes. None is lent yet.
     ///
     /// # Errors
     ///
@@ -98,15 +102,16 @@ impl<N: OfficeName> Pool<N> {
     #[tactic(auto, using(crate::proofs::Lowest::slot_more))]
     pub(crate) fn new(alloc: Global, passes: Vec<Pass<N>>) -> Result<Pool<N>, AllocError>
         ensures slots { IfOk result (λ pool. pool.slots ≡ map Some passes.items) }
-        ensures booked { IfOk result (λ pool. All (λ place. place ≡ None) pool.booked) }
+        ensures refused { IfOk result (λ pool. pool.refused ≡ None) }
     {
-        let mut booked = Vec::with_capacity(alloc, passes.len())?;
         let mut slots = Vec::with_capacity(alloc, passes.len())?;
         for pass in passes {
             slots.push(Some(pass))?;
-            booked.push(None)?;
         }
-        Ok(Pool { slots, booked })
+        Ok(Pool {
+            slots,
+            refused: None,
+        })
     }
 
     /// The slot of the free pass with the lowest seat, and that seat.
@@ -121,79 +126,104 @@ impl<N: OfficeName> Pool<N> {
         found
     }
 
-    /// Books the pass with the lowest seat, if one is free: it waits at its slot, which is returned.
-    pub(crate) fn book(&mut self) -> Result<usize, NoPlace>
+    /// Lends the pass with the lowest seat to a client, if one is free.
+    ///
+    /// # Errors
+    ///
+    /// If none is free. The client is then unseated.
+    pub(crate) fn lend<S>(&mut self, stream: S) -> Result<(Ticket, Seated<N, S>), Unseated<S>>
+        ensures lent { IfOk result (λ made. Lends self.old self.new made.1.slot made.1.pass) }
+        ensures client { IfOk result (λ made. made.1.stream ≡ stream) }
+        ensures ticket { IfOk result (λ made. made.0.slot ≡ made.1.slot) }
         ensures none { OnErr result (All (λ slot. slot ≡ None) self.old.slots) }
         ensures same { OnErr result (self.new ≡ self.old) }
-        ensures booked { IfOk result (Books self.old self.new) }
+        ensures away { IfErr result (λ client. (client.stream ≡ stream)
+            × (client.why ≡ Lack.Seat)) }
     {
         let Some((slot, _)) = self.lowest() else {
-            return Err(NoPlace { _made_here: () });
+            return Err(Unseated {
+                stream,
+                why: Lack::Seat,
+            });
         };
-        self.booked[slot] = self.slots[slot].take();
-        Ok(slot)
-    }
-
-    /// Whether a pass is booked at this slot.
-    fn is_booked(&self, slot: usize) -> bool
-        ensures some { IsTrue result →
-            (pass : PassValue) × (slice_get self.now.booked slot ≡ Some (Some pass)) }
-        ensures none { result ≡ false → IsUnbooked self.now slot }
-    {
-        match self.booked.get(slot) {
-            Some(Some(_)) => true,
-            Some(None) | None => false,
-        }
-    }
-
-    /// The pass that is booked at this slot, which is lent. Its client can't be served if nothing is
-    /// booked there: the booking was taken back.
-    pub(crate) fn fetch(&mut self, slot: usize) -> Result<Lent<N>, NoPlace>
-        ensures lent { IfOk result (λ lent. (lent.slot ≡ slot)
-            × (slice_get self.old.booked slot ≡ Some (Some lent.pass))) }
-        ensures left { OnOk result (self.new
-            ≡ record self.old { booked = slice_set self.old.booked slot None }) }
-        ensures none { OnErr result (IsUnbooked self.old slot) }
-        ensures same { OnErr result (self.new ≡ self.old) }
-    {
-        if !self.is_booked(slot) {
-            return Err(NoPlace { _made_here: () });
-        }
-        let Some(pass) = self.booked[slot].take() else {
+        let Some(pass) = self.slots[slot].take() else {
             unreachable!()
         };
-        Ok(Lent { slot, pass })
+        self.refused = None;
+        Ok((Ticket { slot }, Seated { slot, pass, stream }))
+    }
+
+    /// Notes that no thread is available for the client with this ticket: a spawn failed.
+    pub(crate) fn refuse<F>(&mut self, ticket: Ticket, _refused: &SpawnError<F>)
+        ensures { self.new ≡ record self.old { refused = Some ticket.slot } }
+    {
+        self.refused = Some(ticket.slot);
+    }
+
+    /// The client, who may now be served.
+    ///
+    /// # Errors
+    ///
+    /// If they are refused a thread. They are then unseated.
+    pub(crate) fn begin<S>(&mut self, client: Seated<N, S>) -> Result<Seated<N, S>, Unseated<S>>
+        ensures begun { IfOk result (λ same. same ≡ client) }
+        ensures same { OnOk result (self.new ≡ self.old) }
+        ensures admitted { OnOk result (self.old.refused ≢ Some client.slot) }
+        ensures refused { OnErr result (self.old.refused ≡ Some client.slot) }
+        ensures back { OnErr result (self.new ≡ with_pass self.old client.slot client.pass) }
+        ensures away { IfErr result (λ left. (left.stream ≡ client.stream)
+            × (left.why ≡ Lack.Thread)) }
+    {
+        match self.refused {
+            Some(slot) if slot == client.slot => Err(self.unseat(client, Lack::Thread)),
+            Some(_) | None => Ok(client),
+        }
+    }
+
+    /// Unseats a client for whose replies there is no memory.
+    pub(crate) fn give_up<S>(&mut self, client: Seated<N, S>, _why: &NoRoom) -> Unseated<S>
+        ensures back { self.new ≡ with_pass self.old client.slot client.pass }
+        ensures away { (result.stream ≡ client.stream) × (result.why ≡ Lack.Memory) }
+    {
+        self.unseat(client, Lack::Memory)
+    }
+
+    /// Takes back the pass of a client who was served.
+    pub(crate) fn take_back<S>(&mut self, client: Seated<N, S>) -> Leaving<S>
+        ensures { self.new ≡ with_pass self.old client.slot client.pass }
+    {
+        let Seated { slot, pass, stream } = client;
+        self.put(slot, pass);
+        Leaving { _stream: stream }
+    }
+
+    /// Takes back the pass of a client who can't be served.
+    fn unseat<S>(&mut self, client: Seated<N, S>, why: Lack) -> Unseated<S>
+        ensures back { self.new ≡ with_pass self.old client.slot client.pass }
+        ensures away { (result.stream ≡ client.stream) × (result.why ≡ why) }
+    {
+        let Seated { slot, pass, stream } = client;
+        self.put(slot, pass);
+        Unseated { stream, why }
     }
 
     /// Puts a pass back into its slot.
-    pub(crate) fn give(&mut self, lent: Lent<N>)
-        ensures { self.new ≡ record self.old {
-          slots = slice_set self.old.slots lent.slot (Some lent.pass);
-        } }
+    fn put(&mut self, slot: usize, pass: Pass<N>)
+        ensures { self.new ≡ with_pass self.old slot pass }
     {
-        let Lent { slot, pass } = lent;
         if let Some(empty) = self.slots.get_mut(slot) {
             *empty = Some(pass);
         }
     }
 
-    /// Takes back the booking at this slot, for whose client no thread is available: a spawn failed.
-    pub(crate) fn unbook<F>(&mut self, slot: usize, _refused: &SpawnError<F>)
-        ensures back { Unbooks self.old self.new slot }
-    {
-        if let Ok(lent) = self.fetch(slot) {
-            self.give(lent);
-        }
-    }
-
     /// Appends the passes, in the order of their slots, to a list that has room for them. `None` if
-    /// one is still lent or booked.
+    /// one is still lent.
     #[tactic(auto, using(crate::proofs::Lowest::pass_more))]
     pub(crate) fn into_passes(self, mut passes: Vec<Pass<N>>) -> Option<Vec<Pass<N>>>
         ensures { IfSome result (λ back. map Some back.items
             ≡ map Some passes.items ++ self.slots) }
     {
-        let Pool { slots, booked: _ } = self;
+        let Pool { slots, refused: _ } = self;
         for slot in slots {
             passes.push(slot?).ok()?;
         }

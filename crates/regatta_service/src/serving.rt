@@ -181,7 +181,8 @@ where
 
 /// Serves the door's clients until it closes, each on a thread of its own, at the lowest free seat.
 /// A client who finds no free seat, or for whom there is no thread or no memory for replies, gets
-/// `BUSY` and is turned away. When this returns, all sessions have ended. The passes come back in order of seat.
+/// `BUSY` and is turned away. When this returns, all sessions have ended. The passes come back in
+/// order of seat.
 ///
 /// # Errors
 ///

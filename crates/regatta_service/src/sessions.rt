@@ -12,7 +12,7 @@ ghost use Rattle.regatta_service.specs.Lines.{is_replied};
 ghost use Rattle.regatta_service.specs.LinesTaken.{Talked, Took, WentOn, asked_from, point};
 
 use crate::gate::Gate;
-use crate::pool::reply_room;
+use crate::room::reply_room;
 use regatta_desk::{Next, Office, OfficeName, Pass, answer_alone};
 use regatta_streams::{Device, Sink, Source, write_all};
 use regatta_talk::Cutter;
@@ -177,8 +177,8 @@ impl<N: OfficeName, H: Wait + Drop, G: Gate> Talk<'_, N, H, G> {
             CutOff N.rules (line_of self.old.cutter) self.old.role self.new.role pass.old pass.new
             (S.contents stream.old) (S.contents stream.new) }
 
-        // No read is made here, so none ends the session, and what is still to be read stays. Memory
-        // doesn't run out.
+        // No read is made here, so none ends the session, and what is still to be read stays.
+        // Memory doesn't run out.
         ensures unread { (self.new.ended ≢ Some End.Closed)
             × (self.new.ended ≢ Some End.ReadFault) }
         ensures room_left { self.new.ended ≢ Some End.NoMemory }
@@ -232,8 +232,8 @@ impl<N: OfficeName, H: Wait + Drop, G: Gate> Talk<'_, N, H, G> {
             (point self.old.role pass.old (S.contents stream.old))
             (point self.new.role pass.new (S.contents stream.new))) }
 
-        // No read is made here, so none ends the session, and what is still to be read stays. Memory
-        // doesn't run out.
+        // No read is made here, so none ends the session, and what is still to be read stays.
+        // Memory doesn't run out.
         ensures unread { (self.new.ended ≢ Some End.Closed)
             × (self.new.ended ≢ Some End.ReadFault) }
         ensures room_left { self.new.ended ≢ Some End.NoMemory }
