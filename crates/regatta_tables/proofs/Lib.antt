@@ -1,4 +1,6 @@
+pub mod CellFacts
 pub mod CsvFacts
+pub mod DigitFacts
 pub mod JournalFacts
 pub mod LineFacts
 pub mod ListFacts

@@ -1,6 +1,8 @@
 //! A race office's texts: replies, tables, sheets, journals and entry lists.
 #![tactic(auto)]
 
+mod cells;
+mod digits;
 mod entries;
 mod journals;
 pub mod laws;

@@ -6,13 +6,17 @@ ghost use Rattle.regatta_tables.specs.Lines.{line};
 ghost use Rattle.regatta_tables.specs.ReplyTexts.{reply_text, answer_words, ranked_words};
 ghost use Rattle.regatta_tables.specs.ReplyTexts.{refused_words, role_words};
 
-use crate::pieces::{append, rank_word};
+use crate::digits::push_number;
+use crate::pieces::{append, make_room, push_piece, rank_word};
 use itoa::Buffer;
 use regatta_terms::{Answer, Reply, Role, Touched, points_word};
 use std::alloc::AllocError;
 
 /// The most bytes that a reply has, with its line feed.
 pub const REPLY_ROOM: usize = 64;
+
+/// The most bytes of a reply that is a number.
+const NUMBER_ROOM: usize = 7;
 
 /// Appends a reply, a line that ends in a line feed. If the capacity has [`REPLY_ROOM`] bytes left,
 /// it never fails and the capacity stays.
@@ -46,7 +50,7 @@ fn write_text(text: &[u8], out: &mut Vec<u8>) -> Result<(), AllocError>
     ensures stays { vec_len out.old + REPLY_ROOM ≤ vec_capacity out.old
         → vec_capacity out.new ≡ vec_capacity out.old }
 {
-    append(out, &[text])
+    push_piece(out, text)
 }
 
 /// Appends the role that was set.
@@ -105,7 +109,11 @@ fn write_number(number: u8, out: &mut Vec<u8>) -> Result<(), AllocError>
     ensures stays { vec_len out.old + REPLY_ROOM ≤ vec_capacity out.old
         → vec_capacity out.new ≡ vec_capacity out.old }
 {
-    let mut buffer = Buffer::new();
-    let number = buffer.format(number).as_bytes();
-    append(out, &[b"NO ", number, b"\n"])
+    make_room(out, NUMBER_ROOM)?;
+    out.push_reserved(b'N');
+    out.push_reserved(b'O');
+    out.push_reserved(b' ');
+    push_number(out, u32::from(number));
+    out.push_reserved(b'\n');
+    Ok(())
 }

@@ -8,8 +8,8 @@ ghost use Rattle.csv.specs.Writing.{row_text};
 ghost use Rattle.regatta_tables.specs.CsvTexts.{any_lengths, csv_text, header_fields, race_name};
 ghost use Rattle.regatta_tables.specs.TableTexts.{row_words, cell_text};
 
+use crate::cells::push_cell;
 use crate::pieces::rank_word;
-use crate::tables::push_cell;
 use csv::{Error, Writer, WriterBuilder};
 use itoa::Buffer;
 use regatta_scores::{Cell, Row, Standing};
