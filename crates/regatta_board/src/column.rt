@@ -49,13 +49,6 @@ impl Column {
     {
         self.outcomes[boat]
     }
-
-    /// Whether both have the same outcome for each boat.
-    pub(crate) fn is_same(&self, other: &Column) -> bool
-        ensures { (result ≡ true) ↔ (self.now ≡ other.now) }
-    {
-        self.outcomes.as_slice() == other.outcomes.as_slice()
-    }
 }
 
 fn outcome(sheet: &RaceSheet, score: RaceScore, boat: u16) -> Outcome
