@@ -101,7 +101,7 @@ abbrev pub with_lines : List BoatScores → NewLines → List BoatScores
 with_lines old (lines.Changed new) = with_changed old new.items
 with_lines old (lines.All new) = new.items
 
--- each new line is that of one of so many boats
+-- each new line is that of a boat: her number is below the number of boats
 abbrev pub AreOfBoats : ℕ → List NewLine → Type 0
 AreOfBoats boats news = AllOf (λ new. new.boat < boats) news
 

@@ -136,7 +136,10 @@ fn new_ranks(
             let each = current_lines(alloc, old, lines)?;
             ranks_near(alloc, &each, near)
         }
-        NewLines::All { lines } => ranks(alloc, lines),
+        NewLines::All { lines } => {
+            let each = references(alloc, lines)?;
+            ranks_near(alloc, &each, near)
+        }
     }
 }
 
