@@ -1,15 +1,11 @@
 -- `==` of outcomes is equality.
 use Rattle.std.proofs.Common.{◌≡◌, Bool, true, false, ◌&&◌, refl, ap, Option, Some, None}
 use Rattle.std.specs.Option.{option_eq}
-use Rattle.std.specs.Prelude.{List, [], ◌∷◌}
-use Rattle.std.specs.Cmp.Lexicographic.{pointwise}
 use Rattle.regatta_terms.specs.contracts.command.Code as code
 use Rattle.regatta_terms.proofs.EqualFacts.{redress_one}
-use Rattle.regatta_scores.proofs.EqualLines.{bool_one, number_one, pointwise_one}
+use Rattle.regatta_scores.proofs.EqualLines.{bool_one, number_one}
 use Rattle.regatta_board.specs.declared.outcomes.Outcome.{Outcome}
 use Rattle.regatta_board.specs.contracts.outcomes.OutcomePartialEq.TheImpl as outcomes
-use Rattle.regatta_board.specs.contracts.outcomes.OutcomeEq.TheImpl.Laws.{laws-law}
-use Rattle.std.proofs.Math.Path.{subst}
 use denote.Enum.Bare.{same_true}
 
 both : (a b : Bool) → (a && b) ≡ true → (a ≡ true) × (b ≡ true)
@@ -41,13 +37,3 @@ outcome_one a b h =
       };
       placed = bool_one a.placed b.placed q.1 i;
     }
-
-pub outcomes_one : (xs ys : List Outcome) → pointwise outcomes.ghosts.eq xs ys ≡ true → xs ≡ ys
-outcomes_one xs ys h = pointwise_one outcomes.ghosts.eq outcome_one xs ys h
-
-pub outcomes_same : (xs ys : List Outcome) → xs ≡ ys → pointwise outcomes.ghosts.eq xs ys ≡ true
-outcomes_same xs ys e = subst (λ zs. pointwise outcomes.ghosts.eq xs zs ≡ true) e (itself xs)
-  where
-    itself : (xs : List Outcome) → pointwise outcomes.ghosts.eq xs xs ≡ true
-    itself [] = refl
-    itself (x ∷ xs) = rw (laws-law.refl x, itself xs) refl

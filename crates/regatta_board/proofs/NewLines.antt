@@ -1,70 +1,69 @@
 -- Lines, some of which are replaced by new ones.
-use Rattle.std.proofs.Common.{◌≡◌, ℕ, zero, suc, ◌+◌, ◌<◌, List, [], ◌∷◌, ◌++◌, refl, ap, ◌∙◌}
-use Rattle.std.proofs.Common.{sym, arith, add-one, length, length-take-le, take, get_or, set}
-use Rattle.std.proofs.Common.{Option, Some, None, IfSome}
+use Rattle.std.proofs.Common.{◌≡◌, ℕ, ◌+◌, ◌<◌, List, [], ◌∷◌, ◌++◌, refl, ap, ◌∙◌, sym}
+use Rattle.std.proofs.Common.{length, drop, get_or, set, Option, Some, None}
+use Rattle.std.proofs.Common.{IfSome}
 use Rattle.std.specs.Option.{unwrap_or}
-use Rattle.std.proofs.lemmas.List.{take_more}
+use Rattle.std.proofs.lemmas.List.{drop_more, append_assoc, append-nil, get_or_default}
+use Rattle.std.proofs.lemmas.List.Elements.{All-push}
+use Rattle.std.proofs.Math.Seq.{set-append_seam}
 use Rattle.regatta_scores.specs.Ranking.{BoatScores}
-use Rattle.regatta_board.specs.Scoring.{with_changed}
+use Rattle.regatta_board.specs.declared.scoring.NewLine.{NewLine}
+use Rattle.regatta_board.specs.Scoring.{with_changed, with_new, AreOfBoats}
+use Rattle.regatta_board.proofs.Lines.{drop_past}
 
--- appending one more boat, with her new line if she has one
-changed_push : (olds : List BoatScores) (news : List (Option BoatScores)) (old : BoatScores)
-    (new : Option BoatScores) → length olds ≡ length news
-    → with_changed (olds ++ old ∷ []) (news ++ new ∷ [])
-    ≡ with_changed olds news ++ unwrap_or new old ∷ []
-changed_push [] [] old new e = refl
-changed_push [] (n ∷ news) old new e = absurd (cc)
-changed_push (o ∷ olds) [] old new e = absurd (cc)
-changed_push (o ∷ olds) (n ∷ news) old new e =
-    ap (λ ls. unwrap_or n o ∷ ls) (changed_push olds news old new (cc))
+-- the last new line is moved in last
+changed_last : (olds : List BoatScores) (news : List NewLine) (new : NewLine)
+    → with_changed olds (news ++ new ∷ []) ≡ set (with_changed olds news) new.boat new.line
+changed_last olds [] new = refl
+changed_last olds (n ∷ news) new = changed_last (set olds n.boat n.line) news new
 
--- the new line of one more boat is computed
-pub changed_more : (olds : List BoatScores) (news : List (Option BoatScores)) (i : ℕ)
-    (d : BoatScores) (new : Option BoatScores) → length news ≡ i → i < length olds
-    → with_changed (take (i + 1) olds) (news ++ new ∷ [])
-    ≡ with_changed (take i olds) news ++ unwrap_or new (get_or olds i d) ∷ []
-changed_more olds news i d new long h =
-    ap (λ ls. with_changed ls (news ++ new ∷ [])) (take_more olds i d h)
-    ∙ changed_push (take i olds) news (get_or olds i d) new
-    (let even : length (take i olds) ≡ length news =
-    omega (arith, length-take-le i olds, long, h) in even)
+-- the new line of one more boat is computed, or she keeps hers
+pub changed_more : (olds : List BoatScores) (news : List NewLine) (done : List BoatScores)
+    (b : ℕ) (d : BoatScores) (new : Option BoatScores) (hers : BoatScores) → length done ≡ b
+    → b < length olds → with_changed olds news ≡ done ++ drop b olds
+    → unwrap_or new (get_or olds b d) ≡ hers
+    → with_changed olds (with_new news b new) ≡ (done ++ hers ∷ []) ++ drop (b + 1) olds
+changed_more olds news done b d None hers long h e is =
+    e ∙ ap (λ xs. done ++ xs) (drop_more olds b d h ∙ (λ i. is i ∷ drop (b + 1) olds))
+    ∙ sym (append_assoc done (hers ∷ []) (drop (b + 1) olds))
+changed_more olds news done b d (Some line) hers long h e is =
+    let rest = drop (b + 1) olds in
+    changed_last olds news (record { boat = b; line = line })
+    ∙ ap (λ xs. set xs b line) (e ∙ ap (λ xs. done ++ xs) (drop_more olds b d h))
+    ∙ ap (λ k. set (done ++ get_or olds b d ∷ rest) k line) (sym long)
+    ∙ set-append_seam done (get_or olds b d) rest line
+    ∙ (λ i. done ++ is i ∷ rest)
+    ∙ sym (append_assoc done (hers ∷ []) rest)
 
--- the current line of one more boat is found
-pub found_more : (olds : List BoatScores) (news : List (Option BoatScores)) (i : ℕ)
-    (d : BoatScores) (e : Option BoatScores) → i < length olds → length news ≡ length olds
-    → with_changed (take (i + 1) olds) (take (i + 1) news)
-    ≡ with_changed (take i olds) (take i news) ++ unwrap_or (get_or news i e) (get_or olds i d)
-    ∷ []
-found_more olds news i d e h long =
-    let within : i < length news = omega (arith, h, long) in
-    ap (with_changed (take (i + 1) olds)) (take_more news i e within)
-    ∙ changed_more olds (take i news) i d (get_or news i e)
-    (length-take-le i news (omega (arith, within))) h
+-- at the end no boat's line is left over
+pub changed_all : (olds done : List BoatScores) (n : ℕ) → n ≡ length olds
+    → done ++ drop n olds ≡ done
+changed_all olds done n e =
+    ap (λ k. done ++ drop k olds) e ∙ ap (λ xs. done ++ xs) (drop_past olds) ∙ append-nil done
 
-pub changed_none : (olds : List BoatScores) → with_changed olds [] ≡ olds
-changed_none [] = refl
-changed_none (old ∷ olds) = refl
+-- the new line of one more boat is that of a boat
+pub of_boats_more : (boats : ℕ) (news : List NewLine) (b : ℕ) (new : Option BoatScores)
+    → b < boats → AreOfBoats boats news → AreOfBoats boats (with_new news b new)
+of_boats_more boats news b None h are = are
+of_boats_more boats news b (Some line) h are =
+    All-push (λ (new : NewLine). new.boat < boats) news (record { boat = b; line = line }) are h
 
--- the new line of one more boat is moved in
-put_suc : (olds : List BoatScores) (news : List (Option BoatScores)) (i : ℕ) (d : BoatScores)
-    (e : Option BoatScores) → i < length olds → i < length news
-    → set (with_changed olds (take i news)) i
-    (unwrap_or (get_or news i e) (get_or (with_changed olds (take i news)) i d))
-    ≡ with_changed olds (take (suc i) news)
-put_suc [] news i d e h k = absurd (omega (arith, h))
-put_suc (old ∷ olds) [] i d e h k = absurd (omega (arith, k))
-put_suc (old ∷ olds) (new ∷ news) zero d e h k =
-    ap (λ ls. unwrap_or new old ∷ ls) (sym (changed_none olds))
-put_suc (old ∷ olds) (new ∷ news) (suc i) d e h k =
-    ap (λ ls. unwrap_or new old ∷ ls)
-    (put_suc olds news i d e (omega (arith, h)) (omega (arith, k)))
+-- one new line more is moved in
+pub put_more : (olds : List BoatScores) (news : List NewLine) (k : ℕ) (d e : NewLine)
+    (line : BoatScores) → k < length news → line ≡ (get_or news k e).line
+    → with_changed (set olds (get_or news k d).boat line) (drop (k + 1) news)
+    ≡ with_changed olds (drop k news)
+put_more olds news k d e line h is =
+    let hers : line ≡ (get_or news k d).line =
+    is ∙ ap (λ (new : NewLine). new.line) (get_or_default news k e d h) in
+    ap (λ l. with_changed (set olds (get_or news k d).boat l) (drop (k + 1) news)) hers
+    ∙ ap (with_changed olds) (sym (drop_more news k d h))
 
-pub put_more : (olds : List BoatScores) (news : List (Option BoatScores)) (i : ℕ)
-    (d : BoatScores) (e : Option BoatScores) → i < length olds → i < length news
-    → set (with_changed olds (take i news)) i
-    (unwrap_or (get_or news i e) (get_or (with_changed olds (take i news)) i d))
-    ≡ with_changed olds (take (i + 1) news)
-put_more olds news i d e h k = rw add-one (put_suc olds news i d e h k)
+-- after the last one the lines are the new ones
+pub put_all : (olds : List BoatScores) (news : List NewLine) (k : ℕ) → k ≡ length news
+    → with_changed olds (drop k news) ≡ olds
+put_all olds news k e = ap (λ n. with_changed olds (drop n news)) e
+    ∙ ap (with_changed olds) (drop_past news)
 
 -- a boat's current line is hers, whether it was recomputed or not
 pub new_or_old : (new : Option BoatScores) (old hers : BoatScores) → (new ≡ None → old ≡ hers)

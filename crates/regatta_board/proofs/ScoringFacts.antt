@@ -19,8 +19,9 @@ use Rattle.regatta_board.specs.Outcomes.{line}
 use Rattle.regatta_board.specs.Revisions.{revised, may_change_standing}
 use Rattle.regatta_board.specs.Scoring.{Scoring, IsScoring, AreColumns, AreNewColumns}
 use Rattle.regatta_board.specs.Scoring.{RemakesOneColumn, RemakesOnly, with_columns, lines_by}
-use Rattle.regatta_board.specs.Scoring.{AreNewScores, SaysTheSame, FitLines, IsOfEach, with_lines}
+use Rattle.regatta_board.specs.Scoring.{AreNewScores, FitLines, FitBoats, with_lines}
 use Rattle.regatta_board.specs.Scoring.{AreRanked, lines_after, ranks_after, with_scores}
+use Rattle.regatta_board.specs.declared.scoring.NewLines.{NewLines}
 use Rattle.regatta_board.specs.declared.scoring.NewScores.{NewScores}
 use Rattle.regatta_board.specs.declared.scoring.Ranked.{Ranked}
 use Rattle.regatta_board.specs.Step.{sheet_in}
@@ -211,7 +212,7 @@ scored_after rules before after old is new are = record {
     ranks_are None e = is.ranks
     ranks_are (Some ranked) e = e.2 ∙ ap places (sym (lines_are (Some ranked) e))
 
--- new lines, if there are any, have an item for each boat
+-- new lines, if there are any, are those of boats
 pub new_lines_fit : (rules : RulesParts) (before after : Kept) (old : Scoring)
     → IsScoring rules before old → (new : NewScores) → AreNewScores rules before after new
     → FitLines old.lines new.ranked
@@ -220,16 +221,16 @@ new_lines_fit rules before after old is new are = by new.ranked are.ranked
     by : (ranked : Option Ranked) → AreRanked rules before after ranked
         → FitLines old.lines ranked
     by None e = tt
-    by (Some ranked) e = subst (λ ls. IsOfEach ls ranked.lines) (sym is.lines) e.0
+    by (Some ranked) e = subst (λ ls. FitBoats ls ranked.lines) (sym is.lines) e.0
 
 -- new lines and ranks, computed from the lines that are kept, are those of what is kept afterwards
 pub are_ranked : (rules : RulesParts) (before after : Kept) (old : Scoring)
-    → IsScoring rules before old → (ranked : Ranked) → IsOfEach old.lines ranked.lines
+    → IsScoring rules before old → (ranked : Ranked) → FitBoats old.lines ranked.lines
     → with_lines old.lines ranked.lines ≡ lines_by rules after
     → ranked.ranks ≡ places (with_lines old.lines ranked.lines)
     → AreRanked rules before after (Some ranked)
 are_ranked rules before after old is ranked each made ranks = (
-  subst (λ ls. IsOfEach ls ranked.lines) is.lines each,
+  subst (λ ls. FitBoats ls ranked.lines) is.lines each,
   ap (λ ls. with_lines ls ranked.lines) (sym is.lines) ∙ made,
   ranks ∙ ap places made,
 )
@@ -246,16 +247,10 @@ untouched_scores rules kept (revision.Sheet race sheet) e = record {
       (length kept.sails);
 }
 
--- if a new sheet leaves the outcome of each boat as it was, no line changes
-pub unchanged_lines : (rules : RulesParts) (kept : Kept) (scoring : Scoring)
-    → IsScoring rules kept scoring → (change : Revision) (new : NewColumns)
-    → AreNewColumns rules kept (revised kept change) new → SaysTheSame scoring change new
-    → lines_by rules kept ≡ lines_by rules (revised kept change)
-unchanged_lines rules kept scoring is (revision.Enter boats sheets) new are same = absurd same
-unchanged_lines rules kept scoring is (revision.Counts race counts) new are same = absurd same
-unchanged_lines rules kept scoring is (revision.Sheet race sheet) new are same =
-    ap (λ cs. lines rules cs (length kept.sails))
-    (sym (columns_found rules kept scoring.columns is.columns)
-    ∙ (λ i. map (λ race. get_or ((sym same) i) (race - 1) []) (races kept.counts))
-    ∙ columns_found rules (revised kept (revision.Sheet race sheet))
-    (with_columns scoring.columns new) (are scoring.columns is.long is.columns).1)
+-- if no line is new, no line changes
+pub unchanged_lines : (rules : RulesParts) (before after : Kept) (scoring : Scoring)
+    → IsScoring rules before scoring → (new : NewLines)
+    → ((old : List BoatScores) → with_lines old new ≡ old)
+    → with_lines scoring.lines new ≡ lines_by rules after → lines_by rules before ≡ lines_by rules after
+unchanged_lines rules before after scoring is new stay made =
+    sym is.lines ∙ sym (stay scoring.lines) ∙ made

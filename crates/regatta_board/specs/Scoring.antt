@@ -1,7 +1,6 @@
 -- The scores that the board keeps: a column for each race, a line and a rank for each boat.
-use Rattle.std.specs.Prelude.{◌≡◌, ℕ, ◌-◌, false, List, [], length, slice_index_or, slice_set}
-use Rattle.std.specs.Prelude.{Option, Some, None, ◌∷◌, if◌then◌else◌}
-use Rattle.std.specs.Option.{unwrap_or}
+use Rattle.std.specs.Prelude.{◌≡◌, ℕ, ◌-◌, ◌<◌, false, List, [], length, slice_index_or, slice_set}
+use Rattle.std.specs.Prelude.{Option, Some, None, ◌∷◌, ◌++◌, if◌then◌else◌, All as AllOf}
 use Rattle.regatta_terms.specs.Rules.{RulesParts}
 use Rattle.regatta_terms.specs.declared.limits.TheConstants.{MAX_RACES}
 use Rattle.regatta_terms.specs.declared.reply.Touched.{Touched}
@@ -14,6 +13,7 @@ use Rattle.regatta_scores.specs.Sheet.{Sheet, empty_sheet}
 use Rattle.regatta_scores.specs.Ranking.{BoatScores, net, places as places_of}
 use Rattle.regatta_board.specs.declared.column.NewColumns.{NewColumns}
 use Rattle.regatta_board.specs.declared.column.NewColumns.TheVariants.{Same, One, All}
+use Rattle.regatta_board.specs.declared.scoring.NewLine.{NewLine}
 use Rattle.regatta_board.specs.declared.scoring.NewLines.{NewLines}
 use Rattle.regatta_board.specs.declared.scoring.NewLines.TheVariants as lines
 use Rattle.regatta_board.specs.declared.scoring.Ranked.{Ranked}
@@ -86,29 +86,36 @@ pub record IsScoring (rules : RulesParts) (kept : Kept) (scoring : Scoring) : Ty
   pub lines : scoring.lines ≡ lines_by rules kept
   pub ranks : scoring.ranks ≡ places_of scoring.lines
 
--- the lines, after new ones replace the old ones: each boat's new line if there is one, else the
--- old one
-abbrev pub with_changed : List BoatScores → List (Option BoatScores) → List BoatScores
-with_changed [] new = []
-with_changed (old ∷ olds) [] = old ∷ olds
-with_changed (old ∷ olds) (new ∷ news) = unwrap_or new old ∷ with_changed olds news
+-- the lines, after new ones replace those of their boats
+abbrev pub with_changed : List BoatScores → List NewLine → List BoatScores
+with_changed old [] = old
+with_changed old (new ∷ news) = with_changed (slice_set old new.boat new.line) news
+
+-- the new lines and that of one more boat, if she has one
+abbrev pub with_new : List NewLine → ℕ → Option BoatScores → List NewLine
+with_new news boat None = news
+with_new news boat (Some line) = news ++ record { boat = boat; line = line } ∷ []
 
 -- the lines, after new ones replace some or all of them
 abbrev pub with_lines : List BoatScores → NewLines → List BoatScores
 with_lines old (lines.Changed new) = with_changed old new.items
 with_lines old (lines.All new) = new.items
 
--- if some lines are new, the list has an item for each boat
-abbrev pub IsOfEach : List BoatScores → NewLines → Type 0
-IsOfEach old (lines.Changed new) = length new.items ≡ length old
-IsOfEach old (lines.All new) = Unit {0}
+-- each new line is that of a boat: her number is below the number of boats
+abbrev pub AreOfBoats : ℕ → List NewLine → Type 0
+AreOfBoats boats news = AllOf (λ new. new.boat < boats) news
+
+-- if some lines are new, each is that of a boat
+abbrev pub FitBoats : List BoatScores → NewLines → Type 0
+FitBoats old (lines.Changed new) = AreOfBoats (length old) new.items
+FitBoats old (lines.All new) = Unit {0}
 
 -- the new lines turn the lines before into those after, and the ranks are theirs; without new
 -- lines, the lines stay
 abbrev pub AreRanked : RulesParts → Kept → Kept → Option Ranked → Type 0
 AreRanked rules before after None = lines_by rules before ≡ lines_by rules after
 AreRanked rules before after (Some ranked) =
-    IsOfEach (lines_by rules before) ranked.lines
+    FitBoats (lines_by rules before) ranked.lines
     × (with_lines (lines_by rules before) ranked.lines ≡ lines_by rules after)
     × (ranked.ranks ≡ places_of (lines_by rules after))
 
@@ -136,22 +143,15 @@ pub record RemakesOnly (rules : RulesParts) (kept : Kept) (change : Revision) (r
   pub column : with_columns scoring.columns new
       ≡ slice_set scoring.columns (race - 1) (column rules sheet)
 
--- a new sheet leaves the outcome of each boat as it was
-abbrev pub SaysTheSame : Scoring → Revision → NewColumns → Type 0
-SaysTheSame scoring (revision.Enter boats sheets) new = ⊥
-SaysTheSame scoring (revision.Sheet race sheet) new =
-    with_columns scoring.columns new ≡ scoring.columns
-SaysTheSame scoring (revision.Counts race counts) new = ⊥
-
 -- the new scores turn the scores before into those after
 pub record AreNewScores (rules : RulesParts) (before after : Kept) (new : NewScores) : Type 0 where
   pub columns : AreNewColumns rules before after new.columns
   pub ranked : AreRanked rules before after new.ranked
 
--- new lines, if there are any, have an item for each boat
+-- new lines, if there are any, are those of boats
 abbrev pub FitLines : List BoatScores → Option Ranked → Type 0
 FitLines old None = Unit {0}
-FitLines old (Some ranked) = IsOfEach old ranked.lines
+FitLines old (Some ranked) = FitBoats old ranked.lines
 
 -- the lines, after new ones, if there are any, replace them
 abbrev pub lines_after : List BoatScores → Option Ranked → List BoatScores

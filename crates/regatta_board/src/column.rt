@@ -49,13 +49,6 @@ impl Column {
     {
         self.outcomes[boat]
     }
-
-    /// Whether both have the same outcome for each boat.
-    pub(crate) fn is_same(&self, other: &Column) -> bool
-        ensures { (result ≡ true) ↔ (self.now ≡ other.now) }
-    {
-        self.outcomes.as_slice() == other.outcomes.as_slice()
-    }
 }
 
 fn outcome(sheet: &RaceSheet, score: RaceScore, boat: u16) -> Outcome
@@ -85,13 +78,13 @@ pub(crate) fn made_column(
     ensures long { IfOk result (λ column. length column ≡ boats_of sheet.now) }
     ensures counted { OnOk result (work.new ≡ work.old + 1) }
 {
-    let scores = race_scores(alloc, sheet, rules, work)?;
-    let scores = scores.as_slice();
+    let scored = race_scores(alloc, sheet, rules, work)?;
+    let scores = scored.as_slice();
     // Rattle has to see the types that an outcome is made of.
     let _parts: (Option<Held>, Option<Redress>) = (None, None);
     let mut column = Vec::with_capacity(alloc, scores.len())?;
     for boat in 0..scores.len() {
-        column.push(outcome(sheet, scores[boat], boat as u16))?;
+        column.push_reserved(outcome(sheet, scores[boat], boat as u16));
     }
     Ok(Column { outcomes: column })
 }

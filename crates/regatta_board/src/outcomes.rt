@@ -1,5 +1,6 @@
 //! Outcomes: a boat's results in the races that count, and the line and row computed from them.
-ghost use Rattle.std.specs.Prelude.{◌≡◌, ◌≤◌, length, IfOk};
+ghost use Rattle.std.specs.Prelude.{◌≡◌, ◌≤◌, length, map, is_none, IfOk};
+ghost use Rattle.std.specs.List.{list_all};
 ghost use Rattle.regatta_board.specs.Outcomes.{items as items_of, points as points_of, scores_by};
 ghost use Rattle.regatta_board.specs.Outcomes.{flags as flags_of, line as line_of, row_by};
 ghost use Rattle.regatta_board.specs.Outcomes.{cell as cell_of, cells_by};
@@ -36,12 +37,35 @@ fn items(outcomes: &[Outcome]) -> PerRace<RowItem>
     found
 }
 
+/// Whether she has no redress in these races.
+fn has_no_redress(outcomes: &[Outcome]) -> bool
+    ensures { result ≡ list_all (λ o. is_none o.held.redress) outcomes.now }
+{
+    outcomes.iter().all(|o| o.held.redress.is_none())
+}
+
+fn plain_points(outcomes: &[Outcome]) -> PerRace<Tenths>
+    requires { length outcomes.now ≤ MAX_RACES }
+    ensures { result.items ≡ map (λ o. o.plain) outcomes.now }
+{
+    let mut found = PerRace::new();
+    for o in outcomes {
+        found.push(o.plain);
+    }
+    found
+}
+
+/// Her points, with redress.
 #[tactic(auto, using(crate::proofs::Lengths::lengths))]
 fn points(outcomes: &[Outcome]) -> PerRace<Tenths>
     requires { length outcomes.now ≤ MAX_RACES }
     ensures value { result.items ≡ points_of outcomes.now }
     ensures long { length result.items ≡ length outcomes.now }
 {
+    // Most boats have none, and need no list of items.
+    if has_no_redress(outcomes) {
+        return plain_points(outcomes);
+    }
     redressed_points(&items(outcomes))
 }
 

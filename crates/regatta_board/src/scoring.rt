@@ -1,18 +1,17 @@
 //! The scores that are kept: a column for each race, a line and a rank for each boat.
 ghost use Rattle.std.specs.Prelude.{◌≡◌, ◌+◌, ◌-◌, ◌<◌, ◌≤◌, ◌^◌, ℕ, true, false, length};
-ghost use Rattle.std.specs.Prelude.{slice_index_or, All, IfOk, IfSome, OnOk, None, ◌↔◌};
-ghost use Rattle.std.specs.Option.{unwrap_or};
+ghost use Rattle.std.specs.Prelude.{List, slice_index_or, All, IfOk, IfSome, OnOk, None, ◌↔◌};
 ghost use Rattle.regatta_terms.specs.Rules.{RulesParts};
 ghost use Rattle.regatta_scores.specs.Entrants.{lines_behind};
-ghost use Rattle.regatta_scores.specs.Ranking.{places as places_of};
+ghost use Rattle.regatta_scores.specs.Ranking.{BoatScores, places as places_of};
 ghost use Rattle.regatta_board.specs.Outcomes.{line as line_of};
 ghost use Rattle.regatta_board.specs.Refusals.{limits};
 ghost use Rattle.regatta_board.specs.Revisions.{revised, may_change_standing};
 ghost use Rattle.regatta_board.specs.Scoring.{IsScoring, AreNewScores, AreNewColumns};
-ghost use Rattle.regatta_board.specs.Scoring.{AreColumns, RemakesOneColumn, RemakesOnly, SaysTheSame};
-ghost use Rattle.regatta_board.specs.Scoring.{FitLines, IsOfEach};
+ghost use Rattle.regatta_board.specs.Scoring.{AreColumns, RemakesOneColumn, RemakesOnly};
+ghost use Rattle.regatta_board.specs.Scoring.{AreOfBoats, FitBoats, FitLines};
 ghost use Rattle.regatta_board.specs.Scoring.{lines_by, most_remade, with_columns, with_scores};
-ghost use Rattle.regatta_board.specs.Scoring.{with_changed, with_lines};
+ghost use Rattle.regatta_board.specs.Scoring.{with_changed, with_lines, with_new};
 ghost use Rattle.regatta_board.specs.Scoring.{touched_at};
 ghost use Rattle.regatta_board.specs.Table.{no_line, no_outcome, IsKept};
 ghost use Rattle.regatta_board.specs.Table.{outcomes as outcomes_of, lines as lines_of};
@@ -51,14 +50,33 @@ impl Model for Scoring {
     } };
 }
 
+/// A boat's line that replaces the one before.
+#[derive(Drop)]
+pub struct NewLine {
+    /// The boat's number.
+    boat: usize,
+    line: BoatLine,
+}
+
 /// The lines that a command recomputes.
 #[derive(Drop)]
 pub enum NewLines {
-    /// The new lines of boats whose outcome in a race changed; `None` for each boat whose line
-    /// stays.
-    Changed { lines: Vec<Option<BoatLine>> },
+    /// Those of the boats whose outcome in a race changed. The lines of the others stay.
+    Changed { lines: Vec<NewLine> },
     /// The lines of all boats.
     All { lines: Vec<BoatLine> },
+}
+
+impl NewLines {
+    /// Whether the lines of all boats stay.
+    fn is_empty(&self) -> bool
+        ensures { result ≡ true → (old : List BoatScores) → with_lines old self.now ≡ old }
+    {
+        match self {
+            NewLines::Changed { lines } => lines.is_empty(),
+            NewLines::All { .. } => false,
+        }
+    }
 }
 
 /// New lines, and the ranks of all boats with them.
@@ -76,28 +94,28 @@ pub struct NewScores {
     ranked: Option<Ranked>,
 }
 
-/// A boat's line, after new ones replace the old ones.
-fn current_line<'a>(old: &'a BoatLine, new: &'a Option<BoatLine>) -> &'a BoatLine
-    ensures { result.now ≡ unwrap_or new.now old.now }
+fn references(alloc: Global, lines: &[BoatLine]) -> Result<Vec<&BoatLine>, AllocError>
+    ensures { IfOk result (λ each. lines_behind each.items ≡ lines.now) }
 {
-    match new {
-        Some(line) => line,
-        None => old,
+    let mut each = Vec::with_capacity(alloc, lines.len())?;
+    for line in lines {
+        each.push_reserved(line);
     }
+    Ok(each)
 }
 
 /// References to the lines of all boats, after new ones replace the old ones.
 fn current_lines<'a>(
     alloc: Global,
     old: &'a [BoatLine],
-    new: &'a [Option<BoatLine>],
+    new: &'a [NewLine],
 ) -> Result<Vec<&'a BoatLine>, AllocError>
-    requires { length new.now ≡ length old.now }
+    requires { AreOfBoats (length old.now) new.now }
     ensures { IfOk result (λ each. lines_behind each.items ≡ with_changed old.now new.now) }
 {
-    let mut each = Vec::with_capacity(alloc, old.len())?;
-    for boat in 0..old.len() {
-        each.push(current_line(&old[boat], &new[boat]))?;
+    let mut each = references(alloc, old)?;
+    for k in 0..new.len() {
+        each[new[k].boat] = &new[k].line;
     }
     Ok(each)
 }
@@ -109,7 +127,7 @@ fn new_ranks(
     new: &NewLines,
     near: &Places,
 ) -> Result<Places, AllocError>
-    requires each { IsOfEach old.now new.now }
+    requires each { FitBoats old.now new.now }
     requires few { length (with_lines old.now new.now) ≤ limits.boats }
     ensures { IfOk result (λ made. made ≡ places_of (with_lines old.now new.now)) }
 {
@@ -118,7 +136,10 @@ fn new_ranks(
             let each = current_lines(alloc, old, lines)?;
             ranks_near(alloc, &each, near)
         }
-        NewLines::All { lines } => ranks(alloc, lines),
+        NewLines::All { lines } => {
+            let each = references(alloc, lines)?;
+            ranks_near(alloc, &each, near)
+        }
     }
 }
 
@@ -142,6 +163,16 @@ fn line_after(
     Some(boat_line(columns, boat, rules))
 }
 
+/// Appends a boat's new line, if she has one.
+fn push_if(made: &mut Vec<NewLine>, boat: usize, line: Option<BoatLine>) -> Result<(), AllocError>
+    ensures { OnOk result (made.new.items ≡ with_new made.old.items boat line) }
+{
+    if let Some(line) = line {
+        made.push(NewLine { boat, line })?;
+    }
+    Ok(())
+}
+
 /// The lines that change when one column is recomputed.
 fn changed_lines(
     alloc: Global,
@@ -150,7 +181,7 @@ fn changed_lines(
     new: &CurrentColumn<'_>,
     columns: &[CurrentColumn<'_>],
     rules: &Rules,
-) -> Result<Vec<Option<BoatLine>>, AllocError>
+) -> Result<Vec<NewLine>, AllocError>
     requires even { All (λ column. length column ≡ length lines.now) columns.now }
     requires few { length columns.now ≤ MAX_RACES }
     requires old { length old.now ≡ length lines.now }
@@ -159,14 +190,14 @@ fn changed_lines(
         → slice_index_or new.now boat no_outcome ≡ slice_index_or old.now boat no_outcome
         → slice_index_or lines.now boat no_line
         ≡ line_of rules.now (outcomes_of columns.now boat) }
-    ensures each { IfOk result (λ made. length made.items ≡ length lines.now) }
+    ensures each { IfOk result (λ made. AreOfBoats (length lines.now) made.items) }
     ensures value { IfOk result (λ made. with_changed lines.now made.items
         ≡ lines_of rules.now columns.now (length lines.now)) }
 {
     let mut made = Vec::with_capacity(alloc, lines.len())?;
     for boat in 0..lines.len() {
         let line = line_after(old.at(boat), new.at(boat), columns, boat, rules);
-        made.push(line)?;
+        push_if(&mut made, boat, line)?;
     }
     Ok(made)
 }
@@ -207,7 +238,7 @@ fn remade_lines(
     requires counts { slice_index_or kept.now.counts (race - 1) false ≡ true }
     requires turned { RemakesOnly rules.now kept.now revision.now race scoring.now columns.now }
     requires new { AreNewColumns rules.now kept.now (revised kept.now revision.now) columns.now }
-    ensures each { IfOk result (IsOfEach scoring.now.lines) }
+    ensures each { IfOk result (FitBoats scoring.now.lines) }
     ensures value { IfOk result (λ new.
         with_lines scoring.now.lines new ≡ lines_by rules.now (revised kept.now revision.now)) }
 {
@@ -234,7 +265,7 @@ fn new_lines(
     requires touched { may_change_standing kept.now revision.now ≡ true }
     requires new { AreNewColumns rules.now kept.now (revised kept.now revision.now) columns.now }
     requires one { RemakesOneColumn rules.now revision.now columns.now }
-    ensures each { IfOk result (IsOfEach scoring.now.lines) }
+    ensures each { IfOk result (FitBoats scoring.now.lines) }
     ensures value { IfOk result (λ new.
         with_lines scoring.now.lines new ≡ lines_by rules.now (revised kept.now revision.now)) }
 {
@@ -245,19 +276,6 @@ fn new_lines(
     let draft = Draft::new(kept, revision);
     let lines = drafted_lines(alloc, &draft, &scoring.columns, columns, rules)?;
     Ok(NewLines::All { lines })
-}
-
-/// Whether a new sheet leaves each boat's outcome unchanged, so that no line changes.
-fn says_the_same(scoring: &Scoring, revision: &Revision, columns: &NewColumns) -> bool
-    requires { length scoring.now.columns ≡ MAX_RACES }
-    ensures { result ≡ true → SaysTheSame scoring.now revision.now columns.now }
-{
-    match (revision, columns) {
-        (Revision::Sheet { .. }, NewColumns::One { race, column }) => {
-            column.is_same(&scoring.columns[race.get() as usize - 1])
-        }
-        _ => false,
-    }
 }
 
 /// Computes what a revision changes of the scores.
@@ -285,13 +303,13 @@ pub(crate) fn new_scores(
         });
     }
     let columns = new_columns(alloc, kept, revision, rules, work)?;
-    if says_the_same(scoring, revision, &columns) {
+    let lines = new_lines(alloc, scoring, kept, revision, &columns, rules)?;
+    if lines.is_empty() {
         return Ok(NewScores {
             columns,
             ranked: None,
         });
     }
-    let lines = new_lines(alloc, scoring, kept, revision, &columns, rules)?;
     let ranks = new_ranks(alloc, &scoring.lines, &lines, &scoring.ranks)?;
     Ok(NewScores {
         columns,
@@ -310,27 +328,26 @@ fn put_columns(columns: &mut Vec<Column>, new: NewColumns)
     }
 }
 
-/// Moves a boat's new line in, if there is one.
-fn put_line(line: &mut BoatLine, new: &mut Option<BoatLine>)
-    ensures { line.new ≡ unwrap_or new.old line.old }
+/// Moves a boat's new line in.
+fn put_line(line: &mut BoatLine, new: &mut BoatLine)
+    ensures { line.new ≡ new.old }
 {
-    if let Some(new) = new {
-        swap(line, new);
-    }
+    swap(line, new);
 }
 
-fn put_changed(lines: &mut [BoatLine], new: Vec<Option<BoatLine>>)
-    requires { length new.items ≡ length lines.old }
+fn put_changed(lines: &mut [BoatLine], new: Vec<NewLine>)
+    requires { AreOfBoats (length lines.old) new.items }
     ensures { lines.new ≡ with_changed lines.old new.items }
 {
     let mut changed = new;
-    for boat in 0..lines.len() {
-        put_line(&mut lines[boat], &mut changed[boat]);
+    for k in 0..changed.len() {
+        let boat = changed[k].boat;
+        put_line(&mut lines[boat], &mut changed[k].line);
     }
 }
 
 fn put_lines(lines: &mut Vec<BoatLine>, new: NewLines)
-    requires { IsOfEach lines.old.items new }
+    requires { FitBoats lines.old.items new }
     ensures { lines.new.items ≡ with_lines lines.old.items new }
 {
     match new {

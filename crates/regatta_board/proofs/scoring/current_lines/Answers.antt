@@ -1,21 +1,24 @@
-use Rattle.std.proofs.Common.{◌≡◌, ◌∷◌, ◌++◌, [], ◌∙◌, ap, arith, sym, get_or, Bor}
-use Rattle.std.proofs.lemmas.List.{map-append}
-use Rattle.std.specs.Option.{unwrap_or}
+use Rattle.std.proofs.Common.{◌+◌, ◌∙◌, ap, arith, refl, sym, drop, length-set}
+use Rattle.std.proofs.Common.{Bor}
+use Rattle.std.proofs.lemmas.List.{map-set}
 use Rattle.regatta_scores.specs.Ranking.{BoatScores}
-use Rattle.regatta_scores.specs.Entrants.{lines_behind}
-use Rattle.regatta_board.proofs.NewLines.{found_more}
+use Rattle.regatta_board.specs.Scoring.{with_changed}
+use Rattle.regatta_board.proofs.NewLines.{put_more, put_all}
 use Rattle.regatta_board.proofs.scoring.current_lines.Goals as goal
 
-pub loop-boat-preserved : goal.loop-boat-preserved
-loop-boat-preserved c =
-    let b = c.loop-boat.boat in
-    let old = c.index-old-boat.result in
-    let new = c.index-new-boat.result in
-    let hers : c.current_line.result.now
-    ≡ unwrap_or (get_or c.args.new.now b new) (get_or c.args.old.now b old) =
-    c.current_line.ensures ∙ (λ i. unwrap_or (c.index-new-boat.is i) (c.index-old-boat.is i)) in
-    ap lines_behind c.in_ok-push.ensures.items
-    ∙ map-append (λ (line : Bor BoatScores). line.now) c.loop-boat.each.items
-    (c.current_line.result ∷ [])
-    ∙ (λ i. c.loop-boat.invariant i ++ hers i ∷ [])
-    ∙ sym (found_more c.args.old.now c.args.new.now b old new (omega arith) c.requires)
+pub loop-k-preserved : goal.loop-k-preserved
+loop-k-preserved c =
+    let news = c.args.new.now in
+    let k = c.loop-k.k in
+    let each = c.loop-k.each.items in
+    record {
+      many = length-set _ _ _ ∙ c.loop-k.invariant.many;
+      rest = ap (λ ls. with_changed ls (drop (k + 1) news))
+          (map-set (λ (line : Bor BoatScores). line.now) each _ _)
+          ∙ put_more _ news k c.index-new-k-in-loop-k.result c.index-new-k.result _ (omega arith)
+          refl
+          ∙ c.loop-k.invariant.rest;
+    }
+
+pub returns : goal.returns
+returns c = sym (put_all _ c.args.new.now c.loop-k.k (omega arith)) ∙ c.loop-k.invariant.rest

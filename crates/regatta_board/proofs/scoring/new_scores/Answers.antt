@@ -1,7 +1,7 @@
 use Rattle.std.proofs.Common.{◌≡◌, ◌∙◌, ap, sym, subst, arith, length}
 use Rattle.regatta_scores.specs.Ranking.{places}
 use Rattle.regatta_board.specs.Revisions.{revised}
-use Rattle.regatta_board.specs.Scoring.{Scoring, IsOfEach, with_lines}
+use Rattle.regatta_board.specs.Scoring.{Scoring, FitBoats, with_lines}
 use Rattle.regatta_board.proofs.ScoringFacts.{untouched_scores, unchanged_lines, lines_by_long}
 use Rattle.regatta_board.proofs.ScoringFacts.{are_ranked}
 use Rattle.regatta_board.proofs.scoring.new_scores.Goals as goal
@@ -15,7 +15,7 @@ pub new_ranks-requires-clause-each : goal.new_ranks-requires-clause-each
 new_ranks-requires-clause-each c =
     let ls : c.deref.result.now ≡ c.args.scoring.now.lines =
     c.deref.ensures.value ∙ ap (λ (s : Scoring). s.lines) c.scoring.view_is in
-    subst (λ xs. IsOfEach xs c.in_ok-lines.lines) (sym ls) c.in_ok-lines.ensures.each
+    subst (λ xs. FitBoats xs c.in_ok-lines.lines) (sym ls) c.in_ok-lines.ensures.each
 
 pub new_ranks-requires-clause-few : goal.new_ranks-requires-clause-few
 new_ranks-requires-clause-few c =
@@ -28,13 +28,13 @@ new_ranks-requires-clause-few c =
       c.requires.next.few,
     )
 
-pub returns-then-says_the_same-clause-value : goal.returns-then-says_the_same-clause-value
-returns-then-says_the_same-clause-value c = record {
+pub returns-then-is_empty-clause-value : goal.returns-then-is_empty-clause-value
+returns-then-is_empty-clause-value c = record {
   columns = c.in_ok-columns.ensures.value;
   ranked =
-      unchanged_lines c.args.rules.now c.args.kept.now c.args.scoring.now c.requires.scoring
-      c.args.revision.now c.in_ok-columns.columns c.in_ok-columns.ensures.value
-      (c.says_the_same.ensures c.if-says_the_same.true);
+      unchanged_lines c.args.rules.now c.args.kept.now
+      (revised c.args.kept.now c.args.revision.now) c.args.scoring.now c.requires.scoring
+      c.in_ok-lines.lines (c.is_empty.ensures c.if-is_empty.true) c.in_ok-lines.ensures.value;
 }
 
 pub returns-clause-value : goal.returns-clause-value

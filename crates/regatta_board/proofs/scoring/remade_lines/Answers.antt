@@ -1,7 +1,8 @@
-use Rattle.std.proofs.Common.{◌≡◌, ◌-◌, ◌∙◌, [], ap, arith, sym, map, length, get_or}
+use Rattle.std.proofs.Common.{◌≡◌, ◌-◌, ◌∙◌, [], ap, arith, sym, subst, map, length}
+use Rattle.std.proofs.Common.{get_or}
 use Rattle.std.proofs.lemmas.Grind.{common_steps}
 use Rattle.regatta_board.specs.Revisions.{revised}
-use Rattle.regatta_board.specs.Scoring.{Scoring, with_changed, with_columns}
+use Rattle.regatta_board.specs.Scoring.{Scoring, AreOfBoats, with_changed, with_columns}
 use Rattle.regatta_board.specs.Table.{Kept, races}
 use Rattle.regatta_board.proofs.Columns.{columns_few}
 use Rattle.regatta_board.proofs.ScoringFacts.{old_long, new_long, turned_even, turned_stays}
@@ -93,7 +94,7 @@ pub returns-clause-each : goal.returns-clause-each
 returns-clause-each c =
     let ls : c.deref-4.result.now ≡ c.args.scoring.now.lines =
     c.deref-4.ensures.value ∙ ap (λ (s : Scoring). s.lines) c.scoring.view_is in
-    c.in_ok-lines.ensures.each ∙ ap length ls
+    subst (λ xs. AreOfBoats (length xs) c.in_ok-lines.lines.items) ls c.in_ok-lines.ensures.each
 
 pub returns-clause-value : goal.returns-clause-value
 returns-clause-value c =
