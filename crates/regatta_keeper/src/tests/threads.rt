@@ -1,0 +1,1 @@
+//! On several threads.
