@@ -178,7 +178,11 @@ fn another_journal_opens_no_keeper(rt: HostRuntime) -> Result<(), Fail> {
     let alloc = rt.alloc();
     let other = fault_at(&rt, alloc, b"1 1 SCORER ENTER GBR2\n");
     assert_eq!(rt; other, Some(KeeperFault::Other));
-    let longer = fault_at(&rt, alloc, b"1 1 SCORER ENTER GBR1\n1 2 SCORER ENTER GBR2\n");
+    let longer = fault_at(
+        &rt,
+        alloc,
+        b"1 1 SCORER ENTER GBR1\n1 2 SCORER ENTER GBR2\n",
+    );
     assert_eq!(rt; longer, Some(KeeperFault::Other));
     assert_eq!(rt; fault_at(&rt, alloc, START), None);
     Ok(())

@@ -86,7 +86,8 @@ fn send_each<N, H, R>(
     keeper: &Mutex<Keeper<N, MemoryLog>>,
     passes: Vec<Pass<N>>,
     tally: &Mutex<Tally>,
-) where
+)
+where
     N: KeptName + Send + Sync,
     H: Wait + Drop + Send,
     R: Threads + Wait + Sync,
