@@ -1,0 +1,4 @@
+pub mod Books
+pub mod Keepers
+pub mod Sealing
+pub mod Laws
