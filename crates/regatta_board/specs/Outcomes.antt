@@ -41,6 +41,17 @@ flags rules outcomes =
 abbrev pub line : RulesParts → List Outcome → BoatScores
 line rules outcomes = record { points = points outcomes; excluded = flags rules outcomes }
 
+-- her score in a race in which she has no redress
+abbrev pub plain_score : Outcome → Scored
+plain_score o = record { points = o.plain; dne = is_dne o.held.code }
+
+-- her line from her scores (RRS A2.1, A8)
+abbrev pub line_by : RulesParts → List Scored → BoatScores
+line_by rules scores = record {
+  points = map (λ score. score.points) scores;
+  excluded = exclusion.excluded (exclusions_of rules.thresholds (length scores)) scores;
+}
+
 -- the abbreviation beside the points in the table, if any (RRS A10)
 abbrev pub mark : Outcome → Option Abbrev
 mark o = mark_by o.held.redress (status_by o.held.code o.placed) o.held

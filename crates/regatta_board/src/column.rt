@@ -1,6 +1,6 @@
 //! Columns: the outcomes of all boats in a race that counts.
 ghost use Rattle.std.specs.Prelude.{◌≡◌, ◌+◌, ◌-◌, ◌<◌, ◌≤◌, ◌^◌, [], true, false, length, List};
-ghost use Rattle.std.specs.Prelude.{map, slice_index_or, slice_set, IfOk, OnOk, if◌then◌else◌, ◌↔◌};
+ghost use Rattle.std.specs.Prelude.{map, is_none, slice_index_or, slice_set, IfOk, OnOk, if◌then◌else◌, ◌↔◌};
 ghost use Rattle.regatta_terms.specs.Entries.{IsRace};
 ghost use Rattle.regatta_scores.specs.Sheet.{boats as boats_of, empty_sheet, nothing_held};
 ghost use Rattle.regatta_board.specs.declared.outcomes.Outcome.{Outcome};
@@ -48,6 +48,16 @@ impl Column {
         ensures { result ≡ slice_index_or self.now boat no_outcome }
     {
         self.outcomes[boat]
+    }
+
+    /// Whether the boat has no redress in the race.
+    fn has_no_redress(&self, boat: usize) -> bool
+        ensures { result ≡ is_none (slice_index_or self.now boat no_outcome).held.redress }
+    {
+        match self.outcomes.get(boat) {
+            Some(outcome) => outcome.held.redress.is_none(),
+            None => true,
+        }
     }
 }
 
@@ -231,6 +241,12 @@ impl<'a> CurrentColumn<'a> {
         ensures { result ≡ slice_index_or self.now boat no_outcome }
     {
         self.column.at(boat)
+    }
+
+    pub(crate) fn has_no_redress(&self, boat: usize) -> bool
+        ensures { result ≡ is_none (slice_index_or self.now boat no_outcome).held.redress }
+    {
+        self.column.has_no_redress(boat)
     }
 }
 

@@ -1,9 +1,9 @@
 //! Outcomes: a boat's results in the races that count, and the line and row computed from them.
-ghost use Rattle.std.specs.Prelude.{◌≡◌, ◌≤◌, length, map, is_none, IfOk};
-ghost use Rattle.std.specs.List.{list_all};
+ghost use Rattle.std.specs.Prelude.{◌≡◌, ◌≤◌, length, map, IfOk};
 ghost use Rattle.regatta_board.specs.Outcomes.{items as items_of, points as points_of, scores_by};
 ghost use Rattle.regatta_board.specs.Outcomes.{flags as flags_of, line as line_of, row_by};
-ghost use Rattle.regatta_board.specs.Outcomes.{cell as cell_of, cells_by};
+ghost use Rattle.regatta_board.specs.Outcomes.{cell as cell_of, cells_by, line_by};
+ghost use Rattle.regatta_board.specs.Outcomes.{plain_score as plain_score_of};
 
 use regatta_scores::{
     BoatLine, Cell, Held, Items, PerRace, Place, Row, RowItem, Scored, exclusion_flags, is_dne,
@@ -37,35 +37,12 @@ fn items(outcomes: &[Outcome]) -> PerRace<RowItem>
     found
 }
 
-/// Whether she has no redress in these races.
-fn has_no_redress(outcomes: &[Outcome]) -> bool
-    ensures { result ≡ list_all (λ o. is_none o.held.redress) outcomes.now }
-{
-    outcomes.iter().all(|o| o.held.redress.is_none())
-}
-
-fn plain_points(outcomes: &[Outcome]) -> PerRace<Tenths>
-    requires { length outcomes.now ≤ MAX_RACES }
-    ensures { result.items ≡ map (λ o. o.plain) outcomes.now }
-{
-    let mut found = PerRace::new();
-    for o in outcomes {
-        found.push(o.plain);
-    }
-    found
-}
-
-/// Her points, with redress.
 #[tactic(auto, using(crate::proofs::Lengths::lengths))]
 fn points(outcomes: &[Outcome]) -> PerRace<Tenths>
     requires { length outcomes.now ≤ MAX_RACES }
     ensures value { result.items ≡ points_of outcomes.now }
     ensures long { length result.items ≡ length outcomes.now }
 {
-    // Most boats have none, and need no list of items.
-    if has_no_redress(outcomes) {
-        return plain_points(outcomes);
-    }
     redressed_points(&items(outcomes))
 }
 
@@ -95,6 +72,37 @@ fn flags(outcomes: &[Outcome], points: &[Tenths], rules: &Rules) -> PerRace<bool
     ensures long { length result.items ≡ length outcomes.now }
 {
     exclusion_flags(&scores(outcomes, points), rules)
+}
+
+/// Her score for her points before redress.
+pub(crate) fn plain_score(outcome: Outcome) -> Scored
+    ensures { result ≡ plain_score_of outcome }
+{
+    Scored {
+        points: outcome.plain,
+        dne: is_dne(outcome.held.code),
+    }
+}
+
+fn points_of_scores(scores: &[Scored]) -> PerRace<Tenths>
+    requires { length scores.now ≤ MAX_RACES }
+    ensures { result.items ≡ map (λ score. score.points) scores.now }
+{
+    let mut found = PerRace::new();
+    for score in scores {
+        found.push(score.points);
+    }
+    found
+}
+
+/// Her line if these are her scores.
+pub(crate) fn line_of_scores(scores: &[Scored], rules: &Rules) -> BoatLine
+    requires { length scores.now ≤ MAX_RACES }
+    ensures { result ≡ line_by rules.now scores.now }
+{
+    let points = points_of_scores(scores);
+    let flags = exclusion_flags(scores, rules);
+    BoatLine::of(&points, &flags)
 }
 
 /// Her line, by which she is ranked.
