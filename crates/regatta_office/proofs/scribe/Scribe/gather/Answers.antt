@@ -21,7 +21,7 @@ returns-in-Ok-None-clause-took c =
     went-ended _ _ _ _ _ taken piece _ (slice_behind taken piece) c.loop-taken.invariant.went
     _ _ c.in-Ok-None.field-0-is c.in-Ok-None.ensures.took
 
--- much is due after that line
+-- much is to be written after that line
 pub returns-then-len-ge-DUE_LIMIT-clause-took : goal.returns-then-len-ge-DUE_LIMIT-clause-took
 returns-then-len-ge-DUE_LIMIT-clause-took c =
     let piece = c.args.piece.now in
