@@ -1,12 +1,17 @@
 -- The text for a piece is gathered and then written.
 use Rattle.std.proofs.Common.{◌≡◌, ℕ, ◌+◌, ◌-◌, ◌<◌, ◌≤◌, length, Bool, true, false, List, []}
-use Rattle.std.proofs.Common.{◌++◌, Option, Some, None, Result, Ok, Err, IfOk, IfSome, OnErr, sym}
+use Rattle.std.proofs.Common.{◌∷◌, ◌++◌, Option, Some, None, Result, Ok, Err, IfOk, IfSome, OnErr, sym}
 use Rattle.std.proofs.Common.{ap, ◌∙◌, subst, append_assoc, arith, take, drop}
 use Rattle.std.proofs.lemmas.List.{length-drop, take-append-drop, take_all}
 use Rattle.std.proofs.Math.Seq.{take-add}
+use Rattle.std.specs.List.{fold, list_any, position_or_len}
+use Rattle.regatta_terms.specs.TextLines.{is_line_end}
+use Rattle.regatta_talk.specs.HeardLines.{heard_with}
+use Rattle.regatta_office.proofs.EndFacts.{none_before, up_to_end}
 use Rattle.regatta_streams.specs.Texts.{AppendsPrefix}
 use Rattle.regatta_office.specs.Coming.{Broke, Cuts, Point, Said, Stops, Took, Went, unless}
-use Rattle.regatta_office.proofs.Streams.{cut-then, prefix-longer, stop-none, stop-then, went-then}
+use Rattle.regatta_office.proofs.Streams.{bytes_heard, cut-then, prefix-longer, stop-none}
+use Rattle.regatta_office.proofs.Streams.{stop-then, went-quit, went-then}
 
 -- the first bytes of a piece, followed by the others
 front_back : (n : ℕ) (piece rest : List ℕ)
@@ -19,6 +24,59 @@ front_back n piece rest =
 pub slice_behind : (n : ℕ) (piece : List ℕ) → take (length piece - n) (drop n piece) ≡ drop n piece
 slice_behind n piece =
     take_all (length piece - n) (drop n piece) (omega (arith, length-drop n piece))
+
+-- ---- a line of a piece, or a piece without one
+
+-- no other byte of the line is an LF
+pub whole_line : (piece : List ℕ) (n : ℕ) → n ≡ position_or_len is_line_end piece
+    → list_any is_line_end (take n piece) ≡ false
+whole_line piece n at = ap (λ (k : ℕ). list_any is_line_end (take k piece)) at ∙ none_before piece
+
+-- no line ends in the piece
+pub took_piece : (out : Option (List ℕ)) (before after : Point) (piece : List ℕ) (n : ℕ)
+    → n ≡ position_or_len is_line_end piece → n ≡ length piece
+    → after ≡ record before { line = fold heard_with before.line piece }
+    → Went out out (take n piece) before after false
+took_piece out before after piece n at whole is =
+    let all : take n piece ≡ piece = take_all n piece (omega (arith, whole)) in
+    let none : list_any is_line_end piece ≡ false = ap (list_any is_line_end) (sym all)
+    ∙ ap (λ (k : ℕ). list_any is_line_end (take k piece)) at ∙ none_before piece in
+    subst (λ (bytes : List ℕ). Went out out bytes before after false) (sym all)
+    (bytes_heard out before after piece none is)
+
+-- none of its bytes ends a line
+pub none_ends : (piece : List ℕ) (n : ℕ) → n ≡ position_or_len is_line_end piece
+    → n ≡ length piece → list_any is_line_end piece ≡ false
+none_ends piece n at whole =
+    ap (list_any is_line_end) (sym (take_all n piece (omega (arith, whole))))
+    ∙ whole_line piece n at
+
+-- a line and its LF
+line_feed : (piece : List ℕ) (n : ℕ) → n ≡ position_or_len is_line_end piece → n < length piece
+    → take (n + 1) piece ≡ take n piece ++ 10 ∷ []
+line_feed piece n at some =
+    ap (λ (k : ℕ). take (k + 1) piece) at ∙ up_to_end piece (omega (arith, at, some))
+    ∙ ap (λ (k : ℕ). take k piece ++ 10 ∷ []) (sym at)
+
+-- the line was taken, and the run goes on
+pub took_line : (old new : Option (List ℕ)) (before after : Point) (piece : List ℕ) (n : ℕ)
+    → n ≡ position_or_len is_line_end piece → n < length piece
+    → Went old new (take n piece ++ 10 ∷ []) before after false
+    → Went old new (take (n + 1) piece) before after false
+took_line old new before after piece n at some went =
+    subst (λ (bytes : List ℕ). Went old new bytes before after false)
+    (sym (line_feed piece n at some)) went
+
+-- or the line ended the run
+pub took_quit : (old new : Option (List ℕ)) (before after : Point) (piece : List ℕ) (n : ℕ)
+    → n ≡ position_or_len is_line_end piece → n < length piece
+    → Went old new (take n piece ++ 10 ∷ []) before after true
+    → Went old new piece before after true
+took_quit old new before after piece n at some went =
+    subst (λ (bytes : List ℕ). Went old new bytes before after true)
+    (ap (λ (bytes : List ℕ). bytes ++ drop (n + 1) piece) (sym (line_feed piece n at some))
+    ∙ take-append-drop (n + 1) piece)
+    (went-quit old new (take n piece ++ 10 ∷ []) (drop (n + 1) piece) before after went)
 
 -- ---- the write of what was gathered failed
 

@@ -1,6 +1,8 @@
 pub mod Asking
+pub mod EndFacts
 pub mod Entering
 pub mod Gathering
+pub mod HeardFacts
 mod Printing
 pub mod Refused
 pub mod Results

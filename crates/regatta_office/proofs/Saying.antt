@@ -1,6 +1,7 @@
 -- The answers to lines, one after another.
 use Rattle.std.proofs.Common.{◌≡◌, ℕ, ◌<◌, length, arith, Bool, true, false, cond, List, [], ◌∷◌}
 use Rattle.std.proofs.Common.{◌++◌, map, Result, refl, sym, ap, ◌∙◌, append_assoc}
+use Rattle.std.specs.List.{fold, list_any}
 use Rattle.regatta_terms.specs.Lines.{line_of}
 use Rattle.regatta_terms.specs.Rules.{RulesParts}
 use Rattle.regatta_terms.specs.declared.line.Line.{Line}
@@ -11,7 +12,8 @@ use Rattle.regatta_talk.specs.HeardLines.{heard, heard_with, heard_lines}
 use Rattle.regatta_office.specs.Coming.{unless}
 use Rattle.regatta_office.specs.Transcript.{Talk, has_quit, is_quit, replies, talk_after}
 use Rattle.regatta_office.specs.Transcript.{talk_at_end, text_after, up_to_quit}
-use Rattle.regatta_talk.proofs.HeardLines.{heard_byte, heard_end, heard_of_text, heard_reads}
+use Rattle.regatta_talk.proofs.HeardLines.{heard_end, heard_of_text, heard_reads}
+use Rattle.regatta_office.proofs.HeardFacts.{bytes_lines}
 
 -- the answer to a line, from what it reads as, followed by the answers to the next lines
 abbrev next_said : RulesParts → Talk → Result Line LineFault → List (List ℕ) → Said
@@ -75,13 +77,13 @@ line_ends counts point byte rest is =
     ap (said point.rules point.talk) (heard_end counts point.line byte rest is)
     ∙ said-cons point.rules point.talk point.line (heard_lines counts [] rest)
 
--- another byte of a line
-pub line_goes : (counts : Bool) (point : Point) (byte : ℕ) (rest : List ℕ)
-    → is_line_end byte ≡ false
-    → coming counts point (byte ∷ rest) ≡ coming counts
-    (record point { line = heard_with point.line byte }) rest
-line_goes counts point byte rest is = ap (said point.rules point.talk)
-    (heard_byte counts point.line byte rest is)
+-- other bytes of a line
+pub line_goes : (counts : Bool) (point : Point) (bytes rest : List ℕ)
+    → list_any is_line_end bytes ≡ false
+    → coming counts point (bytes ++ rest) ≡ coming counts
+    (record point { line = fold heard_with point.line bytes }) rest
+line_goes counts point bytes rest none = ap (said point.rules point.talk)
+    (bytes_lines counts point.line bytes rest none)
 
 -- the end of a text, with bytes of a current line, and without
 last_heard : (line : List ℕ) → 0 < length line → heard_lines true line [] ≡ line ∷ []

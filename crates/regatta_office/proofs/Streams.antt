@@ -15,21 +15,24 @@ use Rattle.regatta_terms.specs.TextLines.{is_line_end, last_line}
 use Rattle.regatta_office.specs.Coming.{Cuts, Stops, Finished, IsTooLong, IsWithin, Point, ReadSome}
 use Rattle.regatta_office.specs.Coming.{Said, Talked, Went, said, ahead, coming, ended, unless}
 use Rattle.regatta_talk.specs.HeardLines.{heard_with, heard_lines}
+use Rattle.regatta_terms.specs.declared.line.Line.{Line}
+use Rattle.regatta_terms.specs.declared.line.LineFault.{LineFault}
+use Rattle.std.specs.List.{fold, list_any}
 use Rattle.regatta_office.specs.Transcript.{is_quit, talk_after, text_after}
 use Rattle.regatta_office.proofs.Saying.{ahead-ahead, line_ends, line_goes, line_last, line_none}
 use Rattle.regatta_office.proofs.Saying.{said-none}
 
--- a byte of a line was buffered
-pub byte_heard : (out : Option (List ℕ)) (before after : Point) (byte : ℕ)
-    → is_line_end byte ≡ false
-    → after ≡ record before { line = heard_with before.line byte }
-    → Went out out (byte ∷ []) before after false
-byte_heard out before after byte is heard = record {
+-- bytes of a line were buffered
+pub bytes_heard : (out : Option (List ℕ)) (before after : Point) (bytes : List ℕ)
+    → list_any is_line_end bytes ≡ false
+    → after ≡ record before { line = fold heard_with before.line bytes }
+    → Went out out bytes before after false
+bytes_heard out before after bytes none is = record {
   written = [];
   wrote = appends-none out;
-  rules = ap (λ (p : Point). p.rules) heard;
-  goes = λ counts rest. line_goes counts before byte rest is
-      ∙ ap (λ (p : Point). coming counts p rest) (sym heard);
+  rules = ap (λ (p : Point). p.rules) is;
+  goes = λ counts rest. line_goes counts before bytes rest none
+      ∙ ap (λ (p : Point). coming counts p rest) (sym is);
 }
 
 -- a line ended, and was answered
@@ -53,32 +56,6 @@ line_ended old new before after byte quit is quits wrote went = record {
       ∙ (λ i. ahead (text_after before.rules before.talk (line_of before.line))
       (unless (sym quits i) counts (sym went i) rest));
 }
-
--- the same for an answer that may have failed, with the buffered part of the line
-pub line_ended_ok : {E : Type 0} (old new : Option (List ℕ)) (before after : Point) (line : List ℕ)
-    (byte : ℕ) (r : Result Bool E)
-    → is_line_end byte ≡ true → line ≡ before.line
-    → IfOk r (λ quit. quit ≡ is_quit (line_of line))
-    → OnOk r (Appends old new (text_after before.rules before.talk (line_of line)))
-    → OnOk r (after ≡ record {
-      rules = before.rules;
-      talk = talk_after before.rules before.talk
-          (line_of line);
-      line = [];
-    })
-    → IfOk r (λ quit. Went old new (byte ∷ []) before after quit)
-line_ended_ok old new before after line byte (Ok quit) is same quits wrote went =
-    line_ended old new before after byte quit is
-    (quits ∙ ap (λ (l : List ℕ). is_quit (line_of l)) same)
-    (subst (λ (l : List ℕ). Appends old new (text_after before.rules before.talk (line_of l))) same
-    wrote)
-    (went ∙ ap (λ (l : List ℕ). record {
-      rules = before.rules;
-      talk = talk_after before.rules
-          before.talk (line_of l);
-      line = [];
-    }) same)
-line_ended_ok old new before after line byte (Err e) is same quits wrote went = tt
 
 -- ---- the end of a text
 
@@ -126,6 +103,57 @@ went-then a b c xs ys p q r quit u v = record {
       ∙ ap (ahead u.written) (v.goes counts rest)
       ∙ sym (ahead-ahead u.written v.written (unless quit counts r rest));
 }
+
+-- the rest of a line and its LF were taken, and the line was answered by one that reads alike
+line_taken : (old new : Option (List ℕ)) (before after : Point) (rest line : List ℕ) (quit : Bool)
+    → list_any is_line_end rest ≡ false
+    → line_of (fold heard_with before.line rest) ≡ line_of line
+    → quit ≡ is_quit (line_of line)
+    → Appends old new (text_after before.rules before.talk (line_of line))
+    → after ≡ record {
+      rules = before.rules;
+      talk = talk_after before.rules before.talk (line_of line);
+      line = [];
+    }
+    → Went old new (rest ++ 10 ∷ []) before after quit
+line_taken old new before after rest line quit none alike quits wrote went =
+    went-then old old new rest (10 ∷ []) before mid after quit
+    (bytes_heard old before mid rest none refl)
+    (line_ended old new mid after 10 quit refl
+    (quits ∙ sym (ap is_quit alike))
+    (subst (λ (asked : Result Line LineFault). Appends old new
+    (text_after before.rules before.talk asked)) (sym alike) wrote)
+    (went ∙ ap (λ (asked : Result Line LineFault). record {
+      rules = before.rules;
+      talk = talk_after before.rules before.talk asked;
+      line = [];
+    }) (sym alike)))
+  where
+    mid : Point
+    mid = record before { line = fold heard_with before.line rest }
+
+-- the same for an answer that may have failed
+pub line_taken_ok : {E : Type 0} (old new : Option (List ℕ)) (before after : Point)
+    (rest line left : List ℕ) (r : Result Bool E)
+    → left ≡ []
+    → list_any is_line_end rest ≡ false
+    → line_of (fold heard_with before.line rest) ≡ line_of line
+    → IfOk r (λ quit. quit ≡ is_quit (line_of line))
+    → OnOk r (Appends old new (text_after before.rules before.talk (line_of line)))
+    → OnOk r (after ≡ record {
+      rules = before.rules;
+      talk = talk_after before.rules before.talk (line_of line);
+      line = left;
+    })
+    → IfOk r (λ quit. Went old new (rest ++ 10 ∷ []) before after quit)
+line_taken_ok old new before after rest line left (Ok quit) empty none alike quits wrote went =
+    line_taken old new before after rest line quit none alike quits wrote
+    (went ∙ ap (λ (l : List ℕ). record {
+      rules = before.rules;
+      talk = talk_after before.rules before.talk (line_of line);
+      line = l;
+    }) empty)
+line_taken_ok old new before after rest line left (Err e) empty none alike quits wrote went = tt
 
 -- if the run ended within some bytes, those after them count for nothing
 pub went-quit : (a b : Option (List ℕ)) (xs ys : List ℕ) (p q : Point) → Went a b xs p q true

@@ -6,6 +6,7 @@ mod answers;
 mod clients;
 mod command_line;
 mod complaint;
+mod ends;
 mod final_part;
 mod form;
 mod options;

@@ -3,18 +3,22 @@ ghost use Rattle.std.specs.Prelude.{◌≡◌, ◌≢◌, ◌+◌, ◌++◌, ◌
 ghost use Rattle.std.specs.Prelude.{OnErr, IsErrOf, IfSome, Some, ◌<◌, ◌≤◌, length};
 ghost use Rattle.std.specs.Io.KnownBytes.{Appends};
 ghost use Rattle.regatta_streams.specs.Texts.{AppendsPrefix};
+ghost use Rattle.std.specs.List.{fold, list_any};
+ghost use Rattle.regatta_talk.specs.HeardLines.{heard_with};
 ghost use Rattle.regatta_terms.specs.Lines.{line_of};
+ghost use Rattle.regatta_terms.specs.TextLines.{is_line_end};
 ghost use Rattle.regatta_office.specs.Coming.{Broke, Cuts, Finished, Stops, Took, Went};
 ghost use Rattle.regatta_office.specs.Scribes.{point};
 ghost use Rattle.regatta_office.specs.Transcript.{is_quit as is_quit_of, talk_after, text_after};
 ghost use Rattle.regatta_terms.specs.declared.command.Role.TheVariants.{Scorer};
 
 use crate::answers::{answer, is_quit};
+use crate::ends::line_end;
 use crate::shown::Shown;
 use regatta_board::Board;
 use regatta_streams::{Sink, StreamFault, write_all};
 use regatta_talk::Cutter;
-use regatta_terms::{Role, read_line};
+use regatta_terms::{Line, LineFault, Role, read_line};
 use std::alloc::{AllocError, Global};
 
 /// The number of unwritten bytes from which on they are written before another line is answered.
@@ -27,6 +31,27 @@ pub(crate) enum ScribeFault {
     Write,
     /// An allocation failed.
     NoMemory,
+}
+
+/// What a line asks for, or its first fault. An empty line isn't cut into words.
+#[tactic(auto, using(crate::proofs::HeardFacts::nothing_reads))]
+fn asked_by(line: &[u8]) -> Result<Line, LineFault>
+    ensures { result ≡ line_of line.now }
+{
+    if line.is_empty() {
+        return Err(LineFault::NoSuchWord);
+    }
+    read_line(line)
+}
+
+/// Buffers bytes of a line, none of which ends it.
+fn hear(cutter: &mut Cutter, bytes: &[u8])
+    requires { list_any is_line_end bytes.now ≡ false }
+    ensures { cutter.new ≡ fold heard_with cutter.old bytes.now }
+{
+    for i in 0..bytes.len() {
+        cutter.take(bytes[i]);
+    }
 }
 
 /// The board, the role of the next lines, the current line, and the text not written yet.
@@ -63,6 +88,23 @@ impl Scribe {
         self.board.board()
     }
 
+    /// Does what a line asks for, and appends its text to the unwritten one. Returns whether it ends
+    /// the run.
+    fn answer(&mut self, asked: Result<Line, LineFault>) -> Result<bool, AllocError>
+        ensures quit { IfOk result (λ quit. quit ≡ is_quit_of asked) }
+        ensures due { OnOk result (self.new.due.items ≡ self.old.due.items
+            ++ text_after (point self.old).rules (point self.old).talk asked) }
+        ensures after { OnOk result (point self.new ≡ record {
+          rules = (point self.old).rules;
+          talk = talk_after (point self.old).rules (point self.old).talk asked;
+          line = (point self.old).line;
+        }) }
+        ensures err { OnErr result (self.new.due.items ≡ self.old.due.items) }
+    {
+        answer(&mut self.board, &mut self.role, asked, &mut self.due)?;
+        Ok(is_quit(&asked))
+    }
+
     /// Does what the current line asks for, and appends its text to the unwritten one. Returns
     /// whether it ends the run.
     fn end_line(&mut self) -> Result<bool, AllocError>
@@ -78,22 +120,49 @@ impl Scribe {
         }) }
         ensures err { OnErr result (self.new.due.items ≡ self.old.due.items) }
     {
-        let asked = read_line(self.cutter.line());
+        let asked = asked_by(self.cutter.line());
         self.cutter.clear();
-        answer(&mut self.board, &mut self.role, asked, &mut self.due)?;
-        Ok(is_quit(&asked))
+        let quit = self.answer(asked)?;
+        Ok(quit)
     }
 
-    /// Takes a byte of the text, and returns whether it ends the run.
-    fn take(&mut self, byte: u8) -> Result<bool, AllocError>
+    /// Takes the rest of the current line and its line feed. Returns whether the line ends the run.
+    /// A line that is whole is read where it lies.
+    fn take_line(&mut self, rest: &[u8]) -> Result<bool, AllocError>
+        requires { list_any is_line_end rest.now ≡ false }
         ensures went { IfOk result (λ quit. Went (Some self.old.due.items)
-            (Some self.new.due.items) (byte ∷ []) (point self.old) (point self.new) quit) }
+            (Some self.new.due.items) (rest.now ++ 10 ∷ []) (point self.old) (point self.new)
+            quit) }
         ensures err { OnErr result (self.new.due.items ≡ self.old.due.items) }
     {
-        if !self.cutter.take(byte) {
-            return Ok(false);
+        if !self.cutter.line().is_empty() {
+            hear(&mut self.cutter, rest);
+            return self.end_line();
         }
-        self.end_line()
+        self.answer(asked_by(rest))
+    }
+
+    /// Takes the rest of the current line from a piece, or all of the piece if no line ends in it.
+    /// Returns the number of bytes taken, or `None` if the line ends the run.
+    #[tactic(auto, using(crate::proofs::Gathering::none_ends, crate::proofs::Gathering::whole_line, crate::proofs::Gathering::took_piece, crate::proofs::Gathering::took_line, crate::proofs::Gathering::took_quit))]
+    fn take(&mut self, piece: &[u8]) -> Result<Option<usize>, AllocError>
+        requires { 0 < length piece.now }
+        ensures count { IfOk result (λ count. IfSome count
+            (λ n. (0 < n) × (n ≤ length piece.now))) }
+        ensures took { IfOk result (Took (Some self.old.due.items) (Some self.new.due.items)
+            piece.now (point self.old) (point self.new)) }
+        ensures err { OnErr result (self.new.due.items ≡ self.old.due.items) }
+    {
+        let end = line_end(piece);
+        if end == piece.len() {
+            hear(&mut self.cutter, piece);
+            return Ok(Some(end));
+        }
+        match self.take_line(&piece[..end]) {
+            Ok(false) => Ok(Some(end + 1)),
+            Ok(true) => Ok(None),
+            Err(fault) => Err(fault),
+        }
     }
 
     /// Takes a piece of the text, up to the end of the run or to a line after which [`DUE_LIMIT`]
@@ -112,17 +181,18 @@ impl Scribe {
             (point self.old)) }
     {
         self.due.clear();
-        for i in 0..piece.len() {
-            match self.take(piece[i]) {
-                Ok(false) => {}
-                Ok(true) => return Ok(None),
+        let mut taken = 0;
+        while taken < piece.len() {
+            match self.take(&piece[taken..]) {
+                Ok(Some(count)) => taken += count,
+                Ok(None) => return Ok(None),
                 Err(fault) => return Err(fault),
             }
             if DUE_LIMIT <= self.due.len() {
-                return Ok(Some(i + 1));
+                return Ok(Some(taken));
             }
         }
-        Ok(Some(piece.len()))
+        Ok(Some(taken))
     }
 
     /// Takes as much of a piece as `gather` does, and writes the text for it. Returns the number of

@@ -1,26 +1,30 @@
-use Rattle.std.proofs.Common.{◌≡◌, ◌<◌, ◌+◌, ◌++◌, ◌∷◌, [], Some, List, ℕ, length, take, drop}
-use Rattle.std.proofs.Common.{get_or, arith, sym, ap, ◌∙◌, subst, true}
-use Rattle.std.proofs.lemmas.List.{take_more, take-append-drop}
-use Rattle.regatta_office.specs.Coming.{Went}
-use Rattle.regatta_office.specs.Scribes.{point}
-use Rattle.regatta_office.proofs.Streams.{went-then, went-quit}
+use Rattle.regatta_office.proofs.Gathering.{few_more, slice_behind, went-ended, went-more}
 use Rattle.regatta_office.proofs.scribe.Scribe.gather.Goals as goal
 
--- the bytes so far, this one, and those after it
-split : (piece : List ℕ) (i : ℕ) → i < length piece
-    → (take i piece ++ get_or piece i 0 ∷ []) ++ drop (i + 1) piece ≡ piece
-split piece i h = ap (λ (bytes : List ℕ). bytes ++ drop (i + 1) piece)
-    (sym (take_more piece i 0 h)) ∙ take-append-drop (i + 1) piece
-
--- the run ended by that byte
-pub returns-in-Ok-true-clause-took : goal.returns-in-Ok-true-clause-took
-returns-in-Ok-true-clause-took c =
+-- a line more
+pub loop-taken-preserved : goal.loop-taken-preserved
+loop-taken-preserved c =
     let piece = c.args.piece.now in
-    let i = c.loop-i.i in
-    subst
-    (λ (bytes : List ℕ). Went (Some []) (Some c.take.new.self.due.items) bytes
-    (point c.args.self.now) (point c.take.new.self) true)
-    (split piece i (omega arith))
-    (went-quit _ _ _ (drop (i + 1) piece) _ _
-    (went-then _ _ _ (take i piece) _ _ _ _ true c.loop-i.invariant.went
-    (rw c.in-Ok-true.field-0-test at c.in-Ok-true.ensures.went)))
+    let taken = c.loop-taken.taken in
+    record {
+      few = few_more taken _ piece _ _ (slice_behind taken piece) c.in-Ok-Some.field-0-is
+          c.loop-taken.invariant.few c.in-Ok-Some.ensures.count;
+      went = went-more _ _ _ _ _ taken piece _ (slice_behind taken piece)
+          c.loop-taken.invariant.went _ _ _ c.in-Ok-Some.field-0-is c.in-Ok-Some.ensures.took;
+    }
+
+-- the run ended at that line
+pub returns-in-Ok-None-clause-took : goal.returns-in-Ok-None-clause-took
+returns-in-Ok-None-clause-took c =
+    let piece = c.args.piece.now in
+    let taken = c.loop-taken.taken in
+    went-ended _ _ _ _ _ taken piece _ (slice_behind taken piece) c.loop-taken.invariant.went
+    _ _ c.in-Ok-None.field-0-is c.in-Ok-None.ensures.took
+
+-- much is to be written after that line
+pub returns-then-len-ge-DUE_LIMIT-clause-took : goal.returns-then-len-ge-DUE_LIMIT-clause-took
+returns-then-len-ge-DUE_LIMIT-clause-took c =
+    let piece = c.args.piece.now in
+    let taken = c.loop-taken.taken in
+    went-more _ _ _ _ _ taken piece _ (slice_behind taken piece) c.loop-taken.invariant.went
+    _ _ _ c.in-Ok-Some.field-0-is c.in-Ok-Some.ensures.took

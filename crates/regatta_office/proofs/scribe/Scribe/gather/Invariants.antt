@@ -1,11 +1,15 @@
-use Rattle.std.proofs.Common.{take, false, [], Some}
+use Rattle.std.proofs.Common.{◌≤◌, ◌-◌, length, take, false, [], Some}
 use Rattle.regatta_office.specs.Coming.{Went}
 use Rattle.regatta_office.specs.Scribes.{point}
 use Rattle.regatta_office.proofs.scribe.Scribe.gather.Given as goal
 
--- the bytes so far
-abbrev pub invariant-loop-i : goal.invariant-loop-i
-invariant-loop-i l = record {
-  went : Went (Some []) (Some l.self.due.items) (take l.i l.piece) (point l.fn.self)
+-- the lines so far
+abbrev pub invariant-loop-taken : goal.invariant-loop-taken
+invariant-loop-taken l = record {
+  few : l.taken ≤ length l.piece;
+  went : Went (Some []) (Some l.self.due.items) (take l.taken l.piece) (point l.fn.self)
       (point l.self) false;
 }
+
+abbrev pub decreases-loop-taken : goal.decreases-loop-taken
+decreases-loop-taken l = length l.piece - l.taken

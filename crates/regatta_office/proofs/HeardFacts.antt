@@ -1,0 +1,105 @@
+-- Bytes of a line that are buffered one after another.
+use Rattle.std.proofs.Common.{◌≡◌, ℕ, zero, suc, ◌+◌, ◌<◌, Bool, true, false, cond, List, []}
+use Rattle.std.proofs.Common.{◌∷◌, ◌++◌, ◌||◌, length, take, get_or, refl, sym, ap, ◌∙◌, arith}
+use Rattle.std.proofs.Common.{map, Err}
+use Rattle.regatta_terms.specs.Lines.{line_of_words}
+use Rattle.regatta_terms.specs.declared.line.LineFault.TheVariants.{NoSuchWord}
+use Rattle.std.specs.List.{fold, list_any}
+use Rattle.std.specs.List.{slice_split, onto_first}
+use Rattle.std.proofs.lemmas.List.Splits.{slice_split-cons_yes, slice_split-cons_no}
+use Rattle.std.proofs.lemmas.List.Sums.{fold_more}
+use Rattle.regatta_terms.specs.Lines.{line_of}
+use Rattle.regatta_terms.specs.TextLines.{is_line_end, lines_of_pieces}
+use Rattle.regatta_talk.specs.HeardLines.{heard, heard_with, heard_lines}
+use Rattle.regatta_talk.proofs.HeardLines.{heard_byte, heard_end, heard_of_text, heard_reads}
+
+-- bytes that end no line, and the rest of the text
+pub bytes_lines : (counts : Bool) (line bytes text : List ℕ) → list_any is_line_end bytes ≡ false
+    → heard_lines counts line (bytes ++ text)
+    ≡ heard_lines counts (fold heard_with line bytes) text
+bytes_lines counts line [] text none = refl
+bytes_lines counts line (byte ∷ bytes) text none =
+    by (is_line_end byte) refl none (bytes_lines counts (heard_with line byte) bytes text)
+  where
+    by : (b : Bool) → is_line_end byte ≡ b → (b || list_any is_line_end bytes) ≡ false
+        → (list_any is_line_end bytes ≡ false
+        → heard_lines counts (heard_with line byte) (bytes ++ text)
+        ≡ heard_lines counts (fold heard_with (heard_with line byte) bytes) text)
+        → heard_lines counts line (byte ∷ (bytes ++ text))
+        ≡ heard_lines counts (fold heard_with (heard_with line byte) bytes) text
+    by true is none more = absurd cc
+    by false is none more = heard_byte counts line byte (bytes ++ text) is ∙ more none
+
+-- a line and its LF are one line
+one_piece : (bytes : List ℕ) → list_any is_line_end bytes ≡ false
+    → slice_split is_line_end (bytes ++ 10 ∷ []) ≡ bytes ∷ [] ∷ []
+one_piece [] none = slice_split-cons_yes is_line_end 10 [] refl
+one_piece (byte ∷ bytes) none = by (is_line_end byte) refl none (one_piece bytes)
+  where
+    by : (b : Bool) → is_line_end byte ≡ b → (b || list_any is_line_end bytes) ≡ false
+        → (list_any is_line_end bytes ≡ false
+        → slice_split is_line_end (bytes ++ 10 ∷ []) ≡ bytes ∷ [] ∷ [])
+        → slice_split is_line_end (byte ∷ (bytes ++ 10 ∷ [])) ≡ (byte ∷ bytes) ∷ [] ∷ []
+    by true is none more = absurd cc
+    by false is none more =
+        slice_split-cons_no is_line_end byte (bytes ++ 10 ∷ []) is
+        ∙ ap (onto_first byte) (more none)
+
+no_line : heard_lines false [] [] ≡ []
+unfolding heard_lines
+no_line = refl
+
+-- what would be buffered of a line reads as the line
+pub whole_reads : (bytes : List ℕ) → list_any is_line_end bytes ≡ false
+    → line_of (fold heard_with [] bytes) ≡ line_of bytes
+whole_reads bytes none =
+    let line : List ℕ = fold heard_with [] bytes in
+    let lines : line ∷ [] ≡ map heard (lines_of_pieces false (bytes ∷ [] ∷ [])) =
+    ap (λ (ls : List (List ℕ)). line ∷ ls) (sym no_line)
+    ∙ sym (heard_end false line 10 [] refl)
+    ∙ sym (bytes_lines false [] bytes (10 ∷ []) none)
+    ∙ heard_of_text false (bytes ++ 10 ∷ [])
+    ∙ ap (λ (ps : List (List ℕ)). map heard (lines_of_pieces false ps)) (one_piece bytes none)
+    in
+    ap (λ (ls : List (List ℕ)). line_of (get_or ls 0 [])) lines ∙ heard_reads bytes
+
+-- none of the bytes ends the line
+no_end_at : (bytes : List ℕ) (i : ℕ) (d : ℕ) → i < length bytes
+    → list_any is_line_end bytes ≡ false → is_line_end (get_or bytes i d) ≡ false
+no_end_at [] i d below none = absurd (omega (arith, below))
+no_end_at (byte ∷ bytes) i d below none =
+    by (is_line_end byte) refl none i below (λ j lt rest. no_end_at bytes j d lt rest)
+  where
+    by : (b : Bool) → is_line_end byte ≡ b → (b || list_any is_line_end bytes) ≡ false
+        → (i : ℕ) → i < suc (length bytes)
+        → ((j : ℕ) → j < length bytes → list_any is_line_end bytes ≡ false
+        → is_line_end (get_or bytes j d) ≡ false)
+        → is_line_end (get_or (byte ∷ bytes) i d) ≡ false
+    by true is none i below more = absurd cc
+    by false is none zero below more = is
+    by false is none (suc j) below more = more j (omega (arith, below)) none
+
+-- one byte more of a slice
+pub fold_heard : (line bytes so_far new : List ℕ) (i byte d : ℕ) → i < length bytes
+    → list_any is_line_end bytes ≡ false → byte ≡ get_or bytes i d
+    → so_far ≡ fold heard_with line (take i bytes)
+    → new ≡ cond (is_line_end byte) so_far (heard_with so_far byte)
+    → new ≡ fold heard_with line (take (i + 1) bytes)
+fold_heard line bytes so_far new i byte d below none item is took =
+    let goes : is_line_end byte ≡ false = ap is_line_end item ∙ no_end_at bytes i d below none in
+    took ∙ ap (λ (b : Bool). cond b so_far (heard_with so_far byte)) goes
+    ∙ (λ j. heard_with (is j) (item j))
+    ∙ sym (fold_more heard_with line bytes i d below)
+
+-- a line without bytes
+empty_reads : line_of [] ≡ Err NoSuchWord
+unfolding line_of line_of_words
+empty_reads = refl
+
+pub nothing_reads : (line : List ℕ) → length line ≡ 0 → Err NoSuchWord ≡ line_of line
+nothing_reads [] none = sym empty_reads
+nothing_reads (byte ∷ line) none = absurd (omega (arith, none))
+
+pub nothing : (line : List ℕ) → length line ≡ 0 → line ≡ []
+nothing [] none = refl
+nothing (byte ∷ line) none = absurd (omega (arith, none))
