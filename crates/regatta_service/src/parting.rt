@@ -115,7 +115,7 @@ where
             let ended = client.serve(rt, reply, office, gate);
             // The seat is free before the stream is closed, so a client who sees the end of their
             // session may come again at once.
-            let _leaving = pool.lock(rt).take_back(client);
+            let _leaving = pool.lock(rt).take_back(client, &ended);
             Ok(ended)
         }
         Err(why) => {

@@ -3,6 +3,7 @@ ghost use Rattle.std.specs.Prelude.{◌≡◌, ◌≢◌, ◌+◌, ◌<◌, ◌+
 ghost use Rattle.std.specs.Prelude.{IfOk, IfErr, IfSome, OnOk, OnErr};
 ghost use Rattle.regatta_service.specs.Pools.{Finds, Lends, with_pass};
 
+use crate::ended::Ended;
 use crate::room::NoRoom;
 use regatta_desk::{OfficeName, Pass};
 use std::alloc::{AllocError, Global};
@@ -188,8 +189,11 @@ impl<N: OfficeName> Pool<N> {
         self.unseat(client, Lack::Memory)
     }
 
-    /// Takes back the pass of a client who was served.
-    pub(crate) fn take_back<S>(&mut self, client: Seated<N, S>) -> Leaving<S>
+    /// Takes back the pass of a client who was served. Stream and pass are still as the session left
+    /// them.
+    pub(crate) fn take_back<S>(&mut self, client: Seated<N, S>, _ended: &Ended<N, S>) -> Leaving<S>
+        requires stream { client.stream ≡ _ended.now.left.value }
+        requires pass { client.pass ≡ _ended.now.after.value }
         ensures { self.new ≡ with_pass self.old client.slot client.pass }
     {
         let Seated { slot, pass, stream } = client;
