@@ -13,3 +13,6 @@ pub use keeper::{CoverFault, Keeper, KeeperFault};
 pub use kept::{Book, Kept, KeptName};
 pub use mark::Mark;
 pub use sealed::{Sealed, cover};
+
+#[cfg(test)]
+mod tests;
