@@ -1,4 +1,4 @@
-use Rattle.regatta_keeper.proofs.tests.alone.fault_at.Given as goal
+use Rattle.regatta_keeper.proofs.tests.fault_at.Given as goal
 
 -- the office that was just opened
 abbrev pub ghosts-fault_of-N-OfficeName : goal.ghosts-fault_of-N-OfficeName
