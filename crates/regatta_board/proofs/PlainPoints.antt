@@ -1,6 +1,6 @@
 -- The line of a boat without redress.
 use Rattle.std.proofs.Common.{◌≡◌, ◌∙◌, ℕ, ◌+◌, Bool, true, false, ◌&&◌, List, [], ◌∷◌, refl, ap, sym}
-use Rattle.std.proofs.Common.{map, get_or, zip, Option, Some, None}
+use Rattle.std.proofs.Common.{map, get_or, Option, Some, None}
 use Rattle.std.specs.Prelude.{is_none}
 use Rattle.std.specs.List.{enumerate_from, list_all}
 use Rattle.regatta_terms.specs.Rules.{RulesParts}
@@ -8,10 +8,8 @@ use Rattle.regatta_terms.specs.declared.command.Redress.{Redress}
 use Rattle.regatta_scores.specs.declared.boats.RowItem.{RowItem}
 use Rattle.regatta_scores.specs.declared.boats.Scored.{Scored}
 use Rattle.regatta_scores.specs.Averages as averages
-use Rattle.regatta_scores.specs.Ranking.{BoatScores}
 use Rattle.regatta_board.specs.declared.outcomes.Outcome.{Outcome}
 use Rattle.regatta_board.specs.Outcomes.{items, points, scores_by, plain_score, line, line_by}
-use Rattle.regatta_board.specs.Outcomes.{flags}
 use Rattle.regatta_board.specs.Table.{no_outcome, outcomes}
 use Rattle.regatta_board.proofs.Maps.{map_map}
 
