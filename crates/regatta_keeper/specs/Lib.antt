@@ -1,4 +1,3 @@
 pub mod Books
 pub mod Keepers
 pub mod Sealing
-pub mod Laws

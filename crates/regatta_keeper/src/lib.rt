@@ -4,7 +4,6 @@
 
 mod keeper;
 mod kept;
-pub mod laws;
 mod mark;
 mod sealed;
 mod store;
