@@ -234,6 +234,36 @@ class Ways(unittest.TestCase):
             self.assertEqual(serving.wait(helpers.PATIENCE), 3)
             self.assertEqual(serving.stdout.read(), "TABLE 2 RACES\n1= A 0.0\n1= B 0.0\n")
 
+    def test_no_thread(self) -> None:
+        """A client for whom no thread can be started gets BUSY, and the office goes on."""
+        with helpers.served(folder=self.here) as (path, serving):
+            with contextlib.closing(Link(path)) as link:
+                link.ask("ENTER A")
+                with open(f"/proc/{serving.pid}/statm") as file:
+                    space = int(file.read().split()[0]) * resource.getpagesize()
+                # A thread's stack needs 8 MiB of addresses.
+                resource.prlimit(serving.pid, resource.RLIMIT_AS, (space + (2 << 20), -1))
+                with socket.socket(socket.AF_UNIX, socket.SOCK_STREAM) as turned_away:
+                    turned_away.settimeout(helpers.PATIENCE)
+                    turned_away.connect(path)
+                    self.assertEqual(turned_away.recv(100), b"BUSY\n")
+                self.assertEqual(link.ask("ENTER B"), "OK 2 1= 0.0")
+                self.assertEqual(link.ask("QUIT"), "BYE")
+
+            def is_served() -> bool:
+                # Until the first client's thread has ended there is no room for another.
+                with contextlib.closing(Link(path)) as again, contextlib.suppress(NoSeat):
+                    return again.ask("RANK A") == "RANK 1= 0.0"
+                return False
+
+            helpers.until("a client after the first", is_served)
+            resource.prlimit(serving.pid, resource.RLIMIT_NOFILE, (3, 3))
+            with socket.socket(socket.AF_UNIX, socket.SOCK_STREAM) as refused:
+                refused.connect(path)
+                helpers.until("the end at the door", lambda: not helpers.is_listening(path))
+            self.assertEqual(serving.wait(helpers.PATIENCE), 3)
+            self.assertEqual(serving.stdout.read(), "TABLE 2 RACES\n1= A 0.0\n1= B 0.0\n")
+
     def test_failed_door(self) -> None:
         """An office whose `accept` keeps failing lets nobody in, and still serves those who are there."""
         with helpers.served(folder=self.here) as (path, serving):
