@@ -6,6 +6,7 @@ import contextlib
 import os
 import resource
 import socket
+import subprocess
 import tempfile
 import threading
 import unittest
@@ -205,6 +206,23 @@ class Ways(unittest.TestCase):
             self.assertTrue(remove_socket("race.sock"))
             self.assertTrue(os.path.exists("other/race.sock"))
 
+    def goes_on(self, path: str, serving: subprocess.Popen[str]) -> None:
+        """Another client is served once the first has gone; if the door then fails, the table comes."""
+
+        def is_served() -> bool:
+            # Until the office has parted with the first client it may have no room for another.
+            with contextlib.closing(Link(path)) as again, contextlib.suppress(NoSeat):
+                return again.ask("RANK A") == "RANK 1= 0.0"
+            return False
+
+        helpers.until("a client after the first", is_served)
+        resource.prlimit(serving.pid, resource.RLIMIT_NOFILE, (3, 3))
+        with socket.socket(socket.AF_UNIX, socket.SOCK_STREAM) as refused:
+            refused.connect(path)
+            helpers.until("the end at the door", lambda: not helpers.is_listening(path))
+        self.assertEqual(serving.wait(helpers.PATIENCE), 3)
+        self.assertEqual(serving.stdout.read(), "TABLE 2 RACES\n1= A 0.0\n1= B 0.0\n")
+
     def test_no_descriptor(self) -> None:
         """A client for whom the office has no descriptor gets BUSY, and the office goes on."""
         with helpers.served(folder=self.here) as (path, serving):
@@ -219,20 +237,7 @@ class Ways(unittest.TestCase):
                 self.assertTrue(helpers.is_listening(path))
                 self.assertEqual(link.ask("ENTER B"), "OK 2 1= 0.0")
                 self.assertEqual(link.ask("QUIT"), "BYE")
-
-            def is_served() -> bool:
-                # Until the office has closed the first client's stream it has no descriptor.
-                with contextlib.closing(Link(path)) as again, contextlib.suppress(NoSeat):
-                    return again.ask("RANK A") == "RANK 1= 0.0"
-                return False
-
-            helpers.until("a client after the first", is_served)
-            resource.prlimit(serving.pid, resource.RLIMIT_NOFILE, (3, 3))
-            with socket.socket(socket.AF_UNIX, socket.SOCK_STREAM) as refused:
-                refused.connect(path)
-                helpers.until("the end at the door", lambda: not helpers.is_listening(path))
-            self.assertEqual(serving.wait(helpers.PATIENCE), 3)
-            self.assertEqual(serving.stdout.read(), "TABLE 2 RACES\n1= A 0.0\n1= B 0.0\n")
+            self.goes_on(path, serving)
 
     def test_no_thread(self) -> None:
         """A client for whom no thread can be started gets BUSY, and the office goes on."""
@@ -249,20 +254,7 @@ class Ways(unittest.TestCase):
                     self.assertEqual(turned_away.recv(100), b"BUSY\n")
                 self.assertEqual(link.ask("ENTER B"), "OK 2 1= 0.0")
                 self.assertEqual(link.ask("QUIT"), "BYE")
-
-            def is_served() -> bool:
-                # Until the first client's thread has ended there is no room for another.
-                with contextlib.closing(Link(path)) as again, contextlib.suppress(NoSeat):
-                    return again.ask("RANK A") == "RANK 1= 0.0"
-                return False
-
-            helpers.until("a client after the first", is_served)
-            resource.prlimit(serving.pid, resource.RLIMIT_NOFILE, (3, 3))
-            with socket.socket(socket.AF_UNIX, socket.SOCK_STREAM) as refused:
-                refused.connect(path)
-                helpers.until("the end at the door", lambda: not helpers.is_listening(path))
-            self.assertEqual(serving.wait(helpers.PATIENCE), 3)
-            self.assertEqual(serving.stdout.read(), "TABLE 2 RACES\n1= A 0.0\n1= B 0.0\n")
+            self.goes_on(path, serving)
 
     def test_failed_door(self) -> None:
         """An office whose `accept` keeps failing lets nobody in, and still serves those who are there."""

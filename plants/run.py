@@ -9,8 +9,8 @@ Each edit plants one bug in the code. The gate tries the edits of `crates/CRATE/
 since each of them costs it half a minute. The others are in `plants/CRATE/`. Run those of a crate
 after you change one of its contracts.
 
-In the copy they stand in place of all must-fail edits, and `rt ci CRATE` tries them. It takes what
-an earlier `rt ci` on this machine passed over the same files, so run that of the crate first:
+In the copy they replace all must-fail edits, and `rt ci CRATE` tries them. It doesn't prove again
+what an earlier `rt ci` on this machine proved from the same files, so run that of the crate first:
 otherwise the crate and all below it are proved from scratch.
 
 A line for each edit says why it is refused. It counts as failed if the prover accepts it, if it
