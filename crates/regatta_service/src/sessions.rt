@@ -5,7 +5,7 @@ ghost use Rattle.std.specs.Io.KnownBytes.{IsAtEnd, Keeps};
 ghost use Rattle.regatta_terms.specs.Lines.{line_of};
 ghost use Rattle.regatta_talk.specs.Replies.{role_after};
 ghost use Rattle.regatta_tables.specs.declared.replies.TheConstants.{REPLY_ROOM};
-ghost use Rattle.regatta_desk.specs.Replies.{is_for_desk, next_after};
+ghost use Rattle.regatta_desk.specs.Replies.{PassReplies, is_for_desk, next_after};
 ghost use Rattle.regatta_service.specs.Ends.{failed_reads_in, failures_in, failures_so_far};
 ghost use Rattle.regatta_service.specs.Lines.{Answers, CutOff, DeskAnswers, Replied};
 ghost use Rattle.regatta_service.specs.Lines.{is_replied};
@@ -24,7 +24,7 @@ use std::thread;
 /// The most bytes that one read asks for.
 const PIECE: usize = 512;
 
-/// How often a session yields to others after it has answered SHOW.
+/// How often a session yields to others when it answers SHOW.
 const TURNS: u32 = 16;
 
 /// How a session ended.
@@ -45,25 +45,11 @@ pub enum End {
     NoMemory,
 }
 
-/// The line, if the desk answers it.
-fn for_desk(asked: &Result<Line, LineFault>) -> Option<Line>
-    ensures some { IfSome result (λ line.
-        (asked.now ≡ Ok line) × (is_for_desk asked.now ≡ true)) }
-    ensures none { result ≡ None → is_for_desk asked.now ≡ false }
-{
-    match asked {
-        Ok(line @ (Line::Do(_) | Line::Rank(_))) => Some(*line),
-        Ok(Line::SetRole(_) | Line::Show | Line::Quit) | Err(_) => None,
-    }
-}
-
-/// Yields to other threads after a SHOW, so that a client who asks for sheets without a pause
-/// leaves the processors to those who send commands.
-fn make_way(asked: &Result<Line, LineFault>) {
-    if let Ok(Line::Show) = asked {
-        for _ in 0..TURNS {
-            thread::yield_now();
-        }
+/// Yields to other threads, so that a client who asks for sheets without a pause leaves the
+/// processors to those who send commands.
+fn make_way() {
+    for _ in 0..TURNS {
+        thread::yield_now();
     }
 }
 
@@ -112,6 +98,22 @@ impl<N: OfficeName, H: Wait + Drop, G: Gate> Talk<'_, N, H, G> {
         true
     }
 
+    /// Answers a line from the pass alone.
+    fn answer_alone(&mut self, pass: &mut Pass<N>, asked: Result<Line, LineFault>) -> Option<Next>
+        requires alone { is_for_desk asked ≡ false }
+        requires room { vec_len self.old.reply + REPLY_ROOM ≤ vec_capacity self.old.reply }
+        ensures text { PassReplies N.rules asked pass.old pass.new self.old.reply.items
+            self.new.reply.items }
+        ensures role { self.new.role ≡ role_after asked self.old.role }
+        ensures next { result ≡ Some (next_after asked) }
+        ensures room { vec_capacity self.old.reply ≤ vec_capacity self.new.reply }
+        ensures cutter { self.new.cutter ≡ self.old.cutter }
+        ensures ended { self.new.ended ≡ self.old.ended }
+    {
+        let next = answer_alone(pass, &mut self.role, asked, &mut self.reply);
+        next.ok()
+    }
+
     /// Does what a line asks for, and makes its reply. If there is no answer (`None`), nothing has
     /// changed.
     fn answer<R: Wait>(
@@ -134,15 +136,16 @@ impl<N: OfficeName, H: Wait + Drop, G: Gate> Talk<'_, N, H, G> {
         ensures ended { self.new.ended ≡ self.old.ended }
     {
         self.reply.clear();
-        match for_desk(&asked) {
-            Some(line) => {
+        match asked {
+            Ok(line @ (Line::Do(_) | Line::Rank(_))) => {
                 let answered = self.ask_desk(rt, pass, line);
                 answered.then_some(Next::Go)
             }
-            None => {
-                let next = answer_alone(pass, &mut self.role, asked, &mut self.reply);
-                next.ok()
+            Ok(Line::Show) => {
+                make_way();
+                self.answer_alone(pass, asked)
             }
+            Ok(Line::SetRole(_) | Line::Quit) | Err(_) => self.answer_alone(pass, asked),
         }
     }
 
@@ -201,7 +204,6 @@ impl<N: OfficeName, H: Wait + Drop, G: Gate> Talk<'_, N, H, G> {
             return;
         }
         self.gate.after(pass.seat(), self.line);
-        make_way(&asked);
         match next {
             Next::Go => {}
             Next::End => self.ended = Some(End::Quit),

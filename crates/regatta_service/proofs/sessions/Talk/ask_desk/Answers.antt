@@ -31,7 +31,7 @@ returns-clause-answered g c = λ is.
       seen = subst (λ (j : List EntryParts). IsPrefix before.seen j) published
           (c.if-not-confirm.ensures.seen refl);
       told = subst (λ (p : PassValue). All (λ j. IsPrefix j found.entries) p.told) noted
-          c.in-Ok.ensures.told;
+          c.answer.ensures.told;
       sources = subst (λ (j : List EntryParts). All (λ i. IsPrefix i j) before.sources) published
           c.confirm.ensures.sources;
       replied = subst (λ (p : PassValue). DeskReplies g.N.OfficeName.rules c.args.line
