@@ -151,11 +151,7 @@ fn changed_ranking(
 }
 
 /// The ranking of all boats by new lines. `near` is the one before.
-fn whole_ranking(
-    alloc: Global,
-    near: &Ranking,
-    lines: &[BoatLine],
-) -> Result<Ranking, AllocError>
+fn whole_ranking(alloc: Global, near: &Ranking, lines: &[BoatLine]) -> Result<Ranking, AllocError>
     requires { (old : List BoatScores) × IsRanking old near.now }
     ensures { IfOk result (IsRanking lines.now) }
 {
@@ -449,13 +445,7 @@ impl Scoring {
         let races = races(alloc, &draft)?;
         let found = current_columns(alloc, &self.columns, &NewColumns::Same, &races)?;
         let places = self.ranking.places(alloc, &self.lines)?;
-        let rows = sorted_rows(
-            alloc,
-            &found,
-            draft.boats(),
-            &self.lines,
-            places.as_slice(),
-        )?;
+        let rows = sorted_rows(alloc, &found, draft.boats(), &self.lines, places.as_slice())?;
         Ok(Standing {
             races: Items::new(races),
             rows: Items::new(rows),
