@@ -1,6 +1,6 @@
 -- The scores that the board keeps: a column for each race, a line for each boat, and their ranking.
 use Rattle.std.specs.Prelude.{◌≡◌, ℕ, ◌-◌, ◌<◌, Bool, true, false, List, [], length, slice_index_or, slice_set}
-use Rattle.std.specs.Prelude.{Option, Some, None, ◌∷◌, ◌++◌, if◌then◌else◌, All as AllOf}
+use Rattle.std.specs.Prelude.{Option, Some, None, IfSome, ◌↔◌, ◌∷◌, ◌++◌, if◌then◌else◌, All as AllOf}
 use Rattle.regatta_terms.specs.Rules.{RulesParts}
 use Rattle.regatta_terms.specs.declared.limits.TheConstants.{MAX_RACES}
 use Rattle.regatta_terms.specs.declared.reply.Touched.{Touched}
@@ -21,9 +21,10 @@ use Rattle.regatta_board.specs.declared.scoring.NewScores.{NewScores}
 use Rattle.regatta_board.specs.declared.kept.Revision.{Revision}
 use Rattle.regatta_board.specs.declared.kept.Revision.TheVariants as revision
 use Rattle.regatta_board.specs.declared.outcomes.Outcome.{Outcome}
+use Rattle.regatta_board.specs.Outcomes.{line as line_of}
 use Rattle.regatta_board.specs.Revisions.{revised}
 use Rattle.regatta_board.specs.Table.{Kept, column, columns, races, lines as lines_of}
-use Rattle.regatta_board.specs.Table.{no_line}
+use Rattle.regatta_board.specs.Table.{no_line, outcomes}
 
 -- a column for each race of a series, which is empty if the race doesn't count; a line for each boat
 -- (RRS A2.1); and the boats' numbers in order of rank (RRS A8)
@@ -100,6 +101,15 @@ with_flags flags (new ∷ news) = with_flags (slice_set flags new.boat true) new
 abbrev pub with_new : List NewLine → ℕ → Option BoatScores → List NewLine
 with_new news boat None = news
 with_new news boat (Some line) = news ++ record { boat = boat; line = line } ∷ []
+
+-- a boat's new line is appended to the new lines, unless her outcome in the column that is
+-- recomputed stays
+pub record IsPushed (rules : RulesParts) (columns : List (List Outcome)) (boat : ℕ)
+    (old new : Outcome) (before after : List NewLine) : Type 0 where
+  pub line : Option BoatScores
+  pub stays : (line ≡ None) ↔ (new ≡ old)
+  pub value : IfSome line (λ found. found ≡ line_of rules (outcomes columns boat))
+  pub made : after ≡ with_new before boat line
 
 -- the lines, after new ones replace some or all of them
 abbrev pub with_lines : List BoatScores → NewLines → List BoatScores

@@ -12,7 +12,7 @@ ghost use Rattle.regatta_board.specs.Scoring.{IsScoring, AreNewScores, AreNewCol
 ghost use Rattle.regatta_board.specs.Scoring.{AreColumns, RemakesOneColumn, RemakesOnly};
 ghost use Rattle.regatta_board.specs.Scoring.{AreOfBoats, FitBoats, FitLines};
 ghost use Rattle.regatta_board.specs.Scoring.{lines_by, most_remade, with_columns, with_scores};
-ghost use Rattle.regatta_board.specs.Scoring.{with_changed, with_flags, with_lines, with_new};
+ghost use Rattle.regatta_board.specs.Scoring.{with_changed, with_flags, with_lines, IsPushed};
 ghost use Rattle.regatta_board.specs.Scoring.{touched_at};
 ghost use Rattle.regatta_board.specs.Table.{no_line, no_outcome, IsKept};
 ghost use Rattle.regatta_board.specs.Table.{outcomes as outcomes_of, lines as lines_of};
@@ -177,33 +177,25 @@ fn new_ranking(
     }
 }
 
-/// A boat's new line after one column is recomputed, or `None` if her outcome in it is the same.
-fn line_after(
+/// Appends a boat's new line after one column is recomputed, unless her outcome in it is the same.
+fn push_if_changed(
+    made: &mut Vec<NewLine>,
     old: Outcome,
     new: Outcome,
     columns: &[CurrentColumn<'_>],
     boat: usize,
     rules: &Rules,
-) -> Option<BoatLine>
+) -> Result<(), AllocError>
     requires within { All (λ column. boat < length column) columns.now }
     requires few { length columns.now ≤ MAX_RACES }
-    ensures stays { (result ≡ None) ↔ (new ≡ old) }
-    ensures value { IfSome result (λ line.
-        line ≡ line_of rules.now (outcomes_of columns.now boat)) }
+    ensures { OnOk result (IsPushed rules.now columns.now boat old new made.old.items
+        made.new.items) }
 {
     if new == old {
-        return None;
+        return Ok(());
     }
-    Some(boat_line(columns, boat, rules))
-}
-
-/// Appends a boat's new line, if she has one.
-fn push_if(made: &mut Vec<NewLine>, boat: usize, line: Option<BoatLine>) -> Result<(), AllocError>
-    ensures { OnOk result (made.new.items ≡ with_new made.old.items boat line) }
-{
-    if let Some(line) = line {
-        made.push(NewLine { boat, line })?;
-    }
+    let line = boat_line(columns, boat, rules);
+    made.push(NewLine { boat, line })?;
     Ok(())
 }
 
@@ -230,8 +222,7 @@ fn changed_lines(
 {
     let mut made = Vec::with_capacity(alloc, lines.len())?;
     for boat in 0..lines.len() {
-        let line = line_after(old.at(boat), new.at(boat), columns, boat, rules);
-        push_if(&mut made, boat, line)?;
+        push_if_changed(&mut made, old.at(boat), new.at(boat), columns, boat, rules)?;
     }
     Ok(made)
 }
