@@ -1,9 +1,8 @@
 -- The scores of a board, and those after one more accepted entry.
-use Rattle.std.proofs.Common.{◌≡◌, ℕ, ◌<◌, Bool, true, false, cond, List, [], ◌∷◌, ◌++◌, refl}
+use Rattle.std.proofs.Common.{◌≡◌, ℕ, ◌<◌, ◌≤◌, Bool, true, false, cond, List, [], ◌∷◌, ◌++◌, refl}
 use Rattle.std.proofs.Common.{ap, ◌∙◌, sym, subst, arith, length, nat_lt, Option, Some, None}
 use Rattle.std.specs.List.{position, position_or_len}
 use Rattle.std.proofs.lemmas.Bool.Decides.{nat_tests}
-use Rattle.std.proofs.lemmas.List.{length-map}
 use Rattle.std.specs.Option.{option_map}
 use Rattle.regatta_terms.specs.Entries.{EntryParts}
 use Rattle.regatta_terms.specs.Rules.{RulesParts}
@@ -21,7 +20,6 @@ use Rattle.regatta_board.specs.BoardFacts.{BoardValue, StagedValue}
 use Rattle.regatta_board.specs.LedgerFacts.{IsRevision}
 use Rattle.regatta_board.proofs.Lawful.{lawful_more}
 use Rattle.regatta_board.proofs.LawfulJournals.{lawful_orderly, lawful_kept}
-use Rattle.regatta_scores.specs.Ranking.{place}
 use Rattle.regatta_board.proofs.RowFound.{rank_found}
 use Rattle.regatta_board.proofs.ScoringFacts.{lines_by_long}
 use Rattle.regatta_board.proofs.TableOf.{table_is, lines_kept}
@@ -34,7 +32,7 @@ pub board_rank : (rules : RulesParts) (journal : Journal) → is_lawful limits r
 board_rank rules journal lawful scoring is boat =
     let orderly = lawful_orderly rules journal lawful in
     rank_found rules journal boat orderly.apart scoring
-    (is.lines ∙ lines_kept rules journal orderly) is.ranks
+    (is.lines ∙ lines_kept rules journal orderly)
 
 pub position_within : {X : Type 0} (p : X → Bool) (xs : List X) (at : ℕ)
     → position p xs ≡ Some at → at < length xs
@@ -51,16 +49,23 @@ position_within p xs at e = by (nat_lt (position_or_len p xs) (length xs)) refl 
         rw (← same) (grind (arith, nat_tests))
     by false f h = absurd (cc)
 
--- a boat that is entered has a line and a rank
+-- a boat that is entered has a line
 pub line_within : (rules : RulesParts) (journal : Journal) (scoring : Scoring)
     → IsScoring rules (kept_of rules journal) scoring → (boat : Sail) (at : ℕ)
-    → position (same_sail boat) (entered journal) ≡ Some at
-    → (at < length scoring.lines) × (at < length scoring.ranks)
+    → position (same_sail boat) (entered journal) ≡ Some at → at < length scoring.lines
 line_within rules journal scoring is boat at e =
     let lines = ap length is.lines ∙ lines_by_long rules (kept_of rules journal) in
-    let ranks = ap length is.ranks ∙ length-map scoring.lines (place scoring.lines) in
     let within = position_within (same_sail boat) (entered journal) at e in
-    (omega (arith, lines, within), omega (arith, lines, ranks, within))
+    omega (arith, lines, within)
+
+-- there are no more lines than boats may be entered
+pub lines_few : (rules : RulesParts) (journal : Journal) → is_lawful limits rules journal ≡ true
+    → (scoring : Scoring) → IsScoring rules (kept_of rules journal) scoring
+    → length scoring.lines ≤ limits.boats
+lines_few rules journal lawful scoring is =
+    let lines = ap length is.lines ∙ lines_by_long rules (kept_of rules journal) in
+    let kept = lawful_kept rules journal lawful in
+    omega (arith, lines, kept.few)
 
 -- a command that may be committed was prepared on the same board
 pub basis_is : {staged value : StagedValue} {held board : BoardValue} → staged ≡ value

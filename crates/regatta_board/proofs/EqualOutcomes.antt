@@ -1,5 +1,7 @@
 -- `==` of outcomes is equality.
-use Rattle.std.proofs.Common.{◌≡◌, Bool, true, false, ◌&&◌, refl, ap, Option, Some, None}
+use Rattle.std.proofs.Common.{◌≡◌, Bool, true, false, ◌&&◌, refl, ap, arith, rules, Option}
+use Rattle.std.proofs.Common.{Some, None}
+use Rattle.std.proofs.lemmas.Grind.{common_steps}
 use Rattle.std.specs.Option.{option_eq}
 use Rattle.regatta_terms.specs.contracts.command.Code as code
 use Rattle.regatta_terms.proofs.EqualFacts.{redress_one}
@@ -37,3 +39,7 @@ outcome_one a b h =
       };
       placed = bool_one a.placed b.placed q.1 i;
     }
+
+-- outcomes that `==` tells apart differ
+pub outcome_apart : (a b : Outcome) → outcomes.ghosts.eq a b ≡ false → a ≡ b → ⊥
+outcome_apart a b h e = grind (arith, rules, common_steps)

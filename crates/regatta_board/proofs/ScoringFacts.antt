@@ -8,7 +8,8 @@ use Rattle.regatta_terms.specs.Entries.{IsRace}
 use Rattle.regatta_terms.specs.Rules.{RulesParts}
 use Rattle.regatta_terms.specs.declared.limits.TheConstants.{MAX_RACES}
 use Rattle.regatta_scores.specs.Sheet.{Sheet}
-use Rattle.regatta_scores.specs.Ranking.{BoatScores, places}
+use Rattle.regatta_scores.specs.KeptRanking.{IsRanking}
+use Rattle.regatta_scores.specs.Ranking.{BoatScores}
 use Rattle.regatta_scores.proofs.Members.{all_passed}
 use Rattle.regatta_board.specs.declared.column.NewColumns.{NewColumns}
 use Rattle.regatta_board.specs.declared.column.NewColumns.TheVariants.{Same}
@@ -20,7 +21,7 @@ use Rattle.regatta_board.specs.Revisions.{revised, may_change_standing}
 use Rattle.regatta_board.specs.Scoring.{Scoring, IsScoring, AreColumns, AreNewColumns}
 use Rattle.regatta_board.specs.Scoring.{RemakesOneColumn, RemakesOnly, with_columns, lines_by}
 use Rattle.regatta_board.specs.Scoring.{AreNewScores, FitLines, FitBoats, with_lines}
-use Rattle.regatta_board.specs.Scoring.{AreRanked, lines_after, ranks_after, with_scores}
+use Rattle.regatta_board.specs.Scoring.{AreRanked, lines_after, ranking_after, with_scores}
 use Rattle.regatta_board.specs.declared.scoring.NewLines.{NewLines}
 use Rattle.regatta_board.specs.declared.scoring.NewScores.{NewScores}
 use Rattle.regatta_board.specs.declared.scoring.Ranked.{Ranked}
@@ -199,7 +200,7 @@ scored_after rules before after old is new are = record {
   long = (are.columns old.columns is.long is.columns).0;
   columns = (are.columns old.columns is.long is.columns).1;
   lines = lines_are new.ranked are.ranked;
-  ranks = ranks_are new.ranked are.ranked;
+  ranking = ranking_is new.ranked are.ranked;
 }
   where
     lines_are : (ranked : Option Ranked) → AreRanked rules before after ranked
@@ -207,10 +208,11 @@ scored_after rules before after old is new are = record {
     lines_are None e = is.lines ∙ e
     lines_are (Some ranked) e = ap (λ ls. with_lines ls ranked.lines) is.lines ∙ e.1
 
-    ranks_are : (ranked : Option Ranked) → AreRanked rules before after ranked
-        → ranks_after old.ranks ranked ≡ places (lines_after old.lines ranked)
-    ranks_are None e = is.ranks
-    ranks_are (Some ranked) e = e.2 ∙ ap places (sym (lines_are (Some ranked) e))
+    ranking_is : (ranked : Option Ranked) → AreRanked rules before after ranked
+        → IsRanking (lines_after old.lines ranked) (ranking_after old.ranking ranked)
+    ranking_is None e = is.ranking
+    ranking_is (Some ranked) e =
+        subst (λ ls. IsRanking ls ranked.ranking) (sym (lines_are (Some ranked) e)) e.2
 
 -- new lines, if there are any, are those of boats
 pub new_lines_fit : (rules : RulesParts) (before after : Kept) (old : Scoring)
@@ -223,16 +225,16 @@ new_lines_fit rules before after old is new are = by new.ranked are.ranked
     by None e = tt
     by (Some ranked) e = subst (λ ls. FitBoats ls ranked.lines) (sym is.lines) e.0
 
--- new lines and ranks, computed from the lines that are kept, are those of what is kept afterwards
+-- new lines and their ranking, computed from the lines that are kept, are those of what is kept afterwards
 pub are_ranked : (rules : RulesParts) (before after : Kept) (old : Scoring)
     → IsScoring rules before old → (ranked : Ranked) → FitBoats old.lines ranked.lines
     → with_lines old.lines ranked.lines ≡ lines_by rules after
-    → ranked.ranks ≡ places (with_lines old.lines ranked.lines)
+    → IsRanking (with_lines old.lines ranked.lines) ranked.ranking
     → AreRanked rules before after (Some ranked)
-are_ranked rules before after old is ranked each made ranks = (
+are_ranked rules before after old is ranked each made ranking = (
   subst (λ ls. FitBoats ls ranked.lines) is.lines each,
   ap (λ ls. with_lines ls ranked.lines) (sym is.lines) ∙ made,
-  ranks ∙ ap places made,
+  subst (λ ls. IsRanking ls ranked.ranking) made ranking,
 )
 
 -- a revision that can't change the standing changes no score

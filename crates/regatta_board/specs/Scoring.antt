@@ -1,6 +1,6 @@
--- The scores that the board keeps: a column for each race, a line and a rank for each boat.
-use Rattle.std.specs.Prelude.{◌≡◌, ℕ, ◌-◌, ◌<◌, false, List, [], length, slice_index_or, slice_set}
-use Rattle.std.specs.Prelude.{Option, Some, None, ◌∷◌, ◌++◌, if◌then◌else◌, All as AllOf}
+-- The scores that the board keeps: a column for each race, a line for each boat, and their ranking.
+use Rattle.std.specs.Prelude.{◌≡◌, ℕ, ◌-◌, ◌<◌, Bool, true, false, List, [], length, slice_index_or, slice_set}
+use Rattle.std.specs.Prelude.{Option, Some, None, IfSome, ◌↔◌, ◌∷◌, ◌++◌, if◌then◌else◌, All as AllOf}
 use Rattle.regatta_terms.specs.Rules.{RulesParts}
 use Rattle.regatta_terms.specs.declared.limits.TheConstants.{MAX_RACES}
 use Rattle.regatta_terms.specs.declared.reply.Touched.{Touched}
@@ -8,9 +8,9 @@ use Rattle.regatta_terms.specs.declared.command.Command.{Command}
 use Rattle.regatta_terms.specs.declared.command.Command.TheVariants.{Enter, Finish, Tie, Before}
 use Rattle.regatta_terms.specs.declared.command.Command.TheVariants.{Time, Strike, Mark, Penalise}
 use Rattle.regatta_terms.specs.declared.command.Command.TheVariants.{Redress, Clear, Score, Unscore}
-use Rattle.regatta_scores.specs.declared.boats.Place.{Place}
 use Rattle.regatta_scores.specs.Sheet.{Sheet, empty_sheet}
-use Rattle.regatta_scores.specs.Ranking.{BoatScores, net, places as places_of}
+use Rattle.regatta_scores.specs.KeptRanking.{IsRanking}
+use Rattle.regatta_scores.specs.Ranking.{BoatScores, net, place}
 use Rattle.regatta_board.specs.declared.column.NewColumns.{NewColumns}
 use Rattle.regatta_board.specs.declared.column.NewColumns.TheVariants.{Same, One, All}
 use Rattle.regatta_board.specs.declared.scoring.NewLine.{NewLine}
@@ -21,16 +21,17 @@ use Rattle.regatta_board.specs.declared.scoring.NewScores.{NewScores}
 use Rattle.regatta_board.specs.declared.kept.Revision.{Revision}
 use Rattle.regatta_board.specs.declared.kept.Revision.TheVariants as revision
 use Rattle.regatta_board.specs.declared.outcomes.Outcome.{Outcome}
+use Rattle.regatta_board.specs.Outcomes.{line as line_of}
 use Rattle.regatta_board.specs.Revisions.{revised}
 use Rattle.regatta_board.specs.Table.{Kept, column, columns, races, lines as lines_of}
-use Rattle.regatta_board.specs.Table.{no_line, no_rank}
+use Rattle.regatta_board.specs.Table.{no_line, outcomes}
 
--- a column for each race of a series, which is empty if the race doesn't count; a line (RRS A2.1)
--- and a rank (RRS A8) for each boat
+-- a column for each race of a series, which is empty if the race doesn't count; a line for each boat
+-- (RRS A2.1); and the boats' numbers in order of rank (RRS A8)
 pub record Scoring : Type 0 where
   pub columns : List (List Outcome)
   pub lines : List BoatScores
-  pub ranks : List Place
+  pub ranking : List ℕ
 
 -- the column at an index: each boat's outcome on the race's sheet, or nothing if the race doesn't
 -- count
@@ -84,17 +85,31 @@ pub record IsScoring (rules : RulesParts) (kept : Kept) (scoring : Scoring) : Ty
   pub long : length scoring.columns ≡ MAX_RACES
   pub columns : AreColumns rules kept scoring.columns
   pub lines : scoring.lines ≡ lines_by rules kept
-  pub ranks : scoring.ranks ≡ places_of scoring.lines
+  pub ranking : IsRanking scoring.lines scoring.ranking
 
 -- the lines, after new ones replace those of their boats
 abbrev pub with_changed : List BoatScores → List NewLine → List BoatScores
 with_changed old [] = old
 with_changed old (new ∷ news) = with_changed (slice_set old new.boat new.line) news
 
+-- the flags, with those of the boats who have a new line set
+abbrev pub with_flags : List Bool → List NewLine → List Bool
+with_flags flags [] = flags
+with_flags flags (new ∷ news) = with_flags (slice_set flags new.boat true) news
+
 -- the new lines and that of one more boat, if she has one
 abbrev pub with_new : List NewLine → ℕ → Option BoatScores → List NewLine
 with_new news boat None = news
 with_new news boat (Some line) = news ++ record { boat = boat; line = line } ∷ []
+
+-- a boat's new line is appended to the new lines, unless her outcome in the column that is
+-- recomputed stays
+pub record IsPushed (rules : RulesParts) (columns : List (List Outcome)) (boat : ℕ)
+    (old new : Outcome) (before after : List NewLine) : Type 0 where
+  pub line : Option BoatScores
+  pub stays : (line ≡ None) ↔ (new ≡ old)
+  pub value : IfSome line (λ found. found ≡ line_of rules (outcomes columns boat))
+  pub made : after ≡ with_new before boat line
 
 -- the lines, after new ones replace some or all of them
 abbrev pub with_lines : List BoatScores → NewLines → List BoatScores
@@ -110,14 +125,14 @@ abbrev pub FitBoats : List BoatScores → NewLines → Type 0
 FitBoats old (lines.Changed new) = AreOfBoats (length old) new.items
 FitBoats old (lines.All new) = Unit {0}
 
--- the new lines turn the lines before into those after, and the ranks are theirs; without new
+-- the new lines turn the lines before into those after, and the ranking is theirs; without new
 -- lines, the lines stay
 abbrev pub AreRanked : RulesParts → Kept → Kept → Option Ranked → Type 0
 AreRanked rules before after None = lines_by rules before ≡ lines_by rules after
 AreRanked rules before after (Some ranked) =
     FitBoats (lines_by rules before) ranked.lines
     × (with_lines (lines_by rules before) ranked.lines ≡ lines_by rules after)
-    × (ranked.ranks ≡ places_of (lines_by rules after))
+    × IsRanking (lines_by rules after) ranked.ranking
 
 -- the new columns turn the columns before into those after
 abbrev pub AreNewColumns : RulesParts → Kept → Kept → NewColumns → Type 0
@@ -158,24 +173,24 @@ abbrev pub lines_after : List BoatScores → Option Ranked → List BoatScores
 lines_after old None = old
 lines_after old (Some ranked) = with_lines old ranked.lines
 
--- the ranks, after new ones, if there are any, replace them
-abbrev pub ranks_after : List Place → Option Ranked → List Place
-ranks_after old None = old
-ranks_after old (Some ranked) = ranked.ranks
+-- the ranking, after a new one, if there is one, replaces it
+abbrev pub ranking_after : List ℕ → Option Ranked → List ℕ
+ranking_after old None = old
+ranking_after old (Some ranked) = ranked.ranking
 
 -- the scores, after the new ones are moved in
 abbrev pub with_scores : Scoring → NewScores → Scoring
 with_scores old new = record {
   columns = with_columns old.columns new.columns;
   lines = lines_after old.lines new.ranked;
-  ranks = ranks_after old.ranks new.ranked;
+  ranking = ranking_after old.ranking new.ranked;
 }
 
 -- what an answer has about the boat with this number: rank (RRS A8), whether it is shared, and net
 -- points
 abbrev pub touched_at : Scoring → ℕ → Touched
 touched_at scoring n = record {
-  rank = (slice_index_or scoring.ranks n no_rank).rank;
-  tied = (slice_index_or scoring.ranks n no_rank).tied;
+  rank = (place scoring.lines (slice_index_or scoring.lines n no_line)).rank;
+  tied = (place scoring.lines (slice_index_or scoring.lines n no_line)).tied;
   net = net (slice_index_or scoring.lines n no_line);
 }

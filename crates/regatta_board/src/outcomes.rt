@@ -102,7 +102,7 @@ pub(crate) fn line_of_scores(scores: &[Scored], rules: &Rules) -> BoatLine
 {
     let points = points_of_scores(scores);
     let flags = exclusion_flags(scores, rules);
-    BoatLine::of(&points, &flags)
+    BoatLine::from_lists(points, flags)
 }
 
 /// Her line, by which she is ranked.
@@ -114,7 +114,7 @@ pub(crate) fn line(outcomes: &[Outcome], rules: &Rules) -> BoatLine
 {
     let points = points(outcomes);
     let flags = flags(outcomes, &points, rules);
-    BoatLine::of(&points, &flags)
+    BoatLine::from_lists(points, flags)
 }
 
 fn cell(outcome: &Outcome, points: Tenths, dropped: bool) -> Cell

@@ -1,9 +1,10 @@
-//! The scores that are kept: a column for each race, a line and a rank for each boat.
+//! The scores that are kept: a column for each race, a line for each boat, and their ranking.
 ghost use Rattle.std.specs.Prelude.{◌≡◌, ◌+◌, ◌-◌, ◌<◌, ◌≤◌, ◌^◌, ℕ, true, false, length};
-ghost use Rattle.std.specs.Prelude.{List, slice_index_or, All, IfOk, IfSome, OnOk, None, ◌↔◌};
+ghost use Rattle.std.specs.Prelude.{List, replicate, slice_index_or, All, IfOk, IfSome, OnOk, None, ◌↔◌};
 ghost use Rattle.regatta_terms.specs.Rules.{RulesParts};
 ghost use Rattle.regatta_scores.specs.Entrants.{lines_behind};
-ghost use Rattle.regatta_scores.specs.Ranking.{BoatScores, places as places_of};
+ghost use Rattle.regatta_scores.specs.KeptRanking.{IsRanking};
+ghost use Rattle.regatta_scores.specs.Ranking.{BoatScores};
 ghost use Rattle.regatta_board.specs.Outcomes.{line as line_of};
 ghost use Rattle.regatta_board.specs.Refusals.{limits};
 ghost use Rattle.regatta_board.specs.Revisions.{revised, may_change_standing};
@@ -11,7 +12,7 @@ ghost use Rattle.regatta_board.specs.Scoring.{IsScoring, AreNewScores, AreNewCol
 ghost use Rattle.regatta_board.specs.Scoring.{AreColumns, RemakesOneColumn, RemakesOnly};
 ghost use Rattle.regatta_board.specs.Scoring.{AreOfBoats, FitBoats, FitLines};
 ghost use Rattle.regatta_board.specs.Scoring.{lines_by, most_remade, with_columns, with_scores};
-ghost use Rattle.regatta_board.specs.Scoring.{with_changed, with_lines, with_new};
+ghost use Rattle.regatta_board.specs.Scoring.{with_changed, with_flags, with_lines, IsPushed};
 ghost use Rattle.regatta_board.specs.Scoring.{touched_at};
 ghost use Rattle.regatta_board.specs.Table.{no_line, no_outcome, IsKept};
 ghost use Rattle.regatta_board.specs.Table.{outcomes as outcomes_of, lines as lines_of};
@@ -23,19 +24,19 @@ use crate::column::{
 use crate::kept::{Draft, Kept, Revision};
 use crate::outcomes::Outcome;
 use crate::table::{all_lines, boat_line, races, sorted_rows};
-use regatta_scores::{BoatLine, Items, Places, Standing, Work, ranks, ranks_near};
+use regatta_scores::{BoatLine, Items, Ranking, Standing, Work};
 use regatta_terms::{MAX_RACES, RaceNo, Rules, Touched};
 use std::alloc::{AllocError, Global};
 use std::marker::Model;
 use std::mem::swap;
 
-/// A column for each race, which is empty if the race doesn't count, and a line and a rank for each
-/// boat.
+/// A column for each race, which is empty if the race doesn't count, a line for each boat, and the
+/// boats in order of rank.
 #[derive(Drop)]
 pub(crate) struct Scoring {
     columns: Vec<Column>,
     lines: Vec<BoatLine>,
-    ranks: Places,
+    ranking: Ranking,
 }
 
 impl Model for Scoring {
@@ -46,7 +47,7 @@ impl Model for Scoring {
     ghost view = { λ s. record {
       columns = s.columns.items;
       lines = s.lines.items;
-      ranks = s.ranks;
+      ranking = s.ranking;
     } };
 }
 
@@ -79,11 +80,11 @@ impl NewLines {
     }
 }
 
-/// New lines, and the ranks of all boats with them.
+/// New lines, and the ranking of all boats with them.
 #[derive(Drop)]
 pub struct Ranked {
     lines: NewLines,
-    ranks: Places,
+    ranking: Ranking,
 }
 
 /// The scores that a command changes.
@@ -120,56 +121,81 @@ fn current_lines<'a>(
     Ok(each)
 }
 
-/// The ranks of all boats, after new lines replace the old ones. `near` are the ranks before.
-fn new_ranks(
+/// A flag for each boat who has a new line.
+fn flags_of(alloc: Global, boats: usize, new: &[NewLine]) -> Result<Vec<bool>, AllocError>
+    requires { AreOfBoats boats new.now }
+    ensures { IfOk result (λ flags. flags.items ≡ with_flags (replicate boats false) new.now) }
+{
+    let mut flags = vec![in alloc; false; boats]?;
+    for k in 0..new.len() {
+        flags[new[k].boat] = true;
+    }
+    Ok(flags)
+}
+
+/// The ranking, after new lines replace those of some boats.
+fn changed_ranking(
     alloc: Global,
+    ranking: &Ranking,
+    old: &[BoatLine],
+    new: &[NewLine],
+) -> Result<Ranking, AllocError>
+    requires each { AreOfBoats (length old.now) new.now }
+    requires ranking { IsRanking old.now ranking.now }
+    ensures { IfOk result (IsRanking (with_changed old.now new.now)) }
+{
+    let each = current_lines(alloc, old, new)?;
+    let flags = flags_of(alloc, old.len(), new)?;
+    let made = ranking.after(alloc, &each, &flags)?;
+    Ok(made)
+}
+
+/// The ranking of all boats by new lines. `near` is the one before.
+fn whole_ranking(alloc: Global, near: &Ranking, lines: &[BoatLine]) -> Result<Ranking, AllocError>
+    requires { (old : List BoatScores) × IsRanking old near.now }
+    ensures { IfOk result (IsRanking lines.now) }
+{
+    let each = references(alloc, lines)?;
+    let made = Ranking::of(alloc, &each, near)?;
+    Ok(made)
+}
+
+/// The ranking of all boats, after new lines replace the old ones.
+fn new_ranking(
+    alloc: Global,
+    ranking: &Ranking,
     old: &[BoatLine],
     new: &NewLines,
-    near: &Places,
-) -> Result<Places, AllocError>
+) -> Result<Ranking, AllocError>
     requires each { FitBoats old.now new.now }
-    requires few { length (with_lines old.now new.now) ≤ limits.boats }
-    ensures { IfOk result (λ made. made ≡ places_of (with_lines old.now new.now)) }
+    requires ranking { IsRanking old.now ranking.now }
+    ensures { IfOk result (IsRanking (with_lines old.now new.now)) }
 {
     match new {
-        NewLines::Changed { lines } => {
-            let each = current_lines(alloc, old, lines)?;
-            ranks_near(alloc, &each, near)
-        }
-        NewLines::All { lines } => {
-            let each = references(alloc, lines)?;
-            ranks_near(alloc, &each, near)
-        }
+        NewLines::Changed { lines } => changed_ranking(alloc, ranking, old, lines),
+        NewLines::All { lines } => whole_ranking(alloc, ranking, lines),
     }
 }
 
-/// A boat's new line after one column is recomputed, or `None` if her outcome in it is the same.
-fn line_after(
+/// Appends a boat's new line after one column is recomputed, unless her outcome in it is the same.
+fn push_if_changed(
+    made: &mut Vec<NewLine>,
     old: Outcome,
     new: Outcome,
     columns: &[CurrentColumn<'_>],
     boat: usize,
     rules: &Rules,
-) -> Option<BoatLine>
+) -> Result<(), AllocError>
     requires within { All (λ column. boat < length column) columns.now }
     requires few { length columns.now ≤ MAX_RACES }
-    ensures stays { (result ≡ None) ↔ (new ≡ old) }
-    ensures value { IfSome result (λ line.
-        line ≡ line_of rules.now (outcomes_of columns.now boat)) }
+    ensures { OnOk result (IsPushed rules.now columns.now boat old new made.old.items
+        made.new.items) }
 {
     if new == old {
-        return None;
+        return Ok(());
     }
-    Some(boat_line(columns, boat, rules))
-}
-
-/// Appends a boat's new line, if she has one.
-fn push_if(made: &mut Vec<NewLine>, boat: usize, line: Option<BoatLine>) -> Result<(), AllocError>
-    ensures { OnOk result (made.new.items ≡ with_new made.old.items boat line) }
-{
-    if let Some(line) = line {
-        made.push(NewLine { boat, line })?;
-    }
+    let line = boat_line(columns, boat, rules);
+    made.push(NewLine { boat, line })?;
     Ok(())
 }
 
@@ -196,8 +222,7 @@ fn changed_lines(
 {
     let mut made = Vec::with_capacity(alloc, lines.len())?;
     for boat in 0..lines.len() {
-        let line = line_after(old.at(boat), new.at(boat), columns, boat, rules);
-        push_if(&mut made, boat, line)?;
+        push_if_changed(&mut made, old.at(boat), new.at(boat), columns, boat, rules)?;
     }
     Ok(made)
 }
@@ -310,10 +335,10 @@ pub(crate) fn new_scores(
             ranked: None,
         });
     }
-    let ranks = new_ranks(alloc, &scoring.lines, &lines, &scoring.ranks)?;
+    let ranking = new_ranking(alloc, &scoring.ranking, &scoring.lines, &lines)?;
     Ok(NewScores {
         columns,
-        ranked: Some(Ranked { lines, ranks }),
+        ranked: Some(Ranked { lines, ranking }),
     })
 }
 
@@ -365,11 +390,11 @@ impl Scoring {
         let draft = Draft::of(kept);
         let columns = all_columns(alloc, &draft, rules, &mut Work::new())?;
         let lines = drafted_lines(alloc, &draft, &columns, &NewColumns::Same, rules)?;
-        let ranks = ranks(alloc, &lines)?;
+        let ranking = whole_ranking(alloc, &Ranking::new(alloc), &lines)?;
         Ok(Scoring {
             columns,
             lines,
-            ranks,
+            ranking,
         })
     }
 
@@ -379,22 +404,23 @@ impl Scoring {
         ensures { self.new ≡ with_scores self.old new }
     {
         put_columns(&mut self.columns, new.columns);
-        if let Some(Ranked { lines, ranks }) = new.ranked {
+        if let Some(Ranked { lines, ranking }) = new.ranked {
             put_lines(&mut self.lines, lines);
-            self.ranks = ranks;
+            self.ranking = ranking;
         }
     }
 
     /// The rank, tie and net points of the boat with this number, for an answer.
     pub(crate) fn touched(&self, boat: usize) -> Touched
+        requires few { length self.now.lines ≤ limits.boats }
         requires lines { boat < length self.now.lines }
-        requires ranks { boat < length self.now.ranks }
+        requires ranking { IsRanking self.now.lines self.now.ranking }
         ensures { result ≡ touched_at self.now boat }
     {
-        let rank = self.ranks.as_slice()[boat];
+        let place = self.ranking.place(&self.lines, boat);
         Touched {
-            rank: rank.rank,
-            tied: rank.tied,
+            rank: place.rank,
+            tied: place.tied,
             net: self.lines[boat].net(),
         }
     }
@@ -409,13 +435,8 @@ impl Scoring {
         let draft = Draft::of(kept);
         let races = races(alloc, &draft)?;
         let found = current_columns(alloc, &self.columns, &NewColumns::Same, &races)?;
-        let rows = sorted_rows(
-            alloc,
-            &found,
-            draft.boats(),
-            &self.lines,
-            self.ranks.as_slice(),
-        )?;
+        let places = self.ranking.places(alloc, &self.lines)?;
+        let rows = sorted_rows(alloc, &found, draft.boats(), &self.lines, places.as_slice())?;
         Ok(Standing {
             races: Items::new(races),
             rows: Items::new(rows),

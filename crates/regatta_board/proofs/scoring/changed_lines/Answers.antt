@@ -14,16 +14,17 @@ loop-boat-preserved c =
     let rules = c.args.rules.now in
     let olds = c.args.lines.now in
     let made = c.loop-boat.made.items in
-    let new = c.line_after-line.result in
+    let pushed = c.in_ok-push_if_changed.ensures in
+    let new = pushed.line in
     let within : b < length olds = omega arith in
     let hers : unwrap_or new (get_or olds b no_line) ≡ line rules (outcomes c.args.columns.now b) =
     new_or_old new (get_or olds b no_line) (line rules (outcomes c.args.columns.now b))
     (λ none. c.requires.stays b within (sym c.at-in-loop-boat.ensures
-    ∙ c.line_after-line.ensures.stays.0 none ∙ c.at.ensures)) c.line_after-line.ensures.value in
+    ∙ pushed.stays.0 none ∙ c.at.ensures)) pushed.value in
     record {
-      each = subst (AreOfBoats (length olds)) (sym c.in_ok-push_if.ensures)
+      each = subst (AreOfBoats (length olds)) (sym pushed.made)
           (of_boats_more (length olds) made b new within c.loop-boat.invariant.each);
-      value = ap (with_changed olds) c.in_ok-push_if.ensures
+      value = ap (with_changed olds) pushed.made
           ∙ changed_more olds made (lines rules c.args.columns.now b) b no_line new
           (line rules (outcomes c.args.columns.now b)) (lines_long rules c.args.columns.now b)
           within c.loop-boat.invariant.value hers

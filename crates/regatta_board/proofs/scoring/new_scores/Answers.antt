@@ -1,8 +1,8 @@
-use Rattle.std.proofs.Common.{◌≡◌, ◌∙◌, ap, sym, subst, arith, length}
-use Rattle.regatta_scores.specs.Ranking.{places}
+use Rattle.std.proofs.Common.{◌≡◌, ◌∙◌, ap, sym, subst}
+use Rattle.regatta_scores.specs.KeptRanking.{IsRanking}
 use Rattle.regatta_board.specs.Revisions.{revised}
 use Rattle.regatta_board.specs.Scoring.{Scoring, FitBoats, with_lines}
-use Rattle.regatta_board.proofs.ScoringFacts.{untouched_scores, unchanged_lines, lines_by_long}
+use Rattle.regatta_board.proofs.ScoringFacts.{untouched_scores, unchanged_lines}
 use Rattle.regatta_board.proofs.ScoringFacts.{are_ranked}
 use Rattle.regatta_board.proofs.scoring.new_scores.Goals as goal
 
@@ -11,22 +11,17 @@ returns-then-not-may_change_standing-clause-value c =
     untouched_scores c.args.rules.now c.args.kept.now c.args.revision.now
     (sym c.may_change_standing.ensures ∙ c.if-not-may_change_standing.true)
 
-pub new_ranks-requires-clause-each : goal.new_ranks-requires-clause-each
-new_ranks-requires-clause-each c =
+pub new_ranking-requires-clause-each : goal.new_ranking-requires-clause-each
+new_ranking-requires-clause-each c =
     let ls : c.deref.result.now ≡ c.args.scoring.now.lines =
     c.deref.ensures.value ∙ ap (λ (s : Scoring). s.lines) c.scoring.view_is in
     subst (λ xs. FitBoats xs c.in_ok-lines.lines) (sym ls) c.in_ok-lines.ensures.each
 
-pub new_ranks-requires-clause-few : goal.new_ranks-requires-clause-few
-new_ranks-requires-clause-few c =
+pub new_ranking-requires-clause-ranking : goal.new_ranking-requires-clause-ranking
+new_ranking-requires-clause-ranking c =
     let ls : c.deref.result.now ≡ c.args.scoring.now.lines =
     c.deref.ensures.value ∙ ap (λ (s : Scoring). s.lines) c.scoring.view_is in
-    omega (
-      arith,
-      ap length (ap (λ xs. with_lines xs c.in_ok-lines.lines) ls ∙ c.in_ok-lines.ensures.value),
-      lines_by_long c.args.rules.now (revised c.args.kept.now c.args.revision.now),
-      c.requires.next.few,
-    )
+    rw (ls, ap (λ (s : Scoring). s.ranking) c.scoring.view_is) c.requires.scoring.ranking
 
 pub returns-then-is_empty-clause-value : goal.returns-then-is_empty-clause-value
 returns-then-is_empty-clause-value c = record {
@@ -46,7 +41,8 @@ returns-clause-value c =
       ranked =
           are_ranked c.args.rules.now c.args.kept.now
           (revised c.args.kept.now c.args.revision.now) c.args.scoring.now c.requires.scoring
-          (record { lines = c.in_ok-lines.lines; ranks = c.in_ok-ranks.ranks })
+          (record { lines = c.in_ok-lines.lines; ranking = c.in_ok-ranking.ranking })
           c.in_ok-lines.ensures.each c.in_ok-lines.ensures.value
-          (c.in_ok-ranks.ensures ∙ ap (λ xs. places (with_lines xs c.in_ok-lines.lines)) ls);
+          (subst (λ xs. IsRanking (with_lines xs c.in_ok-lines.lines) c.in_ok-ranking.ranking) ls
+          c.in_ok-ranking.ensures);
     }

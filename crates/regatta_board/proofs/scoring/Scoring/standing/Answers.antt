@@ -1,6 +1,6 @@
-use Rattle.std.proofs.Common.{◌≡◌, ◌-◌, ◌∙◌, [], ap, sym, subst, map, get_or, length, All}
+use Rattle.std.proofs.Common.{◌≡◌, ◌-◌, ◌∙◌, [], ap, arith, refl, sym, subst, map, get_or, length, All}
 use Rattle.std.proofs.lemmas.List.{length-map}
-use Rattle.regatta_scores.specs.Ranking.{BoatScores, place}
+use Rattle.regatta_scores.specs.Ranking.{BoatScores, place, places}
 use Rattle.regatta_board.specs.Scoring.{Scoring, lines_by}
 use Rattle.regatta_board.specs.Table.{Kept, columns, races, rows_by}
 use Rattle.regatta_board.proofs.Columns.{columns_few}
@@ -8,27 +8,37 @@ use Rattle.regatta_board.proofs.Lines.{rows_are}
 use Rattle.regatta_board.proofs.ScoringFacts.{found_columns, found_even, lines_by_long, all_long}
 use Rattle.regatta_board.proofs.scoring.Scoring.standing.Goals as goal
 
+pub places-requires-clause-few : goal.places-requires-clause-few
+places-requires-clause-few c =
+    omega (
+      arith,
+      ap length (c.deref-3.ensures.value ∙ ap (λ (s : Scoring). s.lines) c.self.view_is),
+      ap length c.requires.scoring.1.lines,
+      lines_by_long c.requires.scoring.0 c.args.kept.now,
+      c.requires.kept.few,
+    )
+
 pub sorted_rows-requires-clause-even : goal.sorted_rows-requires-clause-even
 sorted_rows-requires-clause-even c =
     let rules = c.requires.scoring.0 in
     let is = c.requires.scoring.1 in
     let cols : c.deref.result.now ≡ c.args.self.now.columns =
     c.deref.ensures.value ∙ ap (λ (s : Scoring). s.columns) c.self.view_is in
-    let ls : c.deref-4.result.now ≡ c.args.self.now.lines =
-    c.deref-4.ensures.value ∙ ap (λ (s : Scoring). s.lines) c.self.view_is in
+    let ls : c.deref-5.result.now ≡ c.args.self.now.lines =
+    c.deref-5.ensures.value ∙ ap (λ (s : Scoring). s.lines) c.self.view_is in
     let boats : c.boats.result.now ≡ c.args.kept.now.sails =
     c.boats.ensures ∙ ap (λ (k : Kept). k.sails) c.of-draft.ensures in
     let rs : c.deref-2.result.now ≡ races c.args.kept.now.counts =
     c.deref-2.ensures.value ∙ c.in_ok-races.ensures.value
     ∙ ap (λ (k : Kept). races k.counts) c.of-draft.ensures in
-    let each : c.deref-3.result.now
+    let each : c.deref-4.result.now
     ≡ map (λ race. get_or c.args.self.now.columns (race - 1) []) c.deref-2.result.now =
-    c.deref-3.ensures.value ∙ c.in_ok-found.ensures
+    c.deref-4.ensures.value ∙ c.in_ok-found.ensures
     ∙ (λ i. map (λ race. get_or (cols i) (race - 1) []) c.deref-2.result.now) in
     let found = found_columns rules c.args.kept.now c.requires.kept c.args.self.now.columns
-    is.columns c.deref-2.result.now rs c.deref-3.result.now each in
+    is.columns c.deref-2.result.now rs c.deref-4.result.now each in
     found_even rules c.args.kept.now c.requires.kept c.args.self.now.columns is.columns
-    c.deref-2.result.now rs c.deref-3.result.now each (length c.boats.result.now)
+    c.deref-2.result.now rs c.deref-4.result.now each (length c.boats.result.now)
     (ap length boats)
 
 pub sorted_rows-requires-clause-lines : goal.sorted_rows-requires-clause-lines
@@ -37,19 +47,19 @@ sorted_rows-requires-clause-lines c =
     let is = c.requires.scoring.1 in
     let cols : c.deref.result.now ≡ c.args.self.now.columns =
     c.deref.ensures.value ∙ ap (λ (s : Scoring). s.columns) c.self.view_is in
-    let ls : c.deref-4.result.now ≡ c.args.self.now.lines =
-    c.deref-4.ensures.value ∙ ap (λ (s : Scoring). s.lines) c.self.view_is in
+    let ls : c.deref-5.result.now ≡ c.args.self.now.lines =
+    c.deref-5.ensures.value ∙ ap (λ (s : Scoring). s.lines) c.self.view_is in
     let boats : c.boats.result.now ≡ c.args.kept.now.sails =
     c.boats.ensures ∙ ap (λ (k : Kept). k.sails) c.of-draft.ensures in
     let rs : c.deref-2.result.now ≡ races c.args.kept.now.counts =
     c.deref-2.ensures.value ∙ c.in_ok-races.ensures.value
     ∙ ap (λ (k : Kept). races k.counts) c.of-draft.ensures in
-    let each : c.deref-3.result.now
+    let each : c.deref-4.result.now
     ≡ map (λ race. get_or c.args.self.now.columns (race - 1) []) c.deref-2.result.now =
-    c.deref-3.ensures.value ∙ c.in_ok-found.ensures
+    c.deref-4.ensures.value ∙ c.in_ok-found.ensures
     ∙ (λ i. map (λ race. get_or (cols i) (race - 1) []) c.deref-2.result.now) in
     let found = found_columns rules c.args.kept.now c.requires.kept c.args.self.now.columns
-    is.columns c.deref-2.result.now rs c.deref-3.result.now each in
+    is.columns c.deref-2.result.now rs c.deref-4.result.now each in
     ap length ls ∙ ap length is.lines ∙ lines_by_long rules c.args.kept.now
     ∙ ap length (sym boats)
 
@@ -59,20 +69,20 @@ sorted_rows-requires-clause-long c =
     let is = c.requires.scoring.1 in
     let cols : c.deref.result.now ≡ c.args.self.now.columns =
     c.deref.ensures.value ∙ ap (λ (s : Scoring). s.columns) c.self.view_is in
-    let ls : c.deref-4.result.now ≡ c.args.self.now.lines =
-    c.deref-4.ensures.value ∙ ap (λ (s : Scoring). s.lines) c.self.view_is in
+    let ls : c.deref-5.result.now ≡ c.args.self.now.lines =
+    c.deref-5.ensures.value ∙ ap (λ (s : Scoring). s.lines) c.self.view_is in
     let boats : c.boats.result.now ≡ c.args.kept.now.sails =
     c.boats.ensures ∙ ap (λ (k : Kept). k.sails) c.of-draft.ensures in
     let rs : c.deref-2.result.now ≡ races c.args.kept.now.counts =
     c.deref-2.ensures.value ∙ c.in_ok-races.ensures.value
     ∙ ap (λ (k : Kept). races k.counts) c.of-draft.ensures in
-    let each : c.deref-3.result.now
+    let each : c.deref-4.result.now
     ≡ map (λ race. get_or c.args.self.now.columns (race - 1) []) c.deref-2.result.now =
-    c.deref-3.ensures.value ∙ c.in_ok-found.ensures
+    c.deref-4.ensures.value ∙ c.in_ok-found.ensures
     ∙ (λ i. map (λ race. get_or (cols i) (race - 1) []) c.deref-2.result.now) in
     let found = found_columns rules c.args.kept.now c.requires.kept c.args.self.now.columns
-    is.columns c.deref-2.result.now rs c.deref-3.result.now each in
-    subst (λ xs. All (λ (l : BoatScores). length l.points ≡ length c.deref-3.result.now) xs)
+    is.columns c.deref-2.result.now rs c.deref-4.result.now each in
+    subst (λ xs. All (λ (l : BoatScores). length l.points ≡ length c.deref-4.result.now) xs)
     (sym (ls ∙ is.lines))
     (subst (λ cs. All (λ (l : BoatScores). length l.points ≡ length cs)
     (lines_by rules c.args.kept.now)) (sym found)
@@ -85,21 +95,23 @@ sorted_rows-requires-clause-ranks c =
     let is = c.requires.scoring.1 in
     let cols : c.deref.result.now ≡ c.args.self.now.columns =
     c.deref.ensures.value ∙ ap (λ (s : Scoring). s.columns) c.self.view_is in
-    let ls : c.deref-4.result.now ≡ c.args.self.now.lines =
-    c.deref-4.ensures.value ∙ ap (λ (s : Scoring). s.lines) c.self.view_is in
+    let ls : c.deref-5.result.now ≡ c.args.self.now.lines =
+    c.deref-5.ensures.value ∙ ap (λ (s : Scoring). s.lines) c.self.view_is in
     let boats : c.boats.result.now ≡ c.args.kept.now.sails =
     c.boats.ensures ∙ ap (λ (k : Kept). k.sails) c.of-draft.ensures in
     let rs : c.deref-2.result.now ≡ races c.args.kept.now.counts =
     c.deref-2.ensures.value ∙ c.in_ok-races.ensures.value
     ∙ ap (λ (k : Kept). races k.counts) c.of-draft.ensures in
-    let each : c.deref-3.result.now
+    let each : c.deref-4.result.now
     ≡ map (λ race. get_or c.args.self.now.columns (race - 1) []) c.deref-2.result.now =
-    c.deref-3.ensures.value ∙ c.in_ok-found.ensures
+    c.deref-4.ensures.value ∙ c.in_ok-found.ensures
     ∙ (λ i. map (λ race. get_or (cols i) (race - 1) []) c.deref-2.result.now) in
     let found = found_columns rules c.args.kept.now c.requires.kept c.args.self.now.columns
-    is.columns c.deref-2.result.now rs c.deref-3.result.now each in
-    let ps = c.as_slice.ensures ∙ ap (λ (s : Scoring). s.ranks) c.self.view_is in
-    ap length ps ∙ ap length is.ranks
+    is.columns c.deref-2.result.now rs c.deref-4.result.now each in
+    let ps : c.as_slice.result.now ≡ places c.args.self.now.lines =
+    c.as_slice.ensures ∙ c.in_ok-places.ensures
+    ∙ ap places (c.deref-3.ensures.value ∙ ap (λ (s : Scoring). s.lines) c.self.view_is) in
+    ap length ps
     ∙ length-map c.args.self.now.lines (place c.args.self.now.lines) ∙ ap length is.lines
     ∙ lines_by_long rules c.args.kept.now ∙ ap length (sym boats)
 
@@ -107,30 +119,32 @@ pub returns : goal.returns
 returns c rules is =
     let cols : c.deref.result.now ≡ c.args.self.now.columns =
     c.deref.ensures.value ∙ ap (λ (s : Scoring). s.columns) c.self.view_is in
-    let ls : c.deref-4.result.now ≡ c.args.self.now.lines =
-    c.deref-4.ensures.value ∙ ap (λ (s : Scoring). s.lines) c.self.view_is in
-    let ps = c.as_slice.ensures ∙ ap (λ (s : Scoring). s.ranks) c.self.view_is in
+    let ls : c.deref-5.result.now ≡ c.args.self.now.lines =
+    c.deref-5.ensures.value ∙ ap (λ (s : Scoring). s.lines) c.self.view_is in
+    let ps : c.as_slice.result.now ≡ places c.args.self.now.lines =
+    c.as_slice.ensures ∙ c.in_ok-places.ensures
+    ∙ ap places (c.deref-3.ensures.value ∙ ap (λ (s : Scoring). s.lines) c.self.view_is) in
     let boats : c.boats.result.now ≡ c.args.kept.now.sails =
     c.boats.ensures ∙ ap (λ (k : Kept). k.sails) c.of-draft.ensures in
     let counted = ap (λ (k : Kept). races k.counts) c.of-draft.ensures in
     let rs : c.deref-2.result.now ≡ races c.args.kept.now.counts =
     c.deref-2.ensures.value ∙ c.in_ok-races.ensures.value ∙ counted in
-    let each : c.deref-3.result.now
+    let each : c.deref-4.result.now
     ≡ map (λ race. get_or c.args.self.now.columns (race - 1) []) c.deref-2.result.now =
-    c.deref-3.ensures.value ∙ c.in_ok-found.ensures
+    c.deref-4.ensures.value ∙ c.in_ok-found.ensures
     ∙ (λ i. map (λ race. get_or (cols i) (race - 1) []) c.deref-2.result.now) in
     let found = found_columns rules c.args.kept.now c.requires.kept c.args.self.now.columns
-    is.columns c.deref-2.result.now rs c.deref-3.result.now each in
+    is.columns c.deref-2.result.now rs c.deref-4.result.now each in
     let all = columns rules c.args.kept.now.sheets (races c.args.kept.now.counts) in
     let races_are = c.new.ensures ∙ c.in_ok-races.ensures.value ∙ counted in
     let rows_made = c.new-2.ensures ∙ c.in_ok-rows.ensures
     ∙ (λ i. rows_by (boats i) (found i) (ls i) (ps i))
-    ∙ rows_are rules c.args.kept.now.sails all c.args.self.now.lines c.args.self.now.ranks
-    is.lines is.ranks in
+    ∙ rows_are rules c.args.kept.now.sails all c.args.self.now.lines (places c.args.self.now.lines)
+    is.lines refl in
     λ i. record { races = races_are i; rows = rows_made i }
 
 pub sorted_rows-requires-clause-few : goal.sorted_rows-requires-clause-few
 sorted_rows-requires-clause-few c =
-    columns_few _ c.deref-2.result.now c.deref-3.result.now
-    (c.deref-3.ensures.value ∙ c.in_ok-found.ensures)
+    columns_few _ c.deref-2.result.now c.deref-4.result.now
+    (c.deref-4.ensures.value ∙ c.in_ok-found.ensures)
     (rw c.deref-2.ensures.value c.in_ok-races.ensures.few)
