@@ -50,6 +50,14 @@ impl Column {
         self.outcomes[boat]
     }
 
+    /// The same, by reference.
+    pub(crate) fn outcome(&self, boat: usize) -> &Outcome
+        requires { boat < length self.now }
+        ensures { result.now ≡ slice_index_or self.now boat no_outcome }
+    {
+        &self.outcomes[boat]
+    }
+
     /// Whether the boat has no redress in the race.
     fn has_no_redress(&self, boat: usize) -> bool
         ensures { result ≡ is_none (slice_index_or self.now boat no_outcome).held.redress }
@@ -241,6 +249,14 @@ impl<'a> CurrentColumn<'a> {
         ensures { result ≡ slice_index_or self.now boat no_outcome }
     {
         self.column.at(boat)
+    }
+
+    /// The same, by reference.
+    pub(crate) fn outcome(&self, boat: usize) -> &Outcome
+        requires { boat < length self.now }
+        ensures { result.now ≡ slice_index_or self.now boat no_outcome }
+    {
+        self.column.outcome(boat)
     }
 
     pub(crate) fn has_no_redress(&self, boat: usize) -> bool

@@ -1,13 +1,12 @@
 //! Outcomes: a boat's results in the races that count, and the line and row computed from them.
 ghost use Rattle.std.specs.Prelude.{◌≡◌, ◌≤◌, length, map, IfOk};
-ghost use Rattle.regatta_board.specs.Outcomes.{items as items_of, points as points_of, scores_by};
-ghost use Rattle.regatta_board.specs.Outcomes.{flags as flags_of, line as line_of, row_by};
-ghost use Rattle.regatta_board.specs.Outcomes.{cell as cell_of, cells_by, line_by};
+ghost use Rattle.regatta_scores.specs.Standing.{is_dne as is_dne_of};
+ghost use Rattle.regatta_board.specs.Outcomes.{cell as cell_of, cells_by, line_by, row_by};
 ghost use Rattle.regatta_board.specs.Outcomes.{plain_score as plain_score_of};
 
 use regatta_scores::{
     BoatLine, Cell, Held, Items, PerRace, Place, Row, RowItem, Scored, exclusion_flags, is_dne,
-    mark, redressed_points,
+    mark,
 };
 use regatta_terms::{MAX_RACES, Rules, Sail, Tenths};
 use std::alloc::{AllocError, Global};
@@ -23,55 +22,25 @@ pub struct Outcome {
     pub placed: bool,
 }
 
-fn items(outcomes: &[Outcome]) -> PerRace<RowItem>
-    requires { length outcomes.now ≤ MAX_RACES }
-    ensures { result.items ≡ items_of outcomes.now }
+/// Her points before redress, and her redress.
+pub(crate) fn row_item(outcome: Outcome) -> RowItem
+    ensures { result ≡ record { plain = outcome.plain; redress = outcome.held.redress } }
 {
-    let mut found = PerRace::new();
-    for o in outcomes {
-        found.push(RowItem {
-            plain: o.plain,
-            redress: o.held.redress,
-        });
+    RowItem {
+        plain: outcome.plain,
+        redress: outcome.held.redress,
     }
-    found
 }
 
-#[tactic(auto, using(crate::proofs::Lengths::lengths))]
-fn points(outcomes: &[Outcome]) -> PerRace<Tenths>
-    requires { length outcomes.now ≤ MAX_RACES }
-    ensures value { result.items ≡ points_of outcomes.now }
-    ensures long { length result.items ≡ length outcomes.now }
+/// Her score for these points, and whether it is for a disqualification that is not excludable (RRS
+/// 90.3(b)).
+pub(crate) fn score_of(outcome: Outcome, points: Tenths) -> Scored
+    ensures { result ≡ record { points = points; dne = is_dne_of outcome.held.code } }
 {
-    redressed_points(&items(outcomes))
-}
-
-/// Her points, and whether they are for a disqualification that is not excludable (RRS 90.3(b)).
-#[tactic(auto, using(crate::proofs::Zipped::scores_more))]
-fn scores(outcomes: &[Outcome], points: &[Tenths]) -> PerRace<Scored>
-    requires few { length outcomes.now ≤ MAX_RACES }
-    requires points { length points.now ≡ length outcomes.now }
-    ensures { result.items ≡ scores_by outcomes.now points.now }
-{
-    let mut found = PerRace::new();
-    for i in 0..outcomes.len() {
-        found.push(Scored {
-            points: points[i],
-            dne: is_dne(outcomes[i].held.code),
-        });
+    Scored {
+        points,
+        dne: is_dne(outcome.held.code),
     }
-    found
-}
-
-/// Which of her scores are excluded (RRS A2.1).
-#[tactic(auto, using(crate::proofs::Lengths::lengths))]
-fn flags(outcomes: &[Outcome], points: &[Tenths], rules: &Rules) -> PerRace<bool>
-    requires few { length outcomes.now ≤ MAX_RACES }
-    requires points { points.now ≡ points_of outcomes.now }
-    ensures value { result.items ≡ flags_of rules.now outcomes.now }
-    ensures long { length result.items ≡ length outcomes.now }
-{
-    exclusion_flags(&scores(outcomes, points), rules)
 }
 
 /// Her score for her points before redress.
@@ -102,18 +71,6 @@ pub(crate) fn line_of_scores(scores: &[Scored], rules: &Rules) -> BoatLine
 {
     let points = points_of_scores(scores);
     let flags = exclusion_flags(scores, rules);
-    BoatLine::from_lists(points, flags)
-}
-
-/// Her line, by which she is ranked.
-#[tactic(auto, using(crate::proofs::Lengths::lengths))]
-pub(crate) fn line(outcomes: &[Outcome], rules: &Rules) -> BoatLine
-    requires { length outcomes.now ≤ MAX_RACES }
-    ensures value { result ≡ line_of rules.now outcomes.now }
-    ensures long { length result.points ≡ length outcomes.now }
-{
-    let points = points(outcomes);
-    let flags = flags(outcomes, &points, rules);
     BoatLine::from_lists(points, flags)
 }
 

@@ -180,15 +180,15 @@ fn new_ranking(
 /// Appends a boat's new line after one column is recomputed, unless her outcome in it is the same.
 fn push_if_changed(
     made: &mut Vec<NewLine>,
-    old: Outcome,
-    new: Outcome,
+    old: &Outcome,
+    new: &Outcome,
     columns: &[CurrentColumn<'_>],
     boat: usize,
     rules: &Rules,
 ) -> Result<(), AllocError>
     requires within { All (λ column. boat < length column) columns.now }
     requires few { length columns.now ≤ MAX_RACES }
-    ensures { OnOk result (IsPushed rules.now columns.now boat old new made.old.items
+    ensures { OnOk result (IsPushed rules.now columns.now boat old.now new.now made.old.items
         made.new.items) }
 {
     if new == old {
@@ -222,7 +222,14 @@ fn changed_lines(
 {
     let mut made = Vec::with_capacity(alloc, lines.len())?;
     for boat in 0..lines.len() {
-        push_if_changed(&mut made, old.at(boat), new.at(boat), columns, boat, rules)?;
+        push_if_changed(
+            &mut made,
+            old.outcome(boat),
+            new.outcome(boat),
+            columns,
+            boat,
+            rules,
+        )?;
     }
     Ok(made)
 }

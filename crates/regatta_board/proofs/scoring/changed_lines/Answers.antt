@@ -19,8 +19,8 @@ loop-boat-preserved c =
     let within : b < length olds = omega arith in
     let hers : unwrap_or new (get_or olds b no_line) ≡ line rules (outcomes c.args.columns.now b) =
     new_or_old new (get_or olds b no_line) (line rules (outcomes c.args.columns.now b))
-    (λ none. c.requires.stays b within (sym c.at-in-loop-boat.ensures
-    ∙ pushed.stays.0 none ∙ c.at.ensures)) pushed.value in
+    (λ none. c.requires.stays b within (sym c.outcome-in-loop-boat.ensures
+    ∙ pushed.stays.0 none ∙ c.outcome.ensures)) pushed.value in
     record {
       each = subst (AreOfBoats (length olds)) (sym pushed.made)
           (of_boats_more (length olds) made b new within c.loop-boat.invariant.each);

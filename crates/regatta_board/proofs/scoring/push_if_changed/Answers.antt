@@ -6,7 +6,7 @@ use Rattle.regatta_board.proofs.scoring.push_if_changed.Goals as goal
 pub returns-then-eq : goal.returns-then-eq
 returns-then-eq c = record {
   line = None;
-  stays = (λ _. outcome_one c.args.new c.args.old (sym c.if-eq.ensures), λ _. refl);
+  stays = (λ _. outcome_one c.args.new.now c.args.old.now (sym c.if-eq.ensures), λ _. refl);
   value = tt;
   made = refl;
 }
@@ -14,7 +14,7 @@ returns-then-eq c = record {
 pub returns : goal.returns
 returns c = record {
   line = Some c.boat_line-line.result;
-  stays = (λ e. cc, λ e. absurd (outcome_apart c.args.new c.args.old (sym c.if-eq.ensures) e));
+  stays = (λ e. cc, λ e. absurd (outcome_apart c.args.new.now c.args.old.now (sym c.if-eq.ensures) e));
   value = c.boat_line-line.ensures.value;
   made = c.in_ok-push.ensures.items;
 }
