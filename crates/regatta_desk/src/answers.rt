@@ -74,7 +74,7 @@ impl<N: OfficeName, R: Wait + Drop> Desk<N, R> {
         ensures ok { OnOk result ((reply : ReplyValue)
             × DeskReplies N.rules line role self.old self.new pass.old pass.new reply
             × (out.new.items ≡ out.old.items ++ reply_text reply)) }
-        ensures told { OnOk result (All (λ j. IsPrefix j self.old.entries) pass.old.told) }
+        ensures told { All (λ j. IsPrefix j self.old.entries) pass.old.told }
         ensures room { vec_capacity out.old ≤ vec_capacity out.new }
         ensures fits { vec_len out.old + REPLY_ROOM ≤ vec_capacity out.old → IsOk result }
         ensures stays { vec_len out.old + REPLY_ROOM ≤ vec_capacity out.old
@@ -83,7 +83,10 @@ impl<N: OfficeName, R: Wait + Drop> Desk<N, R> {
             × (out.new.items ≡ out.old.items)
             × (vec_capacity out.new ≡ vec_capacity out.old)) }
     {
-        make_room(out)?;
+        if let Err(why) = make_room(out) {
+            self.cover(pass);
+            return Err(why);
+        }
         let reply = self.reply(rt, pass, role, line);
         write_fitting(&reply, out);
         Ok(())

@@ -4,7 +4,6 @@
 mod connection;
 mod count;
 mod door;
-mod ended;
 mod gate;
 mod parting;
 mod pool;

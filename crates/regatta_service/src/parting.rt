@@ -3,43 +3,15 @@ ghost use Rattle.std.specs.Prelude.{◌≡◌, ◌≢◌, ◌+◌, IfOk, IfErr};
 ghost use Rattle.regatta_service.specs.Partings.{IsServed, IsTurnedAway};
 
 use crate::count::Count;
-use crate::ended::Ended;
 use crate::gate::Gate;
-use crate::pool::{Lack, Pool, Seated, TurnedAway};
+use crate::pool::{Lack, Parted, Pool, Seated, Serves};
 use crate::room::reply_room;
-use regatta_desk::{Office, OfficeName, Pass};
+use regatta_desk::{Office, OfficeName};
 use regatta_streams::{Device, Sink, Source};
 use std::alloc::Global;
 use std::marker::{Model, PhantomData};
-use std::snapshot::Snapshot;
 use std::sync::{Mutex, Wait};
-use std::thread::{Promise, PromisedHandle, Scope};
-
-/// How a client was parted with: the session that they had, or that they were turned away. The
-/// stream itself is closed by then.
-pub(crate) type Parted<N, S> = Result<Ended<N, S>, TurnedAway<S>>;
-
-/// What a thread promises when it is given a client: they have a session with the pass that is lent
-/// to them, or are turned away for lack of a thread or of memory.
-#[derive(Drop)]
-pub(crate) struct Serves<N: OfficeName, S> {
-    given: Snapshot<S>,
-    lent: Snapshot<Pass<N>>,
-}
-
-impl<N: OfficeName, S: Source + Sink> Promise<Parted<N, S>> for Serves<N, S> {
-    ghost use Rattle.regatta_service.specs.declared.pool.Lack.{Lack};
-
-    ghost kept_by = { λ promise parted.
-        IfOk parted (λ ended. (ended.given.value ≡ promise.given.value)
-        × (ended.before.value ≡ promise.lent.value)
-        × IsServed N.rules S.remaining S.contents S.failures S.failed_reads
-        promise.given.value ended.left.value promise.lent.value ended.after.value ended.end)
-        × IfErr parted (λ away. (away.given.value ≡ promise.given.value)
-        × (away.why ≢ Lack.Seat)
-        × IsTurnedAway S.remaining S.contents S.failures S.failed_reads
-        promise.given.value away.left.value) };
-}
+use std::thread::{PromisedHandle, Scope};
 
 /// The number of clients with such a stream who were admitted: each was given to a thread that
 /// promised them a session, or was turned away with `BUSY`. It has no bytes: only contracts see the
@@ -93,11 +65,12 @@ where
     R: Wait,
     S: Source + Sink + Drop,
     G: Gate,
-    // A session was run on this client's stream and with their pass.
-    ensures session { IfOk result (λ ended. (ended.given.value ≡ client.stream)
-        × (ended.before.value ≡ client.pass)) }
-    ensures served { IfOk result (λ ended. IsServed N.rules S.remaining S.contents S.failures
-        S.failed_reads client.stream ended.left.value client.pass ended.after.value ended.end) }
+    // A session was run on this client's stream and with their pass, and the seat was freed.
+    ensures session { IfOk result (λ gone. (gone.ended.given.value ≡ client.stream)
+        × (gone.ended.before.value ≡ client.pass)) }
+    ensures served { IfOk result (λ gone. IsServed N.rules S.remaining S.contents S.failures
+        S.failed_reads client.stream gone.ended.left.value client.pass gone.ended.after.value
+        gone.ended.end) }
 
     // Or they were turned away, but not for lack of a seat.
     ensures away { IfErr result (λ away. (away.given.value ≡ client.stream)
@@ -115,8 +88,8 @@ where
             let ended = client.serve(rt, reply, office, gate);
             // The seat is free before the stream is closed, so a client who sees the end of their
             // session may come again at once.
-            let _leaving = pool.lock(rt).take_back(client, &ended);
-            Ok(ended)
+            let (_leaving, gone) = pool.lock(rt).take_back(client, ended);
+            Ok(gone)
         }
         Err(why) => {
             let unseated = pool.lock(rt).give_up(client, &why);
@@ -147,10 +120,10 @@ where
 
     // The thread promises to serve this stream, or it was parted with here.
     ensures seated { IfOk result (λ thread. thread.promise.given.value ≡ stream) }
-    ensures session { IfErr result (λ parted. IfOk parted (λ ended.
-        (ended.given.value ≡ stream)
+    ensures session { IfErr result (λ parted. IfOk parted (λ gone.
+        (gone.ended.given.value ≡ stream)
         × IsServed N.rules S.remaining S.contents S.failures S.failed_reads stream
-        ended.left.value ended.before.value ended.after.value ended.end)) }
+        gone.ended.left.value gone.ended.before.value gone.ended.after.value gone.ended.end)) }
     ensures away { IfErr result (λ parted. IfErr parted (λ away.
         (away.given.value ≡ stream)
         × IsTurnedAway S.remaining S.contents S.failures S.failed_reads stream
@@ -162,10 +135,7 @@ where
         Ok(seated) => seated,
         Err(unseated) => return Err(Err(unseated.turn_away())),
     };
-    let promise = Serves {
-        given: client.given(),
-        lent: client.lent(),
-    };
+    let promise = client.promise();
     match scope.spawn_with(
         promise,
         move || attend(rt, alloc, client, office, pool, gate),

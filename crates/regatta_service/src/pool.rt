@@ -3,7 +3,6 @@ ghost use Rattle.std.specs.Prelude.{◌≡◌, ◌≢◌, ◌+◌, ◌<◌, ◌+
 ghost use Rattle.std.specs.Prelude.{IfOk, IfErr, IfSome, OnOk, OnErr};
 ghost use Rattle.regatta_service.specs.Pools.{Finds, Lends, with_pass};
 
-use crate::ended::Ended;
 use crate::room::NoRoom;
 use regatta_desk::{OfficeName, Pass};
 use std::alloc::{AllocError, Global};
@@ -11,8 +10,12 @@ use std::marker::Model;
 use std::thread::SpawnError;
 
 mod clients;
+mod ended;
+mod promise;
 
 pub(crate) use clients::TurnedAway;
+pub(crate) use ended::Ended;
+pub(crate) use promise::{Parted, Serves};
 
 /// What there is none of for a client.
 #[derive(Clone, Copy, Debug, PartialEq, Eq)]
@@ -42,6 +45,12 @@ pub(crate) struct Unseated<S> {
 #[derive(Drop)]
 pub(crate) struct Leaving<S> {
     _stream: S,
+}
+
+/// The session of a client whose pass is back. Only `Pool::take_back` makes one.
+#[derive(Drop)]
+pub(crate) struct Gone<N: OfficeName, S> {
+    ended: Ended<N, S>,
 }
 
 /// What it takes to refuse a client a thread. It comes with the pass that is lent to them.
@@ -191,14 +200,19 @@ impl<N: OfficeName> Pool<N> {
 
     /// Takes back the pass of a client who was served. Stream and pass are still as the session left
     /// them.
-    pub(crate) fn take_back<S>(&mut self, client: Seated<N, S>, _ended: &Ended<N, S>) -> Leaving<S>
-        requires stream { client.stream ≡ _ended.now.left.value }
-        requires pass { client.pass ≡ _ended.now.after.value }
-        ensures { self.new ≡ with_pass self.old client.slot client.pass }
+    pub(crate) fn take_back<S>(
+        &mut self,
+        client: Seated<N, S>,
+        ended: Ended<N, S>,
+    ) -> (Leaving<S>, Gone<N, S>)
+        requires stream { client.stream ≡ ended.left.value }
+        requires pass { client.pass ≡ ended.after.value }
+        ensures back { self.new ≡ with_pass self.old client.slot client.pass }
+        ensures gone { result.1.ended ≡ ended }
     {
         let Seated { slot, pass, stream } = client;
         self.put(slot, pass);
-        Leaving { _stream: stream }
+        (Leaving { _stream: stream }, Gone { ended })
     }
 
     /// Takes back the pass of a client who can't be served.

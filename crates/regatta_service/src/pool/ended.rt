@@ -1,9 +1,10 @@
-//! A session that has ended, and what it was run on.
+//! The session of a client who has a pass.
 ghost use Rattle.std.specs.Prelude.{◌≡◌, ◌≤◌, vec_capacity};
 ghost use Rattle.regatta_tables.specs.declared.replies.TheConstants.{REPLY_ROOM};
 ghost use Rattle.regatta_service.specs.Partings.{IsServed};
 
 use crate::gate::Gate;
+use crate::pool::Seated;
 use crate::sessions::{End, session_with};
 use regatta_desk::{Office, OfficeName, Pass};
 use regatta_streams::{Device, Sink, Source};
@@ -23,7 +24,7 @@ pub(crate) struct Ended<N: OfficeName, S> {
 
 /// Serves a client, as [`session`](crate::session) does, with room for replies, and then calls
 /// `Gate::ended`.
-pub(crate) fn ended_session<N, H, R, S, G>(
+fn ended_session<N, H, R, S, G>(
     rt: &R,
     reply: Vec<u8>,
     stream: &mut S,
@@ -55,5 +56,27 @@ where
         left: Snapshot::of(&*stream),
         before,
         after: Snapshot::of(&*pass),
+    }
+}
+
+impl<N: OfficeName, S: Source + Sink> Seated<N, S> {
+    /// Serves the client with their pass, and then calls `Gate::ended`.
+    pub(crate) fn serve<H: Wait + Drop, R: Wait, G: Gate>(
+        &mut self,
+        rt: &R,
+        reply: Vec<u8>,
+        office: &Office<N, H>,
+        gate: &G,
+    ) -> Ended<N, S>
+        requires room { REPLY_ROOM ≤ vec_capacity reply }
+        ensures slot { self.new.slot ≡ self.old.slot }
+        ensures stream { (result.given.value ≡ self.old.stream)
+            × (result.left.value ≡ self.new.stream) }
+        ensures pass { (result.before.value ≡ self.old.pass)
+            × (result.after.value ≡ self.new.pass) }
+        ensures served { IsServed N.rules S.remaining S.contents S.failures S.failed_reads
+            self.old.stream self.new.stream self.old.pass self.new.pass result.end }
+    {
+        ended_session(rt, reply, &mut self.stream, office, &mut self.pass, gate)
     }
 }
