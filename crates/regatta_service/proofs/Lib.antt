@@ -1,4 +1,5 @@
 pub mod Lowest
 mod Points
+mod Replying
 mod Taking
 mod Talking

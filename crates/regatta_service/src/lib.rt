@@ -11,9 +11,11 @@ mod pool;
 mod room;
 mod serving;
 mod sessions;
+mod stopping;
 
 pub use door::{Door, DoorFault, SocketDoor};
 pub use gate::{Gate, OpenGate};
 pub use parting::Admitted;
 pub use serving::{ServeFault, serve, serve_each, serve_kept};
 pub use sessions::{End, session, session_kept};
+pub use stopping::Stopping;
