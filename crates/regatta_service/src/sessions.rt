@@ -7,6 +7,7 @@ ghost use Rattle.regatta_scores.specs.Journal.{Journal};
 ghost use Rattle.regatta_talk.specs.Replies.{role_after};
 ghost use Rattle.regatta_tables.specs.declared.replies.TheConstants.{REPLY_ROOM};
 ghost use Rattle.regatta_desk.specs.Replies.{is_for_desk, next_after};
+ghost use Rattle.regatta_keeper.specs.Sealing.{Needs};
 ghost use Rattle.regatta_service.specs.Ends.{failed_reads_in, failures_in, failures_so_far};
 ghost use Rattle.regatta_service.specs.Lines.{CutOff, DeskAnswers, Prepared, Replied, Unsaid};
 ghost use Rattle.regatta_service.specs.Lines.{is_replied};
@@ -78,12 +79,18 @@ impl<N: OfficeName, H: Wait + Drop, C: Covers<N>, G: Gate> Talk<'_, N, H, C, G> 
     ///
     /// Nothing is done, and the result is false, if the desk's journal doesn't begin with the one
     /// that the pass has seen. No run has returned false; no clause says so.
-    fn ask_desk<R: Wait>(&mut self, rt: &R, pass: &mut Pass<N>, line: Line) -> bool
+    fn ask_desk<R: Wait>(
+        &mut self,
+        rt: &R,
+        pass: &mut Pass<N>,
+        covers: &C,
+        line: Line,
+    ) -> bool
         requires for_desk { is_for_desk (Ok line) ≡ true }
         ensures answered { IsTrue result → (made_from : Journal)
             × DeskAnswers N.rules line self.old.role pass.old pass.new [] self.new.reply.text
             made_from
-            × (self.new.reply.needs ≡ Some made_from) }
+            × Needs (C.book covers.now) self.new.reply.needs made_from }
         ensures unanswered { result ≡ false → pass.new ≡ pass.old }
         ensures role { self.new.role ≡ self.old.role }
         ensures cutter { self.new.cutter ≡ self.old.cutter }
@@ -97,7 +104,7 @@ impl<N: OfficeName, H: Wait + Drop, C: Covers<N>, G: Gate> Talk<'_, N, H, C, G> 
             return false;
         }
         desk.note_source(pass);
-        self.reply.answer(rt, desk, pass, self.role, line);
+        self.reply.answer(rt, desk, pass, self.role, line, covers);
         true
     }
 
@@ -123,7 +130,7 @@ impl<N: OfficeName, H: Wait + Drop, C: Covers<N>, G: Gate> Talk<'_, N, H, C, G> 
     {
         match asked {
             Ok(line @ (Line::Do(_) | Line::Rank(_))) => {
-                let answered = self.ask_desk(rt, pass, line);
+                let answered = self.ask_desk(rt, pass, covers, line);
                 answered.then_some(Next::Go)
             }
             Ok(Line::Show) => {
