@@ -16,7 +16,7 @@ pub trait Outlet<N: OfficeName, C>: Source {
     ///
     /// If a write fails. Some first part of the reply is written then, perhaps none, never all.
     fn write_reply(&mut self, reply: &Sealed<N, C>) -> Result<(), StreamFault>
-        requires covered { reply.now.open ≡ true }
+        requires covered { reply.now.covered ≡ true }
         ensures ok { OnOk result
             (Appends (Self.contents self.old) (Self.contents self.new) reply.now.text) }
         ensures cut { OnErr result
