@@ -3,3 +3,4 @@ mod Points
 mod Replying
 mod Taking
 mod Talking
+mod Waiting

@@ -1,16 +1,20 @@
 -- A reply that was prepared, and what became of it.
-use Rattle.std.proofs.Common.{◌≡◌, ◌∷◌, ◌++◌, [], ℕ, List, Option, Some, None, refl}
+use Rattle.std.proofs.Common.{◌≡◌, ◌++◌, ◌∙◌, ℕ, List, Option, Some, None, ap, append_assoc, sym}
 use Rattle.std.specs.Io.KnownBytes.{Appends}
 use Rattle.regatta_terms.specs.Rules.{RulesParts}
 use Rattle.regatta_terms.specs.declared.command.Role.{Role}
 use Rattle.regatta_scores.specs.Journal.{Journal}
 use Rattle.regatta_streams.specs.Texts.{AppendsPrefix}
 use Rattle.regatta_talk.specs.Replies.{role_after}
-use Rattle.regatta_watch.proofs.Prefixes.{prefix_trans}
+use mathlib.Core.List.{IsPrefix}
 use Rattle.regatta_desk.specs.Passes.{PassValue}
 use Rattle.regatta_keeper.specs.Sealing.{IsNoted, Needs}
 use Rattle.regatta_service.specs.Lines.{CutOff, Prepared, Replied, Unsaid}
 use Rattle.regatta_service.specs.LinesTaken.{Asked}
+
+prefix_then : (a b c : Journal) → IsPrefix a b → IsPrefix b c → IsPrefix a c
+prefix_then a b c (x, first) (y, second) =
+    (x ++ y, sym (append_assoc a x y) ∙ ap (λ (j : Journal). j ++ y) first ∙ second)
 
 -- what is kept begins with the journal that a need begins with
 noted_less : (made_from : Journal) (need : Option Journal) (book noted : Option (List Journal))
@@ -18,7 +22,7 @@ noted_less : (made_from : Journal) (need : Option Journal) (book noted : Option 
 noted_less made_from need None None needs is = tt
 noted_less made_from None (Some book) (Some noted) needs (kept, met, is) = absurd met
 noted_less made_from (Some need) (Some book) (Some noted) needs (kept, met, is) =
-    (kept, prefix_trans made_from need kept needs met, is)
+    (kept, prefix_then made_from need kept needs met, is)
 noted_less made_from need (Some book) None needs is = is
 noted_less made_from need None (Some noted) needs is = is
 
