@@ -287,7 +287,13 @@ impl Door for SocketDoor {
         let Some(listener) = &self.listener else {
             return Ok(None);
         };
-        let Some(connection) = accepted(rt, listener, &mut self.spare, &self.stopping, &mut self.came) else {
+        let Some(connection) = accepted(
+            rt,
+            listener,
+            &mut self.spare,
+            &self.stopping,
+            &mut self.came,
+        ) else {
             self.failures = self.failures.one_more();
             self.close();
             return Err(DoorFault);

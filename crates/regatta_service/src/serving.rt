@@ -71,7 +71,17 @@ where
         let Some(stream) = next else {
             return (Ok(()), admitted);
         };
-        let _ = admit(rt, alloc, scope, office, keeping, pool, gate, &mut admitted, stream);
+        let _ = admit(
+            rt,
+            alloc,
+            scope,
+            office,
+            keeping,
+            pool,
+            gate,
+            &mut admitted,
+            stream,
+        );
         if keeping.has_stopped(rt) {
             return (Err(ServeFault::Keep), admitted);
         }

@@ -79,13 +79,7 @@ impl<N: OfficeName, H: Wait + Drop, C: Covers<N>, G: Gate> Talk<'_, N, H, C, G> 
     ///
     /// Nothing is done, and the result is false, if the desk's journal doesn't begin with the one
     /// that the pass has seen. No run has returned false; no clause says so.
-    fn ask_desk<R: Wait>(
-        &mut self,
-        rt: &R,
-        pass: &mut Pass<N>,
-        covers: &C,
-        line: Line,
-    ) -> bool
+    fn ask_desk<R: Wait>(&mut self, rt: &R, pass: &mut Pass<N>, covers: &C, line: Line) -> bool
         requires for_desk { is_for_desk (Ok line) ≡ true }
         ensures answered { IsTrue result → (made_from : Journal)
             × DeskAnswers N.rules line self.old.role pass.old pass.new [] self.new.reply.text

@@ -94,6 +94,14 @@ impl<N: OfficeName, S> Seated<N, S> {
             self.old.stream self.new.stream self.old.pass self.new.pass (C.book covers)
             (C.book result.covers) (C.refused result.covers) result.end }
     {
-        ended_session(rt, reply, &mut self.stream, office, &mut self.pass, gate, covers)
+        ended_session(
+            rt,
+            reply,
+            &mut self.stream,
+            office,
+            &mut self.pass,
+            gate,
+            covers,
+        )
     }
 }

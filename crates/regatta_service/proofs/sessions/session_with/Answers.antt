@@ -1,8 +1,23 @@
 use Rattle.std.proofs.Common.{rules, refl, ap, ◌∙◌, Some}
+use Rattle.regatta_terms.specs.declared.command.Role.{Role}
 use Rattle.regatta_service.specs.LinesTaken.{point}
 use Rattle.regatta_service.proofs.Talking.{so_far_more, talked_closed, talked_fault, talked_last}
-use Rattle.regatta_service.proofs.Talking.{talked_seat}
+use Rattle.regatta_service.proofs.Talking.{so_far_none, talked_seat}
 use Rattle.regatta_service.proofs.sessions.session_with.Goals as goal
+
+-- nothing was read yet
+pub loop-init : goal.loop-init
+loop-init g c = (
+  tt,
+  tt,
+  refl,
+  refl,
+  refl,
+  refl,
+  rw (c.new.ensures) (so_far_none g.N.OfficeName.rules (g.S.Device.remaining c.args.stream.now)
+      (point Role.Scorer c.args.pass.now (g.S.Device.contents c.args.stream.now)
+      (g.C.Covers.book c.args.covers.now))),
+)
 
 -- a read failed
 pub returns-in_default-clause-talked : goal.returns-in_default-clause-talked

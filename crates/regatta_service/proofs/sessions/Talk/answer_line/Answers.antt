@@ -14,9 +14,9 @@ returns-then-is_err-2-clause-cut_off g c = λ _.
     let reply = c.answer.new.self.reply in
     let asked : c.read_line-asked.result ≡ line_of c.args.self.now.cutter = search rules in
     let noted : IsNoted reply.needs (g.C.Covers.book c.args.covers.now)
-        (g.C.Covers.book c.cover.new.covers) = search rules in
+    (g.C.Covers.book c.cover.new.covers) = search rules in
     let wrote : AppendsPrefix (g.S.Device.contents c.args.stream.now)
-        (g.S.Device.contents c.write_reply.new.self) reply.text = search rules in
+    (g.S.Device.contents c.write_reply.new.self) reply.text = search rules in
     subst (λ (a : Asked). CutOff g.N.OfficeName.rules a c.args.self.now.role c.answer.new.self.role
     c.args.pass.now c.answer.new.pass (g.S.Device.contents c.args.stream.now)
     (g.S.Device.contents c.write_reply.new.self) (g.C.Covers.book c.args.covers.now)
@@ -29,9 +29,9 @@ returns-in-Go-clause-replied g c = λ _.
     let reply = c.answer.new.self.reply in
     let asked : c.read_line-asked.result ≡ line_of c.args.self.now.cutter = search rules in
     let noted : IsNoted reply.needs (g.C.Covers.book c.args.covers.now)
-        (g.C.Covers.book c.cover.new.covers) = search rules in
+    (g.C.Covers.book c.cover.new.covers) = search rules in
     let wrote : Appends (g.S.Device.contents c.args.stream.now)
-        (g.S.Device.contents c.write_reply.new.self) reply.text = search rules in
+    (g.S.Device.contents c.write_reply.new.self) reply.text = search rules in
     subst (λ (a : Asked). Replied g.N.OfficeName.rules a c.args.self.now.role c.answer.new.self.role
     c.args.pass.now c.answer.new.pass (g.S.Device.contents c.args.stream.now)
     (g.S.Device.contents c.write_reply.new.self) (g.C.Covers.book c.args.covers.now)

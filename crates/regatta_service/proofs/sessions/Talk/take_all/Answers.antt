@@ -20,7 +20,7 @@ returns-then-is_some-clause-ended g c =
           stays_by_parts _ _ _ _ _ _ _ _ role pass (ap g.S.Device.contents stream) book;
       unsaid = λ is.
           let (stream, book) = c.answer_line.ensures.sealed is in (
-            c.answer_line.ensures.unsaid is,
+            search rules,
             subst (Keeps (g.S.Device.contents c.loop-byte.stream))
                 (sym (ap g.S.Device.contents stream))
                 (keeps-same (g.S.Device.contents c.loop-byte.stream)),
