@@ -1,3 +1,3 @@
 pub mod Beginnings
 pub mod Books
-pub mod Covers
+pub mod Crashed

@@ -2,16 +2,24 @@
 //! from is on the disk.
 #![tactic(auto)]
 
+mod covered;
+mod covers;
 mod keeper;
 mod kept;
 mod mark;
+mod need;
+mod outlet;
 mod sealed;
 mod store;
 
+pub use covered::{Covered, cover_all};
+pub use covers::{Covers, KeptBy, Uncovered};
 pub use keeper::{CoverFault, Keeper, KeeperFault};
 pub use kept::{Book, Kept, KeptName};
 pub use mark::Mark;
-pub use sealed::{Sealed, cover};
+pub use need::{Need, NotKept};
+pub use outlet::Outlet;
+pub use sealed::Sealed;
 
 #[cfg(test)]
 mod tests;

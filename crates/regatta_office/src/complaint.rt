@@ -152,6 +152,7 @@ impl From<ServeFault> for Complaint {
         match fault {
             ServeFault::Door | ServeFault::Thread => Complaint::Device,
             ServeFault::NoMemory => Complaint::NoMemory,
+            ServeFault::Keep => Complaint::Device,
         }
     }
 }

@@ -1,4 +1,6 @@
 pub mod Lowest
 mod Points
+mod Replying
 mod Taking
 mod Talking
+mod Waiting

@@ -1,41 +1,47 @@
 -- Lines that were answered one after another, and what stays between them.
-use Rattle.std.proofs.Common.{◌≡◌, ◌∷◌, ◌++◌, ◌∙◌, [], ℕ, List, Option, Ok, Err, refl}
+use Rattle.std.proofs.Common.{◌≡◌, ◌∷◌, ◌++◌, ◌∙◌, [], ℕ, List, Option, Some, Ok, Err, refl}
 use Rattle.std.proofs.Common.{ap, inl, inr, subst, sym}
 use Rattle.std.specs.Io.KnownBytes.{Keeps}
 use Rattle.regatta_terms.specs.Rules.{RulesParts}
 use Rattle.regatta_terms.specs.declared.command.Role.{Role}
 use Rattle.regatta_terms.specs.declared.line.Line.TheVariants.{Do, SetRole, Rank, Show, Quit}
+use Rattle.regatta_scores.specs.Journal.{Journal}
 use Rattle.regatta_streams.proofs.KnownBytes.{keeps-appends, keeps-same, keeps-then}
 use Rattle.regatta_desk.specs.Passes.{PassValue, with_source}
 use Rattle.regatta_desk.specs.Replies.{DeskReplies}
 use Rattle.regatta_talk.specs.Replies.{role_after}
 use Rattle.regatta_service.specs.Lines.{Answers}
-use Rattle.regatta_service.specs.LinesTaken.{AreReplied, Asked, EndedAt, IsCutOff}
+use Rattle.regatta_service.specs.LinesTaken.{AreReplied, Asked, EndedAt, IsCutOff, IsUnsaid}
 use Rattle.regatta_service.specs.LinesTaken.{IsPassedOver, IsQuit, IsReplied, Point, Stays, Took}
 use Rattle.regatta_service.specs.LinesTaken.{point}
 use Rattle.regatta_service.specs.declared.sessions.End.{End}
+use Rattle.regatta_keeper.specs.Sealing.{IsNoted}
 
 -- ---- nothing was done
 
 pub stays_same : (p : Point) → Stays p p
-stays_same p = record { role = refl; pass = refl; written = keeps-same p.written }
+stays_same p = record { role = refl; pass = refl; written = keeps-same p.written; book = refl }
 
 pub stays_then : (p q r : Point) → Stays p q → Stays q r → Stays p r
 stays_then p q r one two = record {
   role = two.role ∙ one.role;
   pass = two.pass ∙ one.pass;
   written = keeps-then p.written q.written r.written one.written two.written;
+  book = two.book ∙ one.book;
 }
 
 -- if each part is as it was
 pub stays_by_parts : (role later : Role) (before after : PassValue) (old new : Option (List ℕ))
-    → later ≡ role → after ≡ before → new ≡ old
-    → Stays (point role before old) (point later after new)
-stays_by_parts role later before after old new same_role same_pass same = record {
-  role = same_role;
-  pass = same_pass;
-  written = subst (Keeps old) (sym same) (keeps-same old);
-}
+    (book noted : Option (List Journal))
+    → later ≡ role → after ≡ before → new ≡ old → noted ≡ book
+    → Stays (point role before old book) (point later after new noted)
+stays_by_parts role later before after old new book noted same_role same_pass same same_book =
+    record {
+      role = same_role;
+      pass = same_pass;
+      written = subst (Keeps old) (sym same) (keeps-same old);
+      book = same_book;
+    }
 
 -- ---- lines that were answered, with nothing done before them or after
 
@@ -43,10 +49,14 @@ pub replied_from : (rules : RulesParts) (asked : Asked) (p q r : Point) → Stay
     → IsReplied rules asked q r → IsReplied rules asked p r
 replied_from rules asked p q r stays u = record {
   text = u.text;
-  answered = subst (λ (role : Role). Answers rules asked role p.pass r.pass [] u.text) stays.role
-      (subst (λ (pass : PassValue). Answers rules asked q.role pass r.pass [] u.text) stays.pass
-      u.answered);
+  made_from = u.made_from;
+  answered = subst (λ (role : Role). Answers rules asked role p.pass r.pass [] u.text u.made_from)
+      stays.role
+      (subst (λ (pass : PassValue). Answers rules asked q.role pass r.pass [] u.text u.made_from)
+      stays.pass u.answered);
   role_set = u.role_set ∙ ap (λ (role : Role). role_after asked role) stays.role;
+  kept = subst (λ (book : Option (List Journal)). IsNoted (Some u.made_from) book r.book) stays.book
+      u.kept;
   wrote = keeps-appends p.written q.written r.written u.text stays.written u.wrote;
 }
 
@@ -79,32 +89,36 @@ are_more rules lines asked p q r u one =
 -- ---- the pass keeps its seat
 
 desk_seat : (rules : RulesParts) (asked : Asked) (role : Role) (before after : PassValue)
-    (old new : List ℕ) → Answers rules asked role before after old new → after.seat ≡ before.seat
-desk_seat rules (Ok (Do command)) role before after old new u = by u.replied
+    (old new : List ℕ) (made_from : Journal) → Answers rules asked role before after old new made_from
+    → after.seat ≡ before.seat
+desk_seat rules (Ok (Do command)) role before after old new made_from u = by u.replied
   where
     by : DeskReplies rules (Do command) role u.found u.left (with_source before u.found.entries)
         after u.reply
         → after.seat ≡ before.seat
     by (inl ran) = ap (λ (p : PassValue). p.seat) ran.pass
     by (inr refused) = ap (λ (p : PassValue). p.seat) refused.pass
-desk_seat rules (Ok (Rank sail)) role before after old new u =
+desk_seat rules (Ok (Rank sail)) role before after old new made_from u =
     ap (λ (p : PassValue). p.seat) u.replied.1
-desk_seat rules (Ok (SetRole next)) role before after old new u = ap (λ (p : PassValue). p.seat) u.0
-desk_seat rules (Ok Show) role before after old new (inl shows) =
+desk_seat rules (Ok (SetRole next)) role before after old new made_from u =
+    ap (λ (p : PassValue). p.seat) u.0.0
+desk_seat rules (Ok Show) role before after old new made_from (inl shows, is) =
     ap (λ (p : PassValue). p.seat) shows.pass
-desk_seat rules (Ok Show) role before after old new (inr (inl saw)) =
+desk_seat rules (Ok Show) role before after old new made_from (inr (inl saw), is) =
     ap (λ (p : PassValue). p.seat) saw.pass
-desk_seat rules (Ok Show) role before after old new (inr (inr none)) =
+desk_seat rules (Ok Show) role before after old new made_from (inr (inr none), is) =
     ap (λ (p : PassValue). p.seat) none.0
-desk_seat rules (Ok Quit) role before after old new u = ap (λ (p : PassValue). p.seat) u.0
-desk_seat rules (Err fault) role before after old new u = ap (λ (p : PassValue). p.seat) u.0
+desk_seat rules (Ok Quit) role before after old new made_from u =
+    ap (λ (p : PassValue). p.seat) u.0.0
+desk_seat rules (Err fault) role before after old new made_from u =
+    ap (λ (p : PassValue). p.seat) u.0.0
 
 are_seated : (rules : RulesParts) (lines : List Asked) (p q : Point) → AreReplied rules lines p q
     → q.pass.seat ≡ p.pass.seat
 are_seated rules [] p q u = ap (λ (pass : PassValue). pass.seat) u.pass
 are_seated rules (asked ∷ more) p q (next, one, rest) =
     are_seated rules more next q rest
-    ∙ desk_seat rules asked p.role p.pass next.pass [] one.text one.answered
+    ∙ desk_seat rules asked p.role p.pass next.pass [] one.text one.made_from one.answered
 
 ended_seated : (Did : Asked → Point → Point → Type 0) (rules : RulesParts) (asked : List Asked)
     (p q : Point)
@@ -120,10 +134,13 @@ took_seated rules End.Closed asked p q u = are_seated rules asked p q u.answered
 took_seated rules End.ReadFault asked p q u = are_seated rules asked p q u.answered
 took_seated rules End.Quit asked p q u = ended_seated (IsQuit rules) rules asked p q
     (λ last between did. desk_seat rules last between.role between.pass q.pass [] did.1.text
-    did.1.answered) u
+    did.1.made_from did.1.answered) u
 took_seated rules End.WriteFault asked p q u = ended_seated (IsCutOff rules) rules asked p q
     (λ last between did. desk_seat rules last between.role between.pass q.pass [] did.text
-    did.answered) u
+    did.made_from did.answered) u
 took_seated rules End.Stopped asked p q u = ended_seated IsPassedOver rules asked p q
     (λ last between did. ap (λ (pass : PassValue). pass.seat) did.pass) u
+took_seated rules End.NotKept asked p q u = ended_seated (IsUnsaid rules) rules asked p q
+    (λ last between did. desk_seat rules last between.role between.pass q.pass [] did.0.text
+    did.0.made_from did.0.answered) u
 took_seated rules End.NoMemory asked p q u = ap (λ (pass : PassValue). pass.seat) u.1.pass

@@ -11,7 +11,7 @@ use Rattle.regatta_terms.specs.TextLines.{ended_lines, is_line_end, last_line}
 use Rattle.regatta_talk.specs.HeardLines.{heard, heard_lines, heard_with}
 use Rattle.regatta_talk.proofs.HeardLines.{heard_byte, heard_end, heard_of_text, heard_reads}
 use Rattle.regatta_service.specs.LinesTaken.{AllReplied, AreReplied, Asked, EndedAt, GoesOn}
-use Rattle.regatta_service.specs.LinesTaken.{IsCutOff, IsPassedOver, IsQuit, IsReplied, Point}
+use Rattle.regatta_service.specs.LinesTaken.{IsCutOff, IsPassedOver, IsQuit, IsReplied, IsUnsaid, Point}
 use Rattle.regatta_service.specs.LinesTaken.{Stays, Took, WentOn, asked_from, asked_in}
 use Rattle.regatta_service.specs.declared.sessions.End.{End}
 use Rattle.regatta_service.proofs.Points.{are_back, are_both, are_more, stays_same}
@@ -147,6 +147,7 @@ pub record Last (rules : RulesParts) (ended : Option End) (asked : Asked) (befor
   pub quit : ended ≡ Some End.Quit → IsQuit rules asked before after
   pub cut_off : ended ≡ Some End.WriteFault → IsCutOff rules asked before after
   pub stopped : ended ≡ Some End.Stopped → Stays before after
+  pub unsaid : ended ≡ Some End.NotKept → IsUnsaid rules asked before after
   pub room : ended ≡ Some End.NoMemory → ⊥
   pub closed : ended ≡ Some End.Closed → ⊥
   pub read : ended ≡ Some End.ReadFault → ⊥
@@ -169,6 +170,10 @@ last_taken rules line piece before later between i byte after (Some End.Stopped)
     last w =
     line_ended IsPassedOver rules line piece before later between i byte after within at is
     (last.stopped refl) w
+last_taken rules line piece before later between i byte after (Some End.NotKept) within at is
+    last w =
+    line_ended (IsUnsaid rules) rules line piece before later between i byte after within at is
+    (last.unsaid refl) w
 last_taken rules line piece before later between i byte after (Some End.NoMemory) within at is
     last w = absurd (last.room refl)
 last_taken rules line piece before later between i byte after (Some End.Closed) within at is
@@ -229,6 +234,7 @@ module _ (rules : RulesParts) (line bytes : List ℕ) (before : Point) (later : 
   took_both End.Quit room v = ended_both (IsQuit rules) v
   took_both End.WriteFault room v = ended_both (IsCutOff rules) v
   took_both End.Stopped room v = ended_both IsPassedOver v
+  took_both End.NotKept room v = ended_both (IsUnsaid rules) v
   took_both End.NoMemory room v = absurd (room refl)
 
 -- no more bytes come: all lines that ended were answered

@@ -11,6 +11,7 @@ failures_in End.ReadFault = 1
 failures_in End.WriteFault = 1
 failures_in End.Stopped = 0
 failures_in End.NoMemory = 0
+failures_in End.NotKept = 0
 
 -- the number of failed reads
 abbrev pub failed_reads_in : End → ℕ
@@ -20,6 +21,7 @@ failed_reads_in End.ReadFault = 1
 failed_reads_in End.WriteFault = 0
 failed_reads_in End.Stopped = 0
 failed_reads_in End.NoMemory = 0
+failed_reads_in End.NotKept = 0
 
 -- the number of failed calls for a part of a session, which may have ended there
 abbrev pub failures_so_far : Option End → ℕ

@@ -2,6 +2,7 @@ pub mod Comings
 pub mod Doors
 pub mod Ends
 pub mod Faults
+pub mod Keepings
 pub mod Lines
 pub mod LinesTaken
 pub mod Partings

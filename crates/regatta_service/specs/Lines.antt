@@ -13,6 +13,8 @@ use Rattle.regatta_board.specs.Refusals.{limits, is_lawful}
 use Rattle.regatta_tables.specs.ReplyTexts.{reply_text}
 use Rattle.regatta_streams.specs.Texts.{AppendsPrefix}
 use Rattle.regatta_talk.specs.Replies.{role_after}
+use Rattle.regatta_scores.specs.Journal.{Journal}
+use Rattle.regatta_keeper.specs.Sealing.{IsNoted, Needs}
 use Rattle.regatta_desk.specs.Desks.{DeskValue}
 use Rattle.regatta_desk.specs.Passes.{PassValue, with_source}
 use Rattle.regatta_desk.specs.Replies.{DeskReplies, PassReplies}
@@ -21,9 +23,9 @@ use Rattle.regatta_service.specs.declared.sessions.End.{End}
 -- a line that a desk answered for a pass in this role: the desk did what the line asks, and its reply
 -- is appended. The journal that the desk had is lawful, is noted as the source of the answer, and
 -- begins with the journal that the pass has seen, with each that it was told of, and with those that
--- its earlier answers came from
+-- its earlier answers came from. The desk then has the journal `made_from`
 pub record DeskAnswers (rules : RulesParts) (line : Line) (role : Role) (before after : PassValue)
-    (old new : List ℕ) : Type 0 where
+    (old new : List ℕ) (made_from : Journal) : Type 0 where
   pub found : DeskValue
   pub left : DeskValue
   pub reply : Reply
@@ -33,21 +35,34 @@ pub record DeskAnswers (rules : RulesParts) (line : Line) (role : Role) (before 
   pub sources : All (λ j. IsPrefix j found.entries) before.sources
   pub replied : DeskReplies rules line role found left (with_source before found.entries) after reply
   pub text : new ≡ old ++ reply_text reply
+  pub made : left.entries ≡ made_from
 
--- the text appended for a line of a session, and what the line changes of the pass: a desk answers
--- commands and RANK, and the pass alone answers the others
+-- the text appended for a line of a session, what the line changes of the pass, and the journal that
+-- the answer was made from: a desk answers commands and RANK, and the pass alone answers the others.
+-- A sheet is made from the journal that it shows, and other answers of the pass from no entry
 abbrev pub Answers : RulesParts → Result Line LineFault → Role → PassValue → PassValue → List ℕ
-    → List ℕ → Type 0
-Answers rules (Ok (Do command)) role before after old new =
-    DeskAnswers rules (Do command) role before after old new
-Answers rules (Ok (Rank sail)) role before after old new =
-    DeskAnswers rules (Rank sail) role before after old new
-Answers rules (Ok (SetRole next)) role before after old new =
-    PassReplies rules (Ok (SetRole next)) before after old new
-Answers rules (Ok Show) role before after old new = PassReplies rules (Ok Show) before after old new
-Answers rules (Ok Quit) role before after old new = PassReplies rules (Ok Quit) before after old new
-Answers rules (Err fault) role before after old new =
-    PassReplies rules (Err fault) before after old new
+    → List ℕ → Journal → Type 0
+Answers rules (Ok (Do command)) role before after old new made_from =
+    DeskAnswers rules (Do command) role before after old new made_from
+Answers rules (Ok (Rank sail)) role before after old new made_from =
+    DeskAnswers rules (Rank sail) role before after old new made_from
+Answers rules (Ok (SetRole next)) role before after old new made_from =
+    PassReplies rules (Ok (SetRole next)) before after old new × (made_from ≡ [])
+Answers rules (Ok Show) role before after old new made_from =
+    PassReplies rules (Ok Show) before after old new × (made_from ≡ after.seen)
+Answers rules (Ok Quit) role before after old new made_from =
+    PassReplies rules (Ok Quit) before after old new × (made_from ≡ [])
+Answers rules (Err fault) role before after old new made_from =
+    PassReplies rules (Err fault) before after old new × (made_from ≡ [])
+
+-- a line that was answered, and a reply with this text and this need: if there is a book of what is
+-- kept, the need begins with the journal that the answer was made from
+pub record Prepared (rules : RulesParts) (asked : Result Line LineFault) (role : Role)
+    (before after : PassValue) (text : List ℕ) (need : Option Journal)
+    (book : Option (List Journal)) : Type 0 where
+  pub made_from : Journal
+  pub answered : Answers rules asked role before after [] text made_from
+  pub needs : Needs book need made_from
 
 -- whether the reply to the last line was written whole, if the session ended so or goes on (`None`)
 abbrev pub is_replied : Option End → Bool
@@ -58,21 +73,37 @@ is_replied (Some End.ReadFault) = false
 is_replied (Some End.WriteFault) = false
 is_replied (Some End.Stopped) = false
 is_replied (Some End.NoMemory) = false
+is_replied (Some End.NotKept) = false
 
 -- a line that was answered in this role, and the state after it: the role of the next lines, the
--- pass, and the stream, to which exactly the reply was written
+-- pass, the stream, to which exactly the reply was written, and the book of what is kept, if there
+-- is one: it was told of one more journal, which begins with the one that the reply was made from
 pub record Replied (rules : RulesParts) (asked : Result Line LineFault) (role later : Role)
-    (before after : PassValue) (old new : Option (List ℕ)) : Type 0 where
+    (before after : PassValue) (old new : Option (List ℕ)) (book noted : Option (List Journal))
+    : Type 0 where
   pub text : List ℕ
-  pub answered : Answers rules asked role before after [] text
+  pub made_from : Journal
+  pub answered : Answers rules asked role before after [] text made_from
   pub role_set : later ≡ role_after asked role
+  pub kept : IsNoted (Some made_from) book noted
   pub wrote : Appends old new text
 
 -- a line that was answered so, where a write failed: a beginning of its reply was written, and not
 -- all of it
 pub record CutOff (rules : RulesParts) (asked : Result Line LineFault) (role later : Role)
-    (before after : PassValue) (old new : Option (List ℕ)) : Type 0 where
+    (before after : PassValue) (old new : Option (List ℕ)) (book noted : Option (List Journal))
+    : Type 0 where
   pub text : List ℕ
-  pub answered : Answers rules asked role before after [] text
+  pub made_from : Journal
+  pub answered : Answers rules asked role before after [] text made_from
   pub role_set : later ≡ role_after asked role
+  pub kept : IsNoted (Some made_from) book noted
   pub wrote : AppendsPrefix old new text
+
+-- a line that was answered so, whose reply stays sealed
+pub record Unsaid (rules : RulesParts) (asked : Result Line LineFault) (role later : Role)
+    (before after : PassValue) : Type 0 where
+  pub text : List ℕ
+  pub made_from : Journal
+  pub answered : Answers rules asked role before after [] text made_from
+  pub role_set : later ≡ role_after asked role

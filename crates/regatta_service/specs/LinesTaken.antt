@@ -8,26 +8,31 @@ use Rattle.regatta_terms.specs.declared.command.Role.{Role}
 use Rattle.regatta_terms.specs.declared.line.Line.{Line}
 use Rattle.regatta_terms.specs.declared.line.LineFault.{LineFault}
 use Rattle.regatta_talk.specs.HeardLines.{heard_lines}
+use Rattle.regatta_scores.specs.Journal.{Journal}
 use Rattle.regatta_desk.specs.Passes.{PassValue}
 use Rattle.regatta_desk.specs.Replies.{next_after}
 use Rattle.regatta_desk.specs.declared.answers.Next.{Next}
-use Rattle.regatta_service.specs.Lines.{CutOff, Replied}
+use Rattle.regatta_service.specs.Lines.{CutOff, Replied, Unsaid}
 use Rattle.regatta_service.specs.declared.sessions.End.{End}
 
--- the state of a session: the role of the next lines, the pass, and what was written
+-- the state of a session: the role of the next lines, the pass, what was written, and the book of
+-- journals that are kept, in the order in which the session was told of them, if it has a book
 pub record Point : Type 0 where
   pub role : Role
   pub pass : PassValue
   pub written : Option (List ℕ)
+  pub book : Option (List Journal)
 
-abbrev pub point : Role → PassValue → Option (List ℕ) → Point
-point role pass written = record { role = role; pass = pass; written = written }
+abbrev pub point : Role → PassValue → Option (List ℕ) → Option (List Journal) → Point
+point role pass written book =
+    record { role = role; pass = pass; written = written; book = book }
 
--- nothing was done: role and pass are as they were, and nothing was written
+-- nothing was done: role, pass and book are as they were, and nothing was written
 pub record Stays (before after : Point) : Type 0 where
   pub role : after.role ≡ before.role
   pub pass : after.pass ≡ before.pass
   pub written : Keeps before.written after.written
+  pub book : after.book ≡ before.book
 
 -- ---- what lines ask for
 
@@ -53,11 +58,19 @@ GoesOn asked = next_after asked ≡ Next.Go
 abbrev pub IsReplied : RulesParts → Asked → Point → Point → Type 0
 IsReplied rules asked before after =
     Replied rules asked before.role after.role before.pass after.pass before.written after.written
+    before.book after.book
 
 -- it was answered, and a write failed: a beginning of its reply was written, and not all of it
 abbrev pub IsCutOff : RulesParts → Asked → Point → Point → Type 0
 IsCutOff rules asked before after =
     CutOff rules asked before.role after.role before.pass after.pass before.written after.written
+    before.book after.book
+
+-- it was answered, and its reply stays sealed: nothing was written
+abbrev pub IsUnsaid : RulesParts → Asked → Point → Point → Type 0
+IsUnsaid rules asked before after =
+    Unsaid rules asked before.role after.role before.pass after.pass
+    × Keeps before.written after.written × (after.book ≡ before.book)
 
 -- it is QUIT, and was answered
 abbrev pub IsQuit : RulesParts → Asked → Point → Point → Type 0
@@ -102,6 +115,7 @@ Took rules End.ReadFault asked before after = AllReplied rules asked before afte
 Took rules End.Quit asked before after = EndedAt (IsQuit rules) rules asked before after
 Took rules End.WriteFault asked before after = EndedAt (IsCutOff rules) rules asked before after
 Took rules End.Stopped asked before after = EndedAt IsPassedOver rules asked before after
+Took rules End.NotKept asked before after = EndedAt (IsUnsaid rules) rules asked before after
 Took rules End.NoMemory asked before after = (asked ≡ []) × Stays before after
 
 -- some bytes that continue a line: the lines that ended in them were answered, and none is QUIT; the
@@ -118,8 +132,10 @@ pub record WentOn (rules : RulesParts) (line bytes : List ℕ) (before : Point) 
 -- what was done with the bytes that a stream gave: the lines that ended in them were answered as the
 -- session's end says, starting in the scorer's role
 pub record Talked (rules : RulesParts) (end : End) (to_read left : Option (List ℕ))
-    (before after : PassValue) (old new : Option (List ℕ)) : Type 0 where
+    (before after : PassValue) (old new : Option (List ℕ)) (book noted : Option (List Journal))
+    : Type 0 where
   pub given : List ℕ
   pub consumed : Consumes to_read left given
   pub role : Role
-  pub took : Took rules end (asked_in given) (point Role.Scorer before old) (point role after new)
+  pub took : Took rules end (asked_in given) (point Role.Scorer before old book)
+      (point role after new noted)

@@ -1,6 +1,7 @@
 //! The office's end of a client's socket.
 ghost use Rattle.std.specs.Prelude.{◌≡◌};
 
+use crate::stopping::{Stopping, read_patiently};
 use std::io;
 use std::io::{Read, Write};
 use std::net::Shutdown;
@@ -16,6 +17,9 @@ const PIECE: usize = 4096;
 /// How long a write to a client may wait, in seconds. A write that was taken in part succeeds, so a
 /// client who never reads loses their seat after at most twice as long.
 const WRITE_LIMIT: u64 = 60;
+
+/// How long a read may wait before it looks whether the office has stopped, in seconds.
+const READ_LIMIT: u64 = 1;
 
 /// What ends a connection, by a handle of its own to the client's socket.
 ///
@@ -51,13 +55,26 @@ impl Drop for Ending {
     }
 }
 
-/// The connection over a socket that was accepted. `None` if the system gives no second descriptor
-/// for it, or no time limit for its writes; the client is then turned away.
-pub(crate) fn connection_of(socket: UnixStream) -> Option<Connection<UnixStream>> {
+/// Sets the time limits of a socket. The result is false if the system sets none.
+fn set_limits(socket: &UnixStream, stops: bool) -> bool {
     let limit = Duration::from_secs(WRITE_LIMIT);
+    if socket.set_write_timeout(Some(limit)).is_err() {
+        return false;
+    }
+    let limit = stops.then_some(Duration::from_secs(READ_LIMIT));
+    socket.set_read_timeout(limit).is_ok()
+}
+
+/// The connection over a socket that was accepted. `None` if the system gives no second descriptor
+/// for it, or no time limits; the client is then turned away. With `stopping`, its reads fail once
+/// the office has stopped.
+pub(crate) fn connection_of(
+    socket: UnixStream,
+    stopping: Option<Stopping>,
+) -> Option<Connection<UnixStream>> {
     match Ending::of(&socket) {
-        Some(ending) if socket.set_write_timeout(Some(limit)).is_ok() => {
-            Some(Connection::new(socket, ending))
+        Some(ending) if set_limits(&socket, stopping.is_some()) => {
+            Some(Connection::new(socket, ending, stopping))
         }
         _ => {
             refuse(socket);
@@ -83,14 +100,19 @@ fn read_rest(socket: &mut UnixStream) {
 pub struct Connection<S> {
     stream: S,
     ending: Ending,
+    stopping: Option<Stopping>,
 }
 
 impl<S> Connection<S> {
     /// The connection that was accepted.
-    fn new(stream: S, ending: Ending) -> Connection<S>
+    fn new(stream: S, ending: Ending, stopping: Option<Stopping>) -> Connection<S>
         ensures { result.stream ≡ stream }
     {
-        Connection { stream, ending }
+        Connection {
+            stream,
+            ending,
+            stopping,
+        }
     }
 }
 
@@ -98,7 +120,10 @@ impl<S: Read> Read for Connection<S> {
     ghost remaining = { λ connection. S.remaining connection.stream };
 
     fn read(&mut self, buf: &mut [u8]) -> io::Result<usize> {
-        self.stream.read(buf)
+        match &self.stopping {
+            Some(stopping) => read_patiently(&mut self.stream, stopping, buf),
+            None => self.stream.read(buf),
+        }
     }
 }
 

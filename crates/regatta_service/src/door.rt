@@ -7,7 +7,9 @@ ghost use Rattle.regatta_service.specs.Doors.{is_last, is_shut, one_if_some};
 
 use crate::connection::{Connection, connection_of};
 use crate::count::Count;
+use crate::stopping::Stopping;
 use regatta_streams::{Device, Failures, Foreign, Sink, Source};
+use std::alloc::Global;
 use std::marker::Model;
 use std::net::Net;
 use std::os::unix::net::{UnixListener, UnixStream};
@@ -76,13 +78,22 @@ fn accept_with(listener: &UnixListener, spare: &mut Option<UnixListener>) -> Opt
 }
 
 /// Accepts the next client, and counts them unless they are turned away.
-fn accept_one(listener: &UnixListener, spare: &mut Option<UnixListener>, came: &mut Count) -> Came
+fn accept_one(
+    listener: &UnixListener,
+    spare: &mut Option<UnixListener>,
+    stopping: &Option<Stopping>,
+    came: &mut Count,
+) -> Came
     ensures { came.new ≡ came.old + clients_in result }
 {
     let Some(stream) = accept_with(listener, spare) else {
         return Came::Nobody;
     };
-    let Some(connection) = connection_of(stream) else {
+    let shared = match stopping {
+        Some(stopping) => stopping.share(),
+        None => None,
+    };
+    let Some(connection) = connection_of(stream, shared) else {
         return Came::TurnedAway;
     };
     *came = came.one_more();
@@ -94,18 +105,19 @@ fn accept_again<R: Clock>(
     rt: &R,
     listener: &UnixListener,
     spare: &mut Option<UnixListener>,
+    stopping: &Option<Stopping>,
     came: &mut Count,
 ) -> Came
     ensures { came.new ≡ came.old + clients_in result }
 {
     for pause in PAUSES {
-        match accept_one(listener, spare, came) {
+        match accept_one(listener, spare, stopping, came) {
             Came::Nobody => {}
             some => return some,
         }
         thread::sleep(rt, Duration::from_millis(pause));
     }
-    accept_one(listener, spare, came)
+    accept_one(listener, spare, stopping, came)
 }
 
 /// The connection to the next client who isn't turned away. `None` if `accept` keeps failing.
@@ -113,12 +125,13 @@ fn accepted<R: Wait + Clock>(
     rt: &R,
     listener: &UnixListener,
     spare: &mut Option<UnixListener>,
+    stopping: &Option<Stopping>,
     came: &mut Count,
 ) -> Option<Connection<UnixStream>>
     ensures { came.new ≡ came.old + one_if_some result }
 {
     for _ in rt.forever() {
-        match accept_again(rt, listener, spare, came) {
+        match accept_again(rt, listener, spare, stopping, came) {
             Came::Client(connection) => return Some(connection),
             Came::TurnedAway => {}
             Came::Nobody => return None,
@@ -139,6 +152,8 @@ pub struct SocketDoor {
     /// A second handle of the listener. When no descriptor is left, it is given up, so that the
     /// next client can be told that there is no seat.
     spare: Option<UnixListener>,
+    /// What tells the door's streams that the office has stopped, if it may.
+    stopping: Option<Stopping>,
     left: Option<u32>,
     failures: Failures,
     came: Count,
@@ -183,10 +198,38 @@ impl SocketDoor {
         Ok(SocketDoor {
             listener: Some(listener),
             spare,
+            stopping: None,
             left: if sessions == 0 { None } else { Some(sessions) },
             failures: Failures::none(),
             came: Count::none(),
         })
+    }
+
+    /// Binds a new socket, as `bind` does, for an office that may stop: the handle tells the streams
+    /// of clients when it has.
+    ///
+    /// # Errors
+    ///
+    /// As `bind`.
+    pub fn bind_kept<R: Files + Net>(
+        rt: &R,
+        alloc: Global,
+        path: &str,
+        sessions: u32,
+    ) -> Result<(SocketDoor, Stopping), DoorFault>
+        ensures door { IfOk result (λ made. made.0
+            ≡ record { left = streams_asked sessions; failures = 0; given = 0 }) }
+        ensures named { OnOk result (0 < length path.now) }
+    {
+        let Ok(stopping) = Stopping::new(alloc) else {
+            return Err(DoorFault);
+        };
+        let Some(shared) = stopping.share() else {
+            return Err(DoorFault);
+        };
+        let mut door = SocketDoor::bind(rt, path, sessions)?;
+        door.stopping = Some(shared);
+        Ok((door, stopping))
     }
 
     fn close(&mut self)
@@ -244,7 +287,13 @@ impl Door for SocketDoor {
         let Some(listener) = &self.listener else {
             return Ok(None);
         };
-        let Some(connection) = accepted(rt, listener, &mut self.spare, &mut self.came) else {
+        let Some(connection) = accepted(
+            rt,
+            listener,
+            &mut self.spare,
+            &self.stopping,
+            &mut self.came,
+        ) else {
             self.failures = self.failures.one_more();
             self.close();
             return Err(DoorFault);

@@ -1,12 +1,15 @@
 //! Clients, from the door to the end of their session.
 ghost use Rattle.std.specs.Prelude.{◌≡◌, ◌≢◌, ◌+◌, IfOk, IfErr};
+ghost use Rattle.regatta_service.specs.Keepings.{IsFresh};
 ghost use Rattle.regatta_service.specs.Partings.{IsServed, IsTurnedAway};
 
 use crate::count::Count;
 use crate::gate::Gate;
+use crate::keeping::Keeping;
 use crate::pool::{Lack, Parted, Pool, Seated, Serves};
-use crate::room::reply_room;
+use crate::room::session_room;
 use regatta_desk::{Office, OfficeName};
+use regatta_keeper::Covers;
 use regatta_streams::{Device, Sink, Source};
 use std::alloc::Global;
 use std::marker::{Model, PhantomData};
@@ -51,26 +54,30 @@ impl<S> Admitted<S> {
 
 /// Serves a client with the pass that is lent to them, and frees the seat. If they can't be served,
 /// turns them away.
-fn attend<N, H, R, S, G>(
+fn attend<N, H, R, K, S, G>(
     rt: &R,
     alloc: Global,
     client: Seated<N, S>,
     office: &Office<N, H>,
+    keeping: &K,
     pool: &Mutex<Pool<N>>,
     gate: &G,
-) -> Parted<N, S>
+) -> Parted<N, S, K::Session>
 where
     N: OfficeName,
     H: Wait + Drop,
     R: Wait,
+    K: Keeping<N>,
     S: Source + Sink + Drop,
     G: Gate,
     // A session was run on this client's stream and with their pass, and the seat was freed.
     ensures session { IfOk result (λ gone. (gone.ended.given.value ≡ client.stream)
         × (gone.ended.before.value ≡ client.pass)) }
+    ensures fresh { IfOk result (λ gone. IsFresh (K.Session.book gone.ended.begun.value)) }
     ensures served { IfOk result (λ gone. IsServed N.rules S.remaining S.contents S.failures
         S.failed_reads client.stream gone.ended.left.value client.pass gone.ended.after.value
-        gone.ended.end) }
+        (K.Session.book gone.ended.begun.value) (K.Session.book gone.ended.covers)
+        (K.Session.refused gone.ended.covers) gone.ended.end) }
 
     // Or they were turned away, but not for lack of a seat.
     ensures away { IfErr result (λ away. (away.given.value ≡ client.stream)
@@ -83,9 +90,9 @@ where
         Ok(client) => client,
         Err(unseated) => return Err(unseated.turn_away()),
     };
-    match reply_room(alloc) {
-        Ok(reply) => {
-            let ended = client.serve(rt, reply, office, gate);
+    match session_room(rt, alloc, keeping) {
+        Ok((reply, covers)) => {
+            let ended = client.serve(rt, reply, office, gate, covers);
             // The seat is free before the stream is closed, so a client who sees the end of their
             // session may come again at once.
             let (_leaving, gone) = pool.lock(rt).take_back(client, ended);
@@ -100,20 +107,23 @@ where
 
 /// Admits a client to the lowest free seat, where a thread of their own serves them. If no seat is
 /// free, or no thread is available, turns them away.
-pub(crate) fn admit<'s, E: 's, N, H, R, S, G>(
+pub(crate) fn admit<'s, E: 's, N, H, R, K, S, G>(
     rt: &'s R,
     alloc: Global,
     scope: &Scope<'s, E>,
     office: &'s Office<N, H>,
+    keeping: &'s K,
     pool: &'s Mutex<Pool<N>>,
     gate: &'s G,
     admitted: &mut Admitted<S>,
     stream: S,
-) -> Result<PromisedHandle<Parted<N, S>, Serves<N, S>>, Parted<N, S>>
+) -> Result<PromisedHandle<Parted<N, S, K::Session>, Serves<N, S>>, Parted<N, S, K::Session>>
 where
     N: OfficeName + Send + Sync + 's,
     H: Wait + Drop + Send + 's,
     R: Wait + Sync + 's,
+    K: Keeping<N> + Sync + 's,
+    K::Session: 's,
     S: Source + Sink + Send + Drop + 's,
     G: Gate + Sync + 's,
     ensures counted { admitted.new ≡ admitted.old + 1 }
@@ -123,7 +133,9 @@ where
     ensures session { IfErr result (λ parted. IfOk parted (λ gone.
         (gone.ended.given.value ≡ stream)
         × IsServed N.rules S.remaining S.contents S.failures S.failed_reads stream
-        gone.ended.left.value gone.ended.before.value gone.ended.after.value gone.ended.end)) }
+        gone.ended.left.value gone.ended.before.value gone.ended.after.value
+        (K.Session.book gone.ended.begun.value) (K.Session.book gone.ended.covers)
+        (K.Session.refused gone.ended.covers) gone.ended.end)) }
     ensures away { IfErr result (λ parted. IfErr parted (λ away.
         (away.given.value ≡ stream)
         × IsTurnedAway S.remaining S.contents S.failures S.failed_reads stream
@@ -138,7 +150,7 @@ where
     let promise = client.promise();
     match scope.spawn_with(
         promise,
-        move || attend(rt, alloc, client, office, pool, gate),
+        move || attend(rt, alloc, client, office, keeping, pool, gate),
     ) {
         Ok(thread) => Ok(thread),
         Err(refused) => {

@@ -49,8 +49,8 @@ pub(crate) struct Leaving<S> {
 
 /// The session of a client whose pass is back. Only `Pool::take_back` makes one.
 #[derive(Drop)]
-pub(crate) struct Gone<N: OfficeName, S> {
-    ended: Ended<N, S>,
+pub(crate) struct Gone<N: OfficeName, S, C> {
+    ended: Ended<N, S, C>,
 }
 
 /// What it takes to refuse a client a thread. It comes with the pass that is lent to them.
@@ -200,11 +200,11 @@ impl<N: OfficeName> Pool<N> {
 
     /// Takes back the pass of a client who was served. Stream and pass are still as the session left
     /// them.
-    pub(crate) fn take_back<S>(
+    pub(crate) fn take_back<S, C>(
         &mut self,
         client: Seated<N, S>,
-        ended: Ended<N, S>,
-    ) -> (Leaving<S>, Gone<N, S>)
+        ended: Ended<N, S, C>,
+    ) -> (Leaving<S>, Gone<N, S, C>)
         requires stream { client.stream ≡ ended.left.value }
         requires pass { client.pass ≡ ended.after.value }
         ensures back { self.new ≡ with_pass self.old client.slot client.pass }

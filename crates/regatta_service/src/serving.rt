@@ -2,13 +2,16 @@
 ghost use Rattle.std.specs.Prelude.{◌≡◌, ◌+◌, map, true, IfErr, IfOk, IsErrOf, IsTrue};
 ghost use Rattle.std.specs.List.Sorted.{IsPermutation, IsSorted};
 ghost use Rattle.std.specs.Ordering.{nat_cmp};
-ghost use Rattle.regatta_service.specs.Faults.{IfBegun, door_failures_in};
+ghost use Rattle.regatta_service.specs.Faults.{EndsAdmission, IfBegun, door_failures_in};
 
 use crate::door::Door;
 use crate::gate::Gate;
+use crate::keeping::{ByKeeper, Keeping};
 use crate::parting::{Admitted, admit};
 use crate::pool::Pool;
 use regatta_desk::{Office, OfficeName, Pass};
+use regatta_keep::Log;
+use regatta_keeper::{Keeper, KeptName, Uncovered};
 use regatta_streams::Device;
 use std::alloc::{AllocError, Global};
 use std::sync::{Mutex, Wait};
@@ -29,14 +32,19 @@ pub enum ServeFault {
     /// An allocation failed.
     #[error("no memory")]
     NoMemory,
+    /// The log failed: no reply is covered any more. Without a keeper serving never ends so.
+    #[error("the log failed")]
+    Keep,
 }
 
-/// Admits one client after another, until the door is closed. Returns how many, too.
-fn accept_all<'s, E: 's, N, H, R, D, G>(
+/// Admits one client after another, until the door is closed or the keeper has stopped. Returns how
+/// many, too.
+fn accept_all<'s, E: 's, N, H, R, K, D, G>(
     rt: &'s R,
     alloc: Global,
     scope: &Scope<'s, E>,
     office: &'s Office<N, H>,
+    keeping: &'s K,
     pool: &'s Mutex<Pool<N>>,
     door: &mut D,
     gate: &'s G,
@@ -45,13 +53,15 @@ where
     N: OfficeName + Send + Sync + 's,
     H: Wait + Drop + Send + 's,
     R: Threads + Wait + Clock + Sync + 's,
+    K: Keeping<N> + Sync + 's,
+    K::Session: 's,
     D: Door,
     D::Stream: 's,
     G: Gate + Sync + 's,
     ensures door { D.failures door.new ≡ D.failures door.old + door_failures_in result.0 }
     ensures each { D.given door.new ≡ D.given door.old + result.1 }
-    ensures closed { D.closed door.new ≡ true }
-    ensures fault { IfErr result.0 (λ f. f ≡ ServeFault.Door) }
+    ensures closed { IfBegun result.0 (D.closed door.new ≡ true) }
+    ensures fault { IfErr result.0 (λ f. EndsAdmission K.stops f) }
 {
     let mut admitted = Admitted::none();
     for _ in rt.forever() {
@@ -61,7 +71,20 @@ where
         let Some(stream) = next else {
             return (Ok(()), admitted);
         };
-        let _ = admit(rt, alloc, scope, office, pool, gate, &mut admitted, stream);
+        let _ = admit(
+            rt,
+            alloc,
+            scope,
+            office,
+            keeping,
+            pool,
+            gate,
+            &mut admitted,
+            stream,
+        );
+        if keeping.has_stopped(rt) {
+            return (Err(ServeFault::Keep), admitted);
+        }
     }
     unreachable!()
 }
@@ -111,6 +134,69 @@ fn passes_back<N: OfficeName>(
     Ok(passes)
 }
 
+/// Serves the door's clients, over what keeps what they are answered from, and counts them.
+fn serve_over<N, H, R, K, D, G>(
+    rt: &R,
+    alloc: Global,
+    office: &Office<N, H>,
+    keeping: &K,
+    door: &mut D,
+    passes: Vec<Pass<N>>,
+    gate: &G,
+) -> (Result<Vec<Pass<N>>, ServeFault>, Admitted<D::Stream>)
+where
+    N: OfficeName + Send + Sync,
+    H: Wait + Drop + Send,
+    R: Threads + Wait + Clock + Sync,
+    K: Keeping<N> + Sync,
+    D: Door,
+    G: Gate + Sync,
+    ensures seats { IfOk result.0 (λ back.
+        IsPermutation (map (λ p. p.seat) passes.items) (map (λ p. p.seat) back.items)) }
+    ensures sorted { IfOk result.0 (λ back. IsSorted nat_cmp (map (λ p. p.seat) back.items)) }
+    ensures door { D.failures door.new ≡ D.failures door.old + door_failures_in result.0 }
+    ensures each { D.given door.new ≡ D.given door.old + result.1 }
+    ensures closed { IfBegun result.0 (D.closed door.new ≡ true) }
+    ensures unbegun { IsErrOf result.0 ServeFault.NoMemory → door.new ≡ door.old }
+    ensures stopped { IsErrOf result.0 ServeFault.Keep → K.stops ≡ true }
+{
+    let Ok(seats) = seats_of(alloc, &passes) else {
+        return (Err(ServeFault::NoMemory), Admitted::none());
+    };
+    // Allocated now, so that no allocation is left to fail after clients were served.
+    let Ok(empty) = Vec::with_capacity(alloc, passes.len()) else {
+        return (Err(ServeFault::NoMemory), Admitted::none());
+    };
+    let mut passes = passes;
+    passes.sort_unstable_by_key(|pass| pass.seat());
+    let Ok(pool) = Pool::new(alloc, passes) else {
+        return (Err(ServeFault::NoMemory), Admitted::none());
+    };
+    let pool = Mutex::new(pool);
+    let shared = &pool;
+    let (served, door_back) = thread::scope(
+        thread::scope_env(),
+        rt,
+        move |scope| -> ((Result<(), ServeFault>, Admitted<D::Stream>), &mut D)
+            ensures same { result.1.ghost_name ≡ door.entry.ghost_name }
+            ensures failures { D.failures result.1.now
+                ≡ D.failures door.entry.now + door_failures_in result.0.0 }
+            ensures each { D.given result.1.now ≡ D.given door.entry.now + result.0.1 }
+            ensures closed { IfBegun result.0.0 (D.closed result.1.now ≡ true) }
+            ensures fault { IfErr result.0.0 (λ f. EndsAdmission K.stops f) }
+        {
+            let served = accept_all(rt, alloc, scope, office, keeping, shared, &mut *door, gate);
+            (served, door)
+        },
+    );
+    take_back(door_back);
+    let (served, admitted) = served;
+    if let Err(fault) = served {
+        return (Err(fault), admitted);
+    }
+    (passes_back(pool.into_inner(), empty, &seats), admitted)
+}
+
 /// Serves the door's clients, as [`serve`] does, and counts them.
 ///
 /// # Errors
@@ -141,42 +227,51 @@ where
     // The door was asked for clients until it closed, unless memory ran out before.
     ensures closed { IfBegun result.0 (D.closed door.new ≡ true) }
     ensures unbegun { IsErrOf result.0 ServeFault.NoMemory → door.new ≡ door.old }
+    ensures going { IsErrOf result.0 ServeFault.Keep → ⊥ }
 {
-    let Ok(seats) = seats_of(alloc, &passes) else {
-        return (Err(ServeFault::NoMemory), Admitted::none());
-    };
-    // Allocated now, so that no allocation is left to fail after clients were served.
-    let Ok(empty) = Vec::with_capacity(alloc, passes.len()) else {
-        return (Err(ServeFault::NoMemory), Admitted::none());
-    };
-    let mut passes = passes;
-    passes.sort_unstable_by_key(|pass| pass.seat());
-    let Ok(pool) = Pool::new(alloc, passes) else {
-        return (Err(ServeFault::NoMemory), Admitted::none());
-    };
-    let pool = Mutex::new(pool);
-    let shared = &pool;
-    let (served, door_back) = thread::scope(
-        thread::scope_env(),
-        rt,
-        move |scope| -> ((Result<(), ServeFault>, Admitted<D::Stream>), &mut D)
-            ensures same { result.1.ghost_name ≡ door.entry.ghost_name }
-            ensures failures { D.failures result.1.now
-                ≡ D.failures door.entry.now + door_failures_in result.0.0 }
-            ensures each { D.given result.1.now ≡ D.given door.entry.now + result.0.1 }
-            ensures closed { D.closed result.1.now ≡ true }
-            ensures fault { IfErr result.0.0 (λ f. f ≡ ServeFault.Door) }
-        {
-            let served = accept_all(rt, alloc, scope, office, shared, &mut *door, gate);
-            (served, door)
-        },
-    );
-    take_back(door_back);
-    let (served, admitted) = served;
-    if let Err(fault) = served {
-        return (Err(fault), admitted);
-    }
-    (passes_back(pool.into_inner(), empty, &seats), admitted)
+    let served = serve_over(rt, alloc, office, &Uncovered, door, passes, gate);
+    served
+}
+
+/// Serves the door's clients over a keeper, as [`serve_each`] does. A reply is written once all that
+/// it was made from is on the disk. Once the log has failed, no client gets a reply any more: each
+/// session ends as [`End::NotKept`](crate::End::NotKept) at its next line, and serving ends after
+/// the next client.
+///
+/// # Errors
+///
+/// As `serve`, and `Keep` if the log has failed.
+pub fn serve_kept<N, L, H, R, D, G>(
+    rt: &R,
+    alloc: Global,
+    office: &Office<N, H>,
+    keeper: &Mutex<Keeper<N, L>>,
+    door: &mut D,
+    passes: Vec<Pass<N>>,
+    gate: &G,
+) -> (Result<Vec<Pass<N>>, ServeFault>, Admitted<D::Stream>)
+where
+    N: KeptName + Send + Sync,
+    L: Log + Send + Drop,
+    H: Wait + Drop + Send,
+    R: Threads + Wait + Clock + Sync,
+    D: Door,
+    G: Gate + Sync,
+    ensures seats { IfOk result.0 (λ back.
+        IsPermutation (map (λ p. p.seat) passes.items) (map (λ p. p.seat) back.items)) }
+    ensures sorted { IfOk result.0 (λ back. IsSorted nat_cmp (map (λ p. p.seat) back.items)) }
+    ensures door { D.failures door.new ≡ D.failures door.old + door_failures_in result.0 }
+
+    // Each client that the door gave was admitted once.
+    ensures each { D.given door.new ≡ D.given door.old + result.1 }
+
+    // The door was asked for clients until it closed, unless memory ran out before or the log failed.
+    ensures closed { IfBegun result.0 (D.closed door.new ≡ true) }
+    ensures unbegun { IsErrOf result.0 ServeFault.NoMemory → door.new ≡ door.old }
+{
+    let keeping = ByKeeper { keeper };
+    let served = serve_over(rt, alloc, office, &keeping, door, passes, gate);
+    served
 }
 
 /// Serves the door's clients until it closes, each on a thread of its own, at the lowest free seat.
@@ -213,6 +308,7 @@ where
     // The door was asked for clients until it closed, unless memory ran out before.
     ensures closed { IfBegun result (D.closed door.new ≡ true) }
     ensures unbegun { IsErrOf result ServeFault.NoMemory → door.new ≡ door.old }
+    ensures going { IsErrOf result ServeFault.Keep → ⊥ }
 {
     let (back, _) = serve_each(rt, alloc, office, door, passes, gate);
     back

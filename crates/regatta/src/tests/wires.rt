@@ -117,6 +117,7 @@ fn digit(end: End) -> u64 {
         End::WriteFault => 4,
         End::Stopped => 5,
         End::NoMemory => 6,
+        End::NotKept => 7,
     }
 }
 

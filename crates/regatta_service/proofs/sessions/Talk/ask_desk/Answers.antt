@@ -21,20 +21,24 @@ returns-clause-answered g c = λ is.
     let noted : c.note_source.new.pass ≡ with_source before found.entries =
     c.note_source.ensures.pass
     ∙ (λ k. with_source (c.confirm.ensures.same.1 k) (sym c.note_source.ensures.same k).entries) in
-    let (reply, replied, text) = c.in-Ok.ensures.ok in
-    record {
-      found = found;
-      left = c.answer.new.self;
-      reply = reply;
-      lawful = subst (λ (j : List EntryParts). is_lawful limits g.N.OfficeName.rules j ≡ true) entries
-          c.board.ensures.lawful;
-      seen = subst (λ (j : List EntryParts). IsPrefix before.seen j) published
-          (c.if-not-confirm.ensures.seen refl);
-      told = subst (λ (p : PassValue). All (λ j. IsPrefix j found.entries) p.told) noted
-          c.answer.ensures.told;
-      sources = subst (λ (j : List EntryParts). All (λ i. IsPrefix i j) before.sources) published
-          c.confirm.ensures.sources;
-      replied = subst (λ (p : PassValue). DeskReplies g.N.OfficeName.rules c.args.line
-          c.args.self.now.role found c.answer.new.self p c.answer.new.pass reply) noted replied;
-      text = text;
-    }
+    let (reply, replied, text) = c.answer.ensures.answered in (
+      c.answer.new.desk.entries,
+      record {
+        found = found;
+        left = c.answer.new.desk;
+        reply = reply;
+        lawful = subst (λ (j : List EntryParts). is_lawful limits g.N.OfficeName.rules j ≡ true) entries
+            c.board.ensures.lawful;
+        seen = subst (λ (j : List EntryParts). IsPrefix before.seen j) published
+            (c.if-not-confirm.ensures.seen refl);
+        told = subst (λ (p : PassValue). All (λ j. IsPrefix j found.entries) p.told) noted
+            c.answer.ensures.told;
+        sources = subst (λ (j : List EntryParts). All (λ i. IsPrefix i j) before.sources) published
+            c.confirm.ensures.sources;
+        replied = subst (λ (p : PassValue). DeskReplies g.N.OfficeName.rules c.args.line
+            c.args.self.now.role found c.answer.new.desk p c.answer.new.pass reply) noted replied;
+        text = text;
+        made = refl;
+      },
+      c.answer.ensures.needs,
+    )

@@ -1,5 +1,6 @@
-use Rattle.std.proofs.Common.{rules, refl, ap, get_or}
-use Rattle.regatta_streams.proofs.KnownBytes.{keeps-then}
+use Rattle.std.proofs.Common.{rules, refl, ap, get_or, subst, sym}
+use Rattle.std.specs.Io.KnownBytes.{Keeps}
+use Rattle.regatta_streams.proofs.KnownBytes.{keeps-same, keeps-then}
 use Rattle.regatta_service.proofs.Points.{stays_by_parts}
 use Rattle.regatta_service.proofs.Taking.{byte_taken, last_taken, line_taken}
 use Rattle.regatta_service.proofs.sessions.Talk.take_all.Goals as goal
@@ -15,8 +16,16 @@ returns-then-is_some-clause-ended g c =
       quit = search rules;
       cut_off = search rules;
       stopped = λ is.
-          let (stream, pass, role, line) = c.answer_line.ensures.stopped is in
-          stays_by_parts _ _ _ _ _ _ role pass (ap g.S.Device.contents stream);
+          let (stream, pass, role, line, book) = c.answer_line.ensures.stopped is in
+          stays_by_parts _ _ _ _ _ _ _ _ role pass (ap g.S.Device.contents stream) book;
+      unsaid = λ is.
+          let (stream, book) = c.answer_line.ensures.sealed is in (
+            search rules,
+            subst (Keeps (g.S.Device.contents c.loop-byte.stream))
+                (sym (ap g.S.Device.contents stream))
+                (keeps-same (g.S.Device.contents c.loop-byte.stream)),
+            book,
+          );
       room = search rules;
       closed = search rules;
       read = search rules;
@@ -32,7 +41,7 @@ loop-byte-preserved g c =
         well = search rules;
         no_read = search rules;
         goes = search rules;
-        room = search rules;
+        covered = search rules;
         went = line_taken _ c.args.self.now.cutter piece _ c.loop-byte.self.cutter _ i
             (get_or piece i 0) _ _ (search rules) refl (search rules) (search rules)
             (search rules) (search rules) c.loop-byte.invariant.went;
@@ -43,7 +52,7 @@ loop-byte-preserved g c =
         well = search rules;
         no_read = search rules;
         goes = search rules;
-        room = search rules;
+        covered = search rules;
         went = byte_taken _ c.args.self.now.cutter piece _ c.loop-byte.self.cutter _ i
             (get_or piece i 0) _ _ (search rules) refl (search rules) (search rules)
             (search rules) c.loop-byte.invariant.went;

@@ -1,0 +1,85 @@
+//! Silent clients of an office that has stopped.
+ghost use Rattle.std.specs.Prelude.{◌≡◌, None, IfSome};
+ghost use Rattle.std.specs.Io.{ReadsAtMost};
+ghost use Rattle.std.specs.Io.KnownBytes.{Keeps, ReadConsumes};
+
+use std::alloc::{AllocError, Global};
+use std::io;
+use std::io::{ErrorKind, Read};
+use std::sync::Arc;
+use std::sync::atomic::{AtomicBool, Ordering};
+
+/// Tells the streams of a door that its office has stopped. A read that waits for a client fails
+/// within a second then. No contract says so.
+#[derive(Drop)]
+pub struct Stopping {
+    flag: Arc<AtomicBool, Global>,
+}
+
+impl Stopping {
+    /// Nothing has stopped yet.
+    ///
+    /// # Errors
+    ///
+    /// If memory runs out.
+    pub(crate) fn new(alloc: Global) -> Result<Stopping, AllocError> {
+        let flag = Arc::new(alloc, AtomicBool::new(false))?;
+        Ok(Stopping { flag })
+    }
+
+    /// A second handle.
+    pub(crate) fn share(&self) -> Option<Stopping> {
+        let flag = Arc::try_clone(&self.flag).ok()?;
+        Some(Stopping { flag })
+    }
+
+    /// Tells the streams.
+    pub fn stop(&self) {
+        self.flag.store(true, Ordering::SeqCst);
+    }
+
+    fn is_set(&self) -> bool {
+        self.flag.load(Ordering::SeqCst)
+    }
+}
+
+/// Reads once. `None` if the time limit of the read has passed without a byte, and the office goes
+/// on.
+fn read_once<S: Read>(
+    stream: &mut S,
+    stopping: &Stopping,
+    buf: &mut [u8],
+) -> Option<io::Result<usize>>
+    ensures bound { IfSome result (λ read. ReadsAtMost read buf.new) }
+    ensures bytes { IfSome result (λ read. ReadConsumes (S.remaining stream.old)
+        (S.remaining stream.new) read buf.new) }
+    ensures keeps { result ≡ None → Keeps (S.remaining stream.old) (S.remaining stream.new) }
+{
+    match stream.read(buf) {
+        Ok(count) => Some(Ok(count)),
+        Err(why) => {
+            if why.kind() == ErrorKind::WouldBlock && !stopping.is_set() {
+                return None;
+            }
+            Some(Err(why))
+        }
+    }
+}
+
+/// Reads from a stream whose reads have a time limit, however often that passes, until the office
+/// has stopped.
+pub(crate) fn read_patiently<S: Read>(
+    stream: &mut S,
+    stopping: &Stopping,
+    buf: &mut [u8],
+) -> io::Result<usize>
+    ensures bound { ReadsAtMost result buf.new }
+    ensures bytes { ReadConsumes (S.remaining stream.old) (S.remaining stream.new) result buf.new }
+{
+    for _ in 0..u64::MAX {
+        if let Some(read) = read_once(stream, stopping, buf) {
+            return read;
+        }
+    }
+    Err(io::Error::from(ErrorKind::TimedOut))
+}
