@@ -17,7 +17,7 @@ use std::sync::{Mutex, Wait};
 use std::thread::{PromisedHandle, Scope};
 
 /// The number of clients with such a stream who were admitted: each was given to a thread that
-/// promised them a session, or was turned away with `BUSY`. It has no bytes: only contracts see the
+/// promised them a session, was served at once, or was turned away with `BUSY`. It has no bytes: only contracts see the
 /// number.
 #[derive(Drop)]
 pub struct Admitted<S> {

@@ -27,7 +27,7 @@ use std::thread;
 /// The most bytes that one read asks for.
 const PIECE: usize = 512;
 
-/// How often a session yields to others when it answers SHOW.
+/// How often a session yields to others after it has answered SHOW.
 const TURNS: u32 = 16;
 
 /// How a session ended.
@@ -51,17 +51,19 @@ pub enum End {
     NotKept,
 }
 
-/// Yields to other threads, so that a client who asks for sheets without a pause leaves the
-/// processors to those who send commands.
-fn make_way() {
-    for _ in 0..TURNS {
-        thread::yield_now();
+/// Yields to other threads after a SHOW, so that a client who asks for sheets without a pause
+/// leaves the processors to those who send commands.
+fn make_way(shown: bool) {
+    if shown {
+        for _ in 0..TURNS {
+            thread::yield_now();
+        }
     }
 }
 
 /// A client of the office, and what is kept from line to line beside the pass: the role, the number
-/// of the last line, the buffered part of the current line, and the last reply. `ended` is `None`
-/// while the session goes on.
+/// of the last line, the buffered part of the current line, the last reply, and whether that answers
+/// SHOW. `ended` is `None` while the session goes on.
 #[derive(Drop)]
 struct Talk<'a, N: OfficeName, H: Wait + Drop, C, G: Gate> {
     office: &'a Office<N, H>,
@@ -70,6 +72,7 @@ struct Talk<'a, N: OfficeName, H: Wait + Drop, C, G: Gate> {
     line: u64,
     cutter: Cutter,
     reply: Sealed<N, C>,
+    shown: bool,
     ended: Option<End>,
 }
 
@@ -122,14 +125,15 @@ impl<N: OfficeName, H: Wait + Drop, C: Covers<N>, G: Gate> Talk<'_, N, H, C, G> 
         ensures cutter { self.new.cutter ≡ self.old.cutter }
         ensures ended { self.new.ended ≡ self.old.ended }
     {
+        self.shown = false;
         match asked {
             Ok(line @ (Line::Do(_) | Line::Rank(_))) => {
                 let answered = self.ask_desk(rt, pass, covers, line);
                 answered.then_some(Next::Go)
             }
             Ok(Line::Show) => {
-                make_way();
                 self.reply.show(rt, self.office, pass, covers);
+                self.shown = true;
                 Some(Next::Go)
             }
             Ok(Line::SetRole(_) | Line::Quit) | Err(_) => {
@@ -216,6 +220,7 @@ impl<N: OfficeName, H: Wait + Drop, C: Covers<N>, G: Gate> Talk<'_, N, H, C, G> 
             return;
         }
         self.gate.after(pass.seat(), self.line);
+        make_way(self.shown);
         match next {
             Next::Go => {}
             Next::End => self.ended = Some(End::Quit),
@@ -309,6 +314,7 @@ where
         line: 0,
         cutter: Cutter::new(),
         reply: Sealed::new(reply),
+        shown: false,
         ended: None,
     };
     let mut buffer = [0; PIECE];
