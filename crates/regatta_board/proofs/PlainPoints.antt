@@ -1,17 +1,14 @@
--- The line of a boat without redress.
+-- The points of a boat without redress.
 use Rattle.std.proofs.Common.{◌≡◌, ◌∙◌, ℕ, ◌+◌, Bool, true, false, ◌&&◌, List, [], ◌∷◌, refl, ap, sym}
 use Rattle.std.proofs.Common.{map, get_or, Option, Some, None}
 use Rattle.std.specs.Prelude.{is_none}
 use Rattle.std.specs.List.{enumerate_from, list_all}
-use Rattle.regatta_terms.specs.Rules.{RulesParts}
 use Rattle.regatta_terms.specs.declared.command.Redress.{Redress}
 use Rattle.regatta_scores.specs.declared.boats.RowItem.{RowItem}
-use Rattle.regatta_scores.specs.declared.boats.Scored.{Scored}
 use Rattle.regatta_scores.specs.Averages as averages
 use Rattle.regatta_board.specs.declared.outcomes.Outcome.{Outcome}
-use Rattle.regatta_board.specs.Outcomes.{items, points, scores_by, plain_score, line, line_by}
+use Rattle.regatta_board.specs.Outcomes.{items, points}
 use Rattle.regatta_board.specs.Table.{no_outcome, outcomes}
-use Rattle.regatta_board.proofs.Maps.{map_map}
 
 both : (a b : Bool) → (a && b) ≡ true → (a ≡ true) × (b ≡ true)
 both true b h = (refl, h)
@@ -33,11 +30,6 @@ plain_from row n (o ∷ os) h =
     (list_all (λ (o : Outcome). is_none o.held.redress) os) h in
     λ i. plain_of row n o.plain o.held.redress parts.0 i ∷ plain_from row (n + 1) os parts.1 i
 
-scores_are : (os : List Outcome)
-    → map plain_score os ≡ scores_by os (map (λ (o : Outcome). o.plain) os)
-scores_are [] = refl
-scores_are (o ∷ os) = ap (λ ss. plain_score o ∷ ss) (scores_are os)
-
 -- no race with redress, by outcomes instead of columns
 none_of : (columns : List (List Outcome)) (boat : ℕ)
     → list_all (λ (c : List Outcome). is_none (get_or c boat no_outcome).held.redress) columns
@@ -46,21 +38,11 @@ none_of [] boat = refl
 none_of (c ∷ columns) boat =
     ap (λ b. is_none (get_or c boat no_outcome).held.redress && b) (none_of columns boat)
 
--- without redress a boat's line is that of her points before redress
-pub plain_line : (rules : RulesParts) (columns : List (List Outcome)) (boat : ℕ)
-    (scores : List Scored)
+-- without redress a boat's points are those before redress
+pub plain_points_are : (columns : List (List Outcome)) (boat : ℕ)
     → list_all (λ (c : List Outcome). is_none (get_or c boat no_outcome).held.redress) columns
     ≡ true
-    → scores ≡ map plain_score (outcomes columns boat)
-    → line_by rules scores ≡ line rules (outcomes columns boat)
-plain_line rules columns boat scores none is =
+    → map (λ (o : Outcome). o.plain) (outcomes columns boat) ≡ points (outcomes columns boat)
+plain_points_are columns boat none =
     let os = outcomes columns boat in
-    let hers : map (λ (o : Outcome). o.plain) os ≡ points os =
-    plain_from (items os) 0 os (sym (none_of columns boat) ∙ none) in
-    let made : scores ≡ scores_by os (points os) =
-    is ∙ scores_are os ∙ ap (scores_by os) hers in
-    λ i. record {
-      points = ((ap (map (λ (s : Scored). s.points)) is
-          ∙ map_map (λ (s : Scored). s.points) plain_score os) ∙ hers) i;
-      excluded = (line_by rules (made i)).excluded;
-    }
+    plain_from (items os) 0 os (sym (none_of columns boat) ∙ none)

@@ -25,10 +25,13 @@ items outcomes = map (λ o. record { plain = o.plain; redress = o.held.redress }
 abbrev pub points : List Outcome → List ℕ
 points outcomes = averages.points (items outcomes)
 
--- her points, and whether a DNE forbids excluding them (RRS A2.1)
+-- her score in one race for these points, and whether a DNE forbids excluding it (RRS A2.1)
+abbrev pub score : Outcome → ℕ → Scored
+score o points = record { points = points; dne = is_dne o.held.code }
+
+-- her scores for her points (RRS A2.1)
 abbrev pub scores_by : List Outcome → List ℕ → List Scored
-scores_by outcomes points =
-    map (λ o. record { points = o.1; dne = is_dne o.0.held.code }) (zip outcomes points)
+scores_by outcomes points = map (λ o. score o.0 o.1) (zip outcomes points)
 
 -- which of her scores are excluded, as many as the thresholds say (RRS A2.1)
 abbrev pub flags : RulesParts → List Outcome → List Bool
@@ -40,17 +43,6 @@ flags rules outcomes =
 -- her line, by which she is ranked: her points, and which of them are excluded (RRS A2.1, A8)
 abbrev pub line : RulesParts → List Outcome → BoatScores
 line rules outcomes = record { points = points outcomes; excluded = flags rules outcomes }
-
--- her score in a race in which she has no redress
-abbrev pub plain_score : Outcome → Scored
-plain_score o = record { points = o.plain; dne = is_dne o.held.code }
-
--- her line from her scores (RRS A2.1, A8)
-abbrev pub line_by : RulesParts → List Scored → BoatScores
-line_by rules scores = record {
-  points = map (λ score. score.points) scores;
-  excluded = exclusion.excluded (exclusions_of rules.thresholds (length scores)) scores;
-}
 
 -- the abbreviation beside the points in the table, if any (RRS A10)
 abbrev pub mark : Outcome → Option Abbrev

@@ -1,14 +1,12 @@
 //! Outcomes: a boat's results in the races that count, and the line and row computed from them.
-ghost use Rattle.std.specs.Prelude.{◌≡◌, ◌≤◌, length, map, IfOk};
-ghost use Rattle.regatta_scores.specs.Standing.{is_dne as is_dne_of};
-ghost use Rattle.regatta_board.specs.Outcomes.{cell as cell_of, cells_by, line_by, row_by};
-ghost use Rattle.regatta_board.specs.Outcomes.{plain_score as plain_score_of};
+ghost use Rattle.std.specs.Prelude.{◌≡◌, ◌<◌, length, IfOk};
+ghost use Rattle.regatta_scores.specs.Keys.{key};
+ghost use Rattle.regatta_board.specs.Outcomes.{cell as cell_of, cells_by, row_by, score};
 
 use regatta_scores::{
-    BoatLine, Cell, Held, Items, PerRace, Place, Row, RowItem, Scored, exclusion_flags, is_dne,
-    mark,
+    BoatLine, Cell, Held, Items, Place, Row, RowItem, Scored, is_dne, key_of, mark,
 };
-use regatta_terms::{MAX_RACES, Rules, Sail, Tenths};
+use regatta_terms::{MAX_RACES, Sail, Tenths};
 use std::alloc::{AllocError, Global};
 
 /// A boat's result in one race, from which her points, her line and her cell follow.
@@ -32,46 +30,17 @@ pub(crate) fn row_item(outcome: Outcome) -> RowItem
     }
 }
 
-/// Her score for these points, and whether it is for a disqualification that is not excludable (RRS
-/// 90.3(b)).
-pub(crate) fn score_of(outcome: Outcome, points: Tenths) -> Scored
-    ensures { result ≡ record { points = points; dne = is_dne_of outcome.held.code } }
+/// The key by which her score for these points in race `i` is excluded, where `i` counts from 0.
+pub(crate) fn key_at(outcome: &Outcome, points: Tenths, i: usize) -> u32
+    requires { i < MAX_RACES }
+    ensures value { result ≡ key i (score outcome.now points) }
+    ensures bound { result < 4294967295 }
 {
-    Scored {
+    let score = Scored {
         points,
         dne: is_dne(outcome.held.code),
-    }
-}
-
-/// Her score for her points before redress.
-pub(crate) fn plain_score(outcome: Outcome) -> Scored
-    ensures { result ≡ plain_score_of outcome }
-{
-    Scored {
-        points: outcome.plain,
-        dne: is_dne(outcome.held.code),
-    }
-}
-
-fn points_of_scores(scores: &[Scored]) -> PerRace<Tenths>
-    requires { length scores.now ≤ MAX_RACES }
-    ensures { result.items ≡ map (λ score. score.points) scores.now }
-{
-    let mut found = PerRace::new();
-    for score in scores {
-        found.push(score.points);
-    }
-    found
-}
-
-/// Her line if these are her scores.
-pub(crate) fn line_of_scores(scores: &[Scored], rules: &Rules) -> BoatLine
-    requires { length scores.now ≤ MAX_RACES }
-    ensures { result ≡ line_by rules.now scores.now }
-{
-    let points = points_of_scores(scores);
-    let flags = exclusion_flags(scores, rules);
-    BoatLine::from_lists(points, flags)
+    };
+    key_of(&score, i)
 }
 
 fn cell(outcome: &Outcome, points: Tenths, dropped: bool) -> Cell
