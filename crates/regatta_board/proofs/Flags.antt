@@ -1,15 +1,15 @@
 -- Flags of the boats who have a new line, and the ranking before they have it.
 use Rattle.std.proofs.Common.{◌≡◌, ℕ, zero, suc, ◌+◌, ◌<◌, Bool, true, false, List, [], ◌∷◌, refl, ap}
-use Rattle.std.proofs.Common.{◌∙◌, sym, arith, length, get_or, set, drop, nat_eq, replicate, All}
-use Rattle.std.proofs.lemmas.List.{length-set, get_or-set_other, drop_more, get_or_default}
+use Rattle.std.proofs.Common.{◌∙◌, sym, arith, length, get_or, set, drop, nat_eq, replicate}
+use Rattle.std.proofs.lemmas.List.{length-set, get_or-set_other, drop_more}
 use Rattle.std.proofs.lemmas.List.{length-replicate}
 use Rattle.std.proofs.lemmas.List.Sorted.{IsPermutation-refl}
 use borrow.Author.Tests.{eqb-true, eq-eqb}
 use Rattle.regatta_scores.specs.Ranking.{BoatScores}
 use Rattle.regatta_scores.specs.Entrants.{no_line}
-use Rattle.regatta_scores.specs.KeptRanking.{IsRanking, WereRanked, is_new, line_of}
+use Rattle.regatta_scores.specs.KeptRanking.{IsRanking, WereRanked, line_of}
 use Rattle.regatta_board.specs.declared.scoring.NewLine.{NewLine}
-use Rattle.regatta_board.specs.Scoring.{AreOfBoats, with_changed, with_flags}
+use Rattle.regatta_board.specs.Scoring.{with_changed, with_flags}
 use Rattle.regatta_board.proofs.Lines.{drop_past}
 
 -- no boats are ranked

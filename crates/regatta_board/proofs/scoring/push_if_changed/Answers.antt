@@ -1,5 +1,4 @@
-use Rattle.std.proofs.Common.{◌≡◌, Some, None, refl, rules, sym}
-use Rattle.regatta_scores.specs.Ranking.{BoatScores}
+use Rattle.std.proofs.Common.{Some, None, refl, sym}
 use Rattle.regatta_board.proofs.EqualOutcomes.{outcome_apart, outcome_one}
 use Rattle.regatta_board.proofs.scoring.push_if_changed.Goals as goal
 
