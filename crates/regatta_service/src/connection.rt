@@ -55,14 +55,18 @@ impl Drop for Ending {
     }
 }
 
-/// Sets the time limits of a socket. The result is false if the system sets none.
+/// Sets the time limits of a socket: that of its writes, and that of its reads if the office may stop.
+/// The result is false if the system sets none.
 fn set_limits(socket: &UnixStream, stops: bool) -> bool {
     let limit = Duration::from_secs(WRITE_LIMIT);
     if socket.set_write_timeout(Some(limit)).is_err() {
         return false;
     }
-    let limit = stops.then_some(Duration::from_secs(READ_LIMIT));
-    socket.set_read_timeout(limit).is_ok()
+    if !stops {
+        return true;
+    }
+    let limit = Duration::from_secs(READ_LIMIT);
+    socket.set_read_timeout(Some(limit)).is_ok()
 }
 
 /// The connection over a socket that was accepted. `None` if the system gives no second descriptor
