@@ -4,7 +4,6 @@ use regatta_terms::{Entry, Rules};
 use std::alloc::{AllocError, Global};
 use std::test::Fail;
 
-mod kept;
 mod memory;
 mod offices;
 mod serving;

@@ -152,7 +152,7 @@ pub struct SocketDoor {
     /// A second handle of the listener. When no descriptor is left, it is given up, so that the
     /// next client can be told that there is no seat.
     spare: Option<UnixListener>,
-    /// What tells the door's streams that the office has stopped, if it may.
+    /// What shows the door's streams that the office has stopped, if it may.
     stopping: Option<Stopping>,
     left: Option<u32>,
     failures: Failures,
@@ -205,7 +205,7 @@ impl SocketDoor {
         })
     }
 
-    /// Binds a new socket, as `bind` does, for an office that may stop: the handle tells the streams
+    /// Binds a new socket, as `bind` does, for an office that may stop: the handle ends the reads
     /// of clients when it has.
     ///
     /// # Errors

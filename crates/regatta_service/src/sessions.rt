@@ -359,8 +359,8 @@ where
 
     // The lines that ended in the bytes that the stream gave were answered as the session's end
     // says, starting in the scorer's role, and exactly their replies were written. If there is a
-    // book of what is kept, it was told, for each reply, of a journal that begins with the one that
-    // the reply was made from.
+    // book of what is kept, it has for each reply a journal that begins with the one that the reply
+    // was made from.
     ensures talked { Talked N.rules result (S.remaining stream.old) (S.remaining stream.new)
         pass.old pass.new (S.contents stream.old) (S.contents stream.new) (C.book covers.old)
         (C.book covers.new) }

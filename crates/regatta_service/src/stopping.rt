@@ -9,7 +9,7 @@ use std::io::{ErrorKind, Read};
 use std::sync::Arc;
 use std::sync::atomic::{AtomicBool, Ordering};
 
-/// Tells the streams of a door that its office has stopped. A read that waits for a client fails
+/// Shows the streams of a door that its office has stopped. A read that waits for a client fails
 /// within a second then. No contract says so.
 #[derive(Drop)]
 pub struct Stopping {
@@ -33,7 +33,7 @@ impl Stopping {
         Some(Stopping { flag })
     }
 
-    /// Tells the streams.
+    /// Ends the reads that wait.
     pub fn stop(&self) {
         self.flag.store(true, Ordering::SeqCst);
     }
