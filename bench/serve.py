@@ -33,7 +33,7 @@ import time
 from compiled import compiled
 
 sys.path.append(os.path.join(os.path.dirname(os.path.abspath(__file__)), os.pardir, "tools"))
-from office import Link  # noqa: E402
+from office import Gone, Link  # noqa: E402
 
 SEATS, COMMANDS, RACES, JOURNAL = 16, 4000, 40, 8192
 # Seconds that an answer may take.
@@ -122,9 +122,19 @@ def read_sheet(client):
         end = (end + data)[-5:]
 
 
+def first_link(path):
+    """A link to an office that has just begun: its socket's file is there before it listens."""
+    for _ in range(1000):
+        try:
+            return Link(path, PATIENCE)
+        except Gone:
+            time.sleep(0.01)
+    sys.exit("the program doesn't listen")
+
+
 def begin(server, entries):
     """Enters two boats, and makes `entries` entries more, before the clock starts."""
-    client = Link(server.path, PATIENCE)
+    client = first_link(server.path)
     client.ask("ENTER A")
     client.ask("ENTER B")
     for i in range(entries):
