@@ -9,7 +9,7 @@ The Nth request of a run is refused, for N = 1, 2, .. up to as many as the run m
 - replays of all commands, by finishes and by corrected times;
 - replays of the weekend of `examples/`, with and without start files, in each form;
 - help, and arguments that are refused;
-- serving one client.
+- serving one client, without a kept file and with one.
 
 Those of `times`, if that program is named too, are lines and sums of each system, with the ratings in
 the sheet or in a list; help; and arguments, settings, lists and sheets that are refused.
@@ -222,6 +222,21 @@ class Serving(Run):
         return requests, others
 
 
+class Keeping(Serving):
+    """A run of `serve` with a new kept file. If memory runs out, a reply that can't be kept isn't written."""
+
+    def served(self, library, refused):
+        file = os.path.join(self.folder, "kept.journal")
+        for end in ("", ".opening", ".cut"):
+            with contextlib.suppress(FileNotFoundError):
+                os.unlink(file + end)
+        words, self.words = self.words, self.words + ["--keep", file]
+        try:
+            return super().served(library, refused)
+        finally:
+            self.words = words
+
+
 def runs(folder, program):
     def run(name, words, text=b"", kind=Run, asks_again=False):
         return kind(folder, program, name, words, text, asks_again)
@@ -243,8 +258,10 @@ def runs(folder, program):
     yield run("no word", [], asks_again=True)
     yield run("an unknown rule", ["replay", "--scp", "0"])
     yield run("a bad journal", ["replay", "--journal", os.path.join(EXAMPLES, "boats.csv")])
-    yield run("serving", ["serve", "--sessions", "1", "--clients", "2"] + boats,
-              b"FINISH 1 GBR7\nSCORE 1\nRANK GBR7\nSHOW\nQUIT\n", Serving)
+    lines = b"FINISH 1 GBR7\nSCORE 1\nRANK GBR7\nSHOW\nQUIT\n"
+    yield run("serving", ["serve", "--sessions", "1", "--clients", "2"] + boats, lines, Serving)
+    yield run("serving a kept series", ["serve", "--sessions", "1", "--clients", "2"] + boats, lines,
+              Keeping)
 
 
 def runs_of_times(folder, program):

@@ -9,6 +9,9 @@ is entered; the first letters of a folder in front of a line choose it.
 
 Lines of a file are sent as they are, and stop at the first that is refused, since the next boat
 would take the refused boat's place. The status is 1 if a line was refused or had no answer.
+
+If the office goes before a line is answered, nobody knows whether the line is in the journal, however
+the office was kept: look there before you send it again.
 """
 from __future__ import annotations
 

@@ -2,8 +2,8 @@
 
 use regatta_office::{Tape, program};
 use std::alloc::{AllocError, Global};
-use std::fs::Files;
-use std::net::Net;
+use std::fs::{File, Files};
+use std::net::{Net, TcpListener, TcpStream};
 use std::sync::Wait;
 use std::thread::Threads;
 use std::time::Clock;
@@ -48,7 +48,14 @@ impl Streams {
 /// The status of a run of the program over these streams.
 pub fn status_of<R>(rt: &R, words: &[&str], streams: &mut Streams) -> u8
 where
-    R: Files + AllocGlobal + Threads + Wait + Net + Clock + Sync,
+    R: Files<File = File>
+        + AllocGlobal
+        + Threads
+        + Wait
+        + Net<Listener = TcpListener, Stream = TcpStream>
+        + Clock
+        + Sync,
+    R::Dir: Send + Sync,
 {
     let Streams {
         input,

@@ -11,12 +11,12 @@ use Rattle.regatta_board.specs.declared.journal.TheConstants.{REPLAY_SEAT}
 use Rattle.regatta_board.proofs.LastNumber.{number_push}
 use Rattle.regatta_office.specs.Starts.{entering, start_of}
 
-start_of-cons : (journal : Journal) (sail : List ℕ) (sails : List (List ℕ))
+pub start_of-cons : (journal : Journal) (sail : List ℕ) (sails : List (List ℕ))
     → start_of journal (sail ∷ sails) ≡ start_of (journal ++ entering journal sail ∷ []) sails
 unfolding start_of
 start_of-cons journal sail sails = refl
 
-start_of-none : (journal : Journal) → start_of journal [] ≡ journal
+pub start_of-none : (journal : Journal) → start_of journal [] ≡ journal
 unfolding start_of
 start_of-none journal = refl
 

@@ -3,6 +3,7 @@ pub mod EndFacts
 pub mod Entering
 pub mod Gathering
 pub mod HeardFacts
+pub mod KeptStarting
 mod Printing
 pub mod Refused
 pub mod Results

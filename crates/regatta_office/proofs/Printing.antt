@@ -1,10 +1,10 @@
 -- What was written when a table was printed.
 use Rattle.std.proofs.Common.{◌≡◌, ◌⊎◌, ℕ, List, Option, Result, Ok, Err, Some, None, OnOk, IsErrOf}
-use Rattle.std.proofs.Common.{refl, sym, inl, inr, subst}
+use Rattle.std.proofs.Common.{refl, sym, inl, inr, subst, IfOk}
 use Rattle.std.specs.Io.KnownBytes.{Keeps}
 use Rattle.regatta_terms.specs.Rules.{RulesParts}
 use Rattle.regatta_scores.specs.Journal.{Journal}
-use Rattle.regatta_office.specs.Asked.{BreaksOffTable, PrintsAtMostTable, PrintsTable}
+use Rattle.regatta_office.specs.Asked.{BreaksOffTable, PrintsAtMostTable, PrintsKeptTable, PrintsTable}
 use Rattle.regatta_office.specs.declared.scribe.ScribeFault.{ScribeFault}
 
 -- equal bytes are kept
@@ -20,6 +20,18 @@ on_ok (Err e) f p = tt
 -- what holds if a call succeeds, of a call that did
 pub of_ok : {A E P : Type 0} → (r : Result A E) (x : A) → r ≡ Ok x → OnOk r P → P
 of_ok {P = P} r x is p = subst (λ s. OnOk s P) is p
+
+-- a table of a kept journal is a table
+pub without_kept : {E : Type 0} (rules : RulesParts) (start : Journal) (old new : Option (List ℕ))
+    → (r : Result Journal E) → IfOk r (λ kept. PrintsKeptTable rules start kept old new)
+    → OnOk r (PrintsTable rules start old new)
+without_kept rules start old new (Ok kept) printed = record {
+  journal = printed.journal;
+  begins = printed.begins;
+  lawful = printed.lawful;
+  wrote = printed.wrote;
+}
+without_kept rules start old new (Err fault) printed = tt
 
 -- one of two cases, and what follows from each
 pub either : {P Q R S : Type 0} → P ⊎ Q → (P → R) → (Q → S) → R ⊎ S

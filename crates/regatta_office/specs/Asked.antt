@@ -12,6 +12,8 @@ use Rattle.regatta_tables.specs.JournalFiles.{journal_of}
 use Rattle.regatta_office.specs.declared.start_files.TheConstants.{FILE_LIMIT}
 use Rattle.regatta_office.specs.declared.form.Form.{Form}
 use Rattle.regatta_office.specs.declared.form.Form.TheVariants.{Table}
+use Rattle.regatta_keep.specs.WholeLines.{recovery, torn_part}
+use Rattle.regatta_office.specs.KeptStarts.{IsKeptStart}
 use Rattle.regatta_office.specs.Starts.{start_of}
 use Rattle.regatta_office.specs.Transcript.{final_text, run_text}
 
@@ -30,10 +32,11 @@ pub record ReplayAsked : Type 0 where
   pub series : Series
   pub form : Form
 
--- what `serve` is asked for: the series, the path of the socket, the number of seats, and the
--- number of clients after which the door closes (0: never)
+-- what `serve` is asked for: the series, the path of the file that keeps it, the path of the socket,
+-- the number of seats, and the number of clients after which the door closes (0: never)
 pub record ServingAsked : Type 0 where
   pub series : Series
+  pub keep : Option (List ℕ)
   pub socket : List ℕ
   pub clients : ℕ
   pub sessions : ℕ
@@ -61,6 +64,32 @@ pub record Begins (series : Series) (rules : RulesParts) (start : Journal) : Typ
   pub from_entries : AreSailsAt series.entries sails
   pub both : start ≡ start_of journal sails
 
+-- a text of a kept file stands for this journal, and has this torn end
+pub record IsKeptText (text : List ℕ) (journal : Journal) (torn : List ℕ) : Type 0 where
+  pub reads : recovery text ≡ Ok journal
+  pub ends : torn ≡ torn_part text
+
+-- a kept file of some text stands for this journal
+abbrev pub IsJournalOfSome : Journal → Type 0
+IsJournalOfSome journal = (text : List ℕ) × (torn : List ℕ) × IsKeptText text journal torn
+
+-- what a kept series starts with: the rules of its texts, and the entries that go on from what is
+-- kept, from the journal file and from the entry list; no proof knows what a file holds
+pub record BeginsKept (series : Series) (rules : RulesParts) (start : Journal) : Type 0 where
+  pub read : rules_of_texts series.absent series.scp series.exclude series.handicap ≡ Ok rules
+  pub journal : Journal
+  pub from_journal : IsJournalAt series.journal journal
+  pub sails : List (List ℕ)
+  pub from_entries : AreSailsAt series.entries sails
+  pub kept : Journal
+  pub from_file : IsJournalOfSome kept
+  pub goes_on : IsKeptStart kept journal sails start
+
+-- what a serving starts with, without a kept file or with one
+abbrev pub BeginsBy : Option (List ℕ) → Series → RulesParts → Journal → Type 0
+BeginsBy None = Begins
+BeginsBy (Some path) = BeginsKept
+
 -- a whole replay was written, under the rules and from the entries that the series starts with, in
 -- the form asked for
 pub record IsReplayOf (asked : ReplayAsked) (given old new : Option (List ℕ)) : Type 0 where
@@ -78,6 +107,16 @@ pub record PrintsTable (rules : RulesParts) (start : Journal) (old new : Option 
     pub lawful : is_lawful limits rules journal ≡ true
     pub wrote : Appends old new (final_text rules Table journal)
 
+-- the table of a lawful journal that begins with the start was written, and the journal is a beginning
+-- of one that is kept
+pub record PrintsKeptTable (rules : RulesParts) (start kept : Journal) (old new : Option (List ℕ)) :
+    Type 0 where
+  pub journal : Journal
+  pub begins : IsPrefix start journal
+  pub lawful : is_lawful limits rules journal ≡ true
+  pub covered : IsPrefix journal kept
+  pub wrote : Appends old new (final_text rules Table journal)
+
 -- a beginning of such a table was written, and not all of it
 pub record BreaksOffTable (rules : RulesParts) (start : Journal) (old new : Option (List ℕ)) :
     Type 0 where
@@ -93,16 +132,23 @@ PrintsAtMostTable rules start old new =
 
 -- nothing was written; or at most such a table, under the rules and from the entries that the
 -- series starts with
-abbrev pub AtMostServingOf : ServingAsked → Option (List ℕ) → Option (List ℕ) → Type 0
-AtMostServingOf asked old new =
-    Keeps old new ⊎ ((rules : RulesParts) × (start : Journal) × Begins asked.series rules start
+abbrev pub AtMostFrom : (RulesParts → Journal → Type 0) → Option (List ℕ) → Option (List ℕ) → Type 0
+AtMostFrom Starts old new =
+    Keeps old new ⊎ ((rules : RulesParts) × (start : Journal) × Starts rules start
     × PrintsAtMostTable rules start old new)
+
+abbrev pub AtMostServingOf : ServingAsked → Option (List ℕ) → Option (List ℕ) → Type 0
+AtMostServingOf asked = AtMostFrom (BeginsBy asked.keep asked.series)
 
 -- clients were served under the rules and from the entries that the series starts with, and the
 -- table was written; no type says what clients did to the journal after the start
-pub record IsServingOf (asked : ServingAsked) (old new : Option (List ℕ)) : Type 0 where
-  pub rules : RulesParts
-  pub start : Journal
-  pub begins : Begins asked.series rules start
-  pub lawful : is_lawful limits rules start ≡ true
-  pub table : PrintsTable rules start old new
+pub record ServesFrom (Starts : RulesParts → Journal → Type 0) (old new : Option (List ℕ)) : Type 0
+  where
+    pub rules : RulesParts
+    pub start : Journal
+    pub begins : Starts rules start
+    pub lawful : is_lawful limits rules start ≡ true
+    pub table : PrintsTable rules start old new
+
+abbrev pub IsServingOf : ServingAsked → Option (List ℕ) → Option (List ℕ) → Type 0
+IsServingOf asked = ServesFrom (BeginsBy asked.keep asked.series)

@@ -3,13 +3,19 @@ use Rattle.std.specs.Prelude.{ℕ}
 use Rattle.regatta_office.specs.declared.complaint.Complaint.{Complaint}
 use Rattle.regatta_office.specs.declared.complaint.Complaint.TheVariants as complaint
 
--- 1 if a file, the start or the input is at fault, 2 if the rules are, 3 if a device fails or
--- memory runs out
+-- 1 if a file, the start or the input is at fault, 2 if the rules are, 3 if a device fails, another
+-- office has the kept file, or memory runs out
 abbrev pub status_of : Complaint → ℕ
 status_of (complaint.Rules number) = 2
 status_of (complaint.Entries number row) = 1
 status_of (complaint.Journal number line) = 1
 status_of (complaint.Start number at) = 1
 status_of complaint.TooLong = 1
+status_of (complaint.KeepJournal number line) = 1
+status_of (complaint.KeepDamaged line) = 1
+status_of (complaint.KeepDiffers at) = 1
+status_of complaint.KeepTooLong = 1
+status_of complaint.KeepTaken = 3
+status_of complaint.KeepFault = 3
 status_of complaint.Device = 3
 status_of complaint.NoMemory = 3

@@ -1,7 +1,9 @@
 pub mod Asked
 pub mod Coming
 pub mod Complaints
+pub mod CutNotes
 pub mod Faults
+pub mod KeptStarts
 pub mod Runs
 pub mod Scribes
 pub mod ShownText

@@ -71,9 +71,10 @@ abbrev pub replay : ValueParser → App
 replay forms =
     with_rule (with_start (with_rules (new_app (codes "replay")))) (form_option forms)
 
--- the subcommand `serve`: the options of the series, of its start and of the socket
+-- the subcommand `serve`: the options of the series, of its start, of the socket and of the kept file
 abbrev pub serve : App
-serve = with_seats (with_start (with_rules (new_app (codes "serve"))))
+serve = with_rule (with_seats (with_start (with_rules (new_app (codes "serve")))))
+    (option (codes "keep"))
 
 -- the program has no option of its own, and needs a subcommand
 abbrev pub bare_program : App
@@ -129,20 +130,22 @@ abbrev pub number_by : Option Text → Option ℕ
 number_by = option_map (λ text. digits_value 10 (without_leading_plus text))
 
 -- what `serve` is asked for, from the values that the arguments or the defaults give
-abbrev pub serving_by : Option Series → Option Text → Option ℕ → Option ℕ → Option ServingAsked
-serving_by (Some series) (Some socket) (Some clients) (Some sessions) = Some (record {
+abbrev pub serving_by : Option Series → Option Text → Option Text → Option ℕ → Option ℕ
+    → Option ServingAsked
+serving_by (Some series) keep (Some socket) (Some clients) (Some sessions) = Some (record {
   series = series;
+  keep = keep;
   socket = socket;
   clients = clients;
   sessions = sessions;
 })
-serving_by _ _ _ _ = None
+serving_by _ _ _ _ _ = None
 
 -- the same, by the values of its options
 abbrev pub serving_with : (Text → Option Text) → Option ServingAsked
 serving_with value =
-    serving_by (series_with value) (value (codes "socket")) (number_by (value (codes "clients")))
-    (number_by (value (codes "sessions")))
+    serving_by (series_with value) (value (codes "keep")) (value (codes "socket"))
+    (number_by (value (codes "clients"))) (number_by (value (codes "sessions")))
 
 -- what the subcommand asks for, from its name and its options
 abbrev pub asked_by : Option (Text × List Row) → Option Asked

@@ -59,6 +59,7 @@ pub serving_defaults : (forms : ValueParser) → asked_of forms
         entries = None;
       };
       socket = codes "s";
+      keep = None;
       clients = 4;
       sessions = 0;
     }))
@@ -79,6 +80,7 @@ pub serving_options : (forms : ValueParser) → asked_of forms
         entries = Some (codes "e");
       };
       socket = codes "s";
+      keep = None;
       clients = 16;
       sessions = 1000000;
     }))
@@ -97,6 +99,7 @@ pub serving_times : (forms : ValueParser) → asked_of forms
         entries = None;
       };
       socket = codes "s";
+      keep = None;
       clients = 4;
       sessions = 0;
     }))

@@ -3,12 +3,13 @@ ghost use Rattle.std.specs.Prelude.{◌≡◌, ◌+◌, true, map, vec_len, IfOk
 ghost use Rattle.std.specs.List.Sorted.{IsPermutation};
 ghost use Rattle.regatta_service.specs.Doors.{streams_asked};
 ghost use Rattle.regatta_service.specs.Faults.{IfBegun, door_failures_in};
-ghost use Rattle.regatta_office.specs.Asked.{AtMostServingOf, IsServingOf};
-ghost use Rattle.regatta_office.specs.Asked.{PrintsAtMostTable, PrintsTable};
+ghost use Rattle.regatta_office.specs.Asked.{AtMostFrom, AtMostServingOf, Begins, IsServingOf};
+ghost use Rattle.regatta_office.specs.Asked.{PrintsAtMostTable, PrintsTable, ServesFrom};
 
 use crate::complaint::Complaint;
 use crate::final_part::print_final;
 use crate::form::Form;
+use crate::kept_clients::serve_kept_series;
 use crate::options::ServeOptions;
 use crate::scribe::ScribeFault;
 use crate::series::beginning_of;
@@ -16,15 +17,18 @@ use regatta_desk::{Note, Office, OfficeName, Opened, Pass};
 use regatta_service::{Admitted, Door, DoorFault, OpenGate, ServeFault, SocketDoor, serve_each};
 use regatta_streams::{Device, Sink};
 use std::alloc::Global;
-use std::fs::Files;
+use std::fs::{File, Files};
 use std::marker::Brand;
-use std::net::Net;
+use std::net::{Net, TcpListener, TcpStream};
 use std::sync::Wait;
 use std::thread::Threads;
 use std::time::Clock;
 
 /// The door that the options ask for.
-fn door_of<R: Files + Net>(rt: &R, options: &ServeOptions<'_>) -> Result<SocketDoor, DoorFault>
+pub(crate) fn door_of<R: Files + Net>(
+    rt: &R,
+    options: &ServeOptions<'_>,
+) -> Result<SocketDoor, DoorFault>
     ensures { IfOk result (λ door. door.left ≡ streams_asked options.now.sessions) }
 {
     let door = SocketDoor::bind(rt, options.socket, options.sessions)?;
@@ -159,14 +163,9 @@ where
     Ok(back.len())
 }
 
-/// Serves the series that the options ask for: opens its office, serves clients at a new socket,
-/// and prints the table at the end.
-///
-/// # Errors
-///
-/// The fault of the rules or the start, before any client is served. `Device` if a socket or a write
-/// fails, or a seat doesn't come back, and `NoMemory` if an allocation fails.
-pub(crate) fn serve_series<R, W>(
+/// Serves the series that the options ask for without a kept file: opens its office, serves clients at
+/// a new socket, and prints the table at the end.
+fn serve_unkept_series<R, W>(
     rt: &R,
     options: &ServeOptions<'_>,
     output: &mut W,
@@ -174,9 +173,9 @@ pub(crate) fn serve_series<R, W>(
 where
     R: Files + AllocGlobal + Net + Threads + Wait + Clock + Sync,
     W: Sink,
-    ensures done { OnOk result (IsServingOf options.now (W.contents output.old)
-        (W.contents output.new)) }
-    ensures at_most { AtMostServingOf options.now (W.contents output.old)
+    ensures done { OnOk result (ServesFrom (Begins options.now.series)
+        (W.contents output.old) (W.contents output.new)) }
+    ensures at_most { AtMostFrom (Begins options.now.series) (W.contents output.old)
         (W.contents output.new) }
 {
     let alloc = rt.alloc();
@@ -185,4 +184,40 @@ where
     let opened = Office::open(rt, alloc, &begin.rules, options.clients, start)?;
     serve_office::<Brand, _, _, _>(rt, alloc, opened, options, output)?;
     Ok(())
+}
+
+/// Serves the series that the options ask for, and keeps it if they name a file for that. At the end
+/// prints the table.
+///
+/// # Errors
+///
+/// The fault of the rules, the files or the start, before any client is served. `KeepFault` if a write
+/// or a sync of the kept file fails, `Device` if a socket or another write fails, or a seat doesn't
+/// come back, and `NoMemory` if an allocation fails.
+pub(crate) fn serve_series<R, W, E>(
+    rt: &R,
+    options: &ServeOptions<'_>,
+    output: &mut W,
+    errors: &mut E,
+) -> Result<(), Complaint>
+where
+    R: Files<File = File>
+        + AllocGlobal
+        + Net<Listener = TcpListener, Stream = TcpStream>
+        + Threads
+        + Wait
+        + Clock
+        + Sync,
+    R::Dir: Send + Sync,
+    W: Sink,
+    E: Sink,
+    ensures done { OnOk result (IsServingOf options.now (W.contents output.old)
+        (W.contents output.new)) }
+    ensures at_most { AtMostServingOf options.now (W.contents output.old)
+        (W.contents output.new) }
+{
+    match options.keep {
+        Some(path) => serve_kept_series(rt, options, path, output, errors),
+        None => serve_unkept_series(rt, options, output),
+    }
 }

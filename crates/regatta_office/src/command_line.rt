@@ -15,8 +15,8 @@ use crate::series::beginning_of;
 use clap::error::ErrorKind;
 use regatta_streams::{Sink, Source, write_all};
 use std::alloc::Global;
-use std::fs::Files;
-use std::net::Net;
+use std::fs::{File, Files};
+use std::net::{Net, TcpListener, TcpStream};
 use std::sync::Wait;
 use std::thread::Threads;
 use std::time::Clock;
@@ -104,18 +104,32 @@ fn replay_series<H: Files + AllocGlobal, R: Source, W: Sink>(
     Ok(())
 }
 
-fn run<H, R, W>(rt: &H, asked: &Asked<'_>, input: &mut R, output: &mut W) -> Result<(), Complaint>
+fn run<H, R, W, E>(
+    rt: &H,
+    asked: &Asked<'_>,
+    input: &mut R,
+    output: &mut W,
+    errors: &mut E,
+) -> Result<(), Complaint>
 where
-    H: Files + AllocGlobal + Threads + Wait + Net + Clock + Sync,
+    H: Files<File = File>
+        + AllocGlobal
+        + Threads
+        + Wait
+        + Net<Listener = TcpListener, Stream = TcpStream>
+        + Clock
+        + Sync,
+    H::Dir: Send + Sync,
     R: Source,
     W: Sink,
+    E: Sink,
     ensures done { OnOk result (IsRunOf R.remaining asked.now input.old input.new
         (W.contents output.old) (W.contents output.new)) }
     ensures at_most { AtMostRunOf asked.now (W.contents output.old) (W.contents output.new) }
 {
     match asked {
         Asked::Replay(options) => replay_series(rt, options, input, output),
-        Asked::Serve(options) => serve_series(rt, options, output),
+        Asked::Serve(options) => serve_series(rt, options, output, errors),
     }
 }
 
@@ -128,7 +142,8 @@ where
 /// `--absent`, `--scp`, `--exclude` and `--handicap` are the series rules (RRS A5.2 and A5.3,
 /// 44.3(c), A2.1, A3). `--journal` and `--entries` name files to start from. `--print` is the form
 /// of a replay's final part. `--socket` is the path of the socket, `--clients` the number of seats,
-/// and `--sessions` the number of clients after which the door closes.
+/// and `--sessions` the number of clients after which the door closes. `--keep` names the file that
+/// keeps the journal of a serving.
 ///
 /// The status is 0 if everything was written, 1 if a file, the start or the input is at fault, 2 if
 /// the arguments or the rules are, and 3 if a device fails or memory runs out. If the status isn't
@@ -141,7 +156,14 @@ pub fn program<H, R, W, E>(
     errors: &mut E,
 ) -> u8
 where
-    H: Files + AllocGlobal + Threads + Wait + Net + Clock + Sync,
+    H: Files<File = File>
+        + AllocGlobal
+        + Threads
+        + Wait
+        + Net<Listener = TcpListener, Stream = TcpStream>
+        + Clock
+        + Sync,
+    H::Dir: Send + Sync,
     R: Source,
     W: Sink,
     E: Sink,
@@ -171,7 +193,7 @@ where
         let _ = write_all(errors, b"error: no command\n");
         return BAD_WORDS;
     };
-    match run(rt, &asked, input, output) {
+    match run(rt, &asked, input, output, errors) {
         Ok(()) => 0,
         Err(complaint) => complain(alloc, errors, complaint),
     }

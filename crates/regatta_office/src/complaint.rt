@@ -2,9 +2,12 @@
 ghost use Rattle.std.specs.Prelude.{◌≡◌, ◌≢◌};
 ghost use Rattle.regatta_office.specs.Complaints.{status_of};
 
+use crate::kept_start::KeptStartFault;
 use crate::run::RunFault;
 use crate::scribe::ScribeFault;
 use regatta_desk::OpenFault;
+use regatta_keep::{OpenFault as KeepOpenFault, RecoverFault};
+use regatta_keeper::{CoverFault, KeeperFault};
 use regatta_service::{DoorFault, ServeFault};
 use regatta_streams::ReadFault;
 use regatta_tables::{EntriesFault, JournalFault};
@@ -31,6 +34,24 @@ pub enum Complaint {
     /// The input or a start file is too long.
     #[error("regatta: input too long")]
     TooLong,
+    /// The whole lines of the kept file are no journal.
+    #[error("regatta: keep journal fault {number} line {line}")]
+    KeepJournal { number: u8, line: usize },
+    /// More follows the last whole line of the kept file than a crash leaves, or no line is whole.
+    #[error("regatta: keep damaged after line {line}")]
+    KeepDamaged { line: usize },
+    /// The kept file and the journal file have different entries first at this place.
+    #[error("regatta: keep differs at {at}")]
+    KeepDiffers { at: usize },
+    /// The kept file is longer than a journal may be.
+    #[error("regatta: keep too long")]
+    KeepTooLong,
+    /// Another office has the kept file.
+    #[error("regatta: keep taken")]
+    KeepTaken,
+    /// The kept file can't be opened, locked or read, or a write or sync of it fails.
+    #[error("regatta: keep fault")]
+    KeepFault,
     /// A file, a stream or a socket fails, or no thread or reader is available.
     #[error("regatta: device fault")]
     Device,
@@ -50,8 +71,13 @@ impl Complaint {
             Complaint::Entries { .. }
             | Complaint::Journal { .. }
             | Complaint::Start { .. }
-            | Complaint::TooLong => 1,
-            Complaint::Device | Complaint::NoMemory => 3,
+            | Complaint::TooLong
+            | Complaint::KeepJournal { .. }
+            | Complaint::KeepDamaged { .. }
+            | Complaint::KeepDiffers { .. }
+            | Complaint::KeepTooLong => 1,
+            Complaint::KeepTaken | Complaint::KeepFault | Complaint::Device | Complaint::NoMemory =>
+                3,
         }
     }
 }
@@ -152,7 +178,71 @@ impl From<ServeFault> for Complaint {
         match fault {
             ServeFault::Door | ServeFault::Thread => Complaint::Device,
             ServeFault::NoMemory => Complaint::NoMemory,
-            ServeFault::Keep => Complaint::Device,
+            ServeFault::Keep => Complaint::KeepFault,
+        }
+    }
+}
+
+/// The complaint about a kept file that can't be opened.
+impl From<KeepOpenFault> for Complaint {
+    fn from(fault: KeepOpenFault) -> Complaint {
+        match fault {
+            KeepOpenFault::Taken => Complaint::KeepTaken,
+            KeepOpenFault::Failed => Complaint::KeepFault,
+            KeepOpenFault::NoMemory => Complaint::NoMemory,
+        }
+    }
+}
+
+/// The complaint about a fault in the lines of a kept file.
+fn kept_journal(fault: JournalFault) -> Complaint {
+    match fault.line() {
+        Some(line) => Complaint::KeepJournal {
+            number: fault.number(),
+            line,
+        },
+        None => Complaint::NoMemory,
+    }
+}
+
+/// The complaint about a kept file that can't be read, or that is no kept journal.
+impl From<RecoverFault> for Complaint {
+    fn from(fault: RecoverFault) -> Complaint {
+        match fault {
+            RecoverFault::Log => Complaint::KeepFault,
+            RecoverFault::NoMemory => Complaint::NoMemory,
+            RecoverFault::TooLong => Complaint::KeepTooLong,
+            RecoverFault::Damaged(line) => Complaint::KeepDamaged { line },
+            RecoverFault::Journal(fault) => kept_journal(fault),
+        }
+    }
+}
+
+impl From<KeptStartFault> for Complaint {
+    fn from(fault: KeptStartFault) -> Complaint {
+        match fault {
+            KeptStartFault::Differ(at) => Complaint::KeepDiffers { at },
+            KeptStartFault::NoMemory => Complaint::NoMemory,
+        }
+    }
+}
+
+/// The complaint about a keeper that can't be opened. The start goes on from what is kept, so it keeps
+/// another journal only if somebody has changed the file since it was read.
+impl From<KeeperFault> for Complaint {
+    fn from(fault: KeeperFault) -> Complaint {
+        match fault {
+            KeeperFault::Other => Complaint::KeepFault,
+            KeeperFault::NoMemory => Complaint::NoMemory,
+        }
+    }
+}
+
+impl From<CoverFault> for Complaint {
+    fn from(fault: CoverFault) -> Complaint {
+        match fault {
+            CoverFault::Log => Complaint::KeepFault,
+            CoverFault::NoMemory => Complaint::NoMemory,
         }
     }
 }

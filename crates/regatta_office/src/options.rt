@@ -74,23 +74,26 @@ impl<'a> Model for ReplayOptions<'a> {
     ghost view = { λ options. record { series = options.series; form = options.form } };
 }
 
-/// What `regatta serve` is asked for: the series, the path of the socket, the number of seats, and
-/// the number of clients after which the door closes (0: never).
+/// What `regatta serve` is asked for: the series, the path of the file that keeps it, the path of the
+/// socket, the number of seats, and the number of clients after which the door closes (0: never).
 #[derive(Drop)]
 pub(crate) struct ServeOptions<'a> {
     pub(crate) series: SeriesOptions<'a>,
+    pub(crate) keep: Option<&'a str>,
     pub(crate) socket: &'a str,
     pub(crate) clients: u8,
     pub(crate) sessions: u32,
 }
 
 impl<'a> Model for ServeOptions<'a> {
+    ghost use Rattle.std.specs.Option.{option_copied};
     ghost use Rattle.regatta_office.specs.Asked.{ServingAsked};
 
     ghost Value = { ServingAsked };
 
     ghost view = { λ options. record {
       series = options.series;
+      keep = option_copied options.keep;
       socket = options.socket.now;
       clients = options.clients;
       sessions = options.sessions;
@@ -160,6 +163,10 @@ static CLIENTS: &str =
 static SESSIONS: &str = "After how many clients serving ends and the table is printed, those \
     turned away counted, up to 1000000; with 0 it goes on until it is stopped, and prints none. \
     Example: --sessions 12";
+
+static KEEP: &str = "The file that keeps the journal: each reply is written once all that it was \
+    made from is on the disk, so nothing that was answered is lost in a crash. The file is made if \
+    it isn't there, and the same command goes on from it. Example: --keep saturday.journal";
 
 /// An option without a value.
 fn flag<'a>(alloc: Global, name: &'a str, help: &'a str) -> Arg<'a>
@@ -280,6 +287,7 @@ fn serve<'a>(alloc: Global) -> Result<Command<'a>, AllocError>
     let command = Command::new(alloc, "serve").about(SERVE);
     let command = with_start(alloc, with_rules(alloc, command)?)?;
     let command = with_seats(alloc, command)?;
+    let command = command.arg(option(alloc, "keep", "FILE", KEEP))?;
     Ok(command)
 }
 
@@ -386,6 +394,7 @@ fn serving_asked<'a>(options: &ArgMatches<'a>) -> Option<ServeOptions<'a>>
     ensures { IfSome result (λ asked.
         serving_with (first_value (found_of options.now)) ≡ Some asked) }
 {
+    let keep = options.get_str("keep");
     let socket = options.get_str("socket")?;
     let clients = number_of(options, "clients")?;
     let clients = u8::try_from(clients).ok()?;
@@ -393,6 +402,7 @@ fn serving_asked<'a>(options: &ArgMatches<'a>) -> Option<ServeOptions<'a>>
     let series = series_of(options)?;
     Some(ServeOptions {
         series,
+        keep,
         socket,
         clients,
         sessions,

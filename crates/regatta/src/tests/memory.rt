@@ -7,7 +7,7 @@ use hoard::{Caller, FINE_RUNS, Hoard, MOST_RUNS, Outcome, are_refused, bytes_lef
 use regatta_scores::Standing;
 use regatta_tables::{Journal, read_journal};
 use std::alloc::AllocError;
-use std::fs::Files;
+use std::fs::{File, Files};
 
 mod boards;
 mod hoard;

@@ -8,7 +8,7 @@ use super::*;
 use regatta_office::{Form, OfficeName, OpenGate, Opened, RunFault, ServeFault, replay, serve};
 use std::io::Read;
 use std::marker::Brand;
-use std::net::Net;
+use std::net::{Net, TcpListener, TcpStream};
 use std::sync::Wait;
 use std::thread::Threads;
 use std::time::Clock;
@@ -91,7 +91,14 @@ fn run_outcome(call: &Words, status: u8, written: &[u8], said: &[u8]) -> Outcome
 /// The outcome of a run of the program with `bytes` bytes left.
 fn program_outcome<R>(rt: &R, hoard: &mut Hoard, bytes: usize, call: &Words) -> Outcome
 where
-    R: Files + AllocGlobal + Threads + Wait + Net + Clock + Sync,
+    R: Files<File = File>
+        + AllocGlobal
+        + Threads
+        + Wait
+        + Net<Listener = TcpListener, Stream = TcpStream>
+        + Clock
+        + Sync,
+    R::Dir: Send + Sync,
 {
     let Ok(mut streams) = Streams::new(rt.alloc(), LINES, 4000) else {
         return Outcome::Other;
@@ -115,7 +122,14 @@ const PROGRAM_FINE_RUNS: usize = 2048;
 /// proof knows that threads may share it.
 fn is_run_refused<R>(rt: &R, hoard: &mut Hoard, call: &Words) -> bool
 where
-    R: Files + AllocGlobal + Threads + Wait + Net + Clock + Sync,
+    R: Files<File = File>
+        + AllocGlobal
+        + Threads
+        + Wait
+        + Net<Listener = TcpListener, Stream = TcpStream>
+        + Clock
+        + Sync,
+    R::Dir: Send + Sync,
 {
     for run in 0..MOST_RUNS {
         let outcome = program_outcome(rt, hoard, bytes_left(run, PROGRAM_FINE_RUNS), call);
@@ -131,7 +145,14 @@ where
 /// hoard back.
 fn are_runs_refused<R>(rt: &R, calls: &[Words]) -> bool
 where
-    R: Files + AllocGlobal + Threads + Wait + Net + Clock + Sync,
+    R: Files<File = File>
+        + AllocGlobal
+        + Threads
+        + Wait
+        + Net<Listener = TcpListener, Stream = TcpStream>
+        + Clock
+        + Sync,
+    R::Dir: Send + Sync,
 {
     let is_sanitized = is_sanitized(rt);
     match Hoard::new(rt.alloc()) {
@@ -259,7 +280,14 @@ fn is_serving_refused<R: Threads + Wait + Net + Clock + Sync>(
 /// The same, with a hoard of its own. With a sanitizer's heap it isn't tried.
 fn is_refused<R>(rt: &R) -> Result<bool, Fail>
 where
-    R: Files + AllocGlobal + Threads + Wait + Net + Clock + Sync,
+    R: Files<File = File>
+        + AllocGlobal
+        + Threads
+        + Wait
+        + Net<Listener = TcpListener, Stream = TcpStream>
+        + Clock
+        + Sync,
+    R::Dir: Send + Sync,
 {
     let (alloc, is_sanitized) = (rt.alloc(), is_sanitized(rt));
     match Hoard::new(alloc)? {

@@ -1,60 +1,50 @@
-use Rattle.std.proofs.Common.{◌≡◌, ◌∙◌, true, subst, inl, inr}
-use Rattle.regatta_terms.specs.Rules.{RulesParts}
-use Rattle.regatta_scores.specs.Journal.{Journal}
-use Rattle.regatta_board.specs.Refusals.{limits, is_lawful}
-use Rattle.regatta_office.specs.Asked.{AtMostServingOf, IsServingOf, PrintsAtMostTable, PrintsTable}
-use Rattle.regatta_office.specs.Asked.{ServingAsked}
-use Rattle.regatta_office.proofs.Printing.{keeps_same}
+use Rattle.std.proofs.Common.{◌≡◌, ◌∙◌, List, None, OnOk, Option, Some, ap, rules, subst, sym, ℕ}
+use Rattle.std.specs.Option.{option_copied}
+use Rattle.regatta_office.specs.Asked.{AtMostFrom, BeginsBy, ServesFrom, ServingAsked}
 use Rattle.regatta_office.proofs.clients.serve_series.Goals as goal
 
-pub returns-clause-done : goal.returns-clause-done
-returns-clause-done g c =
+-- a kept series
+pub returns-in-Some-clause-done : goal.returns-in-Some-clause-done
+returns-in-Some-clause-done g c =
+    let series = c.args.options.now.series in
     let old = g.W.Device.contents c.args.output.now in
-    let new = g.W.Device.contents c.serve_office.new.output in
-    subst (λ (asked : ServingAsked). IsServingOf asked old new) c.options.view_is (record {
-      rules = c.in_ok-begin.begin.rules;
-      start = c.in_ok-begin.begin.start;
-      begins = c.in_ok-begin.ensures;
-      lawful = subst (λ (start : Journal). is_lawful limits c.in_ok-begin.begin.rules start ≡ true)
-          c.as_slice-start.ensures c.in_ok-opened.ensures.lawful;
-      table = subst (λ (start : Journal). PrintsTable c.in_ok-begin.begin.rules start old new)
-          (c.in_ok-opened.ensures.journal ∙ c.as_slice-start.ensures)
-          (subst (λ (rules : RulesParts). PrintsTable rules c.in_ok-opened.opened.entries old new)
-          c.in_ok-opened.ensures.rules c.in_ok-serve_office.ensures.table);
-    })
+    let new = g.W.Device.contents c.serve_kept_series.new.output in
+    let inside : c.options.inside.keep ≡ Some c.in-Some.path = search rules in
+    let keep : c.args.options.now.keep ≡ Some c.in-Some.path.now =
+    sym (ap (λ (asked : ServingAsked). asked.keep) c.options.view_is) ∙ ap option_copied inside in
+    subst (λ (k : Option (List ℕ)). OnOk c.serve_kept_series.result
+    (ServesFrom (BeginsBy k series) old new)) (sym keep) c.serve_kept_series.ensures.done
 
--- at most a table of the series, also if it isn't written to the end
-pub returns-clause-at_most : goal.returns-clause-at_most
-returns-clause-at_most g c =
+pub returns-in-Some-clause-at_most : goal.returns-in-Some-clause-at_most
+returns-in-Some-clause-at_most g c =
+    let series = c.args.options.now.series in
     let old = g.W.Device.contents c.args.output.now in
-    let new = g.W.Device.contents c.serve_office.new.output in
-    subst (λ (asked : ServingAsked). AtMostServingOf asked old new) c.options.view_is (inr (
-      c.in_ok-begin.begin.rules,
-      c.in_ok-begin.begin.start,
-      c.in_ok-begin.ensures,
-      subst (λ (start : Journal). PrintsAtMostTable c.in_ok-begin.begin.rules start old new)
-          (c.in_ok-opened.ensures.journal ∙ c.as_slice-start.ensures)
-          (subst (λ (rules : RulesParts). PrintsAtMostTable rules c.in_ok-opened.opened.entries old
-          new) c.in_ok-opened.ensures.rules c.serve_office.ensures.at_most),
-    ))
+    let new = g.W.Device.contents c.serve_kept_series.new.output in
+    let inside : c.options.inside.keep ≡ Some c.in-Some.path = search rules in
+    let keep : c.args.options.now.keep ≡ Some c.in-Some.path.now =
+    sym (ap (λ (asked : ServingAsked). asked.keep) c.options.view_is) ∙ ap option_copied inside in
+    subst (λ (k : Option (List ℕ)). AtMostFrom (BeginsBy k series) old new) (sym keep)
+    c.serve_kept_series.ensures.at_most
 
-pub returns-in_err-serve_office-clause-at_most : goal.returns-in_err-serve_office-clause-at_most
-returns-in_err-serve_office-clause-at_most g c =
+-- one that isn't kept
+pub returns-in-None-clause-done : goal.returns-in-None-clause-done
+returns-in-None-clause-done g c =
+    let series = c.args.options.now.series in
     let old = g.W.Device.contents c.args.output.now in
-    let new = g.W.Device.contents c.serve_office.new.output in
-    subst (λ (asked : ServingAsked). AtMostServingOf asked old new) c.options.view_is (inr (
-      c.in_ok-begin.begin.rules,
-      c.in_ok-begin.begin.start,
-      c.in_ok-begin.ensures,
-      subst (λ (start : Journal). PrintsAtMostTable c.in_ok-begin.begin.rules start old new)
-          (c.in_ok-opened.ensures.journal ∙ c.as_slice-start.ensures)
-          (subst (λ (rules : RulesParts). PrintsAtMostTable rules c.in_ok-opened.opened.entries old
-          new) c.in_ok-opened.ensures.rules c.serve_office.ensures.at_most),
-    ))
+    let new = g.W.Device.contents c.serve_unkept_series.new.output in
+    let inside : c.options.inside.keep ≡ None = search rules in
+    let keep : c.args.options.now.keep ≡ None =
+    sym (ap (λ (asked : ServingAsked). asked.keep) c.options.view_is) ∙ ap option_copied inside in
+    subst (λ (k : Option (List ℕ)). OnOk c.serve_unkept_series.result
+    (ServesFrom (BeginsBy k series) old new)) (sym keep) c.serve_unkept_series.ensures.done
 
--- nothing was written yet
-pub returns-in_err-begin-clause-at_most : goal.returns-in_err-begin-clause-at_most
-returns-in_err-begin-clause-at_most g c = inl (keeps_same (g.W.Device.contents c.args.output.now))
-
-pub returns-in_err-opened-clause-at_most : goal.returns-in_err-opened-clause-at_most
-returns-in_err-opened-clause-at_most g c = inl (keeps_same (g.W.Device.contents c.args.output.now))
+pub returns-in-None-clause-at_most : goal.returns-in-None-clause-at_most
+returns-in-None-clause-at_most g c =
+    let series = c.args.options.now.series in
+    let old = g.W.Device.contents c.args.output.now in
+    let new = g.W.Device.contents c.serve_unkept_series.new.output in
+    let inside : c.options.inside.keep ≡ None = search rules in
+    let keep : c.args.options.now.keep ≡ None =
+    sym (ap (λ (asked : ServingAsked). asked.keep) c.options.view_is) ∙ ap option_copied inside in
+    subst (λ (k : Option (List ℕ)). AtMostFrom (BeginsBy k series) old new) (sym keep)
+    c.serve_unkept_series.ensures.at_most

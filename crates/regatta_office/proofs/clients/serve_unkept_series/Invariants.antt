@@ -1,4 +1,4 @@
-use Rattle.regatta_office.proofs.clients.serve_series.Given as goal
+use Rattle.regatta_office.proofs.clients.serve_unkept_series.Given as goal
 
 -- the office that was just opened
 abbrev pub ghosts-serve_office : goal.ghosts-serve_office

@@ -1,0 +1,166 @@
+"""`regatta serve --keep`: what a kept file is opened as, what is said of it, and that it survives a kill.
+`bench/keep.py` tries crashes and failures at length."""
+from __future__ import annotations
+
+import contextlib
+import os
+import signal
+import socket
+import subprocess
+import tempfile
+import unittest
+
+import helpers
+from office import Link
+
+DEVICE, NOWHERE = "regatta: device fault\n", "/no/such/folder/race.sock"
+A, B, C = (f"1 {at} SCORER ENTER {sail}\n" for at, sail in enumerate("ABC", 1))
+VERSION = "REGATTA 2\n"
+# What a file has, the journal file and the entry list; what the file then has. The office ends behind
+# that, since its socket can't be made.
+STARTS = [
+    ("", "", "Sail\nA\nB\n", VERSION + A + B),
+    (VERSION + A, "", "Sail\nA\nB\n", VERSION + A + B),
+    (VERSION + A + B, "", "Sail\nA\nB\n", VERSION + A + B),
+    (VERSION + A + B, "", "Sail\nB\n", VERSION + A + B),
+    ("", VERSION + A + B, "Sail\n", VERSION + A + B),
+    ("", VERSION + A, "Sail\na\nb\n", VERSION + A + B),
+    (VERSION + A, VERSION + A + B, "Sail\nC\n", VERSION + A + B + C),
+    (VERSION + A + B, VERSION + A, "Sail\nC\n", VERSION + A + B + C),
+    # An older journal, and one that was written by hand, go on as they are.
+    (A, "", "Sail\nB\n", A + B),
+    ("regatta 2\r\n1 1 scorer enter a\r\n", "", "Sail\nB\n", "regatta 2\r\n1 1 scorer enter a\r\n" + B),
+]
+# What a file has, the journal file, and what is said of it. It stays as it was.
+FAULTS = [
+    ("Sail\nA\n", "", "keep journal fault 1 line 1"),
+    (VERSION + A + "X\n", "", "keep journal fault 1 line 3"),
+    ("REGATTA 3\n", "", "keep journal fault 4 line 1"),
+    ("SQLite format 3\0\x10\0", "", "keep damaged after line 0"),
+    ("A list without line ends", "", "keep damaged after line 0"),
+    ("\0\0\0\0", "", "keep damaged after line 0"),
+    (VERSION + A + "1 2 SCORER \0\n" + B, "", "keep damaged after line 2"),
+    (VERSION + A + "1" * 4097, "", "keep damaged after line 2"),
+    (VERSION + A, VERSION + "1 1 SCORER ENTER X\n", "keep differs at 1"),
+    (VERSION + A + B + "1 3 SC", VERSION + A + "1 2 SCORER ENTER X\n" + C, "keep differs at 2"),
+    (VERSION + "1 1 SCORER FINISH 1 A\n", "", "start refused 7 at 1"),
+    ("\n" * 1_048_577, "", "keep too long"),
+]
+# The end of a file, and how it is shown.
+CUTS = [("1 2 SCORER ENTER B", "1 2 SCORER ENTER B"), ("1 2 SC\0\n", "1 2 SC??"), ("\0\0", "??")]
+
+
+class Keeping(unittest.TestCase):
+    def setUp(self) -> None:
+        holder = tempfile.TemporaryDirectory()
+        self.addCleanup(holder.cleanup)
+        self.kept, self.journal, self.boats, self.path = (
+            os.path.join(holder.name, name) for name in ("kept", "journal", "boats.csv", "race.sock"))
+        self.write(self.boats, "Sail\n")
+
+    def write(self, path: str, text: str) -> None:
+        with open(path, "w", encoding="ascii", newline="") as file:
+            file.write(text)
+
+    def text(self, end: str = "") -> str:
+        with open(self.kept + end, encoding="ascii", newline="") as file:
+            return file.read()
+
+    def said(self, *words: str, path: str = NOWHERE) -> tuple[str, str, int]:
+        """What an office says that can't make its socket."""
+        return helpers.ran("serve", "--keep", self.kept, "--socket", path, *words)
+
+    def opened(self, *words: str) -> tuple[subprocess.Popen, Link]:
+        """An office that serves, and a client of it."""
+        office = subprocess.Popen([helpers.PROGRAM, "serve", "--keep", self.kept, "--socket", self.path, *words])
+        self.addCleanup(office.wait)
+        self.addCleanup(office.kill)
+        helpers.until("an office", lambda: helpers.is_listening(self.path))
+        link = Link(self.path)
+        self.addCleanup(link.close)
+        return office, link
+
+    def test_starts(self) -> None:
+        for kept, journal, boats, wanted in STARTS:
+            self.write(self.kept, kept)
+            self.write(self.journal, journal)
+            self.write(self.boats, boats)
+            with self.subTest(kept=kept, journal=journal, boats=boats):
+                for _ in range(2):
+                    self.assertEqual(self.said("--journal", self.journal, "--entries", self.boats),
+                                     ("", DEVICE, 3))
+                    self.assertEqual(self.text(), wanted)
+
+    def test_faults(self) -> None:
+        """A file with a fault is named, and stays as it was."""
+        for kept, journal, said in FAULTS:
+            self.write(self.kept, kept)
+            self.write(self.journal, journal)
+            with self.subTest(said):
+                self.assertEqual(self.said("--journal", self.journal), ("", f"regatta: {said}\n", 1))
+                self.assertEqual(self.text(), kept)
+
+    def test_cuts(self) -> None:
+        """A torn end is shown, saved and cut off."""
+        saved = ""
+        for end, shown in CUTS:
+            self.write(self.kept, VERSION + A + end)
+            with self.subTest(end):
+                note = f"regatta: keep cut {len(end)} bytes after line 2\n{shown}\n"
+                self.assertEqual(self.said(), ("", note + DEVICE, 3))
+                self.assertEqual(self.text(), VERSION + A)
+                saved += end
+                self.assertEqual(self.text(".cut"), saved)
+
+    def test_devices(self) -> None:
+        """A file that can't be opened or made, or is no plain file, is a fault."""
+        for path in ("/no/such/folder/kept", "/dev/null", os.path.dirname(self.kept)):
+            self.kept = path
+            self.assertEqual(self.said(), ("", "regatta: keep fault\n", 3))
+
+    def test_rules_first(self) -> None:
+        """Rules, journal file and entry list are read before a file is made."""
+        self.write(self.boats, "Boat\nX\n")
+        for words, said, status in [(["--scp", "0"], "rules fault 1", 2),
+                                    (["--journal", "/no/such/file"], "device fault", 3),
+                                    (["--entries", self.boats], "entries fault 1 row 1", 1)]:
+            self.assertEqual(self.said(*words), ("", f"regatta: {said}\n", status))
+            self.assertFalse(os.path.exists(self.kept))
+
+    def test_two_names(self) -> None:
+        """A file with a second name is refused; a link to one isn't."""
+        self.write(self.kept, VERSION + A)
+        other = self.kept + "-link"
+        os.link(self.kept, other)
+        self.assertEqual(self.said(), ("", "regatta: keep fault\n", 3))
+        os.unlink(other)
+        os.symlink(self.kept, other)
+        self.kept = other
+        self.assertEqual(self.said(), ("", DEVICE, 3))
+        self.assertTrue(os.path.islink(other))
+
+    def test_killed(self) -> None:
+        """What was answered is there when the same command is given again; nobody else has the file."""
+        self.write(self.boats, "Sail\nA\nB\n")
+        words = ["--entries", self.boats]
+        office, link = self.opened(*words)
+        self.assertEqual(link.ask("FINISH 1 B"), "OK 3 1= 0.0")
+        self.assertEqual(self.text(), VERSION + A + B + "1 3 SCORER FINISH 1 B\n")
+        self.assertEqual(self.said(path=self.path + "2"), ("", "regatta: keep taken\n", 3))
+        office.send_signal(signal.SIGKILL)
+        office.wait()
+        self.assertTrue(os.path.exists(self.path))
+        _, link = self.opened(*words)
+        self.assertEqual(link.sheet().journal[2:], ("1 3 SCORER FINISH 1 B",))
+
+    def test_other_files_at_the_path(self) -> None:
+        """What isn't the socket of a killed office stays, and so does a socket at which somebody serves."""
+        self.write(self.path, "mine")
+        self.assertEqual(self.said(path=self.path), ("", DEVICE, 3))
+        self.assertEqual(open(self.path).read(), "mine")
+        os.unlink(self.path)
+        with contextlib.closing(socket.socket(socket.AF_UNIX)) as other:
+            other.bind(self.path)
+            other.listen()
+            self.assertEqual(self.said(path=self.path), ("", DEVICE, 3))
+            self.assertTrue(os.path.exists(self.path))
