@@ -9,6 +9,7 @@ mod kept;
 mod mark;
 mod need;
 mod outlet;
+mod round;
 mod sealed;
 mod store;
 
