@@ -14,6 +14,7 @@ use crate::options::ServeOptions;
 use crate::scribe::ScribeFault;
 use crate::series::beginning_of;
 use regatta_desk::{Note, Office, OfficeName, Opened, Pass};
+use regatta_keeper::Uncovered;
 use regatta_service::{Admitted, Door, DoorFault, OpenGate, ServeFault, SocketDoor, serve_each};
 use regatta_streams::{Device, Sink};
 use std::alloc::Global;
@@ -41,7 +42,7 @@ struct Served<N: OfficeName, S> {
     /// The passes of all seats, or why serving ended early.
     back: Result<Vec<Pass<N>>, ServeFault>,
     /// How many clients were admitted.
-    admitted: Admitted<S>,
+    admitted: Admitted<S, Uncovered>,
     /// Whether the table was printed then.
     printed: Result<(), ScribeFault>,
 }

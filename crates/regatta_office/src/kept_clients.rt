@@ -11,17 +11,15 @@ ghost use Rattle.regatta_office.specs.Asked.{PrintsKeptTable, ServesFrom};
 
 use crate::complaint::Complaint;
 use crate::cut_note::note_cut;
-use crate::final_part::print_final;
-use crate::form::Form;
 use crate::kept_file::{Held, held_at};
 use crate::options::ServeOptions;
 use crate::scribe::ScribeFault;
 use crate::series::{Beginning, kept_beginning_of, parts_of};
-use crate::socket_file::remove_left_socket;
-use crate::waking_gate::WakingGate;
+use crate::stopping_gate::StoppingGate;
+use crate::table_outlet::TableOutlet;
 use regatta_desk::{Note, Office, OfficeName, Opened, Pass};
 use regatta_keep::{Log, Opened as OpenedLog, open};
-use regatta_keeper::{CoverFault, Keeper, KeeperFault, Kept, KeptName, cover_all};
+use regatta_keeper::{CoverFault, Keeper, KeeperFault, Kept, KeptBy, KeptName, cover_all};
 use regatta_service::{
     Admitted, Door, DoorFault, Gate, ServeFault, SocketDoor, Stopping, serve_kept,
 };
@@ -68,7 +66,7 @@ where
     L: Log + Drop,
     H: Wait + Drop,
     R: Wait,
-    W: Sink,
+    W: TableOutlet<N>,
     requires start { start.history ≡ N.history }
 
     // All that the table is made from is kept.
@@ -96,7 +94,7 @@ where
     let Some(kept) = covered.kept_of(desk) else {
         return Err(PrintFault::Keep(CoverFault::Log));
     };
-    match print_final(alloc, desk.board(), Form::Table, output) {
+    match output.print_table(alloc, desk.board(), &kept) {
         Ok(()) => Ok(kept),
         Err(fault) => Err(PrintFault::Print(fault)),
     }
@@ -116,28 +114,28 @@ fn kept_door_of<R: Files + Net>(
 
 /// How serving a kept office ended.
 #[derive(Drop)]
-struct KeptServed<N: KeptName, S> {
+struct KeptServed<'k, N: KeptName, L: Log + Drop, S> {
     /// The passes of all seats, or why serving ended early.
     back: Result<Vec<Pass<N>>, ServeFault>,
     /// How many clients were admitted.
-    admitted: Admitted<S>,
+    admitted: Admitted<S, KeptBy<'k, N, L>>,
     /// Whether the table was printed then.
     printed: Result<Kept<N>, PrintFault>,
 }
 
 /// Serves the door's clients, each of whose replies is written once it is kept, and then prints the
 /// table of the office's journal, if all of it can be kept.
-fn serve_kept_and_print<N, L, H, R, D, G, W>(
+fn serve_kept_and_print<'k, N, L, H, R, D, G, W>(
     rt: &R,
     alloc: Global,
     office: &Office<N, H>,
-    keeper: &Mutex<Keeper<N, L>>,
+    keeper: &'k Mutex<Keeper<N, L>>,
     door: &mut D,
     passes: Vec<Pass<N>>,
     gate: &G,
     start: Note,
     output: &mut W,
-) -> KeptServed<N, D::Stream>
+) -> KeptServed<'k, N, L, D::Stream>
 where
     N: KeptName + Send + Sync,
     L: Log + Drop + Send,
@@ -145,7 +143,7 @@ where
     R: Threads + Wait + Clock + Sync,
     D: Door,
     G: Gate + Sync,
-    W: Sink,
+    W: TableOutlet<N>,
     requires start { start.history ≡ N.history }
     // The passes of all seats come back.
     ensures seats { IfOk result.back (λ back.
@@ -198,7 +196,7 @@ where
     Ok(keeper)
 }
 
-/// Keeps what the log hasn't kept of the office's journal, and then serves clients at a new socket.
+/// Binds a new socket, keeps what the log hasn't kept of the office's journal, and then serves clients.
 fn serve_at<N, L, H, R, W>(
     rt: &R,
     alloc: Global,
@@ -214,7 +212,7 @@ where
     L: Log + Drop + Send,
     H: Wait + Drop + Send,
     R: Files + Net<Listener = TcpListener, Stream = TcpStream> + Threads + Wait + Clock + Sync,
-    W: Sink,
+    W: TableOutlet<N>,
     requires start { start.history ≡ N.history }
     ensures table { OnOk result
         (PrintsTable N.rules start.journal (W.contents output.old) (W.contents output.new)) }
@@ -225,17 +223,17 @@ where
     ensures seats { IfOk result (λ back. vec_len back ≡ vec_len passes) }
 {
     let keeper = Mutex::new(keeper);
-    // The start is on the disk before anybody is served.
-    cover_all(rt, &keeper, office)?;
-    remove_left_socket(rt, options.socket);
     let made = kept_door_of(rt, alloc, options)?;
     let (mut door, stopping) = made;
-    let gate = WakingGate::new(rt, &keeper, options.socket, stopping);
+    // The start is on the disk before anybody is served.
+    cover_all(rt, &keeper, office)?;
+    let gate = StoppingGate::new(rt, &keeper, stopping);
     let served = serve_kept_and_print(
         rt, alloc, office, &keeper, &mut door, passes, &gate, start, output,
     );
-    let back = served.back?;
+    // A door fails, too, once the keeper has stopped, which is then the reason.
     served.printed?;
+    let back = served.back?;
     Ok(back)
 }
 
@@ -255,7 +253,7 @@ where
     L: Log + Drop + Send,
     H: Wait + Drop + Send,
     R: Files + Net<Listener = TcpListener, Stream = TcpStream> + Threads + Wait + Clock + Sync,
-    W: Sink,
+    W: TableOutlet<N>,
     requires history { opened.history ≡ N.history }
     requires rules { opened.rules ≡ N.rules }
     requires seats { opened.seats ≡ options.now.clients }

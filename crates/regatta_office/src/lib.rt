@@ -18,10 +18,10 @@ mod run;
 mod scribe;
 mod series;
 mod shown;
-mod socket_file;
 mod start_files;
 mod start_list;
-mod waking_gate;
+mod stopping_gate;
+mod table_outlet;
 
 pub use command_line::program;
 pub use complaint::Complaint;

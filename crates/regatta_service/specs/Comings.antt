@@ -7,4 +7,5 @@ use Rattle.regatta_service.specs.declared.door.Came.TheVariants as came
 abbrev pub clients_in : Came → ℕ
 clients_in (came.Client _) = 1
 clients_in came.TurnedAway = 0
+clients_in came.NotYet = 0
 clients_in came.Nobody = 0

@@ -41,7 +41,7 @@ impl Ending {
 
 /// Tells a client for whom the system has no descriptor that there is no seat, and ends the
 /// connection. Whether the client reads it changes nothing.
-fn refuse(socket: UnixStream) {
+pub(crate) fn refuse(socket: UnixStream) {
     let mut ending = Ending { socket };
     let _ = ending.socket.write_all(BUSY);
 }

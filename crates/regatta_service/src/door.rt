@@ -5,18 +5,19 @@ ghost use Rattle.regatta_service.specs.Comings.{clients_in};
 ghost use Rattle.regatta_service.specs.Doors.{streams_asked, one_fewer, streams_in};
 ghost use Rattle.regatta_service.specs.Doors.{is_last, is_shut, one_if_some};
 
-use crate::connection::{Connection, connection_of};
+use crate::connection::{Connection, connection_of, refuse};
 use crate::count::Count;
-use crate::stopping::Stopping;
+use crate::stopping::{Stopping, passes};
 use regatta_streams::{Device, Failures, Foreign, Sink, Source};
 use std::alloc::Global;
 use std::marker::Model;
 use std::net::Net;
+use std::os::fd::OwnedFd;
 use std::os::unix::net::{UnixListener, UnixStream};
 use std::rt::Files;
 use std::sync::Wait;
-use std::thread;
 use std::time::{Clock, Duration};
+use std::{io, thread};
 use thiserror::Error;
 
 /// A door that failed, for whatever reason.
@@ -38,7 +39,7 @@ pub trait Door: Device {
     ///
     /// # Errors
     ///
-    /// If the door fails. The failure is counted.
+    /// If the door fails, for example since its office has stopped. The failure is counted.
     fn next<R: Wait + Clock>(&mut self, rt: &R) -> Result<Option<Self::Stream>, DoorFault>
         ensures well { OnOk result (Self.failures self.new ≡ Self.failures self.old) }
         ensures failed { OnErr result (Self.failures self.new ≡ Self.failures self.old + 1) }
@@ -59,22 +60,44 @@ enum Came {
     Client(Connection<UnixStream>),
     /// The client was turned away, since the system has no descriptor for them.
     TurnedAway,
+    /// No client has come yet.
+    NotYet,
     /// The call failed.
     Nobody,
 }
 
 /// The next client's stream, for which it may wait. If the call fails, for example because no
 /// descriptor is left, it is made again once, without the spare descriptor.
-fn accept_with(listener: &UnixListener, spare: &mut Option<UnixListener>) -> Option<UnixStream> {
+fn accept_with(
+    listener: &UnixListener,
+    spare: &mut Option<UnixListener>,
+) -> io::Result<UnixStream> {
     if spare.is_none() {
         *spare = listener.try_clone().ok();
     }
-    if let Ok((stream, _)) = listener.accept() {
-        return Some(stream);
+    match listener.accept() {
+        Ok((stream, _)) => return Ok(stream),
+        Err(why) if passes(&why) => return Err(why),
+        Err(_) => {}
     }
     *spare = None;
-    let (stream, _) = listener.accept().ok()?;
-    Some(stream)
+    let (stream, _) = listener.accept()?;
+    Ok(stream)
+}
+
+/// The connection over a stream that was accepted. `None` if the system or memory has no room for it:
+/// the client is then turned away.
+fn connected(stream: UnixStream, stopping: &Option<Stopping>) -> Option<Connection<UnixStream>> {
+    let Some(stopping) = stopping else {
+        return connection_of(stream, None);
+    };
+    match stopping.share() {
+        Some(shared) => connection_of(stream, Some(shared)),
+        None => {
+            refuse(stream);
+            None
+        }
+    }
 }
 
 /// Accepts the next client, and counts them unless they are turned away.
@@ -86,14 +109,12 @@ fn accept_one(
 ) -> Came
     ensures { came.new ≡ came.old + clients_in result }
 {
-    let Some(stream) = accept_with(listener, spare) else {
-        return Came::Nobody;
+    let stream = match accept_with(listener, spare) {
+        Ok(stream) => stream,
+        Err(why) if passes(&why) => return Came::NotYet,
+        Err(_) => return Came::Nobody,
     };
-    let shared = match stopping {
-        Some(stopping) => stopping.share(),
-        None => None,
-    };
-    let Some(connection) = connection_of(stream, shared) else {
+    let Some(connection) = connected(stream, stopping) else {
         return Came::TurnedAway;
     };
     *came = came.one_more();
@@ -120,7 +141,16 @@ fn accept_again<R: Clock>(
     accept_one(listener, spare, stopping, came)
 }
 
-/// The connection to the next client who isn't turned away. `None` if `accept` keeps failing.
+/// Whether the office has stopped.
+fn has_stopped(stopping: &Option<Stopping>) -> bool {
+    match stopping {
+        Some(stopping) => stopping.is_set(),
+        None => false,
+    }
+}
+
+/// The connection to the next client who isn't turned away. `None` if `accept` keeps failing, or if
+/// the office has stopped.
 fn accepted<R: Wait + Clock>(
     rt: &R,
     listener: &UnixListener,
@@ -133,11 +163,33 @@ fn accepted<R: Wait + Clock>(
     for _ in rt.forever() {
         match accept_again(rt, listener, spare, stopping, came) {
             Came::Client(connection) => return Some(connection),
-            Came::TurnedAway => {}
             Came::Nobody => return None,
+            Came::TurnedAway | Came::NotYet => {}
+        }
+        if has_stopped(stopping) {
+            return None;
         }
     }
     unreachable!()
+}
+
+/// How long a door of an office that may stop waits for a client before it looks whether it has, in
+/// seconds.
+const ACCEPT_LIMIT: u64 = 1;
+
+/// Sets the time limit of the calls of `accept`, which is that of a socket's reads. The result is false
+/// if the system sets none.
+fn limit_waits(listener: &Option<UnixListener>) -> bool {
+    let Some(listener) = listener else {
+        return true;
+    };
+    let Ok(second) = listener.try_clone() else {
+        return false;
+    };
+    let limit = Duration::from_secs(ACCEPT_LIMIT);
+    UnixStream::from(OwnedFd::from(second))
+        .set_read_timeout(Some(limit))
+        .is_ok()
 }
 
 /// A door over a new Unix socket. It closes after the last stream that it gives, or when it fails.
@@ -205,8 +257,8 @@ impl SocketDoor {
         })
     }
 
-    /// Binds a new socket, as `bind` does, for an office that may stop: the handle ends the reads
-    /// of clients when it has.
+    /// Binds a new socket, as `bind` does, for an office that may stop: the handle then ends the
+    /// waiting for clients and for their lines.
     ///
     /// # Errors
     ///
@@ -228,6 +280,9 @@ impl SocketDoor {
             return Err(DoorFault);
         };
         let mut door = SocketDoor::bind(rt, path, sessions)?;
+        if !limit_waits(&door.listener) {
+            return Err(DoorFault);
+        }
         door.stopping = Some(shared);
         Ok((door, stopping))
     }

@@ -17,15 +17,15 @@ use std::sync::{Mutex, Wait};
 use std::thread::{PromisedHandle, Scope};
 
 /// The number of clients with such a stream who were admitted: each was given to a thread that
-/// promised them a session, was served at once, or was turned away with `BUSY`. It has no bytes: only contracts see the
-/// number.
+/// promised them a session, was served at once, or was turned away with `BUSY`. Replies of these
+/// sessions are covered by a `C`. It has no bytes: only contracts see the number.
 #[derive(Drop)]
-pub struct Admitted<S> {
+pub struct Admitted<S, C> {
     clients: Count,
-    of: PhantomData<S>,
+    of: PhantomData<(S, C)>,
 }
 
-impl<S> Model for Admitted<S> {
+impl<S, C> Model for Admitted<S, C> {
     ghost use Rattle.std.specs.Prelude.{ℕ};
 
     ghost Value = { ℕ };
@@ -33,9 +33,9 @@ impl<S> Model for Admitted<S> {
     ghost view = { λ a. a.clients };
 }
 
-impl<S> Admitted<S> {
+impl<S, C> Admitted<S, C> {
     /// No client yet.
-    pub(crate) fn none() -> Admitted<S>
+    pub(crate) fn none() -> Admitted<S, C>
         ensures { result ≡ 0 }
     {
         Admitted {
@@ -115,7 +115,7 @@ pub(crate) fn admit<'s, E: 's, N, H, R, K, S, G>(
     keeping: &'s K,
     pool: &'s Mutex<Pool<N>>,
     gate: &'s G,
-    admitted: &mut Admitted<S>,
+    admitted: &mut Admitted<S, K::Session>,
     stream: S,
 ) -> Result<PromisedHandle<Parted<N, S, K::Session>, Serves<N, S>>, Parted<N, S, K::Session>>
 where

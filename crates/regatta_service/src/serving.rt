@@ -11,7 +11,7 @@ use crate::parting::{Admitted, admit};
 use crate::pool::Pool;
 use regatta_desk::{Office, OfficeName, Pass};
 use regatta_keep::Log;
-use regatta_keeper::{Keeper, KeptName, Uncovered};
+use regatta_keeper::{Keeper, KeptBy, KeptName, Uncovered};
 use regatta_streams::Device;
 use std::alloc::{AllocError, Global};
 use std::sync::{Mutex, Wait};
@@ -48,7 +48,7 @@ fn accept_all<'s, E: 's, N, H, R, K, D, G>(
     pool: &'s Mutex<Pool<N>>,
     door: &mut D,
     gate: &'s G,
-) -> (Result<(), ServeFault>, Admitted<D::Stream>)
+) -> (Result<(), ServeFault>, Admitted<D::Stream, K::Session>)
 where
     N: OfficeName + Send + Sync + 's,
     H: Wait + Drop + Send + 's,
@@ -143,7 +143,10 @@ fn serve_over<N, H, R, K, D, G>(
     door: &mut D,
     passes: Vec<Pass<N>>,
     gate: &G,
-) -> (Result<Vec<Pass<N>>, ServeFault>, Admitted<D::Stream>)
+) -> (
+    Result<Vec<Pass<N>>, ServeFault>,
+    Admitted<D::Stream, K::Session>,
+)
 where
     N: OfficeName + Send + Sync,
     H: Wait + Drop + Send,
@@ -177,7 +180,10 @@ where
     let (served, door_back) = thread::scope(
         thread::scope_env(),
         rt,
-        move |scope| -> ((Result<(), ServeFault>, Admitted<D::Stream>), &mut D)
+        move |scope| -> (
+            (Result<(), ServeFault>, Admitted<D::Stream, K::Session>),
+            &mut D,
+        )
             ensures same { result.1.ghost_name ≡ door.entry.ghost_name }
             ensures failures { D.failures result.1.now
                 ≡ D.failures door.entry.now + door_failures_in result.0.0 }
@@ -209,7 +215,10 @@ pub fn serve_each<N, H, R, D, G>(
     door: &mut D,
     passes: Vec<Pass<N>>,
     gate: &G,
-) -> (Result<Vec<Pass<N>>, ServeFault>, Admitted<D::Stream>)
+) -> (
+    Result<Vec<Pass<N>>, ServeFault>,
+    Admitted<D::Stream, Uncovered>,
+)
 where
     N: OfficeName + Send + Sync,
     H: Wait + Drop + Send,
@@ -241,15 +250,18 @@ where
 /// # Errors
 ///
 /// As `serve`, and `Keep` if the log has failed.
-pub fn serve_kept<N, L, H, R, D, G>(
+pub fn serve_kept<'k, N, L, H, R, D, G>(
     rt: &R,
     alloc: Global,
     office: &Office<N, H>,
-    keeper: &Mutex<Keeper<N, L>>,
+    keeper: &'k Mutex<Keeper<N, L>>,
     door: &mut D,
     passes: Vec<Pass<N>>,
     gate: &G,
-) -> (Result<Vec<Pass<N>>, ServeFault>, Admitted<D::Stream>)
+) -> (
+    Result<Vec<Pass<N>>, ServeFault>,
+    Admitted<D::Stream, KeptBy<'k, N, L>>,
+)
 where
     N: KeptName + Send + Sync,
     L: Log + Send + Drop,

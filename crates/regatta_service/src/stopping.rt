@@ -9,8 +9,8 @@ use std::io::{ErrorKind, Read};
 use std::sync::Arc;
 use std::sync::atomic::{AtomicBool, Ordering};
 
-/// Shows the streams of a door that its office has stopped. A read that waits for a client fails
-/// within a second then. No contract says so.
+/// Shows a door and its streams that the office has stopped. The door then fails within a second, and
+/// so does a read that waits for a client. No contract says so.
 #[derive(Drop)]
 pub struct Stopping {
     flag: Arc<AtomicBool, Global>,
@@ -33,18 +33,24 @@ impl Stopping {
         Some(Stopping { flag })
     }
 
-    /// Ends the reads that wait.
+    /// Ends the waiting for clients and for their lines.
     pub fn stop(&self) {
         self.flag.store(true, Ordering::SeqCst);
     }
 
-    fn is_set(&self) -> bool {
+    /// Whether the office has stopped.
+    pub(crate) fn is_set(&self) -> bool {
         self.flag.load(Ordering::SeqCst)
     }
 }
 
-/// Reads once. `None` if the time limit of the read has passed without a byte, and the office goes
-/// on.
+/// Whether a call that failed may just be made again: its time limit has passed, or a signal has
+/// ended it.
+pub(crate) fn passes(why: &io::Error) -> bool {
+    matches!(why.kind(), ErrorKind::WouldBlock | ErrorKind::Interrupted)
+}
+
+/// Reads once. `None` if nothing has come, the read may be made again, and the office goes on.
 fn read_once<S: Read>(
     stream: &mut S,
     stopping: &Stopping,
@@ -58,7 +64,7 @@ fn read_once<S: Read>(
     match stream.read(buf) {
         Ok(count) => Some(Ok(count)),
         Err(why) => {
-            if why.kind() == ErrorKind::WouldBlock && !stopping.is_set() {
+            if passes(&why) && !stopping.is_set() {
                 return None;
             }
             Some(Err(why))

@@ -2,40 +2,33 @@
 use regatta_keep::Log;
 use regatta_keeper::{Keeper, KeptName};
 use regatta_service::{End, Gate, Stopping};
-use std::net::{Net, TcpListener, TcpStream};
-use std::os::unix::net::UnixStream;
 use std::sync::{Mutex, Wait};
 
-/// A gate that stops no line. Once the keeper has stopped, it tells the streams of silent clients, and
-/// wakes the door, which waits for clients, by a connection to the office's own socket: whoever asks
-/// the door then sees that the keeper has stopped.
+/// A gate that stops no line. Once the keeper has stopped, it tells the door and the streams of silent
+/// clients, which look each second.
 #[derive(Drop)]
-pub(crate) struct WakingGate<'a, N: KeptName, L: Log + Drop, R> {
+pub(crate) struct StoppingGate<'a, N: KeptName, L: Log + Drop, R> {
     rt: &'a R,
     keeper: &'a Mutex<Keeper<N, L>>,
-    path: &'a str,
     stopping: Stopping,
 }
 
-impl<'a, N: KeptName, L: Log + Drop, R> WakingGate<'a, N, L, R> {
-    /// The gate of an office with this keeper and a socket at this path, whose streams are told by
-    /// `stopping`.
+impl<'a, N: KeptName, L: Log + Drop, R> StoppingGate<'a, N, L, R> {
+    /// The gate of an office with this keeper, whose door and streams are told by `stopping`.
     pub(crate) fn new(
         rt: &'a R,
         keeper: &'a Mutex<Keeper<N, L>>,
-        path: &'a str,
         stopping: Stopping,
-    ) -> WakingGate<'a, N, L, R> {
-        WakingGate {
+    ) -> StoppingGate<'a, N, L, R> {
+        StoppingGate {
             rt,
             keeper,
-            path,
             stopping,
         }
     }
 }
 
-impl<'a, N: KeptName, L: Log + Drop, R: Wait> WakingGate<'a, N, L, R> {
+impl<'a, N: KeptName, L: Log + Drop, R: Wait> StoppingGate<'a, N, L, R> {
     /// Whether the keeper goes on.
     fn goes_on(&self) -> bool {
         let mut guard = self.keeper.lock(self.rt);
@@ -44,11 +37,11 @@ impl<'a, N: KeptName, L: Log + Drop, R: Wait> WakingGate<'a, N, L, R> {
     }
 }
 
-impl<'a, N, L, R> Gate for WakingGate<'a, N, L, R>
+impl<'a, N, L, R> Gate for StoppingGate<'a, N, L, R>
 where
     N: KeptName + Send,
     L: Log + Drop + Send,
-    R: Net<Listener = TcpListener, Stream = TcpStream> + Wait + Sync,
+    R: Wait + Sync,
 {
     fn before(&self, _seat: u8, _line: u64) -> bool {
         true
@@ -60,7 +53,6 @@ where
         if let End::NotKept = end {
             if !self.goes_on() {
                 self.stopping.stop();
-                let _ = UnixStream::connect(self.rt, self.path);
             }
         }
     }
