@@ -231,7 +231,7 @@ class Trials:
                 work.join()
             answered += sum(len(client.answered) for client in clients)
             check(lines_of(self.file), clients)
-            # The killed office has left its socket, which the next one removes.
+            os.unlink(self.path)
             journal, _ = opened_again(self.program, self.file, self.path, *self.words)
             check(journal, clients)
         return f"{answered} commands answered"

@@ -16,8 +16,7 @@ from office import Link
 DEVICE, NOWHERE = "regatta: device fault\n", "/no/such/folder/race.sock"
 A, B, C = (f"1 {at} SCORER ENTER {sail}\n" for at, sail in enumerate("ABC", 1))
 VERSION = "REGATTA 2\n"
-# What a file has, the journal file and the entry list; what the file then has. The office ends behind
-# that, since its socket can't be made.
+# What a file has, the journal file and the entry list; what the file has once the office serves.
 STARTS = [
     ("", "", "Sail\nA\nB\n", VERSION + A + B),
     (VERSION + A, "", "Sail\nA\nB\n", VERSION + A + B),
@@ -80,6 +79,12 @@ class Keeping(unittest.TestCase):
         self.addCleanup(link.close)
         return office, link
 
+    def killed(self, office: subprocess.Popen) -> None:
+        """Kills an office, and removes the file of its socket."""
+        office.send_signal(signal.SIGKILL)
+        office.wait()
+        os.unlink(self.path)
+
     def test_starts(self) -> None:
         for kept, journal, boats, wanted in STARTS:
             self.write(self.kept, kept)
@@ -87,8 +92,9 @@ class Keeping(unittest.TestCase):
             self.write(self.boats, boats)
             with self.subTest(kept=kept, journal=journal, boats=boats):
                 for _ in range(2):
-                    self.assertEqual(self.said("--journal", self.journal, "--entries", self.boats),
-                                     ("", DEVICE, 3))
+                    office, link = self.opened("--journal", self.journal, "--entries", self.boats)
+                    link.close()
+                    self.killed(office)
                     self.assertEqual(self.text(), wanted)
 
     def test_faults(self) -> None:
@@ -147,20 +153,26 @@ class Keeping(unittest.TestCase):
         self.assertEqual(link.ask("FINISH 1 B"), "OK 3 1= 0.0")
         self.assertEqual(self.text(), VERSION + A + B + "1 3 SCORER FINISH 1 B\n")
         self.assertEqual(self.said(path=self.path + "2"), ("", "regatta: keep taken\n", 3))
-        office.send_signal(signal.SIGKILL)
-        office.wait()
-        self.assertTrue(os.path.exists(self.path))
+        self.killed(office)
         _, link = self.opened(*words)
         self.assertEqual(link.sheet().journal[2:], ("1 3 SCORER FINISH 1 B",))
 
-    def test_other_files_at_the_path(self) -> None:
-        """What isn't the socket of a killed office stays, and so does a socket at which somebody serves."""
-        self.write(self.path, "mine")
-        self.assertEqual(self.said(path=self.path), ("", DEVICE, 3))
-        self.assertEqual(open(self.path).read(), "mine")
-        os.unlink(self.path)
+    def test_path_that_is_there(self) -> None:
+        """An office that can't make its socket adds nothing, and ends none that is open there."""
+        self.write(self.kept, VERSION + A)
+        self.write(self.boats, "Sail\nB\n")
         with contextlib.closing(socket.socket(socket.AF_UNIX)) as other:
             other.bind(self.path)
             other.listen()
-            self.assertEqual(self.said(path=self.path), ("", DEVICE, 3))
-            self.assertTrue(os.path.exists(self.path))
+            other.setblocking(False)
+            self.assertEqual(self.said("--entries", self.boats, path=self.path), ("", DEVICE, 3))
+            self.assertRaises(BlockingIOError, other.accept)
+        self.assertEqual(self.text(), VERSION + A)
+
+    def test_stopped_and_continued(self) -> None:
+        """A client who waits stays when the office's window is stopped and goes on (Ctrl-Z, fg)."""
+        office, link = self.opened()
+        self.assertEqual(link.ask("ENTER A"), "OK 1 1 0.0")
+        office.send_signal(signal.SIGSTOP)
+        office.send_signal(signal.SIGCONT)
+        self.assertEqual(link.ask("ENTER B"), "OK 2 1= 0.0")
