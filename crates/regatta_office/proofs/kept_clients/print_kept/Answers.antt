@@ -13,8 +13,8 @@ use Rattle.regatta_office.proofs.kept_clients.print_kept.Goals as goal
 
 -- the desk's board is lawful under the rules of its office, begins with the start, and is a beginning
 -- of what is kept
-pub returns-in-Ok-print_final-clause-printed : goal.returns-in-Ok-print_final-clause-printed
-returns-in-Ok-print_final-clause-printed g c =
+pub returns-in-Ok-print_table-clause-printed : goal.returns-in-Ok-print_table-clause-printed
+returns-in-Ok-print_table-clause-printed g c =
     let same : c.board.result.now.rules ≡ g.N.OfficeName.rules =
     ap (λ (board : BoardValue). board.rules) c.board.ensures.board ∙ c.board.ensures.rules in
     let shown : c.cover_note.new.self.entries ≡ c.board.result.now.entries =
@@ -28,12 +28,12 @@ returns-in-Ok-print_final-clause-printed g c =
       lawful = rw (c.board.ensures.board) c.board.ensures.lawful;
       covered = subst (λ (j : Journal). IsPrefix j c.in-Some.kept) shown c.in-Some.ensures.begins;
       wrote = subst (λ (rules : RulesParts). Appends (g.W.Device.contents c.args.output.now)
-          (g.W.Device.contents c.print_final.new.output)
-          (final_text rules Table c.board.result.now.entries)) same c.in-Ok-print_final.ensures.wrote;
+          (g.W.Device.contents c.print_table.new.output)
+          (final_text rules Table c.board.result.now.entries)) same c.in-Ok-print_table.ensures.wrote;
     }
 
-pub returns-in-Ok-print_final-clause-at_most : goal.returns-in-Ok-print_final-clause-at_most
-returns-in-Ok-print_final-clause-at_most g c =
+pub returns-in-Ok-print_table-clause-at_most : goal.returns-in-Ok-print_table-clause-at_most
+returns-in-Ok-print_table-clause-at_most g c =
     let same : c.board.result.now.rules ≡ g.N.OfficeName.rules =
     ap (λ (board : BoardValue). board.rules) c.board.ensures.board ∙ c.board.ensures.rules in
     let shown : c.cover_note.new.self.entries ≡ c.board.result.now.entries =
@@ -44,24 +44,24 @@ returns-in-Ok-print_final-clause-at_most g c =
     (ap (λ (d : DeskValue). d.entries) (sym c.cover_note.ensures.same) ∙ shown)
     c.cover_note.ensures.front in
     at_most g.W.Device.contents g.N.OfficeName.rules c.args.start.journal c.args.output.now
-    c.print_final.new.output c.print_final.result
-    (on_ok c.print_final.result (λ wrote. record {
+    c.print_table.new.output c.print_table.result
+    (on_ok c.print_table.result (λ wrote. record {
       journal = c.board.result.now.entries;
       begins = begins;
       lawful = rw (c.board.ensures.board) c.board.ensures.lawful;
       wrote = subst (λ (rules : RulesParts). Appends (g.W.Device.contents c.args.output.now)
-          (g.W.Device.contents c.print_final.new.output)
+          (g.W.Device.contents c.print_table.new.output)
           (final_text rules Table c.board.result.now.entries)) same wrote;
-    }) c.print_final.ensures.wrote)
+    }) c.print_table.ensures.wrote)
     (λ write. record {
       journal = c.board.result.now.entries;
       begins = begins;
       lawful = rw (c.board.ensures.board) c.board.ensures.lawful;
       wrote = subst (λ (rules : RulesParts). AppendsPrefix (g.W.Device.contents c.args.output.now)
-          (g.W.Device.contents c.print_final.new.output)
+          (g.W.Device.contents c.print_table.new.output)
           (final_text rules Table c.board.result.now.entries)) same
-          (c.print_final.ensures.cut write);
-    }) c.print_final.ensures.silent
+          (c.print_table.ensures.cut write);
+    }) c.print_table.ensures.silent
 
 pub returns-clause-at_most : goal.returns-clause-at_most
 returns-clause-at_most g c =
@@ -75,21 +75,21 @@ returns-clause-at_most g c =
     (ap (λ (d : DeskValue). d.entries) (sym c.cover_note.ensures.same) ∙ shown)
     c.cover_note.ensures.front in
     at_most g.W.Device.contents g.N.OfficeName.rules c.args.start.journal c.args.output.now
-    c.print_final.new.output c.print_final.result
-    (on_ok c.print_final.result (λ wrote. record {
+    c.print_table.new.output c.print_table.result
+    (on_ok c.print_table.result (λ wrote. record {
       journal = c.board.result.now.entries;
       begins = begins;
       lawful = rw (c.board.ensures.board) c.board.ensures.lawful;
       wrote = subst (λ (rules : RulesParts). Appends (g.W.Device.contents c.args.output.now)
-          (g.W.Device.contents c.print_final.new.output)
+          (g.W.Device.contents c.print_table.new.output)
           (final_text rules Table c.board.result.now.entries)) same wrote;
-    }) c.print_final.ensures.wrote)
+    }) c.print_table.ensures.wrote)
     (λ write. record {
       journal = c.board.result.now.entries;
       begins = begins;
       lawful = rw (c.board.ensures.board) c.board.ensures.lawful;
       wrote = subst (λ (rules : RulesParts). AppendsPrefix (g.W.Device.contents c.args.output.now)
-          (g.W.Device.contents c.print_final.new.output)
+          (g.W.Device.contents c.print_table.new.output)
           (final_text rules Table c.board.result.now.entries)) same
-          (c.print_final.ensures.cut write);
-    }) c.print_final.ensures.silent
+          (c.print_table.ensures.cut write);
+    }) c.print_table.ensures.silent
