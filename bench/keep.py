@@ -130,13 +130,15 @@ class Office:
         return self.ended()
 
     def ended(self):
-        """The status, and what was written to standard error."""
+        """The status, and what was written to standard error. The socket's file is removed."""
         try:
             _, errors = self.run.communicate(timeout=PATIENCE)
         except subprocess.TimeoutExpired:
             self.run.kill()
             self.run.communicate()
             raise Wrong("the office doesn't end") from None
+        with contextlib.suppress(FileNotFoundError):
+            os.unlink(self.path)
         return self.run.returncode, errors
 
 
@@ -196,7 +198,6 @@ def opened_again(program, file, path, *words):
     status, errors = office.ended()
     if status != 0:
         raise Wrong(f"status {status}: {errors!r}")
-    os.unlink(path)
     return client.shown, errors
 
 
@@ -231,7 +232,6 @@ class Trials:
                 work.join()
             answered += sum(len(client.answered) for client in clients)
             check(lines_of(self.file), clients)
-            os.unlink(self.path)
             journal, _ = opened_again(self.program, self.file, self.path, *self.words)
             check(journal, clients)
         return f"{answered} commands answered"
@@ -361,8 +361,6 @@ class Trials:
         """Two offices on one file, and a third one while one of them serves."""
         other = self.path + "2"
         for _ in range(self.rounds):
-            with contextlib.suppress(FileNotFoundError):
-                os.unlink(other)
             offices = [Office(self.program, self.file, path, *self.words) for path in (self.path, other)]
             ends = time.monotonic() + PATIENCE
             while all(office.run.poll() is None for office in offices):

@@ -174,5 +174,6 @@ class Keeping(unittest.TestCase):
         office, link = self.opened()
         self.assertEqual(link.ask("ENTER A"), "OK 1 1 0.0")
         office.send_signal(signal.SIGSTOP)
+        os.waitpid(office.pid, os.WUNTRACED)
         office.send_signal(signal.SIGCONT)
         self.assertEqual(link.ask("ENTER B"), "OK 2 1= 0.0")

@@ -66,7 +66,7 @@ where
     L: Log + Drop,
     H: Wait + Drop,
     R: Wait,
-    W: TableOutlet<N>,
+    W: TableOutlet,
     requires start { start.history ≡ N.history }
 
     // All that the table is made from is kept.
@@ -143,7 +143,7 @@ where
     R: Threads + Wait + Clock + Sync,
     D: Door,
     G: Gate + Sync,
-    W: TableOutlet<N>,
+    W: TableOutlet,
     requires start { start.history ≡ N.history }
     // The passes of all seats come back.
     ensures seats { IfOk result.back (λ back.
@@ -212,7 +212,7 @@ where
     L: Log + Drop + Send,
     H: Wait + Drop + Send,
     R: Files + Net<Listener = TcpListener, Stream = TcpStream> + Threads + Wait + Clock + Sync,
-    W: TableOutlet<N>,
+    W: TableOutlet,
     requires start { start.history ≡ N.history }
     ensures table { OnOk result
         (PrintsTable N.rules start.journal (W.contents output.old) (W.contents output.new)) }
@@ -253,7 +253,7 @@ where
     L: Log + Drop + Send,
     H: Wait + Drop + Send,
     R: Files + Net<Listener = TcpListener, Stream = TcpStream> + Threads + Wait + Clock + Sync,
-    W: TableOutlet<N>,
+    W: TableOutlet,
     requires history { opened.history ≡ N.history }
     requires rules { opened.rules ≡ N.rules }
     requires seats { opened.seats ≡ options.now.clients }
@@ -330,7 +330,7 @@ where
         + Clock
         + Sync,
     R::Dir: Send + Sync,
-    W: Sink,
+    W: TableOutlet,
     E: Sink,
     ensures done { OnOk result (ServesFrom (BeginsKept options.now.series)
         (W.contents output.old) (W.contents output.new)) }

@@ -16,14 +16,14 @@ use std::alloc::Global;
 
 /// Where the table of a kept office goes. It takes no bytes: only the table of a journal, for evidence
 /// that this is kept.
-pub(crate) trait TableOutlet<N: KeptName>: Device {
+pub(crate) trait TableOutlet: Device {
     /// Prints the table of the board's journal, which is a beginning of the one that is kept.
     ///
     /// # Errors
     ///
     /// `Write` if the write fails: some first part of the table is written then. `NoMemory` if there is
     /// no memory for the text: nothing is written then.
-    fn print_table(
+    fn print_table<N: KeptName>(
         &mut self,
         alloc: Global,
         board: &Board,
@@ -40,8 +40,8 @@ pub(crate) trait TableOutlet<N: KeptName>: Device {
         ensures silent { IsErrOf result ScribeFault.NoMemory → self.new ≡ self.old };
 }
 
-impl<N: KeptName, W: Sink> TableOutlet<N> for W {
-    fn print_table(
+impl<W: Sink> TableOutlet for W {
+    fn print_table<N: KeptName>(
         &mut self,
         alloc: Global,
         board: &Board,

@@ -28,7 +28,7 @@ returns-in-Ok-print_table-clause-printed g c =
       lawful = rw (c.board.ensures.board) c.board.ensures.lawful;
       covered = subst (λ (j : Journal). IsPrefix j c.in-Some.kept) shown c.in-Some.ensures.begins;
       wrote = subst (λ (rules : RulesParts). Appends (g.W.Device.contents c.args.output.now)
-          (g.W.Device.contents c.print_table.new.output)
+          (g.W.Device.contents c.print_table.new.self)
           (final_text rules Table c.board.result.now.entries)) same c.in-Ok-print_table.ensures.wrote;
     }
 
@@ -44,13 +44,13 @@ returns-in-Ok-print_table-clause-at_most g c =
     (ap (λ (d : DeskValue). d.entries) (sym c.cover_note.ensures.same) ∙ shown)
     c.cover_note.ensures.front in
     at_most g.W.Device.contents g.N.OfficeName.rules c.args.start.journal c.args.output.now
-    c.print_table.new.output c.print_table.result
+    c.print_table.new.self c.print_table.result
     (on_ok c.print_table.result (λ wrote. record {
       journal = c.board.result.now.entries;
       begins = begins;
       lawful = rw (c.board.ensures.board) c.board.ensures.lawful;
       wrote = subst (λ (rules : RulesParts). Appends (g.W.Device.contents c.args.output.now)
-          (g.W.Device.contents c.print_table.new.output)
+          (g.W.Device.contents c.print_table.new.self)
           (final_text rules Table c.board.result.now.entries)) same wrote;
     }) c.print_table.ensures.wrote)
     (λ write. record {
@@ -58,7 +58,7 @@ returns-in-Ok-print_table-clause-at_most g c =
       begins = begins;
       lawful = rw (c.board.ensures.board) c.board.ensures.lawful;
       wrote = subst (λ (rules : RulesParts). AppendsPrefix (g.W.Device.contents c.args.output.now)
-          (g.W.Device.contents c.print_table.new.output)
+          (g.W.Device.contents c.print_table.new.self)
           (final_text rules Table c.board.result.now.entries)) same
           (c.print_table.ensures.cut write);
     }) c.print_table.ensures.silent
@@ -75,13 +75,13 @@ returns-clause-at_most g c =
     (ap (λ (d : DeskValue). d.entries) (sym c.cover_note.ensures.same) ∙ shown)
     c.cover_note.ensures.front in
     at_most g.W.Device.contents g.N.OfficeName.rules c.args.start.journal c.args.output.now
-    c.print_table.new.output c.print_table.result
+    c.print_table.new.self c.print_table.result
     (on_ok c.print_table.result (λ wrote. record {
       journal = c.board.result.now.entries;
       begins = begins;
       lawful = rw (c.board.ensures.board) c.board.ensures.lawful;
       wrote = subst (λ (rules : RulesParts). Appends (g.W.Device.contents c.args.output.now)
-          (g.W.Device.contents c.print_table.new.output)
+          (g.W.Device.contents c.print_table.new.self)
           (final_text rules Table c.board.result.now.entries)) same wrote;
     }) c.print_table.ensures.wrote)
     (λ write. record {
@@ -89,7 +89,7 @@ returns-clause-at_most g c =
       begins = begins;
       lawful = rw (c.board.ensures.board) c.board.ensures.lawful;
       wrote = subst (λ (rules : RulesParts). AppendsPrefix (g.W.Device.contents c.args.output.now)
-          (g.W.Device.contents c.print_table.new.output)
+          (g.W.Device.contents c.print_table.new.self)
           (final_text rules Table c.board.result.now.entries)) same
           (c.print_table.ensures.cut write);
     }) c.print_table.ensures.silent
