@@ -100,7 +100,7 @@ where
     }
 }
 
-/// The door that the options ask for, and what tells its streams that the office has stopped.
+/// The door that the options ask for, and what ends its waiting once the office has stopped.
 fn kept_door_of<R: Files + Net>(
     rt: &R,
     alloc: Global,

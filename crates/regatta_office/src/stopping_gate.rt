@@ -4,8 +4,8 @@ use regatta_keeper::{Keeper, KeptName};
 use regatta_service::{End, Gate, Stopping};
 use std::sync::{Mutex, Wait};
 
-/// A gate that stops no line. Once the keeper has stopped, it tells the door and the streams of silent
-/// clients, which look each second.
+/// A gate that stops no line. Once the keeper has stopped, it says so to the door and the streams of
+/// silent clients, which look each second.
 #[derive(Drop)]
 pub(crate) struct StoppingGate<'a, N: KeptName, L: Log + Drop, R> {
     rt: &'a R,
@@ -14,7 +14,7 @@ pub(crate) struct StoppingGate<'a, N: KeptName, L: Log + Drop, R> {
 }
 
 impl<'a, N: KeptName, L: Log + Drop, R> StoppingGate<'a, N, L, R> {
-    /// The gate of an office with this keeper, whose door and streams are told by `stopping`.
+    /// The gate of an office with this keeper, whose door and streams look at `stopping`.
     pub(crate) fn new(
         rt: &'a R,
         keeper: &'a Mutex<Keeper<N, L>>,
