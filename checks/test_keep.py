@@ -124,6 +124,16 @@ class Keeping(unittest.TestCase):
             self.kept = path
             self.assertEqual(self.said(), ("", "regatta: keep fault\n", 3))
 
+    def test_pipes(self) -> None:
+        """A pipe under a name that the opening of a torn file wants is refused, and left."""
+        for end in (".cut", ".opening"):
+            self.write(self.kept, VERSION + A + "1 2 SC")
+            os.mkfifo(self.kept + end)
+            with self.subTest(end):
+                self.assertEqual(self.said()[1:], ("regatta: keep fault\n", 3))
+                self.assertEqual(self.text(), VERSION + A + "1 2 SC")
+            os.remove(self.kept + end)
+
     def test_rules_first(self) -> None:
         """Rules, journal file and entry list are read before a file is made."""
         self.write(self.boats, "Boat\nX\n")
