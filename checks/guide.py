@@ -13,9 +13,8 @@ has both programs and tools/:
 - ```window NAME stays: the same, but what runs there is still running at the end of the box, and a
   later box of that window goes on with it.
 
-A command is one of the tools, and nothing else. Between the boxes `<!-- freeze cup -->` stops the
-window of an office, so that it saves nothing, and `<!-- kill cup -->` ends the office as a crash
-would. Times, dates and addresses are compared by their form alone. With --fill what was printed is
+A command is one of the tools, and nothing else. Between the boxes `<!-- kill cup -->` ends the office
+as a crash would. Times, dates and addresses are compared by their form alone. With --fill what was printed is
 written into the guide.
 """
 from __future__ import annotations
@@ -31,10 +30,8 @@ import tempfile
 import time
 
 import helpers
-from office import Link
-
 GUIDE = os.path.join(helpers.TOP, "docs", "GUIDE.md")
-STEP = re.compile(r"^```([^\n]*)\n(.*?)^```$|^<!-- (freeze|kill) (\S+) -->$", re.MULTILINE | re.DOTALL)
+STEP = re.compile(r"^```([^\n]*)\n(.*?)^```$|^<!-- kill (\S+) -->$", re.MULTILINE | re.DOTALL)
 COMMAND = re.compile(r"\$ python3 tools/(?:series|client|board|times)\.py ")
 # What varies from one play to the next, and what it is compared as.
 VARIES = [(re.compile(r"\b\d{4}-\d\d-\d\d-\d{6}\b"), "DATE"), (re.compile(r"\b\d\d:\d\d(:\d\d)?\b"), "TIME"),
@@ -193,7 +190,6 @@ class Play:
     def __init__(self, folder: str, fill: bool) -> None:
         self.folder, self.fill = folder, fill
         self.windows: dict[str, Window] = {}
-        self.frozen: list[int] = []
         with socket.socket() as door:
             door.bind(("", 0))
             self.port = str(door.getsockname()[1])
@@ -220,7 +216,7 @@ class Play:
         place = f"docs/GUIDE.md, line {guide[:step.start()].count(chr(10)) + 1}"
         try:
             if step[3]:
-                self.happen(step[3], step[4])
+                self.kill(step[3])
                 return step[0]
             went = self.box(step[1].split(), step[2])
         except (Wrong, OSError, AssertionError) as cause:
@@ -243,30 +239,10 @@ class Play:
                 return played(window, body, len(words) == 3, self.fill)
         raise Wrong("a box has to be a file or a window")
 
-    def happen(self, what: str, series: str) -> None:
-        """Stops the window of an office, or kills the office."""
-        folder = os.path.join(self.folder, series)
-        with open(os.path.join(folder, "office", "pid"), encoding="ascii") as file:
-            office, window = map(int, file.read().split()[:2])
-        if what == "freeze":
-            self.wait_for_saved(folder)
-            helpers.freeze(window)
-            self.frozen.append(window)
-            return
-        os.kill(office, signal.SIGKILL)
-        for number in self.frozen:
-            os.kill(number, signal.SIGCONT)
-        self.frozen = []
-
-    def wait_for_saved(self, folder: str) -> None:
-        """Waits until journal.txt has all that was typed so far."""
-        with contextlib.closing(Link(os.path.join(folder, "office", "race.sock"))) as link:
-            typed = len(link.sheet().journal)
-
-        def held() -> int:
-            with open(os.path.join(folder, "journal.txt"), encoding="ascii") as file:
-                return len(file.readlines())
-        helpers.until("the saved journal", lambda: held() == typed)
+    def kill(self, series: str) -> None:
+        """Kills the office of a series."""
+        with open(os.path.join(self.folder, series, "office", "pid"), encoding="ascii") as file:
+            os.kill(int(file.read().split()[0]), signal.SIGKILL)
 
     def close(self) -> None:
         """Ends what is left, offices too."""

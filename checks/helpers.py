@@ -252,6 +252,12 @@ class Series(unittest.TestCase):
         with open(os.path.join(self.here, *names), encoding="utf-8") as file:
             return file.read()
 
+    def held(self, name: str = "cup", file: str = "journal.txt") -> int:
+        """How many entries a file of a series has: its lines without the version; 0 without a file."""
+        if not os.path.exists(os.path.join(self.here, name, file)):
+            return 0
+        return sum(line != "REGATTA 2" for line in self.text(name, file).splitlines())
+
     def write(self, text: str, *names: str) -> None:
         with open(os.path.join(self.here, *names), "w", encoding="utf-8") as file:
             file.write(text)

@@ -347,7 +347,7 @@ class Sent(helpers.Series):
 
     def late(self) -> None:
         """A late entry makes three of the five stale, and nobody shows that without saying so."""
-        helpers.until("the journal", lambda: "REDRESS 2 GBR33" in self.text("cup", "journal.txt"))
+        self.assertIn("REDRESS 2 GBR33", self.text("cup", "journal.txt"))
         self.assertEqual(self.cells("GBR 7"), ["6.0", "PRP", "1.0", ""])
         self.assertEqual(self.cells("IRL 5")[:2], ["6.0", "TLE"])
         self.assertEqual(self.cells("IRL 55")[2:], ["8.0", "NSC"])
@@ -362,7 +362,7 @@ class Sent(helpers.Series):
         self.assertIn("race 2 GBR33 DUTY all: 11.0 points", said)
         self.assertIn("3 decisions in the scores, 2 others", said)
         self.assertEqual(status, 1)
-        helpers.until("the journal", lambda: "ITA3" in self.text("cup", "journal.txt"))
+        self.assertIn("ITA3", self.text("cup", "journal.txt"))
         self.assertEqual(self.cells("GBR 7")[:2], ["6.0", "PRP"])
         helpers.run("board.py", "cup", "--page", "out", "--once", cwd=self.here)
         for page in ("out.html", "out/index.html", "out/cup/race-1.html"):

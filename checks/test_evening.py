@@ -2,6 +2,7 @@
 from __future__ import annotations
 
 import os
+import tempfile
 import unittest
 
 import helpers
@@ -18,11 +19,21 @@ def steps() -> list[tuple[str, bool, str]]:
     return [(name[:-1], name[-1] == ">", line) for name, _, line in lines]
 
 
+def last_journal() -> list[str]:
+    """The journal that the last SHOW of the talk gives: nothing is entered after it."""
+    lines = [line for _, is_sent, line in steps() if not is_sent]
+    start = max(at for at, line in enumerate(lines) if line.startswith("JOURNAL "))
+    return lines[start + 1:start + 1 + int(lines[start].split()[1])]
+
+
 class Evening(unittest.TestCase):
     def test_talk(self) -> None:
         """What a client reads is what the talk has, in its order. After BYE and BUSY the stream
         ends; at last the program ends with status 0 and its table."""
-        words = ["--clients", str(SEATS), "--sessions", str(SESSIONS), "--entries",
+        holder = tempfile.TemporaryDirectory()
+        self.addCleanup(holder.cleanup)
+        kept = os.path.join(holder.name, "evening.journal")
+        words = ["--clients", str(SEATS), "--sessions", str(SESSIONS), "--keep", kept, "--entries",
                  os.path.join(EXAMPLES, "boats.csv")]
         links: dict[str, Link] = {}
         with helpers.served(*words) as (path, serving):
@@ -42,6 +53,8 @@ class Evening(unittest.TestCase):
             printed, _ = serving.communicate(timeout=helpers.PATIENCE)
         with open(os.path.join(EXAMPLES, "evening.table"), encoding="ascii") as table:
             self.assertEqual((printed, serving.returncode), (table.read(), 0))
+        with open(kept, encoding="ascii") as journal:
+            self.assertEqual(journal.read().splitlines(), ["REGATTA 2", *last_journal()])
 
 
 if __name__ == "__main__":

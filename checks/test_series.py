@@ -27,10 +27,6 @@ class Opening(helpers.Series):
         finally:
             link.close()
 
-    def saved(self, count: int, name: str = "cup") -> bool:
-        path = os.path.join(self.here, name, "journal.txt")
-        return os.path.exists(path) and self.text(name, "journal.txt").count("\n") == count
-
     def answer(self, window: helpers.Window, talk: list[tuple[str, str | None]]) -> None:
         """Waits for each question, and answers it; None is no answer yet."""
         for asked, typed in talk:
@@ -107,7 +103,7 @@ class Opening(helpers.Series):
         place = os.path.join(self.here, "cup", "office")
         self.assertEqual(stat.S_IMODE(os.stat(place).st_mode), 0o700)
         self.assertEqual(self.send(*LINES)[-1], "OK 10")
-        helpers.until("the journal", lambda: self.saved(10))
+        self.assertEqual(self.held(), 10)
         window.press()
         said, status = window.rest()
         self.assertRegex(said, TIME + r"Closed\. journal\.txt has 10 entries, and so has kept/")
@@ -118,13 +114,12 @@ class Opening(helpers.Series):
         self.assertEqual(self.send("FINISH 2 GBR7"), ["OK 11 3= 8.0"])
         again.process.send_signal(signal.SIGHUP)
         self.assertEqual(again.rest()[1], 0)
-        self.assertTrue(self.saved(11))
+        self.assertEqual(self.held(), 11)
 
     def test_crash(self) -> None:
-        """The office is killed: the journal stays, and what it lacks is listed."""
+        """The office is killed: what was answered stays, and what an older journal lacks is listed."""
         window = self.open()
         self.send(*LINES)
-        helpers.until("the journal", lambda: self.saved(10))
         os.kill(self.number(), signal.SIGKILL)
         said, status = window.rest()
         self.assertRegex(said, TIME + r"The office has gone\. journal\.txt has 10 entries\. Open it "
@@ -155,14 +150,16 @@ class Opening(helpers.Series):
         second = self.window("series.py", "open", "cup")
         second.read(r"its window has gone\. Take it over\? \[Y/n\] ")
         second.say("", "The office is open")
-        helpers.until("the journal", lambda: self.saved(11))
+        self.assertEqual(self.held(), 11)
         second.press()
         said, status = second.rest()
         self.assertIn("Closed. journal.txt has 11 entries", said)
         self.assertEqual(status, 0)
 
     def test_question_waits(self) -> None:
-        """The journal is kept while the office asks whether to close; Ctrl-C is no."""
+        """The journal is copied while the office asks whether to close; Ctrl-C is no."""
+        os.mkdir(os.path.join(self.here, "stick"))
+        self.write(self.text("cup", "series.ini").replace("copy = ", "copy = ../stick"), "cup", "series.ini")
         window = self.open()
         typist = self.client("cup", "--role", "finish")
         asked = r"1 window is still open: finish since \d\d:\d\d\. Close the office\? \[y/N\] $"
@@ -170,7 +167,8 @@ class Opening(helpers.Series):
             window.press()
             window.read(asked)
             typist.say(f"finish 1 {sail}", r"OK \d .*\n> $")
-            helpers.until("the journal", lambda entries=entries: self.saved(entries))
+            helpers.until("the copy", lambda entries=entries:
+                          self.held("stick", "cup-journal.txt") == entries)
             window.press()
             window.read("\nThe office stays open.\n")
         window.press()
@@ -205,7 +203,7 @@ class Opening(helpers.Series):
         window.press()
         window.rest()
         kept = self.text("cup", "journal.txt").splitlines(keepends=True)
-        self.write("".join(kept[:9]), "cup", "journal.txt")
+        self.write("".join(kept[:10]), "cup", "journal.txt")
         self.write("", "cup", "journal (conflicted copy).txt")
         said, status = helpers.run("series.py", "check", "cup", cwd=self.here)
         self.assertIn("journal.txt has 9 entries, but had 10 when the office was closed. Compare it "
@@ -261,10 +259,10 @@ class Opening(helpers.Series):
         said = helpers.run("series.py", "remove", "cup", "DEN16", cwd=self.here)
         self.assertEqual(said, ("DEN16 can't be taken out: entry 10, TIE 1 GBR7 DEN16, places another "
                                 "boat beside her.\n", 1))
-        self.write("\n".join(before.splitlines()[:9] + ["1 10 SCORER SCORE 1", ""]), "cup", "journal.txt")
+        self.write("\n".join(before.splitlines()[:10] + ["1 10 SCORER SCORE 1", ""]), "cup", "journal.txt")
         said, status = helpers.run("series.py", "remove", "cup", "DEN16", cwd=self.here)
         self.assertIn("DEN16 can't be taken out: a race that counts would have no finisher", said)
-        self.assertEqual((self.text("cup", "journal.txt").count("\n"), status), (10, 1))
+        self.assertEqual((self.held(), status), (10, 1))
 
     def test_long_path(self) -> None:
         deep = os.path.join("d" * 100, "e" * 100)
@@ -279,7 +277,7 @@ class Opening(helpers.Series):
         os.mkdir(os.path.join(self.here, "stick"))
         self.make("copied", copy=os.path.join(self.here, "stick"))
         window = self.open("copied")
-        self.assertTrue(self.text("stick", "copied-journal.txt").startswith("1 1 SCORER ENTER GBR101"))
+        self.assertEqual(self.text("stick", "copied-journal.txt"), self.text("copied", "journal.txt"))
         said = helpers.run("series.py", "check", "copied", cwd=self.here)[0]
         self.assertNotIn("No second copy", said)
         os.rename(os.path.join(self.here, "stick"), os.path.join(self.here, "gone"))
@@ -290,7 +288,8 @@ class Opening(helpers.Series):
         window.read(TIME + "No second copy: .*/stick isn't there\\.")
         os.rename(os.path.join(self.here, "gone"), os.path.join(self.here, "stick"))
         self.send("FINISH 2 GBR7", name="copied")
-        helpers.until("the copy", lambda: self.text("stick", "copied-journal.txt").count("\n") == 11)
+        helpers.until("the copy", lambda: self.held("stick", "copied-journal.txt") == 11)
+        self.assertEqual(self.text("stick", "copied-journal.txt"), self.text("copied", "journal.txt"))
         window.press()
         self.assertEqual(window.rest()[1], 0)
 
@@ -306,11 +305,11 @@ class Opening(helpers.Series):
         self.assertIn("TABLE 7 RACES\n1= FRA9 0.0\n", said)
         self.assertEqual(status, 0)
         link.close()
-        self.assertTrue(self.saved(7))
+        self.assertEqual(self.held(), 7)
 
 
 class Keeping(unittest.TestCase):
-    """How journal.txt is written."""
+    """How the copy on a second disk is written."""
     HELD = "1 1 SCORER ENTER A\n1 2 SCORER ENTER B\n"
 
     def setUp(self) -> None:
@@ -417,10 +416,12 @@ class Faults(helpers.Series):
         self.assertRegex(self.fault("check", "cup"), f"^{words}\n$")
         again = self.window("series.py", "open", "cup")
         again.read(words + r" Use it\? \[y/N\] $")
+        # A second window doesn't put a journal in its place while the first one may.
+        self.assertNotIn("Use it?", self.fault())
         again.type("y")
         again.read("7 boats, no races scored, 7 entries(.|\n)*The office is open")
         self.addCleanup(self.stop, "cup")
-        self.assertEqual(self.text("cup", "journal.txt").count("\n"), 7)
+        self.assertEqual(self.held(), 7)
         again.press()
         self.assertEqual(again.rest()[1], 0)
 

@@ -49,7 +49,7 @@ class Survey(helpers.Series):
         self.assertEqual(window.rest()[1], 0)
 
     def test_disk_fills_up(self) -> None:
-        """The office goes on while its disk is full, says so once, and saves when there is room."""
+        """A full disk ends the office, and says so. All that was answered is there when it opens again."""
         disk = os.path.join(self.here, "disk")
         os.mkdir(disk)
         if subprocess.run(["mount", "-t", "tmpfs", "-o", "size=160k", "none", disk],
@@ -62,36 +62,45 @@ class Survey(helpers.Series):
         filler = os.path.join(disk, "filler")
         with open(filler, "wb") as file:
             subprocess.run(["dd", "if=/dev/zero", "bs=1024"], stdout=file, stderr=subprocess.DEVNULL)
-        typist.say("finish 1 101", r"OK 8 .*\n> $")
-        # The log's last page has room for a few lines more.
-        said = "".join(typist.say("rank gbr 101", r"with 0.0 points\n> $") for _ in range(80))
+        # The last pages of log and journal have room for some lines more.
+        said, lines = "", 0
+        while "the office has gone" not in said:
+            code = ("dnf", "ret")[lines % 2]
+            said += typist.say(f"mark 1 101 {code}", r"(OK .*\n> |Ctrl-C ends this window\.\n)$")
+            lines += 1
         self.assertIn("Beware: office.log can't be written: No space left on device.", said)
-        window.read(r"Not saved: .*journal\.txt can't be written: No space left on device\.")
+        self.assertIn(f"No answer came to: MARK 1 GBR101 {code.upper()}\n", said)
+        answered = said.count("\nOK ") + said.startswith("OK ")
+        self.assertEqual(answered, lines - 1)
+        told, status = window.rest()
+        self.assertRegex(told, r"The office has gone\. The disk is full: make space\. journal\.txt has "
+                         f"{7 + answered} entries\\. Open it again: ")
+        self.assertEqual(status, 1)
+        os.remove(filler)
+        again = self.open("disk/full")
+        self.assertEqual(self.held("disk/full"), 7 + answered)
+        typist.read(f"The office is back with {7 + answered} entries\\.(.|\n)*not in the journal\\.\n> $")
         typist.type("quit")
         typist.rest()
-        window.press()
-        window.read(r"The office stays until its journal is saved: .*No space left on device\.")
-        self.assertEqual(self.text("disk", "full", "journal.txt").count("\n"), 7)
-        os.remove(filler)
-        said, status = window.rest()
-        self.assertRegex(said, r"Closed\. journal\.txt has 8 entries, and so has kept/")
-        self.assertEqual((said.count("Not saved"), status), (0, 0))
+        again.press()
+        self.assertEqual(again.rest()[1], 0)
 
     def test_journal_of_another(self) -> None:
         """If somebody has changed journal.txt meanwhile, both journals are there in the end."""
         window = self.open()
         typist = self.client("cup", "--role", "finish")
         other = self.text("cup", "journal.txt").replace("GBR101", "GBR102")
-        self.write(other, "cup", "journal.txt")
+        self.write(other, "other")
+        os.replace(os.path.join(self.here, "other"), os.path.join(self.here, "cup", "journal.txt"))
         typist.say("finish 1 7", r"OK 8 .*\n> $")
         typist.type("quit")
         typist.rest()
-        window.read(r"Not saved: .*journal\.txt holds entries that the office doesn't have")
+        window.read("Beware: journal.txt isn't what the office keeps: somebody has changed or replaced it")
         window.press()
         said, status = window.rest()
         self.assertEqual((self.text("cup", "journal.txt"), status), (other, 0))
         kept = said.split("The journal of the office is in ")[1].split(".txt")[0] + ".txt"
-        self.assertEqual(self.text("cup", kept).count("\n"), 8)
+        self.assertEqual(self.held("cup", kept), 8)
         self.assertIn("FINISH 1 GBR7\n", self.text("cup", kept))
 
     def test_fullest_copy(self) -> None:

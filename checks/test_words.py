@@ -36,8 +36,26 @@ class Words(unittest.TestCase):
                     ("regatta: entries fault 4 row 9", "entries.csv, row 9: the sail is in an"),
                     ("regatta: journal fault 1 line 2", "isn't a line of a journal: '1 1 SCORER"),
                     ("regatta: start refused 16 at 2", "disagree on handicap"),
+                    ("regatta: keep taken", "Another office has journal.txt"),
+                    ("regatta: keep fault", "Is the disk full?"),
+                    ("regatta: keep damaged after line 2", "journal.txt is damaged after line 2."),
+                    ("regatta: keep damaged after line 0", "journal.txt is no journal"),
+                    ("regatta: keep journal fault 1 line 2", "isn't a line of a journal: '1 1 SCORER"),
+                    ("regatta: keep differs at 2", "different entries, first at 2."),
+                    ("regatta: keep too long", "longer than 1,048,576 bytes"),
+                    ("error: unexpected argument '--keep' found", "older than these tools"),
                     ("regatta: no memory", "The program says: regatta: no memory.")]:
-                self.assertIn(text, words.start_fault(fault + "\n", journal, "entries.csv")[0])
+                for note in ("", "regatta: keep cut 3 bytes after line 3\n1 3\n"):
+                    said = words.start_fault(f"{note}{fault}\n", journal, "entries.csv")
+                    self.assertIn(text, said[0])
+
+    def test_cut(self) -> None:
+        """What was cut off is shown, with what it may have been."""
+        said = words.cut_note("regatta: keep cut 12 bytes after line 3\n1 3 FINI??\nregatta: keep fault\n")
+        self.assertEqual(said.splitlines()[0], "journal.txt ended in a torn line, as after a crash. What came "
+                         "after line 3 was cut off, and is in journal.txt.cut now (12 bytes):")
+        self.assertEqual(said.splitlines()[1], "   1 3 FINI??")
+        self.assertEqual(words.cut_note("regatta: keep fault\n"), "")
 
 
 if __name__ == "__main__":

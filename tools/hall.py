@@ -1,4 +1,4 @@
-"""The window of an office, from its opening to its end: what it asks, keeps and says."""
+"""The window of an office, from its opening to its end: what it asks, copies and says."""
 from __future__ import annotations
 
 import contextlib
@@ -15,10 +15,10 @@ from folder import Folder, clock
 from keeper import Keeper
 from office import Sheet, Trouble, remove_socket
 from program import Program
-from prompt import Once, question, say, wrapped
+from prompt import Once, question, say, sentence, wrapped
 from service import LEAVE, Service
 from source import rules_of
-from survey import changes_of_rules, notes, rules_before, summary
+from survey import changes_of_rules, is_full, notes, rules_before, summary
 from unsaved import unsaved
 from words import count, moved
 
@@ -91,7 +91,7 @@ class Hall:
             say(text)
 
     def begin(self) -> None:
-        """Saves the journal for the first time, and says that the office is open."""
+        """Copies the journal for the first time, and says that the office is open."""
         sheet = self.service.link.sheet()
         self.save(sheet)
         self.keeper.keep_dated()
@@ -107,7 +107,7 @@ class Hall:
     # While it is open
 
     def stay(self) -> int:
-        """Keeps the journal until the office is closed or has gone; the status."""
+        """Copies the journal until the office is closed or has gone; the status."""
         while True:
             came = signal.sigtimedwait(STOPS, LOOK)
             if came and self.is_to_close(came.si_signo):
@@ -117,10 +117,10 @@ class Hall:
             except Trouble as trouble:
                 if self.service.is_over():
                     return self.crashed()
-                self.say_once("save", f"Not saved: {trouble}.")
+                self.say_once("save", f"Beware: {sentence(trouble)}")
 
     def look(self) -> None:
-        """Saves what is new, and now and then makes a dated copy and looks at the door."""
+        """Copies what is new, and now and then makes a dated copy and looks at the door."""
         self.save(self.service.link.sheet())
         if self.dated.has_come():
             self.keeper.keep_dated()
@@ -129,16 +129,16 @@ class Hall:
                           "more. Close it by Ctrl-C, and open it again.")
 
     def save(self, sheet: Sheet) -> bool:
-        """Saves the journal, and says if it or its copy can't be; whether it is saved."""
+        """Copies the journal, and says if that fails; whether journal.txt is what the office keeps."""
         try:
             self.keeper.save(sheet)
+            wrong = ""
         except Trouble as trouble:
-            self.say_once("save", f"Not saved: {trouble}.")
-            return False
-        self.once.say("save", "")
+            wrong = f"Beware: {sentence(trouble)} Close the office: its journal then goes to kept/, too."
+        self.say_once("save", wrong)
         failed = self.keeper.trouble
         self.say_once("copy", f"No second copy: {failed}." if failed else "")
-        return True
+        return not wrong
 
     def say_once(self, about: str, text: str) -> None:
         """Says something with the time, and not again until it has changed."""
@@ -157,7 +157,7 @@ class Hall:
         return is_yes
 
     def is_yes(self, text: str) -> bool:
-        """Whether somebody says yes; Ctrl-C is no. The journal is kept while the question waits."""
+        """Whether somebody says yes; Ctrl-C is no. The journal is copied while the question waits."""
         print(wrapped(text), end="", flush=True)
         while not select.select([sys.stdin], [], [], LOOK)[0]:
             with contextlib.suppress(Trouble):
@@ -169,10 +169,14 @@ class Hall:
 
     def crashed(self) -> int:
         """Says that the program has ended by itself; the status."""
-        held, said = len(self.folder.kept()), self.service.fault()
-        say(f"{clock()} The office has gone{': ' + said if said else ''}. journal.txt has "
-            f"{count(held, 'entry', 'entries')}. Open it again: python3 tools/series.py open "
-            f"{shlex.quote(os.path.relpath(self.folder.path))}")
+        # On a full disk the program can't write what it says, either.
+        why = ["The disk is full: make space."] if is_full(self.folder) else self.service.fault()
+        try:
+            held = f"journal.txt has {count(len(self.folder.kept()), 'entry', 'entries')}."
+        except Trouble as trouble:
+            held = sentence(trouble)
+        say(" ".join([clock(), "The office has gone.", *why, held, "Open it again: python3 tools/series.py "
+                      f"open {shlex.quote(os.path.relpath(self.folder.path))}"]))
         return 1
 
     # Closing
@@ -206,14 +210,15 @@ class Hall:
             time.sleep(0.2)
 
     def save_last(self, sheet: Sheet) -> None:
-        """Saves the journal before the program ends, which has the only other copy of it. If
-        journal.txt can't take it, it is kept beside; on a full disk this waits for room."""
+        """Copies the journal before the program ends. If journal.txt isn't what the office keeps, the
+        program has the only whole one: it is kept beside, and on a full disk this waits for room."""
         while not self.save(sheet):
             try:
-                say(f"{clock()} The journal of the office is in {self.keeper.keep_beside(sheet)}.")
+                say(f"{clock()} The journal of the office is in {self.keeper.keep_beside(sheet)}. Compare it "
+                    "with journal.txt before you open it again.")
                 return
             except Trouble as trouble:
-                self.say_once("last", f"The office stays until its journal is saved: {trouble}.")
+                self.say_once("last", f"The office stays until its journal is in kept/: {trouble}.")
                 time.sleep(LOOK)
 
     def closed(self) -> int:

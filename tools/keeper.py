@@ -1,50 +1,58 @@
-"""How a journal is kept on the disk: journal.txt, a copy on a second disk, dated copies in kept/."""
+"""The copies of the journal that the program keeps in journal.txt: one on a second disk, and dated ones
+in kept/."""
 from __future__ import annotations
 
 import os
 import time
 
-from folder import VERSION, Folder, replace_whole
+from folder import VERSION, Folder, entries_of, replace_whole
 from office import Sheet, Trouble
 
 
 class Keeper:
-    """Keeps the journal in journal.txt, and a copy of it on a second disk if the settings say so.
+    """Copies the journal to a second disk if the settings say so, and looks whether journal.txt has it.
 
-    A file is replaced only by a journal that goes on where the file ends. So an office that was
-    opened with an older journal never costs the entries that were saved.
+    While the office is open, only the program writes journal.txt: a rename over it would break the
+    keeping. The copy is replaced only by a journal that goes on where it ends. So an office that was
+    opened with an older journal never costs the entries that were copied.
     """
 
     def __init__(self, folder: Folder) -> None:
-        self.folder, self.saved = folder, -1
+        self.folder, self.copied = folder, -1
         self.copy = copy_of(folder)
         self.trouble = ""
+        self.first: list[str] | None = None
 
     def save(self, sheet: Sheet) -> None:
-        """Saves the journal; a Trouble if it can't be. A copy that fails is only remembered."""
-        if len(sheet.journal) == self.saved and not self.trouble:
-            return
-        text = text_of(sheet)
-        save_to(self.folder.journal, text)
-        self.saved = len(sheet.journal)
-        self.trouble = copy_fault(self.folder)
-        if self.trouble or not self.copy:
-            return
+        """Copies the journal; a Trouble if journal.txt isn't what the office keeps. A copy that fails
+        is only remembered."""
+        if len(sheet.journal) != self.copied or self.trouble:
+            self.trouble = self.copy_trouble(sheet)
+            self.copied = len(sheet.journal)
+        held = self.folder.kept()
+        if self.first is None:
+            # An older journal may be written otherwise than the office shows it.
+            self.first = held[:len(sheet.journal)]
+        if held[:len(sheet.journal)] != [*self.first, *sheet.journal[len(self.first):]]:
+            raise Trouble("journal.txt isn't what the office keeps: somebody has changed or replaced it")
+
+    def copy_trouble(self, sheet: Sheet) -> str:
+        """Copies the journal to the second disk; why it can't be, or nothing."""
+        if fault := copy_fault(self.folder):
+            return fault
         try:
-            save_to(self.copy, text)
+            if self.copy:
+                save_to(self.copy, text_of(sheet))
         except Trouble as trouble:
-            self.trouble = str(trouble)
+            return str(trouble)
+        return ""
 
     def keep_dated(self) -> str:
         """Makes a dated copy of journal.txt in kept/; its name."""
-        try:
-            with open(self.folder.journal, "rb") as file:
-                return self.keep_as(dated(), file.read())
-        except OSError as cause:
-            raise Trouble(f"journal.txt can't be read: {cause.strerror}") from None
+        return self.keep_as(dated(), self.folder.parts()[0])
 
     def keep_beside(self, sheet: Sheet) -> str:
-        """Keeps a journal in kept/ that doesn't go on where journal.txt ends; the copy's name."""
+        """Keeps the office's journal in kept/ if journal.txt isn't it any more; the copy's name."""
         return self.keep_as(dated("-office"), text_of(sheet).encode())
 
     def keep_as(self, name: str, data: bytes) -> str:
@@ -63,7 +71,7 @@ def dated(more: str = "") -> str:
 
 def text_of(sheet: Sheet) -> str:
     """The journal of a sheet as a file has it."""
-    return "".join(f"{line}\n" for line in sheet.journal)
+    return VERSION + "".join(f"{line}\n" for line in sheet.journal)
 
 
 def copy_of(folder: Folder) -> str:
@@ -82,12 +90,12 @@ def save_to(path: str, text: str) -> None:
     """Makes a file hold a journal that goes on where the file ends."""
     try:
         with open(path, encoding="ascii", errors="replace") as file:
-            held = file.read().removeprefix(VERSION)
+            held = file.read()
     except FileNotFoundError:
         held = ""
     except OSError as cause:
         raise Trouble(f"{path} can't be read: {cause.strerror}") from None
-    if not text.startswith(held):
+    if not text.removeprefix(VERSION).startswith(held.removeprefix(VERSION)):
         raise Trouble(f"{path} holds entries that the office doesn't have. It is left as it is")
     if text != held:
         replace_whole(path, text.encode())
@@ -106,4 +114,4 @@ def fullest_copy(folder: Folder) -> tuple[str, int]:
 def entries_in(path: str) -> int:
     """How many entries a journal's file has."""
     with open(path, encoding="ascii", errors="replace") as file:
-        return len(file.read().removeprefix(VERSION).splitlines())
+        return len(entries_of(file.read()))

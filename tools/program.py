@@ -5,12 +5,11 @@ import errno
 import os
 import subprocess
 
-from folder import Folder
+from folder import Folder, replace_whole
 from office import Trouble
 from record import Standing
+from replay import ran
 from words import start_fault
-
-PATIENCE = 60.0
 
 
 class Program:
@@ -19,15 +18,10 @@ class Program:
     def __init__(self, folder: Folder) -> None:
         self.folder, self.path = folder, folder.program
 
-    def run(self, *words: str) -> subprocess.CompletedProcess[str]:
-        """The program, run to its end without input."""
-        return subprocess.run([self.path, *words], stdin=subprocess.DEVNULL, capture_output=True,
-                              encoding="utf-8", errors="replace", timeout=PATIENCE)
-
     def fault(self) -> str:
         """Why the program can't be run; empty if it can."""
         try:
-            tried = self.run("replay")
+            tried = ran(self.path, [])
         except FileNotFoundError:
             return f"The program isn't at {self.path}: correct `program` in series.ini."
         except PermissionError:
@@ -41,33 +35,46 @@ class Program:
             return f"{self.path} isn't regatta: it said {tried.stderr[:200]!r}."
         return ""
 
-    def start(self) -> list[str]:
-        """The options that say from what a series starts: its journal, or else its entry list."""
-        folder = self.folder
-        return ["--journal", folder.journal] if folder.kept() else ["--entries", folder.entries]
+    def replay(self, options: list[str]) -> subprocess.CompletedProcess[str]:
+        """A replay of the series under these rules: of what counts of its journal, or else of its entry
+        list."""
+        if self.folder.kept():
+            return ran(self.path, options, journal=self.folder.parts()[0])
+        return ran(self.path, [*options, "--entries", self.folder.entries])
+
+    def begin(self) -> None:
+        """Makes the journal of a new series, with the boats of its list. It is there whole or, after a
+        crash, not at all: in one with a part of them the others would be missing."""
+        done = ran(self.path, [*self.folder.settings.options(), "--entries", self.folder.entries,
+                               "--print", "journal"])
+        if done.returncode:
+            raise Trouble("\n".join(self.in_words(done.stderr)).removesuffix("."))
+        replace_whole(os.path.realpath(self.folder.journal), done.stdout.encode())
+
+    def in_words(self, said: str) -> list[str]:
+        """What the program said of the series' files, in words."""
+        return start_fault(said, self.folder.journal, self.folder.entries)
 
     def start_faults(self) -> list[str]:
         """What the program finds wrong with the rules, the journal or the entry list, in words."""
-        folder = self.folder
-        tried = self.run("replay", *folder.settings.options(), *self.start())
-        return start_fault(tried.stderr, folder.journal, folder.entries) if tried.returncode else []
+        tried = self.replay(self.folder.settings.options())
+        return self.in_words(tried.stderr) if tried.returncode else []
 
-    def standing(self, options: list[str], journal: str = "") -> Standing:
-        """The standing that these rules give, of the series or of another journal."""
-        return Standing.read(self.table(options, journal).splitlines())
+    def standing(self, options: list[str]) -> Standing:
+        """The standing that these rules give."""
+        return Standing.read(self.table(options).splitlines())
 
-    def table(self, options: list[str], journal: str = "") -> str:
+    def table(self, options: list[str]) -> str:
         """The table that these rules give, as the program prints it."""
-        start = ["--journal", journal] if journal else self.start()
-        done = self.run("replay", *options, *start)
+        done = self.replay(options)
         if done.returncode:
-            raise Trouble("\n".join(start_fault(done.stderr, journal or self.folder.journal,
-                                                self.folder.entries)).removesuffix("."))
+            raise Trouble("\n".join(self.in_words(done.stderr)).removesuffix("."))
         return done.stdout.rstrip()
 
 
 def serve_words(folder: Folder, sessions: int) -> list[str]:
-    """The command that serves a series. The socket's path may have 107 bytes, so it is a bare name."""
-    return [os.path.abspath(folder.program), "serve", "--socket", "race.sock",
+    """The command that serves a series and keeps its journal. The socket's path may have 107 bytes, so it
+    is a bare name."""
+    return [os.path.abspath(folder.program), "serve", "--socket", "race.sock", "--keep", folder.journal,
             "--clients", str(folder.settings.seats), "--sessions", str(sessions),
-            *folder.settings.options(), *Program(folder).start()]
+            *folder.settings.options()]

@@ -1,13 +1,16 @@
 """How a boat that should never have been entered is taken out of a journal: no line does that."""
 from __future__ import annotations
 
+import os
+
 import entries
-from folder import PRIVATE, Folder, Lock, replace_whole
+from folder import VERSION, Folder, Lock, replace_whole
 from keeper import Keeper, copy_of
 from office import Trouble
 from program import Program
 from prompt import question, say
-from record import changes
+from record import Standing, changes
+from replay import scored
 from words import count, moved
 
 
@@ -39,16 +42,19 @@ def remove(path: str, words: list[str]) -> int:
     """Takes a boat out of a journal whose office is closed, after a question; the status."""
     folder, sail = Folder(path), "".join(words).upper()
     folder.make_private()
-    if Lock(folder).is_taken():
+    if Lock(folder).is_taken() or folder.is_held():
         raise Trouble("the office is open: close it first, by Ctrl-C in its window")
+    if folder.parts()[1]:
+        raise Trouble("journal.txt ends in a torn line, as after a crash: first open the office, and "
+                      "close it")
     journal = folder.kept()
     about = lines_about(journal, sail)
     say(f"{count(len(about), 'entry goes', 'entries go')}:")
     for at, line in about.items():
         say(f"   {at:>5}  {' '.join(line.split()[2:])}")
     left = [line for at, line in enumerate(journal, 1) if at not in about]
-    data = "".join(f"{line}\n" for line in left).encode()
-    say_moved(folder, sail, data)
+    data = (VERSION + "".join(f"{line}\n" for line in left)).encode()
+    say_moved(folder, sail, left)
     if not question(f"Take {sail} out? The journal with her stays in kept/."):
         say("Nothing was changed.")
         return 1
@@ -60,14 +66,12 @@ def remove(path: str, words: list[str]) -> int:
     return 0
 
 
-def say_moved(folder: Folder, sail: str, data: bytes) -> None:
+def say_moved(folder: Folder, sail: str, left: list[str]) -> None:
     """Says whom a shorter journal moves; a Trouble if the program doesn't take it."""
-    program, options = Program(folder), folder.settings.options()
-    path = folder.file(PRIVATE, "shorter")
-    replace_whole(path, data)
-    before = program.standing(options)
+    options = folder.settings.options()
+    before = Program(folder).standing(options)
     try:
-        after = program.standing(options, path)
+        after = Standing.read(list(scored(folder.program, options, left).table))
     except Trouble:
         raise Trouble(f"{sail} can't be taken out: a race that counts would have no finisher, or no "
                       "boat would be left") from None
@@ -78,7 +82,8 @@ def say_moved(folder: Folder, sail: str, data: bytes) -> None:
 
 def replace(folder: Folder, data: bytes) -> None:
     """Writes the shorter journal, and its copy on a second disk."""
-    replace_whole(folder.journal, data)
+    # A link stays, and what it leads to is replaced.
+    replace_whole(os.path.realpath(folder.journal), data)
     try:
         if copy := copy_of(folder):
             replace_whole(copy, data)

@@ -26,8 +26,9 @@ class Line:
         return self.text
 
 
-def printed(program: str, words: list[str], typed: str, journal: bytes | None = None) -> list[str]:
-    """What a replay prints for these lines, after the journal that is given, if one is."""
+def ran(program: str, words: list[str], typed: str = "",
+        journal: bytes | None = None) -> subprocess.CompletedProcess[str]:
+    """A replay of these lines, run to its end, after the journal that is given, if one is."""
     command = [program, "replay", *words]
     held = -1
     if journal is not None:
@@ -35,14 +36,20 @@ def printed(program: str, words: list[str], typed: str, journal: bytes | None = 
         os.write(held, journal)
         command += ["--journal", f"/proc/self/fd/{held}"]
     try:
-        done = subprocess.run(command, input=typed, capture_output=True, encoding="utf-8",
+        return subprocess.run(command, input=typed, capture_output=True, encoding="utf-8",
                               errors="replace", timeout=PATIENCE, pass_fds=[held] if held >= 0 else [])
-    except (OSError, subprocess.TimeoutExpired) as cause:
-        raise Trouble(f"the program at {program} can't be run: "
-                      f"{getattr(cause, 'strerror', '') or 'it does not end'}") from None
     finally:
         if held >= 0:
             os.close(held)
+
+
+def printed(program: str, words: list[str], typed: str, journal: bytes | None = None) -> list[str]:
+    """What a replay prints for these lines, after the journal that is given, if one is."""
+    try:
+        done = ran(program, words, typed, journal)
+    except (OSError, subprocess.TimeoutExpired) as cause:
+        raise Trouble(f"the program at {program} can't be run: "
+                      f"{getattr(cause, 'strerror', '') or 'it does not end'}") from None
     if done.returncode:
         raise Trouble(f"the program says {done.stderr.strip() or 'nothing'}")
     return done.stdout.splitlines()

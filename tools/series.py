@@ -15,19 +15,18 @@ from __future__ import annotations
 
 import argparse
 import os
-import shutil
 import sys
 
 import settings
 from declare import announce
-from folder import Folder
+from folder import Folder, replace_whole
 from hall import Hall
 from keeper import copy_fault, fullest_copy
 from making import mended_list, new
 from office import Trouble
 from prompt import question, say, sentence
 from removal import remove
-from survey import disk_fault, faults, lost_journal, notes, summary
+from survey import disk_fault, faults, journal_fault, lost_journal, notes, summary
 
 
 def check(path: str) -> int:
@@ -48,25 +47,29 @@ def open_(path: str) -> int:
     if fault := disk_fault(folder):
         say(fault)
         return 1
-    mend(folder)
+    hall = Hall(folder)
+    if not hall.service.lock.is_taken():
+        mend(folder)
     wrong = faults(folder)
     for text in wrong:
         say(text)
     if wrong:
         say("Nothing was opened.")
         return 1
-    return Hall(folder).open()
+    return hall.open()
 
 
 def mend(folder: Folder) -> None:
     """Offers what puts a series without a journal right: its fullest copy, or a list with commas."""
-    if folder.kept():
+    # Nothing may replace a file that an office has.
+    if journal_fault(folder) or folder.is_held() or folder.kept():
         return
     lost, (copy, _) = lost_journal(folder), fullest_copy(folder)
     if not lost and os.path.exists(folder.entries):
         mended_list(folder.entries)
     elif copy and question(f"{lost} Use it?"):
-        shutil.copyfile(copy, folder.journal)
+        with open(copy, "rb") as file:
+            replace_whole(os.path.realpath(folder.journal), file.read())
 
 
 def arguments() -> argparse.Namespace:

@@ -8,9 +8,9 @@ import time
 
 from folder import PRIVATE, Folder, Lock, is_tool
 from office import Gone, Link, Trouble, sockets_at
-from program import serve_words
-from prompt import question
-from words import start_fault
+from program import Program, serve_words
+from prompt import question, say
+from words import cut_note, without_note
 
 # The number of clients after which the program ends. Closing uses up the rest, so that it ends by
 # itself, with its table.
@@ -33,21 +33,26 @@ class Service:
     def start(self) -> None:
         """Starts the program, and links to it. It gets a session of its own, so that Ctrl-C in this
         window doesn't reach it."""
+        if not self.folder.kept() and not self.folder.is_held():
+            Program(self.folder).begin()
         with open(self.file("table"), "wb") as table, open(self.file("fault"), "wb") as fault:
             self.process = subprocess.Popen(
                 serve_words(self.folder, SESSIONS), cwd=self.file(), stdin=subprocess.DEVNULL,
                 stdout=table, stderr=fault, start_new_session=True, pass_fds=[self.lock.file])
         self.number = self.process.pid
         self.note_pid()
-        self.link = self.first_link()
+        try:
+            self.link = self.first_link()
+        finally:
+            if note := cut_note(self.said()):
+                say(note)
 
     def first_link(self) -> Link:
         """The link to the program once it has made its socket."""
         end = time.monotonic() + PATIENCE
         while time.monotonic() < end:
             if self.is_over():
-                raise Trouble("\n".join(start_fault(self.fault(), self.folder.journal,
-                                                    self.folder.entries)).removesuffix("."))
+                raise Trouble("\n".join(self.fault() or ["the program ended, and didn't say why"]))
             try:
                 return self.folder.link()
             except Gone:
@@ -79,10 +84,15 @@ class Service:
     def file(self, *names: str) -> str:
         return self.folder.file(PRIVATE, *names)
 
-    def fault(self) -> str:
+    def said(self) -> str:
         """What the program has said on standard error."""
         with open(self.file("fault"), encoding="utf-8", errors="replace") as file:
-            return file.read().strip()
+            return file.read()
+
+    def fault(self) -> list[str]:
+        """Why the program ended by itself, in words; none if it didn't say."""
+        said = without_note(self.said()).strip()
+        return Program(self.folder).in_words(said) if said else []
 
     def table(self) -> str:
         """What the program has printed: its table, once it has ended."""

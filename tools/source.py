@@ -24,9 +24,9 @@ PATIENCE = 5.0
 
 def replayed(folder: Folder, options: list[str]) -> Sheet:
     """The sheet of a series under these rules, from the folder's own files."""
-    is_begun = os.path.exists(folder.journal)
-    start = ["--journal", folder.journal] if is_begun else ["--entries", folder.entries]
-    return sheet_of(printed(folder.program, [*options, *start], "SHOW\nQUIT\n"))
+    if os.path.exists(folder.journal):
+        return sheet_of(printed(folder.program, options, "SHOW\nQUIT\n", folder.parts()[0]))
+    return sheet_of(printed(folder.program, [*options, "--entries", folder.entries], "SHOW\nQUIT\n"))
 
 
 def rules_of(options: list[str]) -> dict[str, object]:
@@ -139,6 +139,7 @@ class Source:
         key = (self.settings.options(), [(file.st_mtime_ns, file.st_size) for file in found])
         if self.replayed is None or self.replayed[0] != key:
             self.replayed = (key, replayed(self.folder, self.settings.options()))
+            self.note("torn", self.folder.torn_end())
         return self.replayed[1]
 
     # One look

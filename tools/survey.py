@@ -6,15 +6,19 @@ import glob
 import os
 import re
 import socket
+import stat
 
 import entries
 from folder import PRIVATE, Folder
 from keeper import fullest_copy
 from office import Trouble
 from program import Program
+from prompt import sentence
 from record import Change, changes
 from words import count, joined
 
+# The journal, what the program cuts off it, and what it may leave of an opening.
+OURS = ("journal.txt", "journal.txt.cut", "journal.txt.opening")
 # Bytes that have to be free on the disk beside what the journal has already.
 ROOM = 64 << 10
 
@@ -24,12 +28,36 @@ def faults(folder: Folder) -> list[str]:
     program = Program(folder)
     if wrong := program.fault():
         return [wrong]
+    if wrong := journal_fault(folder):
+        return [wrong]
     if not folder.kept():
         if lost := lost_journal(folder):
             return [lost]
         if wrong := list_faults(folder):
             return wrong
     return program.start_faults()
+
+
+def journal_fault(folder: Folder) -> str:
+    """Why the program couldn't keep journal.txt; empty if it can, or if there is none yet."""
+    path = os.path.realpath(folder.journal)
+    try:
+        held = os.stat(path)
+        if not stat.S_ISREG(held.st_mode):
+            return "journal.txt is no plain file."
+        if held.st_nlink > 1:
+            return ("journal.txt has a second name (a hard link), and the office would keep it under one "
+                    "alone. Copy it to another file, and rename that to journal.txt.")
+        if not os.access(path, os.R_OK | os.W_OK) or not os.access(os.path.dirname(path), os.W_OK):
+            return f"This account may not write {path}, or its folder."
+        folder.parts()
+    except FileNotFoundError:
+        return ""
+    except OSError as cause:
+        return f"journal.txt can't be read: {cause.strerror}."
+    except Trouble as trouble:
+        return sentence(trouble)
+    return ""
 
 
 def list_faults(folder: Folder) -> list[str]:
@@ -64,18 +92,10 @@ def lost_journal(folder: Folder) -> str:
 
 def disk_fault(folder: Folder) -> str:
     """Why the folder can't hold a journal and a socket; empty if it can."""
-    path = folder.file(PRIVATE, "probe")
-    size = os.path.getsize(folder.journal) if os.path.exists(folder.journal) else 0
-    try:
-        with open(path, "wb") as file:
-            file.write(b"\0" * (2 * size + ROOM))
-            file.flush()
-            os.fsync(file.fileno())
-    except OSError as cause:
+    if cause := room_fault(folder):
         why = "is full" if cause.errno == errno.ENOSPC else f"can't be written: {cause.strerror}"
         return f"The disk {why}. Nothing was opened or changed."
-    finally:
-        remove_probe(path)
+    path = folder.file(PRIVATE, "probe")
     try:
         make_socket(path)
     except OSError:
@@ -84,6 +104,28 @@ def disk_fault(folder: Folder) -> str:
     finally:
         remove_probe(path)
     return ""
+
+
+def room_fault(folder: Folder) -> OSError | None:
+    """Why the disk has no room for what an opening and its day may write; None if it has."""
+    path = folder.file(PRIVATE, "probe")
+    size = os.path.getsize(folder.journal) if os.path.exists(folder.journal) else 0
+    try:
+        with open(path, "wb") as file:
+            file.write(b"\0" * (2 * size + ROOM))
+            file.flush()
+            os.fsync(file.fileno())
+    except OSError as cause:
+        return cause
+    finally:
+        remove_probe(path)
+    return None
+
+
+def is_full(folder: Folder) -> bool:
+    """Whether the disk is full."""
+    cause = room_fault(folder)
+    return cause is not None and cause.errno == errno.ENOSPC
 
 
 def make_socket(path: str) -> None:
@@ -103,8 +145,8 @@ def remove_probe(path: str) -> None:
 
 def notes(folder: Folder) -> list[str]:
     """What should be known, and keeps nobody from opening."""
-    return [note for note in (boats_left(folder), shorter_journal(folder), other_journals(folder))
-            if note]
+    return [note for note in (folder.torn_end(), boats_left(folder), shorter_journal(folder),
+                              other_journals(folder)) if note]
 
 
 def boats_left(folder: Folder) -> str:
@@ -134,7 +176,7 @@ def shorter_journal(folder: Folder) -> str:
 def other_journals(folder: Folder) -> str:
     """Files that a cloud folder made beside the journal, as `journal (conflicted copy).txt`."""
     names = sorted(os.path.basename(path) for path in glob.glob(folder.file("journal*"))
-                   if os.path.basename(path) != "journal.txt" and not path.endswith(".new"))
+                   if os.path.basename(path) not in OURS and not path.endswith(".new"))
     if not names:
         return ""
     return (f"Beside journal.txt there is {joined(names)}. Only journal.txt is used. If a cloud "

@@ -1,4 +1,5 @@
-"""What office.log has and a journal lacks after a crash: lines that were answered, but not saved."""
+"""What office.log has and a journal lacks, if an older one was put in its place, or a disk has lost what
+it said it had."""
 from __future__ import annotations
 
 import re
@@ -19,7 +20,7 @@ class Unsaved:
     unanswered: list[Logged] = field(default_factory=list)
 
     def follow(self, entry: Logged) -> None:
-        """Reads one line of the log. What was saved at a closing isn't lost, nor is what came before."""
+        """Reads one line of the log. What was there at a closing isn't lost, nor is what came before."""
         found = re.match(r"OK ([0-9]{1,9})\b", entry.answer)
         if entry.line == "closed":
             self.answered.clear()

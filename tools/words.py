@@ -94,15 +94,52 @@ LIST = {1: "no column has the heading Sail", 2: "the row ends before the column 
         5: "500 boats were read before"}
 
 
+# What the program says of journal.txt, which it keeps.
+DAMAGED = ("journal.txt is damaged after line {0}. If a crash did that, all that was answered is in the lines "
+           "up to it. In its folder this keeps those alone:\n"
+           "   head -n {0} journal.txt > good.txt\n   mv good.txt journal.txt\n"
+           "Otherwise compare it with the copies in kept/.")
+NO_JOURNAL = "journal.txt is no journal: none of its lines is whole. Compare it with the copies in kept/."
+KEPT = {
+    "taken": "Another office has journal.txt, which wasn't opened here. End that one first.",
+    "fault": "journal.txt can't be opened, or can't be put on the disk. Is the disk full? May this "
+             "account write the file? It must be a plain file with one name.",
+    "too long": "journal.txt is longer than 1,048,576 bytes.",
+    "damaged after line 0": NO_JOURNAL,
+    r"damaged after line (\d+)": DAMAGED,
+    r"differs at (\d+)": "journal.txt and the journal that the office was to begin with have different "
+                         "entries, first at {}.",
+}
+
+
+def without_note(said: str) -> str:
+    """What the program said, without its note of what it cut off."""
+    return re.sub(r"^regatta: keep cut .*\n.*\n", "", said)
+
+
+def cut_note(said: str) -> str:
+    """The note of what the program cut off, in words; empty if it cut nothing off."""
+    found = re.match(r"regatta: keep cut (\d+) bytes after line (\d+)\n(.*)\n", said)
+    if not found:
+        return ""
+    return (f"journal.txt ended in a torn line, as after a crash. What came after line {found[2]} was cut "
+            f"off, and is in journal.txt.cut now ({count(int(found[1]), 'byte')}):\n   {found[3]}\n"
+            "Nobody had an answer to that. If it was meant, type it again from its fourth word on.")
+
+
 def start_fault(said: str, journal: str, entries: str) -> list[str]:
     """What the program said when it didn't start, in words; a line of the journal is shown."""
+    said = without_note(said)
+    for pattern, text in KEPT.items():
+        if found := re.search(f"^regatta: keep {pattern}$", said, re.MULTILINE):
+            return [text.format(*found.groups())]
     if found := re.search(r"^regatta: rules fault (\d)", said, re.MULTILINE):
         why = RULES.get(int(found[1]), "exclude has to be none, or up to four rising numbers")
         return [f"series.ini: {why}."]
     name, entries = os.path.basename(journal), os.path.basename(entries)
     if found := re.search(r"^regatta: entries fault (\d) row (\d+)", said, re.MULTILINE):
         return [f"{entries}, row {found[2]}: {LIST.get(int(found[1]), said.strip())}."]
-    if found := re.search(r"^regatta: journal fault (\d) line (\d+)", said, re.MULTILINE):
+    if found := re.search(r"^regatta: (?:keep )?journal fault (\d) line (\d+)", said, re.MULTILINE):
         return [f"Line {found[2]} of {name} {JOURNAL.get(int(found[1]), 'is at fault')}: "
                 f"{line_of(journal, int(found[2]))!r}.", "Compare it with the copies in kept/."]
     if found := re.search(r"^regatta: start refused (\d+) at (\d+)", said, re.MULTILINE):
@@ -117,6 +154,9 @@ def start_fault(said: str, journal: str, entries: str) -> list[str]:
         return [f"{name} or {entries} is longer than 1,048,576 bytes."]
     if "regatta: device fault" in said:
         return [f"The program can't read {name} or {entries}, or can't make its socket in office/."]
+    if "'--keep'" in said:
+        return ["The program is older than these tools: it can't keep a journal. Use the one that came with "
+                "them."]
     return [f"The program says: {said.strip() or 'nothing'}."]
 
 
