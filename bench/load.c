@@ -1,8 +1,9 @@
 /* Clients and watchers of `regatta serve`, each a thread of its own, for bench/serve.py --native.
  *
- *     load PATH CLIENTS WATCHERS COMMANDS
+ *     load PATH CLIENTS WATCHERS COMMANDS [FINISHERS]
  *
- * Each client sends FINISH and STRIKE of boat A by turns, in a race of its own, one line at a time.
+ * Each client sends FINISH and STRIKE of boat A by turns, in a race of its own, one line at a time. With
+ * FINISHERS it strikes the first boat of its race and lets it finish last, of B1, B2, .. in turn.
  * Together they send COMMANDS lines. Each watcher asks for SHOW without a pause until the clients are
  * done. A line is printed for each thread: its kind, when it began and ended in seconds, how many
  * lines were accepted (for a watcher, how many sheets it read), and how many seconds it waited for
@@ -26,6 +27,7 @@ struct task {
 };
 
 static const char *path;
+static int finishers;
 static pthread_barrier_t start;
 static atomic_bool done;
 
@@ -74,16 +76,23 @@ static void quit(int stream) {
     close(stream);
 }
 
+/* The line that a client sends as its i-th, counted from 0. */
+static void write_line(char *line, size_t room, int race, int i) {
+    if (finishers == 0)
+        snprintf(line, room, "%s %d A\n", i % 2 ? "STRIKE" : "FINISH", race);
+    else
+        snprintf(line, room, "%s %d B%d\n", i % 2 ? "FINISH" : "STRIKE", race, i / 2 % finishers + 1);
+}
+
 static void *client(void *given) {
     struct task *task = given;
-    char lines[2][32], reply[REPLY];
-    snprintf(lines[0], sizeof lines[0], "FINISH %d A\n", task->number + 1);
-    snprintf(lines[1], sizeof lines[1], "STRIKE %d A\n", task->number + 1);
+    char line[32], reply[REPLY];
     int stream = connected();
     pthread_barrier_wait(&start);
     double before = task->began = now();
     for (int i = 0; i < task->lines; i++) {
-        tell(stream, lines[i % 2]);
+        write_line(line, sizeof line, task->number + 1, i);
+        tell(stream, line);
         hear(stream, reply, sizeof reply, "\n");
         double after = now();
         task->waits[i] = after - before;
@@ -123,8 +132,9 @@ static void print(const char *kind, const struct task *task) {
 }
 
 int main(int count, char **words) {
-    if (count != 5) return 2;
+    if (count != 5 && count != 6) return 2;
     path = words[1];
+    finishers = count == 6 ? atoi(words[5]) : 0;
     int clients = atoi(words[2]), watchers = atoi(words[3]), commands = atoi(words[4]);
     struct task *tasks = calloc(clients + watchers, sizeof *tasks);
     pthread_t *threads = calloc(clients + watchers, sizeof *threads);

@@ -2,7 +2,7 @@
 """Times `regatta serve` over a real Unix socket, or soaks it.
 
     bench/serve.py [--clients N] [--watchers M] [--entries E] [--commands C] [--rounds R]
-                   [--native] [--beside WORDS] PROGRAM WORD..
+                   [--counting] [--native] [--beside WORDS] PROGRAM WORD..
     bench/serve.py --soak [--lines L] [--seed S] [--replay PROGRAM] PROGRAM WORD..
 
 PROGRAM WORD.. is what serves, such as `crates/regatta/out/regatta serve`; `--socket`, `--clients` and
@@ -11,8 +11,11 @@ PROGRAM WORD.. is what serves, such as `crates/regatta/out/regatta serve`; `--so
 The first form starts the program R times. N clients, each a process with a race of its own, send C
 commands in all (default 4,000), one line at a time, and all of them are accepted. Meanwhile M watchers
 ask for SHOW without a pause. With E the journal has E entries before the clock starts. Accepted
-commands a second, how long a line waited for its reply, and the peak memory of the program are
-printed.
+commands a second, how long a line waited for its reply, SHOWs a second, and the peak memory of the
+program are printed.
+
+With `--counting` there are 200 boats, and each client's race counts: by turns its first finisher is
+struck and finishes last, so that each command changes what some boats score.
 
 With `--native` the clients and watchers are threads of a program in C (load.c), which is compiled
 first: a client in Python is slower than the program. With `--beside` the program of those words runs,
@@ -36,6 +39,8 @@ sys.path.append(os.path.join(os.path.dirname(os.path.abspath(__file__)), os.pard
 from office import Gone, Link  # noqa: E402
 
 SEATS, COMMANDS, RACES, JOURNAL = 16, 4000, 40, 8192
+# The boats of a series whose races count, and how many finish in each race.
+BOATS, FINISHERS = 200, 20
 # Seconds that an answer may take.
 PATIENCE = 60.0
 
@@ -73,11 +78,19 @@ class Server:
         return status, self.out.read(), self.errors.read()
 
 
-def write_commands(path, race, count, start, results):
+def commands_of(race, counting, count):
+    """The commands that a client sends."""
+    turn = [f"FINISH {race} A", f"STRIKE {race} A"]
+    if counting:
+        turn = [f"{word} {race} B{boat + 1}" for boat in range(FINISHERS) for word in ("STRIKE", "FINISH")]
+    return [f"{turn[i % len(turn)]}\n".encode() for i in range(count)]
+
+
+def write_commands(path, race, counting, count, start, results):
     """Sends `count` commands of one race, each after the reply to the one before."""
     client = Link(path, PATIENCE)
     client.ask("RANK A")
-    lines = [b"FINISH %d A\n" % race, b"STRIKE %d A\n" % race] * (count // 2 + 1)
+    lines = commands_of(race, counting, count)
     # A reply is so short that it comes whole. A socket without a time limit makes one system call
     # fewer for each reply.
     client.socket.settimeout(None)
@@ -85,7 +98,7 @@ def write_commands(path, race, count, start, results):
     waits, replies = [], []
     start.wait()
     began = clock()
-    for line in lines[:count]:
+    for line in lines:
         before = clock()
         send(line)
         replies.append(receive(128))
@@ -132,21 +145,33 @@ def first_link(path):
     sys.exit("the program doesn't listen")
 
 
-def begin(server, entries):
-    """Enters two boats, and makes `entries` entries more, before the clock starts."""
+def first_lines(asked):
+    """What is entered before the clock starts: two boats and `--entries` entries more; or a series whose
+    races count, one for each client."""
+    lines = ["ENTER A", "ENTER B"]
+    lines += [f"{('FINISH', 'STRIKE')[i % 2]} {RACES} B" for i in range(asked.entries)]
+    if asked.counting:
+        lines += [f"ENTER B{boat + 1}" for boat in range(BOATS - 2)]
+        for race in range(1, asked.clients + 1):
+            lines += [f"FINISH {race} B{boat + 1}" for boat in range(FINISHERS)] + [f"SCORE {race}"]
+    return lines
+
+
+def begin(server, lines):
+    """Sends the first lines, each of which is accepted."""
     client = first_link(server.path)
-    client.ask("ENTER A")
-    client.ask("ENTER B")
-    for i in range(entries):
-        client.ask(f"{('FINISH', 'STRIKE')[i % 2]} {RACES} B")
+    for line in lines:
+        if not client.ask(line).startswith("OK"):
+            sys.exit(f"the program refuses {line}")
     client.ask("QUIT")
     client.close()
     time.sleep(0.05)
 
 
-def told_by_threads(load, server, clients, watchers, commands):
+def told_by_threads(server, asked, commands):
     """The report of each client and watcher of the program in C."""
-    words = [load, server.path, str(clients), str(watchers), str(commands)]
+    words = [asked.native, server.path, str(asked.clients), str(asked.watchers), str(commands)]
+    words += [str(FINISHERS)] if asked.counting else []
     told = []
     for line in subprocess.run(words, check=True, stdout=subprocess.PIPE).stdout.splitlines():
         kind, began, ended, accepted, *waits = line.decode().split(" ")
@@ -154,13 +179,15 @@ def told_by_threads(load, server, clients, watchers, commands):
     return told
 
 
-def told_by_processes(server, clients, watchers, commands):
+def told_by_processes(server, asked, commands):
     """The report of each client and watcher of this program."""
+    clients, watchers = asked.clients, asked.watchers
     start = multiprocessing.Barrier(clients + watchers)
     done, results = multiprocessing.Event(), multiprocessing.Queue()
     shares = [commands // clients + (i < commands % clients) for i in range(clients)]
     processes = [multiprocessing.Process(target=write_commands,
-                                         args=(server.path, i + 1, share, start, results))
+                                         args=(server.path, i + 1, asked.counting, share, start,
+                                               results))
                  for i, share in enumerate(shares)]
     processes += [multiprocessing.Process(target=watch, args=(server.path, done, start, results))
                   for _ in range(watchers)]
@@ -178,14 +205,11 @@ def told_by_processes(server, clients, watchers, commands):
 
 def run_once(words, asked):
     """One round: its seconds, how many commands were accepted, the waits of both kinds, the memory."""
-    clients, watchers, entries = asked.clients, asked.watchers, asked.entries
-    server = Server(words, clients + watchers, clients + watchers + 2)
-    begin(server, entries)
-    commands = min(asked.commands, JOURNAL - 2 - entries)
-    if asked.native:
-        told = told_by_threads(asked.native, server, clients, watchers, commands)
-    else:
-        told = told_by_processes(server, clients, watchers, commands)
+    server = Server(words, asked.clients + asked.watchers, asked.clients + asked.watchers + 2)
+    lines = first_lines(asked)
+    begin(server, lines)
+    commands = min(asked.commands, JOURNAL - len(lines))
+    told = (told_by_threads if asked.native else told_by_processes)(server, asked, commands)
     memory = server.memory()
     last = Link(server.path, PATIENCE)
     last.ask("QUIT")
@@ -210,13 +234,15 @@ class Told:
     """The figures of all rounds of one program."""
 
     def __init__(self, words):
-        self.words, self.rates, self.waits, self.shows, self.memory = words, [], [], [], 0
+        self.words, self.rates, self.waits, self.memory = words, [], [], 0
+        self.shows, self.show_rates = [], []
 
     def run(self, asked):
         seconds, accepted, waits, shows, memory = run_once(self.words, asked)
         self.rates.append(accepted / seconds)
         self.waits += waits
         self.shows += shows
+        self.show_rates.append(len(shows) / seconds)
         self.memory = max(self.memory, memory)
 
     def rate(self):
@@ -228,7 +254,8 @@ class Told:
               f"({min(self.rates):.0f} to {max(self.rates):.0f})")
         print(f"  a command waits {percentiles(self.waits)}")
         if self.shows:
-            print(f"  {len(self.shows)} times SHOW, which waits {percentiles(self.shows)}")
+            print(f"  {statistics.median(self.show_rates):.0f} times SHOW a second, "
+                  f"which waits {percentiles(self.shows)}")
         print(f"  {self.memory:.1f} MiB at most")
 
 
@@ -254,6 +281,7 @@ def main():
     parser.add_argument("--entries", type=int, default=0)
     parser.add_argument("--commands", type=int, default=COMMANDS)
     parser.add_argument("--rounds", type=int, default=5)
+    parser.add_argument("--counting", action="store_true")
     parser.add_argument("--native", action="store_true")
     parser.add_argument("--beside")
     parser.add_argument("--soak", action="store_true")
