@@ -45,6 +45,8 @@ MOST_ENTRIES = 6000
 FAULT = b"regatta: keep fault\n"
 # Microseconds by which syncs are made longer, for a disk slower than that of FOLDER.
 SLOWER = 2000
+# How many of twelve clients have to share such a sync.
+SHARED = 8
 VERSION = b"REGATTA 2\n"
 
 
@@ -393,6 +395,8 @@ class Trials:
                 rate, syncs = (statistics.median(one) for one in zip(*kept))
                 print(f"    with it, a sync {pause / 1000:.0f} ms longer: {rate:.0f}, "
                       f"{syncs:.1f} for each sync")
+                if clients == 12 and pause == SLOWER and syncs < SHARED:
+                    raise Wrong(f"only {syncs:.1f} replies share a sync")
         return "5 rounds each"
 
     def sync_time(self):

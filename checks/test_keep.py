@@ -93,6 +93,8 @@ class Keeping(unittest.TestCase):
             with self.subTest(kept=kept, journal=journal, boats=boats):
                 for _ in range(2):
                     office, link = self.opened("--journal", self.journal, "--entries", self.boats)
+                    # Nobody is answered before the start is kept.
+                    link.ask("RANK A")
                     link.close()
                     self.killed(office)
                     self.assertEqual(self.text(), wanted)

@@ -80,14 +80,18 @@ class Kept(helpers.Series):
         self.assertNotIn("Beside journal.txt", self.run_series("check", "cup")[0])
 
     def test_made_whole(self) -> None:
-        """The journal of a new series is there, whole, before its office is started."""
+        """The journal of a new series is there, whole, before its office is started. What was torn in it
+        is saved."""
         program = os.path.join(self.here, "replays-only")
         self.write(f'#!/bin/sh\n[ "$1" = replay ] && exec {helpers.PROGRAM} "$@"\nexit 3\n', program)
         os.chmod(program, 0o755)
         self.make("fresh", program=program)
+        torn = "1 1 SCORER ENTER NED12"
+        self.write(VERSION + torn, os.path.join(self.here, "fresh", "journal.txt"))
         said, status = self.run_series("open", "fresh")
         self.assertEqual((said, status), ("the program ended, and didn't say why.\n", 1))
         self.assertEqual(self.held("fresh"), 7)
+        self.assertEqual(self.text("fresh", "journal.txt.cut"), torn)
 
     def test_part_of_a_list(self) -> None:
         """A journal with some boats of the list has those: the others are named, and not entered."""

@@ -49,6 +49,7 @@ class Program:
                                "--print", "journal"])
         if done.returncode:
             raise Trouble("\n".join(self.in_words(done.stderr)).removesuffix("."))
+        self.folder.save_torn()
         replace_whole(os.path.realpath(self.folder.journal), done.stdout.encode())
 
     def in_words(self, said: str) -> list[str]:
