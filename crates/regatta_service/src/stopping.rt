@@ -50,7 +50,7 @@ pub(crate) fn passes(why: &io::Error) -> bool {
     matches!(why.kind(), ErrorKind::WouldBlock | ErrorKind::Interrupted)
 }
 
-/// Reads once. `None` if nothing has come, the read may be made again, and the office goes on.
+/// Reads once, unless the office has stopped. `None` if nothing has come, and the read may be made again.
 fn read_once<S: Read>(
     stream: &mut S,
     stopping: &Stopping,
@@ -61,10 +61,14 @@ fn read_once<S: Read>(
         (S.remaining stream.new) read buf.new) }
     ensures keeps { result ≡ None → Keeps (S.remaining stream.old) (S.remaining stream.new) }
 {
+    // A client who goes on sending doesn't hold an office that has stopped.
+    if stopping.is_set() {
+        return Some(Err(io::Error::from(ErrorKind::TimedOut)));
+    }
     match stream.read(buf) {
         Ok(count) => Some(Ok(count)),
         Err(why) => {
-            if passes(&why) && !stopping.is_set() {
+            if passes(&why) {
                 return None;
             }
             Some(Err(why))
