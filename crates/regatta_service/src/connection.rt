@@ -2,6 +2,7 @@
 ghost use Rattle.std.specs.Prelude.{◌≡◌};
 
 use crate::stopping::{Stopping, read_patiently};
+use crate::writing::write_again;
 use std::io;
 use std::io::{Read, Write};
 use std::net::Shutdown;
@@ -135,7 +136,7 @@ impl<S: Write> Write for Connection<S> {
     ghost contents = { λ connection. S.contents connection.stream };
 
     fn write(&mut self, buf: &[u8]) -> io::Result<usize> {
-        self.stream.write(buf)
+        write_again(&mut self.stream, buf)
     }
 
     fn flush(&mut self) -> io::Result<()> {

@@ -12,6 +12,7 @@ mod room;
 mod serving;
 mod sessions;
 mod stopping;
+mod writing;
 
 pub use door::{Door, DoorFault, SocketDoor};
 pub use gate::{Gate, OpenGate};
