@@ -151,6 +151,14 @@ def writer(client, race, count):
             return
 
 
+def trickle(client):
+    """Sends bytes without the end of a line, until the stream ends."""
+    with contextlib.suppress(OSError):
+        while True:
+            client.socket.sendall(b"x")
+            time.sleep(0.2)
+
+
 def watcher(client, count):
     for _ in range(count):
         if not client.show():
@@ -305,11 +313,14 @@ class Trials:
 
     @staticmethod
     def clients_of_failing(office, writers, commands):
-        """Writers, and a client who is silent, of an office that may end before it is open."""
+        """Writers, and clients who are silent or never end a line, of an office that may end before it
+        is open."""
         first = office.client()
         if first is None:
             return [], []
         clients, works = [first], []
+        with contextlib.suppress(OSError):
+            threading.Thread(target=trickle, args=(Client(office.path),), daemon=True).start()
         for race in range(1, writers + 1):
             with contextlib.suppress(OSError):
                 clients.append(Client(office.path))
