@@ -12,32 +12,32 @@ use Rattle.regatta_scores.specs.declared.boats.Place.{Place}
 use Rattle.regatta_scores.specs.declared.table.Row.{Row}
 use Rattle.regatta_scores.specs.Ranking.{BoatScores, place, places}
 use Rattle.regatta_scores.specs.Standing.{with_row, sorted_rows}
-use Rattle.regatta_board.specs.declared.outcomes.Outcome.{Outcome}
+use Rattle.regatta_scores.specs.declared.boats.RaceScore.{RaceScore}
 use Rattle.regatta_board.specs.Outcomes as boat
-use Rattle.regatta_board.specs.Table.{outcomes, lines, no_line, no_rank, row_of, row_at, rows}
+use Rattle.regatta_board.specs.Table.{scores, lines, no_line, no_rank, row_of, row_at, rows}
 use Rattle.regatta_board.specs.Table.{rows_by}
 use Rattle.regatta_board.proofs.Numbers.{map_known, in_range}
 
-pub lines_more : (rules : RulesParts) (columns : List (List Outcome)) (n : ℕ)
-    → lines rules columns (n + 1) ≡ lines rules columns n ++ boat.line rules (outcomes columns n)
+pub lines_more : (rules : RulesParts) (columns : List (List RaceScore)) (n : ℕ)
+    → lines rules columns (n + 1) ≡ lines rules columns n ++ boat.line rules (scores columns n)
     ∷ []
 lines_more rules columns n =
-    map-range_with_len_more (λ b. boat.line rules (outcomes columns b)) 0 n n (omega arith)
+    map-range_with_len_more (λ b. boat.line rules (scores columns b)) 0 n n (omega arith)
 
-pub lines_long : (rules : RulesParts) (columns : List (List Outcome)) (n : ℕ)
+pub lines_long : (rules : RulesParts) (columns : List (List RaceScore)) (n : ℕ)
     → length (lines rules columns n) ≡ n
 lines_long rules columns n =
-    length-map-range_with_len (λ b. boat.line rules (outcomes columns b)) 0 n
+    length-map-range_with_len (λ b. boat.line rules (scores columns b)) 0 n
 
-pub rank_at : (rules : RulesParts) (columns : List (List Outcome)) (n b : ℕ) (d : Place) → b < n
+pub rank_at : (rules : RulesParts) (columns : List (List RaceScore)) (n b : ℕ) (d : Place) → b < n
     → get_or (places (lines rules columns n)) b d
-    ≡ place (lines rules columns n) (boat.line rules (outcomes columns b))
+    ≡ place (lines rules columns n) (boat.line rules (scores columns b))
 rank_at rules columns n b d h =
     let all = lines rules columns n in
-    let hers = boat.line rules (outcomes columns b) in
+    let hers = boat.line rules (scores columns b) in
     get_or-map (place all) all b hers d
     (let within : b < length all = omega (arith, lines_long rules columns n) in within)
-    ∙ ap (place all) (get_or-map-range_with_len (λ b. boat.line rules (outcomes columns b)) 0 n b b
+    ∙ ap (place all) (get_or-map-range_with_len (λ b. boat.line rules (scores columns b)) 0 n b b
     hers h (omega arith))
 
 pub rows_step : (f : ℕ → Row) (n b : ℕ) → b < n → sorted_rows (map f (drop b (range_with_len 0 n)))
@@ -73,14 +73,14 @@ rows_none f n =
     ∙ ap (λ xs. sorted_rows (map f xs)) (drop_past (range_with_len 0 n))
 
 -- the line of one boat among all
-pub line_at : (rules : RulesParts) (columns : List (List Outcome)) (n b : ℕ) (d : BoatScores)
+pub line_at : (rules : RulesParts) (columns : List (List RaceScore)) (n b : ℕ) (d : BoatScores)
     → b < n
-    → get_or (lines rules columns n) b d ≡ boat.line rules (outcomes columns b)
+    → get_or (lines rules columns n) b d ≡ boat.line rules (scores columns b)
 line_at rules columns n b d h =
-    get_or-map-range_with_len (λ b. boat.line rules (outcomes columns b)) 0 n b b d h (omega arith)
+    get_or-map-range_with_len (λ b. boat.line rules (scores columns b)) 0 n b b d h (omega arith)
 
 -- the rows computed from the lines of the boats and their ranks are those of the table
-pub rows_are : (rules : RulesParts) (sails : List Sail) (columns : List (List Outcome))
+pub rows_are : (rules : RulesParts) (sails : List Sail) (columns : List (List RaceScore))
     (ls : List BoatScores) (ps : List Place) → ls ≡ lines rules columns (length sails)
     → ps ≡ places ls → rows_by sails columns ls ps ≡ rows rules sails columns
 rows_are rules sails columns ls ps e f =
@@ -92,5 +92,5 @@ rows_are rules sails columns ls ps e f =
     (row_of rules sails columns) (λ b h.
     (let within : b < n = (let below : b < 0 + n = h.1 in omega arith) in
     λ i. boat.row_by (get_or sails b []) (rank_at rules columns n b no_rank within i)
-    (line_at rules columns n b no_line within i) (outcomes columns b))) (range_with_len 0 n)
+    (line_at rules columns n b no_line within i) (scores columns b))) (range_with_len 0 n)
     (in_range 0 n))

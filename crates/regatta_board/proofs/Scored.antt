@@ -10,9 +10,9 @@ use borrow.Author.Tests.{eqb-true, ltb-true, ltb-false}
 use Rattle.regatta_terms.specs.Rules.{RulesParts}
 use Rattle.regatta_terms.specs.declared.limits.TheConstants.{MAX_RACES}
 use Rattle.regatta_scores.specs.Sheet.{Sheet, empty_sheet}
-use Rattle.regatta_board.specs.declared.outcomes.Outcome.{Outcome}
+use Rattle.regatta_scores.specs.declared.boats.RaceScore.{RaceScore}
 use Rattle.regatta_board.specs.Outcomes.{line}
-use Rattle.regatta_board.specs.Table.{Kept, column, columns, races, outcomes, no_outcome}
+use Rattle.regatta_board.specs.Table.{Kept, column, columns, races, scores, no_score}
 use Rattle.regatta_board.specs.Scoring.{AreColumns, column_at}
 use Rattle.regatta_board.proofs.Untouched.{map_passed}
 
@@ -35,7 +35,7 @@ pub uncounted_at : (rules : RulesParts) (kept : Kept) (k : ℕ) → get_or kept.
 uncounted_at rules kept k e =
     ap (λ b. cond b (column rules (get_or kept.sheets k (empty_sheet 0))) []) e
 
-module _ (rules : RulesParts) (kept : Kept) (found : List (List Outcome))
+module _ (rules : RulesParts) (kept : Kept) (found : List (List RaceScore))
     (are : AreColumns rules kept found) where
   -- the columns of the races that count are those of their sheets
   pub columns_found : map (λ race. get_or found (race - 1) []) (races kept.counts)
@@ -60,29 +60,29 @@ module _ (rules : RulesParts) (kept : Kept) (found : List (List Outcome))
       (sym (get_or-set_other kept.sheets r k sheet (empty_sheet 0) apart)))
 
 -- a boat keeps her line if her outcome in the only new column is the same
-pub line_stays : (rules : RulesParts) (counts : List Bool) (found : List (List Outcome)) (r b : ℕ)
-    (new : List Outcome)
-    → get_or new b no_outcome ≡ get_or (get_or found r []) b no_outcome → r < length found
-    → line rules (outcomes (map (λ race. get_or (set found r new) (race - 1) []) (races counts)) b)
-    ≡ line rules (outcomes (map (λ race. get_or found (race - 1) []) (races counts)) b)
+pub line_stays : (rules : RulesParts) (counts : List Bool) (found : List (List RaceScore)) (r b : ℕ)
+    (new : List RaceScore)
+    → get_or new b no_score ≡ get_or (get_or found r []) b no_score → r < length found
+    → line rules (scores (map (λ race. get_or (set found r new) (race - 1) []) (races counts)) b)
+    ≡ line rules (scores (map (λ race. get_or found (race - 1) []) (races counts)) b)
 line_stays rules counts found r b new same h = ap (line rules) (each (races counts))
   where
     each : (rs : List ℕ)
-        → outcomes (map (λ race. get_or (set found r new) (race - 1) []) rs) b
-        ≡ outcomes (map (λ race. get_or found (race - 1) []) rs) b
+        → scores (map (λ race. get_or (set found r new) (race - 1) []) rs) b
+        ≡ scores (map (λ race. get_or found (race - 1) []) rs) b
     each [] = refl
     each (x ∷ xs) = λ i. here i ∷ each xs i
       where
-        here : get_or (get_or (set found r new) (x - 1) []) b no_outcome
-            ≡ get_or (get_or found (x - 1) []) b no_outcome
+        here : get_or (get_or (set found r new) (x - 1) []) b no_score
+            ≡ get_or (get_or found (x - 1) []) b no_score
         here = one_or_other (x - 1) r
-            (λ e. rw e (ap (λ c. get_or c b no_outcome) (get_or-set_same found r new [] h) ∙ same))
-            (λ apart. ap (λ c. get_or c b no_outcome)
+            (λ e. rw e (ap (λ c. get_or c b no_score) (get_or-set_same found r new [] h) ∙ same))
+            (λ apart. ap (λ c. get_or c b no_score)
             (get_or-set_other found r (x - 1) new [] apart))
 
 -- the column of the next race is appended
-pub columns_pushed : (rules : RulesParts) (kept : Kept) (i : ℕ) (found new : List (List Outcome))
-    (next : List Outcome) → new ≡ found ++ next ∷ [] → length found ≡ i
+pub columns_pushed : (rules : RulesParts) (kept : Kept) (i : ℕ) (found new : List (List RaceScore))
+    (next : List RaceScore) → new ≡ found ++ next ∷ [] → length found ≡ i
     → ((k : ℕ) → k < i → get_or found k [] ≡ column_at rules kept k)
     → next ≡ column_at rules kept ((i + 1) - 1)
     → (k : ℕ) → k < i + 1 → get_or new k [] ≡ column_at rules kept k
@@ -99,7 +99,7 @@ columns_pushed rules kept i found new next e long are is k h =
     below k i n h apart e = omega (arith, h, apart, e)
 
 -- when those of all races are appended, each is right
-pub columns_all : (rules : RulesParts) (kept : Kept) (found : List (List Outcome))
+pub columns_all : (rules : RulesParts) (kept : Kept) (found : List (List RaceScore))
     → length kept.counts ≡ MAX_RACES → length found ≡ MAX_RACES
     → ((k : ℕ) → k < MAX_RACES → get_or found k [] ≡ column_at rules kept k)
     → AreColumns rules kept found

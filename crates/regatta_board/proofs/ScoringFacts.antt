@@ -15,7 +15,7 @@ use Rattle.regatta_board.specs.declared.column.NewColumns.{NewColumns}
 use Rattle.regatta_board.specs.declared.column.NewColumns.TheVariants.{Same}
 use Rattle.regatta_board.specs.declared.kept.Revision.{Revision}
 use Rattle.regatta_board.specs.declared.kept.Revision.TheVariants as revision
-use Rattle.regatta_board.specs.declared.outcomes.Outcome.{Outcome}
+use Rattle.regatta_scores.specs.declared.boats.RaceScore.{RaceScore}
 use Rattle.regatta_board.specs.Outcomes.{line}
 use Rattle.regatta_board.specs.Revisions.{revised, may_change_standing}
 use Rattle.regatta_board.specs.Scoring.{Scoring, IsScoring, AreColumns, AreNewColumns}
@@ -26,8 +26,8 @@ use Rattle.regatta_board.specs.declared.scoring.NewLines.{NewLines}
 use Rattle.regatta_board.specs.declared.scoring.NewScores.{NewScores}
 use Rattle.regatta_board.specs.declared.scoring.Ranked.{Ranked}
 use Rattle.regatta_board.specs.Step.{sheet_in}
-use Rattle.regatta_board.specs.Table.{Kept, IsKept, column, columns, races, outcomes, lines}
-use Rattle.regatta_board.specs.Table.{no_line, no_outcome}
+use Rattle.regatta_board.specs.Table.{Kept, IsKept, column, columns, races, scores, lines}
+use Rattle.regatta_board.specs.Table.{no_line, no_score}
 use Rattle.regatta_board.proofs.Columns.{column_long}
 use Rattle.regatta_board.proofs.Lengths.{long_points}
 use Rattle.regatta_board.proofs.LedgerLemmas.{sheet_long}
@@ -45,7 +45,7 @@ columns_even rules kept is =
     (range_with_len 1 MAX_RACES) (in_range 1 MAX_RACES))
   where
     even : (rs : List ℕ) → AllByRecursion (λ r. (1 ≤ r) × (r < 1 + MAX_RACES)) rs
-        → (k : ℕ) (d : List Outcome) → k < length (columns rules kept.sheets rs)
+        → (k : ℕ) (d : List RaceScore) → k < length (columns rules kept.sheets rs)
         → length (get_or (columns rules kept.sheets rs) k d) ≡ length kept.sails
     even [] all k d h = absurd (omega (arith, h))
     even (r ∷ rs) all zero d h =
@@ -55,9 +55,9 @@ columns_even rules kept is =
     even (r ∷ rs) all (suc k) d h = even rs all.1 k d (omega (arith, h))
 
 -- columns that are looked up one by one are those of the sheets
-module _ (rules : RulesParts) (kept : Kept) (is : IsKept kept) (slots : List (List Outcome))
+module _ (rules : RulesParts) (kept : Kept) (is : IsKept kept) (slots : List (List RaceScore))
     (are : AreColumns rules kept slots) (rs : List ℕ) (counted : rs ≡ races kept.counts)
-    (found : List (List Outcome))
+    (found : List (List RaceScore))
     (each : found ≡ map (λ race. get_or slots (race - 1) []) rs) where
   pub found_columns : found ≡ columns rules kept.sheets (races kept.counts)
   found_columns = each ∙ ap (map (λ race. get_or slots (race - 1) [])) counted
@@ -71,7 +71,7 @@ module _ (rules : RulesParts) (kept : Kept) (is : IsKept kept) (slots : List (Li
 
 -- the column of a race that counts has an outcome for each boat
 pub column_even : (rules : RulesParts) (kept : Kept) → IsKept kept
-    → (found : List (List Outcome)) → AreColumns rules kept found → (race : ℕ) → IsRace race
+    → (found : List (List RaceScore)) → AreColumns rules kept found → (race : ℕ) → IsRace race
     → get_or kept.counts (race - 1) false ≡ true
     → length (get_or found (race - 1) []) ≡ length kept.sails
 column_even rules kept is found are race within counts =
@@ -99,13 +99,13 @@ sheet_turns rules kept scoring change new one race sheet turned = record {
 module _ (rules : RulesParts) (kept : Kept) (scoring : Scoring)
     (is : IsScoring rules kept scoring) (change : Revision) (new : NewColumns) (race : ℕ)
     (turned : RemakesOnly rules kept change race scoring new) (within : IsRace race) where
-  pub turned_line : (found : List (List Outcome))
+  pub turned_line : (found : List (List RaceScore))
       → found ≡ map (λ race. get_or (with_columns scoring.columns new) (race - 1) [])
       (races (revised kept change).counts)
-      → (hers : List Outcome) → hers ≡ get_or (with_columns scoring.columns new) (race - 1) []
+      → (hers : List RaceScore) → hers ≡ get_or (with_columns scoring.columns new) (race - 1) []
       → (boat : ℕ) → boat < length scoring.lines
-      → get_or hers boat no_outcome ≡ get_or (get_or scoring.columns (race - 1) []) boat no_outcome
-      → get_or scoring.lines boat no_line ≡ line rules (outcomes found boat)
+      → get_or hers boat no_score ≡ get_or (get_or scoring.columns (race - 1) []) boat no_score
+      → get_or scoring.lines boat no_line ≡ line rules (scores found boat)
   turned_line found made hers own boat h same =
       let r = race - 1 in
       let turn = column rules turned.sheet in
@@ -118,21 +118,21 @@ module _ (rules : RulesParts) (kept : Kept) (scoring : Scoring)
       let below : boat < n = omega (arith, h, ap length is.lines, lines_by_long rules kept) in
       ap (λ ls. get_or ls boat no_line) is.lines
       ∙ line_at rules all n boat no_line below
-      ∙ ap (λ cs. line rules (outcomes cs boat)) (sym (columns_found rules kept scoring.columns
+      ∙ ap (λ cs. line rules (scores cs boat)) (sym (columns_found rules kept scoring.columns
       is.columns))
       ∙ sym (line_stays rules kept.counts scoring.columns r boat turn
-      (ap (λ c. get_or c boat no_outcome) (sym is_turn) ∙ same) at)
-      ∙ ap (λ cs. line rules (outcomes cs boat)) (sym (made
+      (ap (λ c. get_or c boat no_score) (sym is_turn) ∙ same) at)
+      ∙ ap (λ cs. line rules (scores cs boat)) (sym (made
       ∙ (λ i. map (λ race. get_or (turned.column i) (race - 1) []) (races (turned.counts i)))))
 
 -- a boat's line has one score for each race that counts
-pub line_long : (rules : RulesParts) (found : List (List Outcome)) (boat : ℕ) (hers : BoatScores)
-    → hers ≡ line rules (outcomes found boat) → length hers.points ≡ length found
+pub line_long : (rules : RulesParts) (found : List (List RaceScore)) (boat : ℕ) (hers : BoatScores)
+    → hers ≡ line rules (scores found boat) → length hers.points ≡ length found
 line_long rules found boat hers e =
-    ap (λ (l : BoatScores). length l.points) e ∙ long_points (outcomes found boat)
-    ∙ length-map found (λ c. get_or c boat no_outcome)
+    ap (λ (l : BoatScores). length l.points) e ∙ long_points (scores found boat)
+    ∙ length-map found (λ c. get_or c boat no_score)
 
-pub all_long : (rules : RulesParts) (found : List (List Outcome)) (n : ℕ)
+pub all_long : (rules : RulesParts) (found : List (List RaceScore)) (n : ℕ)
     → All (λ (l : BoatScores). length l.points ≡ length found) (lines rules found n)
 all_long rules found n k d h =
     line_long rules found k (get_or (lines rules found n) k d)
@@ -146,7 +146,7 @@ module _ (rules : RulesParts) (kept : Kept) (is_kept : IsKept kept) (change : Re
     (counts : get_or kept.counts (race - 1) false ≡ true)
     (turned : RemakesOnly rules kept change race scoring new) (ls : List BoatScores)
     (lines_are : ls ≡ scoring.lines) where
-  abbrev slots : List (List Outcome)
+  abbrev slots : List (List RaceScore)
   slots = with_columns scoring.columns new
 
   slots_are : AreColumns rules (revised kept change) slots
@@ -155,12 +155,12 @@ module _ (rules : RulesParts) (kept : Kept) (is_kept : IsKept kept) (change : Re
   long : length ls ≡ length kept.sails
   long = ap length lines_are ∙ ap length is.lines ∙ lines_by_long rules kept
 
-  pub old_long : (was : List Outcome) → was ≡ get_or scoring.columns (race - 1) []
+  pub old_long : (was : List RaceScore) → was ≡ get_or scoring.columns (race - 1) []
       → length was ≡ length ls
   old_long was e = ap length e
       ∙ column_even rules kept is_kept scoring.columns is.columns race within counts ∙ sym long
 
-  pub new_long : (hers : List Outcome) → hers ≡ get_or slots (race - 1) []
+  pub new_long : (hers : List RaceScore) → hers ≡ get_or slots (race - 1) []
       → length hers ≡ length ls
   new_long hers e = ap length e
       ∙ column_even rules (revised kept change) next slots slots_are race within
@@ -168,23 +168,23 @@ module _ (rules : RulesParts) (kept : Kept) (is_kept : IsKept kept) (change : Re
       ∙ ap length turned.sails ∙ sym long
 
   module _ (rs : List ℕ) (counted : rs ≡ races (revised kept change).counts)
-      (found : List (List Outcome)) (each : found ≡ map (λ race. get_or slots (race - 1) []) rs)
+      (found : List (List RaceScore)) (each : found ≡ map (λ race. get_or slots (race - 1) []) rs)
     where
       pub turned_even : All (λ c. length c ≡ length ls) found
       turned_even =
           found_even rules (revised kept change) next slots slots_are rs counted found each
           (length ls) (long ∙ ap length (sym turned.sails))
 
-      pub turned_stays : (hers was : List Outcome) → hers ≡ get_or slots (race - 1) []
+      pub turned_stays : (hers was : List RaceScore) → hers ≡ get_or slots (race - 1) []
           → was ≡ get_or scoring.columns (race - 1) [] → (boat : ℕ) → boat < length ls
-          → get_or hers boat no_outcome ≡ get_or was boat no_outcome
-          → get_or ls boat no_line ≡ line rules (outcomes found boat)
+          → get_or hers boat no_score ≡ get_or was boat no_score
+          → get_or ls boat no_line ≡ line rules (scores found boat)
       turned_stays hers was e f boat h same =
           ap (λ xs. get_or xs boat no_line) lines_are
           ∙ turned_line rules kept scoring is change new race turned within found
           (each ∙ ap (map (λ race. get_or slots (race - 1) [])) counted) hers e boat
           (omega (arith, h, ap length lines_are))
-          (same ∙ ap (λ c. get_or c boat no_outcome) f)
+          (same ∙ ap (λ c. get_or c boat no_score) f)
 
       pub turned_all : (made : List BoatScores) → made ≡ lines rules found (length ls)
           → made ≡ lines_by rules (revised kept change)

@@ -11,7 +11,8 @@ use Rattle.regatta_scores.specs.declared.boats.Scored.{Scored}
 use Rattle.regatta_scores.specs.declared.table.Row.{Row}
 use Rattle.regatta_scores.specs.Sheet.{boats, nothing_held, empty_sheet}
 use Rattle.regatta_scores.specs.Journal.{Journal, same_sail, entered, held, scored, is_scored}
-use Rattle.regatta_scores.specs.RacePoints.{race_of, journal_race}
+use Rattle.regatta_scores.specs.RacePoints.{plain, race_of, journal_race}
+use Rattle.regatta_scores.specs.RaceScores.{race_score, score_of}
 use Rattle.regatta_scores.specs.Renaming.{IsRenamed}
 use Rattle.regatta_scores.specs.Averages as averages
 use Rattle.regatta_scores.specs.Exclusions as exclusion
@@ -19,7 +20,7 @@ use Rattle.regatta_scores.specs.Ranking.{BoatScores, net, place}
 use Rattle.regatta_scores.specs.Standing as by_journal
 use Rattle.regatta_scores.proofs.Renamed.{plain_same, order_same}
 use Rattle.regatta_scores.proofs.Members.{all_passed}
-use Rattle.regatta_board.specs.declared.outcomes.Outcome.{Outcome}
+use Rattle.regatta_scores.specs.declared.boats.RaceScore.{RaceScore}
 use Rattle.regatta_board.specs.Outcomes as one
 use Rattle.regatta_board.specs.Table as all
 use Rattle.regatta_board.specs.Refusals.{is_entered}
@@ -27,6 +28,7 @@ use Rattle.regatta_board.specs.KeptJournal.{number, sheet_of, kept_of, IsOrderly
 use Rattle.regatta_board.specs.Scoring.{lines_by}
 use Rattle.regatta_board.proofs.Lengths.{long_points}
 use Rattle.regatta_board.proofs.Maps.{map_map, map_same}
+use Rattle.regatta_board.proofs.OwnPoints.{own, points_own}
 use Rattle.regatta_board.proofs.Numbers.{numbers_tell, numbers_are, found_under, all_in, map_known}
 use Rattle.regatta_board.proofs.Numbers.{filter_known, in_range, map_over}
 
@@ -39,23 +41,28 @@ zip_map f (x ∷ xs) (z ∷ zs) = ap (λ ps. (f x, z) ∷ ps) (zip_map f xs zs)
 -- ---- one boat
 
 items_are : (rules : RulesParts) (journal : Journal) (boat : Sail)
-    → one.items (one.outcomes rules journal boat) ≡ by_journal.row_items rules journal boat
+    → one.items (one.scores rules journal boat) ≡ map own (by_journal.row_items rules journal boat)
 items_are rules journal boat =
-    map_map (λ (o : Outcome). record { plain = o.plain; redress = o.held.redress })
-    (λ race. one.outcome rules journal race boat) (scored journal)
+    map_map one.item (λ race. one.score_in rules journal race boat) (scored journal)
+    ∙ sym (map_map own (λ race. record {
+      plain = plain same_sail rules (journal_race rules journal race) boat;
+      redress = (held journal race boat).redress;
+    }) (scored journal))
 
 points_are : (rules : RulesParts) (journal : Journal) (boat : Sail)
-    → one.points (one.outcomes rules journal boat) ≡ by_journal.points rules journal boat
-points_are rules journal boat = ap averages.points (items_are rules journal boat)
+    → one.points (one.scores rules journal boat) ≡ by_journal.points rules journal boat
+points_are rules journal boat =
+    ap averages.points (items_are rules journal boat)
+    ∙ points_own (by_journal.row_items rules journal boat)
 
 scores_are : (rules : RulesParts) (journal : Journal) (boat : Sail)
-    → one.scores_by (one.outcomes rules journal boat) (one.points (one.outcomes rules journal boat))
+    → one.scores_by (one.scores rules journal boat) (one.points (one.scores rules journal boat))
     ≡ by_journal.scores rules journal boat
 scores_are rules journal boat =
-    let f = λ (race : ℕ). one.outcome rules journal race boat in
-    let score : Outcome × ℕ → Scored =
-    λ o. record { points = o.1; dne = by_journal.is_dne o.0.held.code } in
-    ap (one.scores_by (one.outcomes rules journal boat)) (points_are rules journal boat)
+    let f = λ (race : ℕ). one.score_in rules journal race boat in
+    let score : RaceScore × ℕ → Scored =
+    λ o. record { points = o.1; dne = o.0.dne } in
+    ap (one.scores_by (one.scores rules journal boat)) (points_are rules journal boat)
     ∙ ap (map score) (zip_map f (scored journal) (by_journal.points rules journal boat))
     ∙ map_map score (λ (p : ℕ × ℕ). (f p.0, p.1))
     (zip (scored journal) (by_journal.points rules journal boat))
@@ -70,8 +77,8 @@ scores_long : (rules : RulesParts) (journal : Journal) (boat : Sail)
     → length (by_journal.scores rules journal boat) ≡ length (scored journal)
 scores_long rules journal boat =
     let same_long : length (by_journal.points rules journal boat) ≡ length (scored journal) =
-    ap length (sym (points_are rules journal boat)) ∙ long_points (one.outcomes rules journal boat)
-    ∙ length-map (scored journal) (λ race. one.outcome rules journal race boat) in
+    ap length (sym (points_are rules journal boat)) ∙ long_points (one.scores rules journal boat)
+    ∙ length-map (scored journal) (λ race. one.score_in rules journal race boat) in
     length-map (zip (scored journal) (by_journal.points rules journal boat))
     (λ (race : ℕ × ℕ). record {
       points = race.1;
@@ -80,7 +87,7 @@ scores_long rules journal boat =
     ∙ zip_long (scored journal) (by_journal.points rules journal boat) same_long
 
 flags_are : (rules : RulesParts) (journal : Journal) (boat : Sail)
-    → one.flags rules (one.outcomes rules journal boat) ≡ by_journal.excluded rules journal boat
+    → one.flags rules (one.scores rules journal boat) ≡ by_journal.excluded rules journal boat
 flags_are rules journal boat =
     ap (λ (ss : List Scored). exclusion.excluded (exclusions_of rules.thresholds (length ss)) ss)
     (scores_are rules journal boat)
@@ -88,23 +95,23 @@ flags_are rules journal boat =
     (by_journal.scores rules journal boat)) (scores_long rules journal boat)
 
 pub line_is : (rules : RulesParts) (journal : Journal) (boat : Sail)
-    → one.line rules (one.outcomes rules journal boat) ≡ by_journal.line rules journal boat
+    → one.line rules (one.scores rules journal boat) ≡ by_journal.line rules journal boat
 line_is rules journal boat i =
     record { points = points_are rules journal boat i; excluded = flags_are rules journal boat i }
 
 mark_is : (rules : RulesParts) (journal : Journal) (race : ℕ) (boat : Sail)
-    → one.mark (one.outcome rules journal race boat) ≡ by_journal.mark rules journal race boat
+    → (one.score_in rules journal race boat).mark ≡ by_journal.mark rules journal race boat
 mark_is rules journal race boat = refl
 
 cells_are : (rules : RulesParts) (journal : Journal) (boat : Sail)
-    → one.cells_by (one.outcomes rules journal boat) (one.points (one.outcomes rules journal boat))
-    (one.flags rules (one.outcomes rules journal boat)) ≡ by_journal.cells rules journal boat
+    → one.cells_by (one.scores rules journal boat) (one.points (one.scores rules journal boat))
+    (one.flags rules (one.scores rules journal boat)) ≡ by_journal.cells rules journal boat
 cells_are rules journal boat =
-    let f = λ (race : ℕ). one.outcome rules journal race boat in
-    let cell = λ (o : Outcome × (ℕ × Bool)). one.cell o.0 o.1.0 o.1.1 in
+    let f = λ (race : ℕ). one.score_in rules journal race boat in
+    let cell = λ (o : RaceScore × (ℕ × Bool)). one.cell o.0 o.1.0 o.1.1 in
     let pairs = zip (by_journal.points rules journal boat)
     (by_journal.excluded rules journal boat) in
-    (λ i. one.cells_by (one.outcomes rules journal boat) (points_are rules journal boat i)
+    (λ i. one.cells_by (one.scores rules journal boat) (points_are rules journal boat i)
     (flags_are rules journal boat i))
     ∙ ap (map cell) (zip_map f (scored journal) pairs)
     ∙ map_map cell (λ (p : ℕ × (ℕ × Bool)). (f p.0, p.1)) (zip (scored journal) pairs)
@@ -119,7 +126,7 @@ cells_are rules journal boat =
 
 pub row_is : (rules : RulesParts) (journal : Journal) (lines : List BoatScores) (boat : Sail)
     → one.row rules boat (place lines (by_journal.line rules journal boat))
-    (one.outcomes rules journal boat) ≡ by_journal.row rules journal lines boat
+    (one.scores rules journal boat) ≡ by_journal.row rules journal lines boat
 row_is rules journal lines boat i =
     record {
       sail = boat;
@@ -160,10 +167,10 @@ module _ (rules : RulesParts) (journal : Journal) (orderly : IsOrderly rules jou
     holds = held_under race;
   }
 
-  outcome_is : (race : ℕ) (boat : Sail) → is_entered journal boat ≡ true
-      → all.outcome_on rules (sheet_of rules journal race) (number journal boat)
-      ≡ one.outcome rules journal race boat
-  outcome_is race boat h i = record {
+  score_is : (race : ℕ) (boat : Sail) → is_entered journal boat ≡ true
+      → race_score rules (sheet_of rules journal race) (number journal boat)
+      ≡ one.score_in rules journal race boat
+  score_is race boat h i = score_of (record {
     plain = plain_same same_sail nat_eq (λ b. is_entered journal b ≡ true) (number journal)
         (journal_race rules journal race)
         (race_of (sheet_of rules journal race).order (sheet_of rules journal race).held)
@@ -175,18 +182,18 @@ module _ (rules : RulesParts) (journal : Journal) (orderly : IsOrderly rules jou
         (race_of (sheet_of rules journal race).order (sheet_of rules journal race).held)
         (renamed race) boat h
         i;
-  }
+  })
 
   column_is : (race : ℕ)
       → all.column rules (sheet_of rules journal race)
-      ≡ map (one.outcome rules journal race) (entered journal)
+      ≡ map (one.score_in rules journal race) (entered journal)
   column_is race =
-      ap (map (all.outcome_on rules (sheet_of rules journal race))) (boats_numbered race)
-      ∙ map_map (all.outcome_on rules (sheet_of rules journal race)) (number journal)
+      ap (map (race_score rules (sheet_of rules journal race))) (boats_numbered race)
+      ∙ map_map (race_score rules (sheet_of rules journal race)) (number journal)
       (entered journal)
       ∙ map_known (λ boat. is_entered journal boat ≡ true)
-      (λ boat. all.outcome_on rules (sheet_of rules journal race) (number journal boat))
-      (one.outcome rules journal race) (outcome_is race) (entered journal) known_all
+      (λ boat. race_score rules (sheet_of rules journal race) (number journal boat))
+      (one.score_in rules journal race) (score_is race) (entered journal) known_all
 
   -- ---- the races that count
 
@@ -212,36 +219,36 @@ module _ (rules : RulesParts) (journal : Journal) (orderly : IsOrderly rules jou
       omega arith) (let k : 1 ≤ race = h.0 in omega arith)
 
   columns_are : all.columns rules (kept_of rules journal).sheets (scored journal)
-      ≡ map (λ race. map (one.outcome rules journal race) (entered journal)) (scored journal)
+      ≡ map (λ race. map (one.score_in rules journal race) (entered journal)) (scored journal)
   columns_are =
       map_known (λ r. (1 ≤ r) × (r < 1 + MAX_RACES))
       (λ race. all.column rules (get_or (kept_of rules journal).sheets (race - 1) (empty_sheet 0)))
-      (λ race. map (one.outcome rules journal race) (entered journal))
+      (λ race. map (one.score_in rules journal race) (entered journal))
       (λ race h. ap (all.column rules) (sheet_at race h) ∙ column_is race) (scored journal)
       scored_in_range
 
   by_boat : (b : ℕ) → b < length (entered journal)
-      → all.outcomes
-      (map (λ race. map (one.outcome rules journal race) (entered journal)) (scored journal)) b
-      ≡ one.outcomes rules journal (get_or (entered journal) b [])
+      → all.scores
+      (map (λ race. map (one.score_in rules journal race) (entered journal)) (scored journal)) b
+      ≡ one.scores rules journal (get_or (entered journal) b [])
   by_boat b h =
-      map_map (λ (column : List Outcome). get_or column b all.no_outcome)
-      (λ race. map (one.outcome rules journal race) (entered journal)) (scored journal)
+      map_map (λ (column : List RaceScore). get_or column b all.no_score)
+      (λ race. map (one.score_in rules journal race) (entered journal)) (scored journal)
       ∙ map_known (λ r. (1 ≤ r) × (r < 1 + MAX_RACES))
-      (λ race. get_or (map (one.outcome rules journal race) (entered journal)) b all.no_outcome)
-      (λ race. one.outcome rules journal race (get_or (entered journal) b []))
-      (λ race k. get_or-map (one.outcome rules journal race) (entered journal) b []
-      all.no_outcome h) (scored journal) scored_in_range
+      (λ race. get_or (map (one.score_in rules journal race) (entered journal)) b all.no_score)
+      (λ race. one.score_in rules journal race (get_or (entered journal) b []))
+      (λ race k. get_or-map (one.score_in rules journal race) (entered journal) b []
+      all.no_score h) (scored journal) scored_in_range
 
   -- ---- all boats
 
   lines_are : all.lines rules
-      (map (λ race. map (one.outcome rules journal race) (entered journal)) (scored journal))
+      (map (λ race. map (one.score_in rules journal race) (entered journal)) (scored journal))
       (length (entered journal)) ≡ by_journal.lines rules journal
   lines_are =
-      let found = map (λ race. map (one.outcome rules journal race) (entered journal))
+      let found = map (λ race. map (one.score_in rules journal race) (entered journal))
       (scored journal) in
-      map_over (λ b. one.line rules (all.outcomes found b)) (by_journal.line rules journal)
+      map_over (λ b. one.line rules (all.scores found b)) (by_journal.line rules journal)
       (entered journal) [] (record { points = []; excluded = [] })
       (λ b h. ap (one.line rules) (by_boat b h)
       ∙ line_is rules journal (get_or (entered journal) b []))
@@ -254,10 +261,10 @@ module _ (rules : RulesParts) (journal : Journal) (orderly : IsOrderly rules jou
       ∙ (λ i. all.lines rules (columns_are i) (length (entered journal))) ∙ lines_are
 
   rows_are : all.rows rules (entered journal)
-      (map (λ race. map (one.outcome rules journal race) (entered journal)) (scored journal))
+      (map (λ race. map (one.score_in rules journal race) (entered journal)) (scored journal))
       ≡ (by_journal.standing rules journal).rows
   rows_are =
-      let found = map (λ race. map (one.outcome rules journal race) (entered journal))
+      let found = map (λ race. map (one.score_in rules journal race) (entered journal))
       (scored journal) in
       let none : Row = record { sail = []; rank = 0; tied = false; net = 0; cells = [] } in
       ap by_journal.sorted_rows
@@ -267,7 +274,7 @@ module _ (rules : RulesParts) (journal : Journal) (orderly : IsOrderly rules jou
       (place (lines_are i) (one.line rules (by_boat b h i))) (by_boat b h i))
       ∙ ap (λ l. one.row rules (get_or (entered journal) b [])
       (place (by_journal.lines rules journal) l)
-      (one.outcomes rules journal (get_or (entered journal) b [])))
+      (one.scores rules journal (get_or (entered journal) b [])))
       (line_is rules journal (get_or (entered journal) b []))
       ∙ row_is rules journal (by_journal.lines rules journal) (get_or (entered journal) b [])))
 

@@ -20,31 +20,31 @@ use Rattle.regatta_board.specs.declared.scoring.Ranked.{Ranked}
 use Rattle.regatta_board.specs.declared.scoring.NewScores.{NewScores}
 use Rattle.regatta_board.specs.declared.kept.Revision.{Revision}
 use Rattle.regatta_board.specs.declared.kept.Revision.TheVariants as revision
-use Rattle.regatta_board.specs.declared.outcomes.Outcome.{Outcome}
+use Rattle.regatta_scores.specs.declared.boats.RaceScore.{RaceScore}
 use Rattle.regatta_board.specs.Outcomes.{line as line_of}
 use Rattle.regatta_board.specs.Revisions.{revised}
 use Rattle.regatta_board.specs.Table.{Kept, column, columns, races, lines as lines_of}
-use Rattle.regatta_board.specs.Table.{no_line, outcomes}
+use Rattle.regatta_board.specs.Table.{no_line, scores}
 
 -- a column for each race of a series, which is empty if the race doesn't count; a line for each boat
 -- (RRS A2.1); and the boats' numbers in order of rank (RRS A8)
 pub record Scoring : Type 0 where
-  pub columns : List (List Outcome)
+  pub columns : List (List RaceScore)
   pub lines : List BoatScores
   pub ranking : List ℕ
 
 -- the column at an index: each boat's outcome on the race's sheet, or nothing if the race doesn't
 -- count
-abbrev pub column_at : RulesParts → Kept → ℕ → List Outcome
+abbrev pub column_at : RulesParts → Kept → ℕ → List RaceScore
 column_at rules kept k =
     if slice_index_or kept.counts k false
     then column rules (slice_index_or kept.sheets k (empty_sheet 0)) else []
 
-abbrev pub AreColumns : RulesParts → Kept → List (List Outcome) → Type 0
+abbrev pub AreColumns : RulesParts → Kept → List (List RaceScore) → Type 0
 AreColumns rules kept columns = (k : ℕ) → slice_index_or columns k [] ≡ column_at rules kept k
 
 -- the columns, after new ones replace the old ones
-abbrev pub with_columns : List (List Outcome) → NewColumns → List (List Outcome)
+abbrev pub with_columns : List (List RaceScore) → NewColumns → List (List RaceScore)
 with_columns old Same = old
 with_columns old (One race column) = slice_set old (race - 1) column
 with_columns old (All columns) = columns.items
@@ -104,11 +104,11 @@ with_new news boat (Some line) = news ++ record { boat = boat; line = line } ∷
 
 -- a boat's new line is appended to the new lines, unless her outcome in the column that is
 -- recomputed stays
-pub record IsPushed (rules : RulesParts) (columns : List (List Outcome)) (boat : ℕ)
-    (old new : Outcome) (before after : List NewLine) : Type 0 where
+pub record IsPushed (rules : RulesParts) (columns : List (List RaceScore)) (boat : ℕ)
+    (old new : RaceScore) (before after : List NewLine) : Type 0 where
   pub line : Option BoatScores
   pub stays : (line ≡ None) ↔ (new ≡ old)
-  pub value : IfSome line (λ found. found ≡ line_of rules (outcomes columns boat))
+  pub value : IfSome line (λ found. found ≡ line_of rules (scores columns boat))
   pub made : after ≡ with_new before boat line
 
 -- the lines, after new ones replace some or all of them
@@ -137,14 +137,14 @@ AreRanked rules before after (Some ranked) =
 -- the new columns turn the columns before into those after
 abbrev pub AreNewColumns : RulesParts → Kept → Kept → NewColumns → Type 0
 AreNewColumns rules before after new =
-    (old : List (List Outcome)) → length old ≡ MAX_RACES → AreColumns rules before old
+    (old : List (List RaceScore)) → length old ≡ MAX_RACES → AreColumns rules before old
     → (length (with_columns old new) ≡ MAX_RACES) × AreColumns rules after (with_columns old new)
 
 -- a new sheet changes only the column of its race
 abbrev pub RemakesOneColumn : RulesParts → Revision → NewColumns → Type 0
 RemakesOneColumn rules (revision.Enter boats sheets) new = Unit {0}
 RemakesOneColumn rules (revision.Sheet race sheet) new =
-    (old : List (List Outcome))
+    (old : List (List RaceScore))
     → with_columns old new ≡ slice_set old (race - 1) (column rules sheet)
 RemakesOneColumn rules (revision.Counts race counts) new = Unit {0}
 

@@ -1,6 +1,6 @@
 -- The standing from sheets, with boats and races by their numbers.
-use Rattle.std.specs.Prelude.{◌≡◌, ℕ, ◌-◌, ◌≤◌, Bool, false, nat_eq, List, [], length, map, filter}
-use Rattle.std.specs.Prelude.{slice_index_or, All}
+use Rattle.std.specs.Prelude.{◌≡◌, ℕ, ◌-◌, ◌≤◌, Bool, false, List, [], length, map, filter}
+use Rattle.std.specs.Prelude.{slice_index_or, All, None, nat_lt, not, ◌&&◌}
 use Rattle.std.specs.List.{range_with_len}
 use Rattle.regatta_terms.specs.Rules.{RulesParts}
 use Rattle.regatta_terms.specs.declared.sail.Sail.{Sail}
@@ -8,13 +8,13 @@ use Rattle.regatta_terms.specs.declared.limits.TheConstants.{MAX_RACES}
 use Rattle.regatta_scores.specs.declared.boats.Place.{Place}
 use Rattle.regatta_scores.specs.declared.table.Row.{Row}
 use Rattle.regatta_scores.specs.declared.table.Standing.{Standing}
-use Rattle.regatta_scores.specs.Order.{stands_in}
-use Rattle.regatta_scores.specs.Sheet.{Sheet, boats, nothing_held, empty_sheet}
-use Rattle.regatta_scores.specs.RacePoints.{plain, race_of}
+use Rattle.regatta_scores.specs.Sheet.{Sheet, boats, empty_sheet}
+use Rattle.regatta_scores.specs.RaceScores.{race_scores}
 use Rattle.regatta_scores.specs.Ranking.{BoatScores, place}
-use Rattle.regatta_scores.specs.Standing as scores
+use Rattle.regatta_scores.specs.Standing as standings
 pub use Rattle.regatta_scores.specs.Entrants.{no_line}
-use Rattle.regatta_board.specs.declared.outcomes.Outcome.{Outcome}
+use Rattle.regatta_scores.specs.declared.boats.Averaged.TheVariants.{OverNone}
+use Rattle.regatta_scores.specs.declared.boats.RaceScore.{RaceScore}
 use Rattle.regatta_board.specs.Refusals.{limits}
 use Rattle.regatta_board.specs.Outcomes.{line, row, row_by}
 
@@ -32,66 +32,67 @@ pub record IsKept (kept : Kept) : Type 0 where
   pub counts : length kept.counts ≡ MAX_RACES
   pub same : All (λ sheet. boats sheet ≡ length kept.sails) kept.sheets
 
--- the default outcome; no number of a boat leads to it
-abbrev pub no_outcome : Outcome
-no_outcome = record { plain = 0; held = nothing_held; placed = false }
+-- the default score; no number of a boat leads to it
+abbrev pub no_score : RaceScore
+no_score = record { points = 0; averaged = OverNone; dne = false; mark = None }
 
--- the outcome of a boat on a sheet
-abbrev pub outcome_on : RulesParts → Sheet → ℕ → Outcome
-outcome_on rules sheet boat =
-    record {
-      plain = plain nat_eq rules (race_of sheet.order sheet.held) boat;
-      held = slice_index_or sheet.held boat nothing_held;
-      placed = stands_in nat_eq boat sheet.order;
-    }
-
--- the outcomes of all boats in one race, by their numbers
-abbrev pub column : RulesParts → Sheet → List Outcome
-column rules sheet = map (outcome_on rules sheet) (range_with_len 0 (boats sheet))
+-- a column: the scores of all boats in one race, by the boats' numbers
+abbrev pub column : RulesParts → Sheet → List RaceScore
+column rules sheet = race_scores rules sheet
 
 -- the races that count
 abbrev pub races : List Bool → List ℕ
 races counts = filter (λ race. slice_index_or counts (race - 1) false) (range_with_len 1 MAX_RACES)
 
 -- the column of each of these races, in their order
-abbrev pub columns : RulesParts → List Sheet → List ℕ → List (List Outcome)
+abbrev pub columns : RulesParts → List Sheet → List ℕ → List (List RaceScore)
 columns rules sheets races =
     map (λ race. column rules (slice_index_or sheets (race - 1) (empty_sheet 0))) races
 
--- one boat's outcome in each race that counts
-abbrev pub outcomes : List (List Outcome) → ℕ → List Outcome
-outcomes columns boat = map (λ column. slice_index_or column boat no_outcome) columns
+-- one boat's score in each race that counts
+abbrev pub scores : List (List RaceScore) → ℕ → List RaceScore
+scores columns boat = map (λ column. slice_index_or column boat no_score) columns
 
 -- the lines of all boats: their points, and which of them are excluded (RRS A2.1)
-abbrev pub lines : RulesParts → List (List Outcome) → ℕ → List BoatScores
-lines rules columns n = map (λ boat. line rules (outcomes columns boat)) (range_with_len 0 n)
+abbrev pub lines : RulesParts → List (List RaceScore) → ℕ → List BoatScores
+lines rules columns n = map (λ boat. line rules (scores columns boat)) (range_with_len 0 n)
 
 -- a boat's row of the table, with her rank among all the lines (RRS A8)
-abbrev pub row_of : RulesParts → List Sail → List (List Outcome) → ℕ → Row
+abbrev pub row_of : RulesParts → List Sail → List (List RaceScore) → ℕ → Row
 row_of rules sails columns boat =
     row rules (slice_index_or sails boat [])
-    (place (lines rules columns (length sails)) (line rules (outcomes columns boat)))
-    (outcomes columns boat)
+    (place (lines rules columns (length sails)) (line rules (scores columns boat)))
+    (scores columns boat)
 
 -- the rows of all boats, in the order of the table (RRS A8)
-abbrev pub rows : RulesParts → List Sail → List (List Outcome) → List Row
+abbrev pub rows : RulesParts → List Sail → List (List RaceScore) → List Row
 rows rules sails columns =
-    scores.sorted_rows (map (row_of rules sails columns) (range_with_len 0 (length sails)))
+    standings.sorted_rows (map (row_of rules sails columns) (range_with_len 0 (length sails)))
 
 -- the default rank; no number of a boat leads to it
 abbrev pub no_rank : Place
 no_rank = record { rank = 0; tied = false }
 
 -- a boat's row from the lines and ranks of all boats, which are computed once (RRS A8)
-abbrev pub row_at : List Sail → List (List Outcome) → List BoatScores → List Place → ℕ → Row
+abbrev pub row_at : List Sail → List (List RaceScore) → List BoatScores → List Place → ℕ → Row
 row_at sails columns lines ranks boat =
     row_by (slice_index_or sails boat []) (slice_index_or ranks boat no_rank)
-    (slice_index_or lines boat no_line) (outcomes columns boat)
+    (slice_index_or lines boat no_line) (scores columns boat)
+
+-- what the order of the table takes of a boat's row: her sail and her rank
+abbrev pub row_head : List Sail → List Place → ℕ → Row
+row_head sails ranks boat = row_at sails [] [] ranks boat
+
+-- whether there is a boat with the number `other`, and her row comes before that of `boat`
+abbrev pub row_is_before : List Sail → List Place → ℕ → ℕ → Bool
+row_is_before sails ranks boat other =
+    nat_lt other (length ranks)
+    && not (standings.comes_first (row_head sails ranks boat) (row_head sails ranks other))
 
 -- the rows of all boats from their lines and ranks, in the order of the table (RRS A8)
-abbrev pub rows_by : List Sail → List (List Outcome) → List BoatScores → List Place → List Row
+abbrev pub rows_by : List Sail → List (List RaceScore) → List BoatScores → List Place → List Row
 rows_by sails columns lines ranks =
-    scores.sorted_rows (map (row_at sails columns lines ranks) (range_with_len 0 (length sails)))
+    standings.sorted_rows (map (row_at sails columns lines ranks) (range_with_len 0 (length sails)))
 
 -- the standing by what is kept: the races that count, and a row for each boat (RRS A2.2)
 abbrev pub table : RulesParts → Kept → Standing

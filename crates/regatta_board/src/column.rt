@@ -1,86 +1,51 @@
-//! Columns: the outcomes of all boats in a race that counts.
+//! Columns: the scores of all boats in a race that counts, before averages.
 ghost use Rattle.std.specs.Prelude.{◌≡◌, ◌+◌, ◌-◌, ◌<◌, ◌≤◌, ◌^◌, [], true, false, length, List};
-ghost use Rattle.std.specs.Prelude.{map, is_none, slice_index_or, slice_set, IfOk, OnOk, if◌then◌else◌, ◌↔◌};
+ghost use Rattle.std.specs.Prelude.{map, slice_index_or, slice_set, IfOk, OnOk, if◌then◌else◌, ◌↔◌};
 ghost use Rattle.regatta_terms.specs.Entries.{IsRace};
-ghost use Rattle.regatta_scores.specs.Sheet.{boats as boats_of, empty_sheet, nothing_held};
-ghost use Rattle.regatta_board.specs.declared.outcomes.Outcome.{Outcome};
-ghost use Rattle.regatta_board.specs.Refusals.{limits};
+ghost use Rattle.regatta_scores.specs.declared.boats.RaceScore.{RaceScore};
 ghost use Rattle.regatta_board.specs.Revisions.{revised, may_change_standing};
 ghost use Rattle.regatta_board.specs.Scoring.{AreColumns, AreNewColumns, RemakesOneColumn};
 ghost use Rattle.regatta_board.specs.Scoring.{column_at, with_columns, most_remade};
-ghost use Rattle.regatta_board.specs.Table.{no_outcome, IsKept, column as column_of};
+ghost use Rattle.regatta_board.specs.Table.{no_score, IsKept, column as column_of};
 ghost use Rattle.regatta_board.specs.Table.{races as races_of};
 
 use crate::kept::{Draft, Kept, Revision};
-use crate::outcomes::Outcome;
-use regatta_scores::{Held, RaceScore, RaceSheet, Work, race_scores};
-use regatta_terms::{MAX_RACES, RaceNo, Redress, Rules};
+use regatta_scores::{Items, RaceScore, RaceScores, RaceSheet, Work, race_scores};
+use regatta_terms::{MAX_RACES, RaceNo, Rules};
 use std::alloc::{AllocError, Global};
 use std::marker::Model;
 
-/// The outcome of each boat in one race, in the order of their numbers.
+/// The score of each boat in one race, before averages, in the order of the boats' numbers.
 #[derive(Drop)]
 pub struct Column {
-    outcomes: Vec<Outcome>,
+    scores: RaceScores,
 }
 
 impl Model for Column {
     ghost use Rattle.std.specs.Prelude.{List};
-    ghost use Rattle.regatta_board.specs.declared.outcomes.Outcome.{Outcome};
+    ghost use Rattle.regatta_scores.specs.declared.boats.RaceScore.{RaceScore};
 
-    ghost Value = { List Outcome };
+    ghost Value = { List RaceScore };
 
-    ghost view = { λ c. c.outcomes.items };
+    ghost view = { λ c. c.scores };
 }
 
 impl Column {
-    /// The column of a race that doesn't count. It has no outcomes, and doesn't allocate.
+    /// The column of a race that doesn't count. It is empty, and doesn't allocate.
     pub(crate) fn empty(alloc: Global) -> Column
         ensures { result ≡ [] }
     {
         Column {
-            outcomes: Vec::new(alloc),
+            scores: Items::new(Vec::new(alloc)),
         }
     }
 
-    pub(crate) fn at(&self, boat: usize) -> Outcome
+    /// The score of the boat with this number.
+    pub(crate) fn score(&self, boat: usize) -> &RaceScore
         requires { boat < length self.now }
-        ensures { result ≡ slice_index_or self.now boat no_outcome }
+        ensures { result.now ≡ slice_index_or self.now boat no_score }
     {
-        self.outcomes[boat]
-    }
-
-    /// The same, by reference.
-    pub(crate) fn outcome(&self, boat: usize) -> &Outcome
-        requires { boat < length self.now }
-        ensures { result.now ≡ slice_index_or self.now boat no_outcome }
-    {
-        &self.outcomes[boat]
-    }
-
-    /// Whether the boat has no redress in the race.
-    fn has_no_redress(&self, boat: usize) -> bool
-        ensures { result ≡ is_none (slice_index_or self.now boat no_outcome).held.redress }
-    {
-        match self.outcomes.get(boat) {
-            Some(outcome) => outcome.held.redress.is_none(),
-            None => true,
-        }
-    }
-}
-
-fn outcome(sheet: &RaceSheet, score: RaceScore, boat: u16) -> Outcome
-    requires { boat < boats_of sheet.now }
-    ensures { result ≡ record {
-      plain = score.plain;
-      held = slice_index_or sheet.now.held boat nothing_held;
-      placed = score.placed;
-    } }
-{
-    Outcome {
-        plain: score.plain,
-        held: sheet.held(boat),
-        placed: score.placed,
+        &self.scores.as_slice()[boat]
     }
 }
 
@@ -90,21 +55,12 @@ pub(crate) fn made_column(
     rules: &Rules,
     work: &mut Work,
 ) -> Result<Column, AllocError>
-    requires few { boats_of sheet.now ≤ limits.boats }
     requires work { work.old + 1 < 2 ^ 32 }
     ensures value { IfOk result (λ column. column ≡ column_of rules.now sheet.now) }
-    ensures long { IfOk result (λ column. length column ≡ boats_of sheet.now) }
     ensures counted { OnOk result (work.new ≡ work.old + 1) }
 {
-    let scored = race_scores(alloc, sheet, rules, work)?;
-    let scores = scored.as_slice();
-    // Rattle has to see the types that an outcome is made of.
-    let _parts: (Option<Held>, Option<Redress>) = (None, None);
-    let mut column = Vec::with_capacity(alloc, scores.len())?;
-    for boat in 0..scores.len() {
-        column.push_reserved(outcome(sheet, scores[boat], boat as u16));
-    }
-    Ok(Column { outcomes: column })
+    let scores = race_scores(alloc, sheet, rules, work)?;
+    Ok(Column { scores })
 }
 
 /// The columns that a command recomputes.
@@ -170,9 +126,8 @@ fn one_column(
     rules: &Rules,
     work: &mut Work,
 ) -> Result<NewColumns, AllocError>
-    requires few { boats_of sheet.now ≤ limits.boats }
     requires work { work.old + 1 < 2 ^ 32 }
-    ensures value { IfOk result (λ new. (old : List (List Outcome)) →
+    ensures value { IfOk result (λ new. (old : List (List RaceScore)) →
         with_columns old new ≡ slice_set old (race - 1) (column_of rules.now sheet.now)) }
     ensures counted { OnOk result (work.new ≡ work.old + 1) }
 {
@@ -182,7 +137,7 @@ fn one_column(
 
 /// Empties the column of a race that no longer counts.
 fn no_column(alloc: Global, race: RaceNo) -> NewColumns
-    ensures { (old : List (List Outcome)) →
+    ensures { (old : List (List RaceScore)) →
         with_columns old result ≡ slice_set old (race - 1) [] }
 {
     NewColumns::One {
@@ -215,12 +170,7 @@ pub(crate) fn new_columns(
             let columns = all_columns(alloc, &Draft::new(kept, revision), rules, work)?;
             Ok(NewColumns::All { columns })
         }
-        Revision::Sheet { race, sheet } => {
-            // This call does nothing. From its contract the proof learns that a series may have the
-            // race.
-            let _ = race.get();
-            one_column(alloc, *race, sheet, rules, work)
-        }
+        Revision::Sheet { race, sheet } => one_column(alloc, *race, sheet, rules, work),
         Revision::Counts { race, counts: true } => {
             one_column(alloc, *race, kept.sheet(*race), rules, work)
         }
@@ -236,33 +186,19 @@ pub struct CurrentColumn<'a> {
 
 impl<'a> Model for CurrentColumn<'a> {
     ghost use Rattle.std.specs.Prelude.{List};
-    ghost use Rattle.regatta_board.specs.declared.outcomes.Outcome.{Outcome};
+    ghost use Rattle.regatta_scores.specs.declared.boats.RaceScore.{RaceScore};
 
-    ghost Value = { List Outcome };
+    ghost Value = { List RaceScore };
 
     ghost view = { λ c. c.column.now };
 }
 
 impl<'a> CurrentColumn<'a> {
-    pub(crate) fn at(&self, boat: usize) -> Outcome
+    pub(crate) fn score(&self, boat: usize) -> &RaceScore
         requires { boat < length self.now }
-        ensures { result ≡ slice_index_or self.now boat no_outcome }
+        ensures { result.now ≡ slice_index_or self.now boat no_score }
     {
-        self.column.at(boat)
-    }
-
-    /// The same, by reference.
-    pub(crate) fn outcome(&self, boat: usize) -> &Outcome
-        requires { boat < length self.now }
-        ensures { result.now ≡ slice_index_or self.now boat no_outcome }
-    {
-        self.column.outcome(boat)
-    }
-
-    pub(crate) fn has_no_redress(&self, boat: usize) -> bool
-        ensures { result ≡ is_none (slice_index_or self.now boat no_outcome).held.redress }
-    {
-        self.column.has_no_redress(boat)
+        self.column.score(boat)
     }
 }
 

@@ -1,6 +1,6 @@
 //! The scores that are kept: a column for each race, a line for each boat, and their ranking.
 ghost use Rattle.std.specs.Prelude.{◌≡◌, ◌+◌, ◌-◌, ◌<◌, ◌≤◌, ◌^◌, ℕ, true, false, length};
-ghost use Rattle.std.specs.Prelude.{List, replicate, slice_index_or, All, IfOk, IfSome, OnOk, None, ◌↔◌};
+ghost use Rattle.std.specs.Prelude.{◌++◌, ◌∷◌, [], List, replicate, slice_index_or, All, IfOk, IfSome, OnOk, None, ◌↔◌};
 ghost use Rattle.regatta_terms.specs.Rules.{RulesParts};
 ghost use Rattle.regatta_scores.specs.Entrants.{lines_behind};
 ghost use Rattle.regatta_scores.specs.KeptRanking.{IsRanking};
@@ -14,17 +14,17 @@ ghost use Rattle.regatta_board.specs.Scoring.{AreOfBoats, FitBoats, FitLines};
 ghost use Rattle.regatta_board.specs.Scoring.{lines_by, most_remade, with_columns, with_scores};
 ghost use Rattle.regatta_board.specs.Scoring.{with_changed, with_flags, with_lines, IsPushed};
 ghost use Rattle.regatta_board.specs.Scoring.{touched_at};
-ghost use Rattle.regatta_board.specs.Table.{no_line, no_outcome, IsKept};
-ghost use Rattle.regatta_board.specs.Table.{outcomes as outcomes_of, lines as lines_of};
+ghost use Rattle.regatta_board.specs.Table.{no_line, no_score, IsKept};
+ghost use Rattle.regatta_board.specs.Table.{scores as scores_of, lines as lines_of};
 ghost use Rattle.regatta_board.specs.Table.{table as table_of};
 
 use crate::column::{
     Column, CurrentColumn, NewColumns, all_columns, current, current_columns, new_columns,
 };
 use crate::kept::{Draft, Kept, Revision};
-use crate::outcomes::Outcome;
-use crate::table::{all_lines, boat_line, races, sorted_rows};
-use regatta_scores::{BoatLine, Items, Ranking, Standing, Work};
+use crate::line::{all_lines, boat_line};
+use crate::table::{races, sorted_rows};
+use regatta_scores::{BoatLine, Items, RaceScore, Ranking, Standing, Work};
 use regatta_terms::{MAX_RACES, RaceNo, Rules, Touched};
 use std::alloc::{AllocError, Global};
 use std::marker::Model;
@@ -180,8 +180,8 @@ fn new_ranking(
 /// Appends a boat's new line after one column is recomputed, unless her outcome in it is the same.
 fn push_if_changed(
     made: &mut Vec<NewLine>,
-    old: &Outcome,
-    new: &Outcome,
+    old: &RaceScore,
+    new: &RaceScore,
     columns: &[CurrentColumn<'_>],
     boat: usize,
     rules: &Rules,
@@ -194,6 +194,26 @@ fn push_if_changed(
     if new == old {
         return Ok(());
     }
+    push_line(made, columns, boat, rules)?;
+    Ok(())
+}
+
+/// Appends a boat's new line.
+// Inlined into the loop over all boats, it would set its list to zeros for each of them.
+#[inline(never)]
+fn push_line(
+    made: &mut Vec<NewLine>,
+    columns: &[CurrentColumn<'_>],
+    boat: usize,
+    rules: &Rules,
+) -> Result<(), AllocError>
+    requires within { All (λ column. boat < length column) columns.now }
+    requires few { length columns.now ≤ MAX_RACES }
+    ensures { OnOk result (made.new.items ≡ made.old.items ++ record {
+      boat = boat;
+      line = line_of rules.now (scores_of columns.now boat);
+    } ∷ []) }
+{
     let line = boat_line(columns, boat, rules);
     made.push(NewLine { boat, line })?;
     Ok(())
@@ -213,9 +233,9 @@ fn changed_lines(
     requires old { length old.now ≡ length lines.now }
     requires new { length new.now ≡ length lines.now }
     requires stays { (boat : ℕ) → boat < length lines.now
-        → slice_index_or new.now boat no_outcome ≡ slice_index_or old.now boat no_outcome
+        → slice_index_or new.now boat no_score ≡ slice_index_or old.now boat no_score
         → slice_index_or lines.now boat no_line
-        ≡ line_of rules.now (outcomes_of columns.now boat) }
+        ≡ line_of rules.now (scores_of columns.now boat) }
     ensures each { IfOk result (λ made. AreOfBoats (length lines.now) made.items) }
     ensures value { IfOk result (λ made. with_changed lines.now made.items
         ≡ lines_of rules.now columns.now (length lines.now)) }
@@ -224,8 +244,8 @@ fn changed_lines(
     for boat in 0..lines.len() {
         push_if_changed(
             &mut made,
-            old.outcome(boat),
-            new.outcome(boat),
+            old.score(boat),
+            new.score(boat),
             columns,
             boat,
             rules,

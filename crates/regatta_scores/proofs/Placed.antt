@@ -1,7 +1,7 @@
 -- The points for each boat's place give the number of boats that came, and the points of the
 -- definitions.
 use Rattle.std.proofs.Common.{◌≡◌, ℕ, Bool, true, false, cond, List, refl, ap, ◌∙◌, sym, length}
-use Rattle.std.proofs.Common.{[], ◌∷◌, map, count_by, Option, Some, None, is_some, unwrap_or}
+use Rattle.std.proofs.Common.{count_by, Option, Some, None, is_some, unwrap_or}
 use Rattle.std.proofs.Common.{nat_eq, get_or}
 use Rattle.std.specs.List.{range_with_len}
 use Rattle.std.proofs.lemmas.List.FromFn.{length-range_with_len}
@@ -10,10 +10,11 @@ use Rattle.regatta_terms.specs.declared.command.Code.{Code}
 use Rattle.regatta_terms.specs.declared.command.Code.TheVariants as code
 use Rattle.regatta_scores.specs.declared.sheet.Held.{Held}
 use Rattle.regatta_scores.specs.Order.{stands_in}
-use Rattle.regatta_scores.specs.Sheet.{Sheet, boats, nothing_held}
+use Rattle.regatta_scores.specs.Sheet.{nothing_held}
 use Rattle.regatta_scores.specs.RacePoints.{race_of, status, status_by, came, place_points}
 use Rattle.regatta_scores.specs.RacePoints.{number_came, dnf_by, base_by, plain, penalised}
-use Rattle.regatta_scores.specs.RacePoints.{penalty_points, race_score, race_scores, race_points}
+use Rattle.regatta_scores.specs.RacePoints.{penalty_points}
+use Rattle.regatta_scores.specs.RaceScores.{race_score, score_of}
 use Rattle.regatta_scores.specs.PlacedPoints.{HasPlacedPoints, placed_points, came_with}
 use Rattle.regatta_scores.specs.PlacedPoints.{number_came_with, plain_with, score_with}
 
@@ -70,17 +71,8 @@ module _ (order : List (List ℕ)) (held : List Held) (placed : List (Option ℕ
       race_score rules (record { order = order; held = held; seconds = seconds }) boat
       ≡ score_with rules (get_or held boat nothing_held) (get_or placed boat None) (length held)
       (dnf_by rules.absent (length held) (number_came_with held placed))
-  score_is rules seconds boat i =
-      record { plain = plain_is rules boat i; placed = stands_is boat i }
-
--- the points in the scores are those of the race
-pub points_are : (rules : RulesParts) (sheet : Sheet) →
-    map (λ score. score.plain) (race_scores rules sheet) ≡ race_points rules sheet
-points_are rules sheet = map_parts (range_with_len 0 (boats sheet))
-  where
-    map_parts : (numbers : List ℕ) →
-        map (λ score. score.plain) (map (race_score rules sheet) numbers)
-        ≡ map (plain nat_eq rules (race_of sheet.order sheet.held)) numbers
-    map_parts [] = refl
-    map_parts (n ∷ ns) =
-        ap (λ xs. plain nat_eq rules (race_of sheet.order sheet.held) n ∷ xs) (map_parts ns)
+  score_is rules seconds boat i = score_of (record {
+    plain = plain_is rules boat i;
+    held = get_or held boat nothing_held;
+    placed = stands_is boat i;
+  })

@@ -9,6 +9,7 @@ use Rattle.regatta_terms.specs.declared.command.Code.{Code}
 use Rattle.regatta_scores.specs.declared.boats.RaceScore.{RaceScore}
 use Rattle.regatta_scores.specs.declared.sheet.Held.{Held}
 use Rattle.regatta_scores.specs.Order.{in_group, stands_in}
+use Rattle.regatta_scores.specs.RaceScores.{score_of}
 use Rattle.regatta_scores.specs.Sheet.{nothing_held}
 use Rattle.regatta_scores.specs.RacePoints.{Race, race_of, status_by, came, place_points, dnf_by}
 use Rattle.regatta_scores.specs.RacePoints.{base_by, penalised, penalty_points}
@@ -68,7 +69,10 @@ abbrev pub plain_with : RulesParts → Held → Option ℕ → ℕ → ℕ → �
 plain_with rules held placed entered dnf =
     penalised (base_with held.code placed entered dnf) (penalty_points rules dnf held) dnf
 
--- that score, and whether she has points for a place
+-- her score in the race
 abbrev pub score_with : RulesParts → Held → Option ℕ → ℕ → ℕ → RaceScore
-score_with rules held placed entered dnf =
-    record { plain = plain_with rules held placed entered dnf; placed = is_some placed }
+score_with rules held placed entered dnf = score_of (record {
+  plain = plain_with rules held placed entered dnf;
+  held = held;
+  placed = is_some placed;
+})

@@ -10,7 +10,6 @@ use Rattle.regatta_terms.specs.declared.rules.Absent.TheVariants.{A52, A53}
 use Rattle.regatta_terms.specs.declared.command.Code.{Code}
 use Rattle.regatta_terms.specs.declared.command.Code.TheVariants.{Dnc}
 use Rattle.regatta_terms.specs.declared.sail.Sail.{Sail}
-use Rattle.regatta_scores.specs.declared.boats.RaceScore.{RaceScore}
 use Rattle.regatta_scores.specs.declared.sheet.Held.{Held}
 use Rattle.regatta_scores.specs.Order.{in_group, stands_in}
 use Rattle.regatta_scores.specs.Sheet.{Sheet, boats, nothing_held}
@@ -134,17 +133,6 @@ race_of order held =
 abbrev pub race_points : RulesParts → Sheet → List ℕ
 race_points rules sheet =
     map (plain nat_eq rules (race_of sheet.order sheet.held)) (range_with_len 0 (boats sheet))
-
--- a boat's points on the sheet before redress, and whether she is in the order (A3)
-abbrev pub race_score : RulesParts → Sheet → ℕ → RaceScore
-race_score rules sheet boat =
-    record {
-      plain = plain nat_eq rules (race_of sheet.order sheet.held) boat;
-      placed = stands_in nat_eq boat sheet.order;
-    }
-
-abbrev pub race_scores : RulesParts → Sheet → List RaceScore
-race_scores rules sheet = map (race_score rules sheet) (range_with_len 0 (boats sheet))
 
 -- the race in the journal, under the rules of the series
 abbrev pub journal_race : RulesParts → Journal → ℕ → Race Sail

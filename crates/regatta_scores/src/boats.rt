@@ -1,14 +1,32 @@
 //! One boat's race scores, and her place in the series.
 use crate::items::Items;
+use crate::table::Abbrev;
 use regatta_terms::{Redress, Tenths};
 
-/// A boat's score in one race before redress, and whether she is in its finishing order.
+/// Over which other races a boat's points in a race are an average (RRS A9).
+#[derive(Clone, Copy, Debug, PartialEq, Eq)]
+pub enum Averaged {
+    /// Over none: they aren't an average.
+    OverNone,
+    /// Over all other races.
+    OverAll,
+    /// Over the races before.
+    OverBefore,
+}
+
+/// A boat's score in one race, before averages: what her line and her cell take of the race.
+///
+/// It is small, since a line reads one for each race.
 #[derive(Clone, Copy, Debug, PartialEq, Eq)]
 pub struct RaceScore {
-    /// The points without redress, in tenths.
-    pub plain: Tenths,
-    /// Whether she is in the finishing order, with or without a code.
-    pub placed: bool,
+    /// The points given as redress (RRS A9(c)), else those before redress, in tenths.
+    pub points: Tenths,
+    /// Over which other races an average replaces these points, if one does.
+    pub averaged: Averaged,
+    /// Whether the score is a disqualification that is not excludable (RRS 90.3(b)).
+    pub dne: bool,
+    /// The abbreviation in her cell (RRS A10).
+    pub mark: Option<Abbrev>,
 }
 
 /// The scores of the boats in one race, in the order of their numbers.

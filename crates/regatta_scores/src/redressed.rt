@@ -70,7 +70,7 @@ fn average(number: u32, sum: u32) -> Tenths
 }
 
 /// The average, or her score without redress if no race is counted.
-fn average_or(plain: Tenths, number: u32, sum: u32) -> Tenths
+pub fn average_or(plain: Tenths, number: u32, sum: u32) -> Tenths
     requires few { number ≤ 2 * MAX_RACES }
     requires small { sum ≤ 65535 * number }
     ensures { result ≡ average_or plain number sum }

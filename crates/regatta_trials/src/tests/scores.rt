@@ -171,11 +171,11 @@ static RACES: [Race; 5] = [
     },
 ];
 
-/// Whether these are the scores of a race: its points, of which each is before redress.
+/// Whether these are the scores of a race without redress: its points.
 fn have_points(scores: &[RaceScore], wanted: &[u32]) -> bool {
     scores
         .iter()
-        .map(|score| score.plain.get())
+        .map(|score| score.points.get())
         .eq(wanted.iter().copied())
 }
 

@@ -63,7 +63,10 @@ fn are_scores(alloc: Global, sheet: &RaceSheet) -> Result<bool, AllocError> {
     let mut work = Work::new();
     match race_scores(alloc, sheet, &default_rules(), &mut work) {
         Ok(scores) => Ok(match scores.as_slice() {
-            [one, two, three] => one.placed && !two.placed && !three.placed && work.count() == 1,
+            [one, two, three] => one.mark.is_none()
+                && two.mark.is_some()
+                && three.mark.is_some()
+                && work.count() == 1,
             _ => false,
         }),
         Err(_) if work.count() != 0 => Ok(false),

@@ -1,13 +1,7 @@
 use Rattle.std.proofs.Common.{◌≡◌, refl, arith, length, subst}
-use Rattle.regatta_board.proofs.LedgerLemmas.{new_sheet_few}
 use Rattle.regatta_board.specs.Scoring.{AreColumns, most_remade}
 use Rattle.regatta_board.specs.Table.{Kept, races}
 use Rattle.regatta_board.proofs.column.new_columns.Goals as goal
-
-pub one_column-requires-clause-few : goal.one_column-requires-clause-few
-one_column-requires-clause-few c =
-    new_sheet_few c.args.kept.now c.args.revision.now c.in-Sheet.race c.in-Sheet.sheet c.in-Sheet.is
-    c.requires.next c.get.ensures.range
 
 pub returns-in_ok-columns-in-Enter-clause-value : goal.returns-in_ok-columns-in-Enter-clause-value
 returns-in_ok-columns-in-Enter-clause-value c = λ old long are. (

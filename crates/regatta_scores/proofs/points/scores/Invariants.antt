@@ -1,6 +1,6 @@
 use Rattle.std.proofs.Common.{◌≡◌, map, length, vec_len, vec_capacity}
 use Rattle.std.specs.List.{range_with_len}
-use Rattle.regatta_scores.specs.RacePoints.{race_score}
+use Rattle.regatta_scores.specs.RaceScores.{race_score}
 use Rattle.regatta_scores.proofs.points.scores.Given as goal
 
 -- the boats so far are scored, and there is room for the others
