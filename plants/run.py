@@ -9,9 +9,8 @@ Each edit plants one bug in the code. The gate tries the edits of `crates/CRATE/
 since each of them costs it half a minute. The others are in `plants/CRATE/`. Run those of a crate
 after you change one of its contracts.
 
-In the copy they replace all must-fail edits, and `rt ci CRATE` tries them. It doesn't prove again
-what an earlier `rt ci` on this machine proved from the same files, so run that of the crate first:
-otherwise the crate and all below it are proved from scratch.
+In the copy they replace all must-fail edits, and `rt must-fail CRATE` tries them. It needs the crates
+below, and takes what `rt check` or `rt lib` made of them here before: otherwise they are proved first.
 
 A line for each edit says why it is refused. It counts as failed if the prover accepts it, if it
 can't be applied or read, or if the refusal shows no open goal of a contract (for example, if only
@@ -55,9 +54,18 @@ def crates() -> list[str]:
     return sorted(found, key=lambda name: (place.get(name, len(rows)), name))
 
 
-def copy_to(copy: Path) -> None:
-    """Copies what `rt` reads, without the proofs and programs that it made."""
-    shutil.copytree(ROOT / "crates", copy / "crates", ignore=shutil.ignore_patterns("out"))
+def below(crate: str) -> set[str]:
+    """The crates that a crate uses."""
+    rows = (ROOT / "crates.txt").read_text(encoding="utf-8").splitlines()
+    uses = {row.partition(":")[0].strip(): row.partition(":")[2].split() for row in rows if row}
+    return {name for name in uses[crate] if name in uses}
+
+
+def copy_to(copy: Path, made: set[str]) -> None:
+    """Copies what `rt` reads, and what it made of some crates."""
+    def left_out(folder: str, names: list[str]) -> set[str]:
+        return set(names) & {"out"} if Path(folder).name not in made else set()
+    shutil.copytree(ROOT / "crates", copy / "crates", ignore=left_out)
     for name in ("crates.txt", "HANDLES"):
         shutil.copy(ROOT / name, copy / name)
 
@@ -71,7 +79,7 @@ def verdicts(copy: Path, crate: str, edits: list[Path]) -> Iterator[tuple[str, s
     for edit in edits:
         shutil.copy(edit, room)
     print(f"{crate}: trying {len(edits)} edits", file=sys.stderr)
-    ran = subprocess.run(["rt", "ci", crate], cwd=copy, text=True, errors="replace",
+    ran = subprocess.run(["rt", "must-fail", crate], cwd=copy, text=True, errors="replace",
                          stdin=subprocess.DEVNULL, stdout=subprocess.PIPE, stderr=subprocess.STDOUT)
     said = dict(re.findall(rf"^(?:rt: )?must-fail {crate}/(\S+)\.edit: (.*)$", ran.stdout, re.M))
     if len(said) < len(edits):
@@ -114,7 +122,7 @@ def main() -> int:
         parser.error(f"no edit of {asked.crate} has {asked.word} in its name")
     with tempfile.TemporaryDirectory(prefix="regatta-plants-") as room:
         copy = Path(room)
-        copy_to(copy)
+        copy_to(copy, set().union(*map(below, chosen)))
         found = [counts(copy, crate, asked.word) for crate in chosen]
     failed = sum(number for _, number in found)
     print(f"{sum(number for number, _ in found)} refused, {failed} failed")

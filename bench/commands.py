@@ -1,0 +1,81 @@
+#!/usr/bin/env python3
+"""Counts the instructions that each command takes, by valgrind's callgrind.
+
+    bench/commands.py PROGRAM
+
+Each series has some boats and 15 races that count; in each race all boats but one of ten finish. Each
+command is the last line of a run of `PROGRAM replay`. What the same run without it takes is
+subtracted. The figures are the same on a busy machine. They are printed in thousands.
+"""
+import argparse
+
+from season import instructions, text
+
+RACES, FLEETS = 15, (25, 200, 450)
+# Another boat and another race than these are written into the lines below.
+ABSENT = 10
+
+# What is counted, and its lines: all but the last are part of what is subtracted. `first` and `middle`
+# are boats that finished in each race, `absent` is one that finished in none.
+LINES = (
+    ("a line that is no command", ["NOTHING"]),
+    ("RANK", ["RANK {middle}"]),
+    ("SHOW", ["SHOW"]),
+    ("a refused command", ["FINISH 10 {middle}"]),
+    ("ENTER before a race counts", None),
+    ("ENTER, all races counting", ["ENTER NEW"]),
+    ("FINISH, the race doesn't count", ["FINISH 16 {middle}"]),
+    ("FINISH, last", ["FINISH 10 {absent}"]),
+    ("STRIKE, in mid-fleet", ["STRIKE 10 {middle}"]),
+    ("BEFORE, in mid-fleet", ["BEFORE 10 {absent} {middle}"]),
+    ("BEFORE the first boat", ["BEFORE 10 {absent} {first}"]),
+    ("TIE, in mid-fleet", ["TIE 10 {absent} {middle}"]),
+    ("MARK of a boat in mid-fleet", ["MARK 10 {middle} RET"]),
+    ("PENALTY", ["PENALTY 10 {middle} SCP"]),
+    ("REDRESS in points", ["ROLE JURY", "REDRESS 10 {middle} 2.5"]),
+    ("REDRESS, an average", ["ROLE JURY", "REDRESS 10 {middle} ALL"]),
+    ("CLEAR of a penalty", ["PENALTY 10 {middle} SCP", "CLEAR 10 {middle}"]),
+    ("UNSCORE", ["UNSCORE 10"]),
+    ("SCORE", ["UNSCORE 10", "SCORE 10"]),
+)
+
+
+def entered(boats):
+    return [f"ENTER GBR{boat + 1}" for boat in range(boats)]
+
+
+def sailed(boats):
+    """The lines of the races. Boats finish in another order in each."""
+    lines = []
+    for race in range(1, RACES + 1):
+        order = sorted(range(boats), key=lambda boat: (boat * 7919 + race * 104729) % 10007)
+        lines += [f"FINISH {race} GBR{boat + 1}" for boat in order if boat % ABSENT != ABSENT - 1]
+        lines.append(f"SCORE {race}")
+    return lines
+
+
+def counted(program, boats, lines):
+    """The instructions of the last line, in a series of so many boats."""
+    if lines is None:
+        before, last = entered(boats - 1), entered(boats)[-1]
+    else:
+        names = {"first": "GBR1", "middle": f"GBR{boats // 2 + 1}", "absent": f"GBR{ABSENT}"}
+        *more, last = [line.format(**names) for line in lines]
+        before = entered(boats) + sailed(boats) + more
+    return instructions(program, [], text(before + [last])) - instructions(program, [], text(before))
+
+
+def main():
+    parser = argparse.ArgumentParser(
+        description=__doc__, formatter_class=argparse.RawDescriptionHelpFormatter)
+    parser.add_argument("program", metavar="PROGRAM")
+    asked = parser.parse_args()
+    print("| command | " + " | ".join(f"{boats} boats" for boats in FLEETS) + " |")
+    print("|---|" + "---|" * len(FLEETS))
+    for name, lines in LINES:
+        found = [counted([asked.program], boats, lines) / 1000 for boats in FLEETS]
+        print(f"| {name} | " + " | ".join(f"{number:,.0f}" for number in found) + " |", flush=True)
+
+
+if __name__ == "__main__":
+    main()
