@@ -1,9 +1,9 @@
 -- Columns of scores.
-use Rattle.std.proofs.Common.{◌≡◌, ℕ, ◌+◌, ◌-◌, ◌<◌, Bool, false, true, cond, List, [], ◌∷◌, ◌++◌}
+use Rattle.std.proofs.Common.{◌≡◌, ℕ, ◌+◌, ◌-◌, Bool, false, true, cond, List, [], ◌∷◌, ◌++◌}
 use Rattle.std.proofs.Common.{ap, ◌∙◌, sym, ◌≤◌, arith, length, length-append, map, filter, get_or}
 use Rattle.std.specs.List.{range_with_len}
-use Rattle.std.proofs.lemmas.List.{get_or-map, length-map}
-use Rattle.std.proofs.lemmas.List.FromFn.{length-map-range_with_len}
+use Rattle.std.proofs.lemmas.List.{length-map}
+use Rattle.std.proofs.lemmas.List.FromFn.{length-map-range_with_len, length-range_with_len}
 use Rattle.std.proofs.lemmas.List.Elements.{filter-append}
 use Rattle.regatta_terms.specs.Rules.{RulesParts}
 use Rattle.regatta_terms.specs.declared.limits.TheConstants.{MAX_RACES}
@@ -11,18 +11,10 @@ use Rattle.regatta_scores.specs.Sheet.{Sheet, boats}
 use Rattle.regatta_scores.specs.RaceScores.{race_score}
 use Rattle.regatta_scores.proofs.Ranges.{range_more}
 use Rattle.regatta_scores.specs.declared.boats.RaceScore.{RaceScore}
-use Rattle.regatta_board.specs.Table.{column, no_score, scores}
+use Rattle.regatta_board.specs.Table.{column, races}
 
 pub column_long : (rules : RulesParts) (sheet : Sheet) → length (column rules sheet) ≡ boats sheet
 column_long rules sheet = length-map-range_with_len (race_score rules sheet) 0 (boats sheet)
-
--- a boat's score in one of the columns
-pub score_at : (columns : List (List RaceScore)) (boat i : ℕ) (column : List RaceScore) (d : RaceScore)
-    → i < length columns → column ≡ get_or columns i column
-    → get_or column boat no_score ≡ get_or (scores columns boat) i d
-score_at columns boat i column d h at =
-    ap (λ (c : List RaceScore). get_or c boat no_score) at
-    ∙ sym (get_or-map (λ (c : List RaceScore). get_or c boat no_score) columns i column d h)
 
 races_step : (counts : List Bool) (i : ℕ)
     → filter (λ race. get_or counts (race - 1) false) (range_with_len 1 (i + 1))
@@ -49,6 +41,23 @@ one_long false xs r = omega (arith, length-append xs [])
 pub few_more : (b : Bool) (found new : List ℕ) (i r : ℕ) → new ≡ found ++ cond b (r ∷ []) []
     → length found ≤ i → length new ≤ i + 1
 few_more b found new i r e h = omega (arith, ap length e, one_long b found r)
+
+filter_few : (p : ℕ → Bool) (xs : List ℕ) → length (filter p xs) ≤ length xs
+filter_few p [] = omega arith
+filter_few p (x ∷ xs) = by (p x) (filter_few p xs)
+  where
+    by : (b : Bool) → length (filter p xs) ≤ length xs
+        → length (cond b (x ∷ filter p xs) (filter p xs)) ≤ length (x ∷ xs)
+    by true rest = omega (arith, rest)
+    by false rest = omega (arith, rest)
+
+pub races_few : (counts : List Bool) → length (races counts) ≤ MAX_RACES
+races_few counts =
+    omega (
+      arith,
+      filter_few (λ race. get_or counts (race - 1) false) (range_with_len 1 MAX_RACES),
+      length-range_with_len 1 MAX_RACES,
+    )
 
 -- one column for each race: no more than races
 pub columns_few : (f : ℕ → List RaceScore) (races : List ℕ) (found : List (List RaceScore))

@@ -1,16 +1,14 @@
 -- What is kept of a journal agrees with the journal.
-use Rattle.std.proofs.Common.{◌≡◌, ℕ, ◌-◌, ◌<◌, ◌≤◌, true, false, not, ◌&&◌, List, [], ◌∷◌, refl}
+use Rattle.std.proofs.Common.{◌≡◌, ℕ, ◌-◌, ◌<◌, ◌≤◌, true, false, ◌&&◌, List, [], ◌∷◌, refl}
 use Rattle.std.proofs.Common.{ap, ◌∙◌, sym, subst, arith, length, map, get_or, nat_eq, nat_le, None}
 use Rattle.std.specs.List.{list_any}
 use Rattle.std.proofs.lemmas.List.FromFn.{get_or-map-range_with_len}
 use borrow.Author.Tests.{leb-false}
+use Rattle.regatta_terms.specs.Effects.{AtEnd, TiedWith, AheadOf, ByTime, Penalises, Places}
+use Rattle.regatta_terms.specs.Effects.{Strikes, Decides, Counts, Effect, Enters, InRace}
 use Rattle.regatta_terms.specs.Rules.{RulesParts}
 use Rattle.regatta_terms.specs.declared.sail.Sail.{Sail}
 use Rattle.regatta_terms.specs.declared.command.Role.{Role}
-use Rattle.regatta_terms.specs.declared.command.Command.{Command}
-use Rattle.regatta_terms.specs.declared.command.Command.TheVariants.{Enter, Finish, Tie, Before}
-use Rattle.regatta_terms.specs.declared.command.Command.TheVariants.{Time, Strike, Mark, Penalise}
-use Rattle.regatta_terms.specs.declared.command.Command.TheVariants.{Redress, Clear, Score, Unscore}
 use Rattle.regatta_terms.specs.declared.limits.TheConstants.{MAX_RACES, MAX_PENALTIES}
 use Rattle.regatta_scores.specs.Order.{stands_in, is_empty}
 use Rattle.regatta_scores.specs.Sheet.{Sheet, boats, nothing_held, empty_sheet}
@@ -18,14 +16,13 @@ use Rattle.regatta_scores.specs.SheetFacts.{IsPlaced, IsUnplaced}
 use Rattle.regatta_scores.specs.Journal.{Journal, same_sail, entered, order, held, is_scored}
 use Rattle.regatta_terms.specs.Entries.{IsRace}
 use Rattle.regatta_board.specs.Refusals.{limits, is_entered, is_placed, is_decided, penalties}
-use Rattle.regatta_board.specs.Refusals.{command_refusal, place_refusal, place_by_refusal}
-use Rattle.regatta_board.specs.Refusals.{decision_refusal}
+use Rattle.regatta_board.specs.Refusals.{command_refusal, place_by_refusal}
 use Rattle.regatta_board.specs.KeptJournal.{number, sheet_of, kept_of, IsOrderly}
-use Rattle.regatta_board.specs.Step.{number_in, sheet_in, held_in, NamesRace, IsKnown, IsOn}
-use Rattle.regatta_board.specs.Step.{Fits}
+use Rattle.regatta_board.specs.Step.{number_in, sheet_in, held_in, IsKnown, IsOn, Fits}
 use Rattle.regatta_board.specs.Table.{Kept}
 use Rattle.regatta_board.proofs.Allowed.{index_below, number_below, placed_same, unplaced, placed}
-use Rattle.regatta_board.proofs.Lawful.{no_test, is_so, both_so, has_room, may_step}
+use Rattle.regatta_board.proofs.Accepted.{MayStep, NamesRace}
+use Rattle.regatta_board.proofs.Lawful.{no_test, yes_test}
 use Rattle.regatta_board.proofs.Numbers.{found_under}
 
 sheet_is : (rules : RulesParts) (journal : Journal) (race : ℕ) → IsRace race
@@ -117,64 +114,37 @@ module _ (rules : RulesParts) (journal : Journal) (o : IsOrderly rules journal) 
         → IsPlaced (sheet_in kept race) (number_in kept boat)
     in_it race r boat h k = moved race r boat IsPlaced (placed rules journal race boat h k)
 
-    place_fits : (race : ℕ) → IsRace race → (boat : Sail) → place_refusal rules journal race boat
-        ≡ None
-        → IsUnplaced (sheet_in kept race) (number_in kept boat)
-    place_fits race r boat none =
-        let first = no_test (not (is_entered journal boat)) _ _ none in
-        out race r boat (is_so (is_entered journal boat) first.0)
-        (no_test (is_placed rules journal race boat) _ _ first.1).0
-
-    place_by_fits : (race : ℕ) → IsRace race → (boat other : Sail)
+    by_other : (race : ℕ) (boat other : Sail)
         → place_by_refusal rules journal race boat other ≡ None
-        → IsUnplaced (sheet_in kept race) (number_in kept boat)
-        × IsPlaced (sheet_in kept race) (number_in kept other)
-    place_by_fits race r boat other none =
-        let first = no_test (not (is_entered journal boat && is_entered journal other)) _ _ none in
-        let both = both_so (is_entered journal boat) (is_entered journal other) first.0 in
-        let second = no_test (is_placed rules journal race boat) _ _ first.1 in
-        let third = no_test (not (is_placed rules journal race other)) _ _ second.1 in (
-          out race r boat both.0 second.0,
-          in_it race r other both.1 (is_so (is_placed rules journal race other) third.0),
-        )
+        → is_placed rules journal race other ≡ true
+    by_other race boat other none =
+        let known = yes_test (is_entered journal boat && is_entered journal other) _ _ none in
+        let free = no_test (is_placed rules journal race boat) _ _ known.1 in
+        (yes_test (is_placed rules journal race other) _ _ free.1).0
 
-    decision_fits : (race : ℕ) → IsRace race → (boat : Sail)
-        → decision_refusal journal race boat ≡ None → IsOn kept race boat
-    decision_fits race r boat none =
-        on race r boat
-        (is_so (is_entered journal boat) (no_test (not (is_entered journal boat)) _ _ none).0)
-
-    pub fits : (role : Role) (c : Command) → NamesRace c
-        → command_refusal limits rules journal role c ≡ None → Fits kept c
-    fits role (Enter s) r none =
-        let room : length (entered journal) < limits.boats =
-        has_room rules journal role (Enter s) none (λ h. cc) in
-        let new : is_entered journal s ≡ false =
-        may_step rules journal role (Enter s) refl none in (
-          (let within : length kept.sails < limits.boats = omega (arith, boats_are) in within),
-          entered_is s ∙ new,
-        )
-    fits role (Finish race s) r none = place_fits race r s none
-    fits role (Tie race s other) r none = place_by_fits race r s other none
-    fits role (Before race s other) r none = place_by_fits race r s other none
-    fits role (Time race s seconds) r none = place_fits race r s none
-    fits role (Strike race s) r none =
-        let first = no_test (not (is_entered journal s)) _ _ none in
-        in_it race r s (is_so (is_entered journal s) first.0)
-        (is_so (is_placed rules journal race s)
-        (no_test (not (is_placed rules journal race s)) _ _ first.1).0)
-    fits role (Mark race s code) r none = decision_fits race r s none
-    fits role (Penalise race s kind) r none =
-        let first = no_test (not (is_entered journal s)) _ _ none in
-        let second = no_test (is_decided (held journal race s)) _ _ first.1 in
-        let third = no_test (nat_le MAX_PENALTIES (penalties kind
-        (held journal race s))) _ _ second.1 in (
-          on race r s (is_so (is_entered journal s) first.0),
+    pub fits : (role : Role) (e : Effect) → NamesRace e → MayStep rules journal e
+        → command_refusal limits rules journal role e ≡ None → Fits kept e
+    fits role (Enters s) r may none = (
+      (let within : length kept.sails < limits.boats = omega (arith, boats_are, may.1) in within),
+      entered_is s ∙ may.0,
+    )
+    fits role (InRace race (Places s AtEnd)) r may none = out race r s may.0 may.1
+    fits role (InRace race (Places s (TiedWith other))) r may none =
+        (out race r s may.0 may.1, in_it race r other may.2.1 (by_other race s other none))
+    fits role (InRace race (Places s (AheadOf other))) r may none =
+        (out race r s may.0 may.1, in_it race r other may.2.1 (by_other race s other none))
+    fits role (InRace race (Places s (ByTime seconds))) r may none = out race r s may.0 may.1
+    fits role (InRace race (Strikes s)) r may none =
+        in_it race r s may
+        (yes_test (is_placed rules journal race s) _ _
+        (yes_test (is_entered journal s) _ _ none).1).0
+    fits role (InRace race (Decides s (Penalises kind))) r may none =
+        let free = no_test (is_decided (held journal race s)) _ _
+        (yes_test (is_entered journal s) _ _ none).1 in
+        let below = no_test (nat_le MAX_PENALTIES (penalties kind (held journal race s))) _ _ free.1 in (
+          on race r s may,
           subst (λ h. penalties kind h < MAX_PENALTIES) (sym (held_is race r s))
-              (leb-false MAX_PENALTIES (penalties kind (held journal race s)) third.0),
+              (leb-false MAX_PENALTIES (penalties kind (held journal race s)) below.0),
         )
-    fits role (Redress race s redress) r none = decision_fits race r s none
-    fits role (Clear race s) r none =
-        on race r s (is_so (is_entered journal s) (no_test (not (is_entered journal s)) _ _ none).0)
-    fits role (Score race) r none = tt
-    fits role (Unscore race) r none = tt
+    fits role (InRace race (Decides s _)) r may none = on race r s may
+    fits role (InRace race (Counts counts)) r may none = tt

@@ -1,14 +1,17 @@
 -- Lines, some of which are replaced by new ones.
-use Rattle.std.proofs.Common.{◌≡◌, ℕ, ◌+◌, ◌<◌, List, [], ◌∷◌, ◌++◌, refl, ap, ◌∙◌, sym}
+use Rattle.std.proofs.Common.{◌≡◌, ℕ, ◌+◌, ◌<◌, ◌≤◌, arith, List, [], ◌∷◌, ◌++◌, refl, ap, ◌∙◌, sym}
 use Rattle.std.proofs.Common.{length, drop, get_or, set, Option, Some, None}
-use Rattle.std.proofs.Common.{IfSome}
+use Rattle.std.proofs.Common.{IfSome, Bool, true, false, nat_lt}
 use Rattle.std.specs.Option.{unwrap_or}
-use Rattle.std.proofs.lemmas.List.{drop_more, append_assoc, append-nil, get_or_default}
+use Rattle.std.proofs.lemmas.List.{drop_more, append_assoc, append-nil}
+use Rattle.std.proofs.lemmas.List.{length-append, get_or_append_left, get_or_push}
+use borrow.Author.Tests.{ltb-true, ltb-false}
 use Rattle.std.proofs.lemmas.List.Elements.{All-push}
 use Rattle.std.proofs.Math.Seq.{set-append_seam}
 use Rattle.regatta_scores.specs.Ranking.{BoatScores}
-use Rattle.regatta_board.specs.declared.scoring.NewLine.{NewLine}
-use Rattle.regatta_board.specs.Scoring.{with_changed, with_new, AreOfBoats}
+use Rattle.regatta_scores.specs.declared.current.NewLine.{NewLine}
+use Rattle.regatta_scores.specs.Current.{with_changed, AreInOrder, AreOfBoats, AreWithin}
+use Rattle.regatta_board.specs.Scoring.{with_new}
 use Rattle.regatta_board.proofs.Lines.{drop_past}
 
 -- the last new line is moved in last
@@ -41,29 +44,50 @@ pub changed_all : (olds done : List BoatScores) (n : ℕ) → n ≡ length olds
 changed_all olds done n e =
     ap (λ k. done ++ drop k olds) e ∙ ap (λ xs. done ++ xs) (drop_past olds) ∙ append-nil done
 
--- the new line of one more boat is that of a boat
-pub of_boats_more : (boats : ℕ) (news : List NewLine) (b : ℕ) (new : Option BoatScores)
-    → b < boats → AreOfBoats boats news → AreOfBoats boats (with_new news b new)
-of_boats_more boats news b None h are = are
-of_boats_more boats news b (Some line) h are =
-    All-push (λ (new : NewLine). new.boat < boats) news (record { boat = b; line = line }) are h
+-- the new line of one more boat is that of a boat, and comes after those of the boats before
+pub of_boats_more : (news : List NewLine) (b : ℕ) (new : Option BoatScores)
+    → AreOfBoats b news → AreOfBoats (b + 1) (with_new news b new)
+of_boats_more news b None are = (
+  λ k d h. (let one = are.0 k d h in omega (arith, one)),
+  are.1,
+)
+of_boats_more news b (Some line) are = (within, rising)
+  where
+    one : NewLine
+    one = record { boat = b; line = line }
 
--- one new line more is moved in
-pub put_more : (olds : List BoatScores) (news : List NewLine) (k : ℕ) (d e : NewLine)
-    (line : BoatScores) → k < length news → line ≡ (get_or news k e).line
-    → with_changed (set olds (get_or news k d).boat line) (drop (k + 1) news)
-    ≡ with_changed olds (drop k news)
-put_more olds news k d e line h is =
-    let hers : line ≡ (get_or news k d).line =
-    is ∙ ap (λ (new : NewLine). new.line) (get_or_default news k e d h) in
-    ap (λ l. with_changed (set olds (get_or news k d).boat l) (drop (k + 1) news)) hers
-    ∙ ap (with_changed olds) (sym (drop_more news k d h))
+    earlier : (k : ℕ) (d : NewLine) → k < length news → get_or (news ++ one ∷ []) k d ≡ get_or news k d
+    earlier k d h = get_or_append_left news (one ∷ []) d k h
 
--- after the last one the lines are the new ones
-pub put_all : (olds : List BoatScores) (news : List NewLine) (k : ℕ) → k ≡ length news
-    → with_changed olds (drop k news) ≡ olds
-put_all olds news k e = ap (λ n. with_changed olds (drop n news)) e
-    ∙ ap (with_changed olds) (drop_past news)
+    within : AreWithin (b + 1) (news ++ one ∷ [])
+    within = All-push (λ (new : NewLine). new.boat < b + 1) news one
+        (λ k d h. (let low = are.0 k d h in omega (arith, low))) (omega arith)
+
+    rising : AreInOrder (news ++ one ∷ [])
+    rising j k d h w = by (nat_lt k (length news)) refl
+      where
+        by : (t : Bool) → nat_lt k (length news) ≡ t
+            → (get_or (news ++ one ∷ []) j d).boat < (get_or (news ++ one ∷ []) k d).boat
+        by true e =
+            let in_news = ltb-true k (length news) e in
+            rw (earlier j d (omega (arith, h, in_news)), earlier k d in_news) (are.1 j k d h in_news)
+        by false e =
+            let last : k ≡ length news =
+            omega (arith, w, length-append news (one ∷ []), ltb-false k (length news) e) in
+            let low = are.0 j d (omega (arith, h, last)) in
+            rw (earlier j d (omega (arith, h, last)), get_or_push news one d k (sym last)) low
+
+-- boats before one are among more
+pub of_more_boats : (few many : ℕ) (news : List NewLine) → few ≤ many → AreOfBoats few news
+    → AreOfBoats many news
+of_more_boats few many news h are = (λ k d w. (let one = are.0 k d w in omega (arith, one, h)), are.1)
+
+pub new_few : (news : List NewLine) (b : ℕ) (new : Option BoatScores)
+    → length (with_new news b new) ≤ length news + 1
+new_few news b None = omega arith
+new_few news b (Some line) =
+    let one : NewLine = record { boat = b; line = line } in
+    omega (arith, length-append news (one ∷ []))
 
 -- a boat's current line is hers, whether it was recomputed or not
 pub new_or_old : (new : Option BoatScores) (old hers : BoatScores) → (new ≡ None → old ≡ hers)

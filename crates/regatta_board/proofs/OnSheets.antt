@@ -3,18 +3,15 @@ use Rattle.std.proofs.Common.{◌≡◌, ℕ, ◌<◌, true, false, List, [], �
 use Rattle.std.proofs.Common.{refl, sym, arith, length, map, nat_eq, None}
 use Rattle.std.specs.List.{list_any}
 use Rattle.std.proofs.lemmas.List.{length-map, map-append}
-use borrow.Author.Tests.{eqb-true}
+use Rattle.regatta_terms.specs.Effects.{AtEnd, TiedWith, AheadOf, ByTime, Act, Places, Strikes}
+use Rattle.regatta_terms.specs.Effects.{Decides, Counts}
 use Rattle.regatta_terms.specs.declared.limits.TheConstants.{MAX_BOATS}
 use Rattle.regatta_terms.specs.Rules.{RulesParts}
 use Rattle.regatta_terms.specs.declared.sail.Sail.{Sail}
-use Rattle.regatta_terms.specs.declared.command.Command.{Command}
-use Rattle.regatta_terms.specs.declared.command.Command.TheVariants.{Enter, Finish, Tie, Before}
-use Rattle.regatta_terms.specs.declared.command.Command.TheVariants.{Time, Strike, Mark, Penalise}
-use Rattle.regatta_terms.specs.declared.command.Command.TheVariants.{Redress, Clear, Score, Unscore}
 use Rattle.regatta_scores.specs.Order.{stands_in, with_last, joined, with_ahead, without}
 use Rattle.regatta_scores.specs.Sheet.{nothing_held, time_of}
 use Rattle.regatta_scores.specs.SheetFacts.{IsSheet}
-use Rattle.regatta_scores.specs.Journal.{Journal, same_sail, names_race, entered, order}
+use Rattle.regatta_scores.specs.Journal.{Journal, same_sail, entered, order}
 use Rattle.regatta_scores.specs.Journal.{time}
 use Rattle.regatta_scores.specs.CorrectedTimes.{with_time}
 use Rattle.regatta_scores.proofs.Sheets.{last_sheet, joined_sheet, ahead_sheet, without_sheet}
@@ -22,7 +19,7 @@ use Rattle.regatta_scores.proofs.Sheets.{more_sheet, copied_sheet, timed_sheet}
 use Rattle.regatta_scores.proofs.LastingTimes.{order_with}
 use Rattle.regatta_board.specs.Refusals.{limits, is_entered, is_placed}
 use Rattle.regatta_board.specs.KeptJournal.{number, blank, IsOnSheet}
-use Rattle.regatta_board.specs.Step.{MayStep}
+use Rattle.regatta_board.proofs.Accepted.{MayAct}
 use Rattle.regatta_board.proofs.Numbers.{index_in, found_under}
 use Rattle.regatta_board.proofs.Allowed.{placed_same, index_below}
 use Rattle.regatta_board.proofs.Renumbered.{last_numbered, joined_numbered, ahead_numbered}
@@ -68,12 +65,10 @@ module _ (rules : RulesParts) (journal : Journal) (race : ℕ)
         length-map (entered journal) (λ (b : Sail). nothing_held),
       )
 
-  out : (s : Sail) (r : ℕ) → nat_eq race r ≡ true → is_entered journal s ≡ true
-      → is_placed rules journal r s ≡ false
+  out : (s : Sail) → is_entered journal s ≡ true → is_placed rules journal race s ≡ false
       → stands_in nat_eq (number journal s) (map (map (number journal)) (order rules journal race))
       ≡ false
-  out s r named known free = placed_same rules journal race s known
-      ∙ ap (λ n. is_placed rules journal n s) (eqb-true race r named) ∙ free
+  out s known free = placed_same rules journal race s known ∙ free
 
   renumbered : (new : List (List Sail)) (numbers : List (List ℕ))
       → map (map (number journal)) new ≡ numbers → IsSheet numbers (blank (entered journal))
@@ -82,33 +77,32 @@ module _ (rules : RulesParts) (journal : Journal) (race : ℕ)
       copied_sheet numbers (map (map (number journal)) new) (blank (entered journal))
       (blank (entered journal)) e refl sheet
 
-  -- after a command of the race that isn't refused
-  pub on_after : (c : Command) → names_race race c ≡ true → MayStep rules journal c
+  -- after an act that isn't refused
+  pub on_after : (act : Act) → MayAct rules journal race act
       → IsOnSheet (entered journal)
-      (order_with (time journal race) (order rules journal race) c)
-  on_after (Enter s) named may = is
-  on_after (Finish r s) named may =
+      (order_with (time journal race) (order rules journal race) act)
+  on_after (Places s AtEnd) may =
       renumbered (with_last same_sail (order rules journal race) s)
       (with_last nat_eq (map (map (number journal)) (order rules journal race)) (number journal s))
       (last_numbered (entered journal) (order rules journal race) s)
       (last_sheet (map (map (number journal)) (order rules journal race)) (blank (entered journal))
-      (number journal s) is (below s may.0) (out s r named may.0 may.1))
-  on_after (Tie r s other) named may =
+      (number journal s) is (below s may.0) (out s may.0 may.1))
+  on_after (Places s (TiedWith other)) may =
       renumbered (joined same_sail (order rules journal race) s other)
       (joined nat_eq (map (map (number journal)) (order rules journal race)) (number journal s)
       (number journal other))
-      (joined_numbered (entered journal) (order rules journal race) s other may.1)
+      (joined_numbered (entered journal) (order rules journal race) s other may.2.1)
       (joined_sheet (map (map (number journal)) (order rules journal race)) (blank
       (entered journal))
-      (number journal s) (number journal other) is (below s may.0) (out s r named may.0 may.2))
-  on_after (Before r s other) named may =
+      (number journal s) (number journal other) is (below s may.0) (out s may.0 may.1))
+  on_after (Places s (AheadOf other)) may =
       renumbered (with_ahead same_sail (order rules journal race) s other)
       (with_ahead nat_eq (map (map (number journal)) (order rules journal race)) (number journal s)
       (number journal other))
-      (ahead_numbered (entered journal) (order rules journal race) s other may.1)
+      (ahead_numbered (entered journal) (order rules journal race) s other may.2.1)
       (ahead_sheet (map (map (number journal)) (order rules journal race)) (blank (entered journal))
-      (number journal s) (number journal other) is (below s may.0) (out s r named may.0 may.2))
-  on_after (Time r s seconds) named may =
+      (number journal s) (number journal other) is (below s may.0) (out s may.0 may.1))
+  on_after (Places s (ByTime seconds)) may =
       let numbers = map (map (number journal)) (order rules journal race) in
       let times = time_of (map (time journal race) (entered journal)) in
       renumbered (with_time (time journal race) (order rules journal race) s seconds)
@@ -116,16 +110,12 @@ module _ (rules : RulesParts) (journal : Journal) (race : ℕ)
       (timed_numbered (entered journal) (time journal race) times (order rules journal race) s
       seconds (λ x h. time_there x (all_entered x h)))
       (timed_sheet times seconds numbers (blank (entered journal)) (number journal s) is
-      (below s may.0) (out s r named may.0 may.1))
-  on_after (Strike r s) named may =
+      (below s may.0) (out s may.0 may.1))
+  on_after (Strikes s) may =
       renumbered (without same_sail (order rules journal race) s)
       (without nat_eq (map (map (number journal)) (order rules journal race)) (number journal s))
       (without_numbered (entered journal) (order rules journal race) s may)
       (without_sheet (map (map (number journal)) (order rules journal race))
       (blank (entered journal)) (number journal s) is)
-  on_after (Mark r s code) named may = is
-  on_after (Penalise r s kind) named may = is
-  on_after (Redress r s redress) named may = is
-  on_after (Clear r s) named may = is
-  on_after (Score r) named may = is
-  on_after (Unscore r) named may = is
+  on_after (Decides s decision) may = is
+  on_after (Counts counts) may = is

@@ -1,37 +1,34 @@
 -- An accepted command leaves a journal orderly.
-use Rattle.std.proofs.Common.{◌≡◌, ◌≢◌, ℕ, zero, suc, ◌+◌, ◌<◌, Bool, true, false, cond, not, ◌||◌}
-use Rattle.std.proofs.Common.{List, [], ◌∷◌, ◌++◌, refl, ap, ◌∙◌, sym, arith, length, length-append}
-use Rattle.std.proofs.Common.{filter, flat_map, get_or, Option, None}
+use Rattle.std.proofs.Common.{◌≡◌, ℕ, zero, suc, ◌+◌, ◌<◌, Bool, true, false, cond, not, ◌||◌}
+use Rattle.std.proofs.Common.{List, [], ◌∷◌, ◌++◌, refl, ap, ◌∙◌, sym, subst, arith, length}
+use Rattle.std.proofs.Common.{length-append, filter, flat_map, get_or, Option}
 use Rattle.std.specs.List.{list_any}
-use Rattle.std.proofs.lemmas.List.{append-nil}
 use Rattle.std.proofs.lemmas.List.Folds.{list_any-append}
-use borrow.Author.Tests.{eqb-true}
+use Rattle.regatta_terms.specs.Effects.{AtEnd, TiedWith, AheadOf, ByTime, Act, Places, Strikes}
+use Rattle.regatta_terms.specs.Effects.{Decides, Counts, Effect, Enters, InRace, effect}
 use Rattle.regatta_terms.specs.Entries.{EntryParts}
 use Rattle.regatta_terms.specs.Rules.{RulesParts}
 use Rattle.regatta_terms.specs.declared.sail.Sail.{Sail}
-use Rattle.regatta_terms.specs.declared.command.Command.{Command}
-use Rattle.regatta_terms.specs.declared.command.Command.TheVariants.{Enter, Finish, Tie, Before}
-use Rattle.regatta_terms.specs.declared.command.Command.TheVariants.{Time, Strike, Mark, Penalise}
-use Rattle.regatta_terms.specs.declared.command.Command.TheVariants.{Redress, Clear, Score, Unscore}
 use Rattle.regatta_scores.specs.Order.{is_empty, in_group, stands_in, with_last, joined, with_ahead}
 use Rattle.regatta_scores.specs.Order.{without}
-use Rattle.regatta_scores.specs.Journal.{Journal, same_sail, names_race, sail_entered, entered}
-use Rattle.regatta_scores.specs.Journal.{order, held, order_by, race_commands, is_decision_on, time}
-use Rattle.regatta_scores.specs.Journal.{ends_time}
+use Rattle.regatta_scores.specs.Journal.{Journal, same_sail, entered, act_in, acts, order, order_by}
+use Rattle.regatta_scores.specs.Journal.{time}
 use Rattle.regatta_scores.specs.CorrectedTimes.{is_lower, is_equal, is_later, group_time}
 use Rattle.regatta_scores.specs.CorrectedTimes.{lower_groups, equal_boats, later_groups, with_time}
-use Rattle.regatta_scores.proofs.Apart.{race_commands_more, entered_more}
+use Rattle.regatta_scores.proofs.Apart.{same_acts, entered_more, same_entered, in_each_race}
+use Rattle.regatta_scores.proofs.Apart.{told_stays}
 use Rattle.regatta_scores.proofs.Members.{or_left, or_right}
 use Rattle.regatta_scores.proofs.NoEmpty.{order_has_none}
-use Rattle.regatta_scores.proofs.LastingTimes.{time_by, time_of_others, order_with, Suits}
-use Rattle.regatta_scores.proofs.LastingTimes.{order_by_more}
+use Rattle.regatta_scores.proofs.LastingTimes.{time_by, IsOfOthers, time_of_others, order_with}
+use Rattle.regatta_scores.proofs.LastingTimes.{Suits, order_by_more}
+use Rattle.regatta_scores.proofs.OneMore.{held_from}
 use Rattle.regatta_scores.proofs.TiedTimes.{any_filter}
-use Rattle.regatta_board.specs.Refusals.{limits, is_entered, is_placed}
+use Rattle.regatta_board.specs.Refusals.{limits, is_entered}
 use Rattle.regatta_board.specs.KeptJournal.{IsOnSheet, IsOrderly}
-use Rattle.regatta_board.specs.Step.{MayStep}
+use Rattle.regatta_board.proofs.Accepted.{MayAct, MayStep}
 use Rattle.regatta_board.proofs.Numbers.{same_is}
 use Rattle.regatta_board.proofs.OnSheets.{on_same, on_more, on_after}
-use Rattle.regatta_board.proofs.Decisions.{held_from, others_hold}
+use Rattle.regatta_board.proofs.Decisions.{others_hold}
 
 or_elim : (a b : Bool) (Q : Type 0) → (a ≡ true → Q) → (b ≡ true → Q) → (a || b) ≡ true → Q
 or_elim true b Q f g h = f refl
@@ -153,187 +150,92 @@ entered_one : (boats : List Sail) (s b : Sail) → list_any (same_sail s) boats 
     → same_sail s b ≡ true → list_any (same_sail b) boats ≡ true
 entered_one boats s b h e = ap (λ x. list_any (same_sail x) boats) (sym (same_is s b e)) ∙ h
 
--- what an accepted command requires of the order of its race
-suits : (rules : RulesParts) (journal : Journal) (c : Command) (race : ℕ)
-    → names_race race c ≡ true → MayStep rules journal c → Suits rules (order rules journal race) c
-suits rules journal (Time r s seconds) race named may = (
-  may.2,
-  ap (λ n. is_placed rules journal n s) (eqb-true race r named) ∙ may.1,
-)
-suits rules journal (Finish r s) race named may = may.2
-suits rules journal (Tie r s other) race named may = may.3
-suits rules journal (Before r s other) race named may = may.3
-suits rules journal (Enter s) race named may = tt
-suits rules journal (Strike r s) race named may = tt
-suits rules journal (Mark r s code) race named may = tt
-suits rules journal (Penalise r s kind) race named may = tt
-suits rules journal (Redress r s redress) race named may = tt
-suits rules journal (Clear r s) race named may = tt
-suits rules journal (Score r) race named may = tt
-suits rules journal (Unscore r) race named may = tt
+-- what an accepted act requires of the order of its race
+suits : (rules : RulesParts) (journal : Journal) (race : ℕ) (act : Act)
+    → MayAct rules journal race act → Suits rules (order rules journal race) act
+suits rules journal race (Places s (ByTime seconds)) may = (may.2, may.1)
+suits rules journal race (Places s AtEnd) may = may.2
+suits rules journal race (Places s (TiedWith other)) may = may.2.0
+suits rules journal race (Places s (AheadOf other)) may = may.2.0
+suits rules journal race _ may = tt
 
-order_more : (rules : RulesParts) (journal : Journal) (entry : EntryParts) (c : Command)
-    (race : ℕ) → entry.command ≡ c → MayStep rules journal c
-    → order rules (journal ++ entry ∷ []) race
-    ≡ cond (names_race race c) (order_with (time journal race) (order rules journal race) c)
-    (order rules journal race)
-order_more rules journal entry c race is may =
-    ap (order_by rules) (race_commands_more journal entry race)
-    ∙ ap (λ d. order_by rules (race_commands journal race ++ cond (names_race race d)
-    (d ∷ []) [])) is
-    ∙ by (names_race race c) refl
-  where
-    by : (t : Bool) → names_race race c ≡ t
-        → order_by rules (race_commands journal race ++ cond t (c ∷ []) [])
-        ≡ cond t (order_with (time journal race) (order rules journal race) c)
-        (order rules journal race)
-    by true named =
-        order_by_more rules (race_commands journal race) c
-        (order_has_none rules (race_commands journal race)) (suits rules journal c race named may)
-    by false named = ap (order_by rules) (append-nil (race_commands journal race))
-
--- a boat in an order after the command is entered
+-- a boat in an order after an act is entered
 stands_entered : (rules : RulesParts) (journal : Journal) → IsOrderly rules journal
-    → (c : Command) (race : ℕ)
-    → MayStep rules journal c → (b : Sail)
-    → stands_in same_sail b (order_with (time journal race) (order rules journal race) c)
+    → (race : ℕ) (act : Act) → MayAct rules journal race act → (b : Sail)
+    → stands_in same_sail b (order_with (time journal race) (order rules journal race) act)
     ≡ true → is_entered journal b ≡ true
-stands_entered rules journal o (Time r s seconds) race may b h =
+stands_entered rules journal o race (Places s (ByTime seconds)) may b h =
     in_timed (time journal race) b s seconds (order rules journal race) _ (o.known race b)
     (entered_one (entered journal) s b may.0) h
-stands_entered rules journal o (Finish r s) race may b h =
+stands_entered rules journal o race (Places s AtEnd) may b h =
     in_last b s (order rules journal race) _ (o.known race b) (entered_one
     (entered journal) s b may.0) h
-stands_entered rules journal o (Tie r s other) race may b h =
+stands_entered rules journal o race (Places s (TiedWith other)) may b h =
     in_joined b s other (order rules journal race) _ (o.known race b)
     (entered_one (entered journal) s b may.0) h
-stands_entered rules journal o (Before r s other) race may b h =
+stands_entered rules journal o race (Places s (AheadOf other)) may b h =
     in_ahead b s other (order rules journal race) _ (o.known race b)
     (entered_one (entered journal) s b may.0) h
-stands_entered rules journal o (Strike r s) race may b h =
+stands_entered rules journal o race (Strikes s) may b h =
     o.known race b (in_without b s (order rules journal race) h)
-stands_entered rules journal o (Enter s) race may b h = o.known race b h
-stands_entered rules journal o (Mark r s code) race may b h = o.known race b h
-stands_entered rules journal o (Penalise r s kind) race may b h = o.known race b h
-stands_entered rules journal o (Redress r s redress) race may b h = o.known race b h
-stands_entered rules journal o (Clear r s) race may b h = o.known race b h
-stands_entered rules journal o (Score r) race may b h = o.known race b h
-stands_entered rules journal o (Unscore r) race may b h = o.known race b h
+stands_entered rules journal o race _ may b h = o.known race b h
 
--- the command is no decision on any other boat
+-- the act concerns no boat that isn't entered
 not_about : (boats : List Sail) (s b : Sail) (t : Bool) → list_any (same_sail s) boats ≡ true
     → list_any (same_sail b) boats ≡ false → same_sail b s ≡ t → t ≡ false
 not_about boats s b true h out e = let in_it : list_any (same_sail b) boats ≡ true =
     ap (λ x. list_any (same_sail x) boats) (same_is b s e) ∙ h in absurd (cc)
 not_about boats s b false h out e = refl
 
-undecided : (rules : RulesParts) (journal : Journal) (c : Command) → MayStep rules journal c
-    → (b : Sail)
-    → is_entered journal b ≡ false → is_decision_on b c ≡ false
-undecided rules journal (Mark r s code) may b out = not_about (entered journal) s b _ may out refl
-undecided rules journal (Penalise r s kind) may b out =
-    not_about (entered journal) s b _ may out refl
-undecided rules journal (Redress r s redress) may b out =
-    not_about (entered journal) s b _ may out refl
-undecided rules journal (Clear r s) may b out = not_about (entered journal) s b _ may out refl
-undecided rules journal (Enter s) may b out = refl
-undecided rules journal (Finish r s) may b out = refl
-undecided rules journal (Tie r s other) may b out = refl
-undecided rules journal (Before r s other) may b out = refl
-undecided rules journal (Time r s seconds) may b out = refl
-undecided rules journal (Strike r s) may b out = refl
-undecided rules journal (Score r) may b out = refl
-undecided rules journal (Unscore r) may b out = refl
-
--- the command ends no other boat's time
-unended : (rules : RulesParts) (journal : Journal) (c : Command) → MayStep rules journal c
-    → (b : Sail) → is_entered journal b ≡ false → ends_time b c ≡ false
-unended rules journal (Time r s seconds) may b out =
+of_others : (rules : RulesParts) (journal : Journal) (race : ℕ) (act : Act)
+    → MayAct rules journal race act → (b : Sail) → is_entered journal b ≡ false → IsOfOthers b act
+of_others rules journal race (Places s placing) may b out =
     not_about (entered journal) s b _ may.0 out refl
-unended rules journal (Strike r s) may b out = not_about (entered journal) s b _ may out refl
-unended rules journal (Enter s) may b out = refl
-unended rules journal (Finish r s) may b out = refl
-unended rules journal (Tie r s other) may b out = refl
-unended rules journal (Before r s other) may b out = refl
-unended rules journal (Mark r s code) may b out = refl
-unended rules journal (Penalise r s kind) may b out = refl
-unended rules journal (Redress r s redress) may b out = refl
-unended rules journal (Clear r s) may b out = refl
-unended rules journal (Score r) may b out = refl
-unended rules journal (Unscore r) may b out = refl
+of_others rules journal race (Strikes s) may b out =
+    not_about (entered journal) s b _ may out refl
+of_others rules journal race (Decides s decision) may b out =
+    not_about (entered journal) s b _ may out refl
+of_others rules journal race (Counts counts) may b out = tt
 
--- a fact about a race stays if it stays with one more command of the race
-told_more : {X : Type 0} (told : List Command → X) (journal : Journal) (entry : EntryParts)
-    (c : Command) (race : ℕ) → entry.command ≡ c
-    → told (race_commands journal race ++ c ∷ []) ≡ told (race_commands journal race)
-    → told (race_commands (journal ++ entry ∷ []) race) ≡ told (race_commands journal race)
-told_more told journal entry c race is same =
-    ap told (race_commands_more journal entry race)
-    ∙ ap (λ d. told (race_commands journal race ++ cond (names_race race d) (d ∷ []) [])) is
-    ∙ by (names_race race c)
-  where
-    by : (t : Bool) → told (race_commands journal race ++ cond t (c ∷ []) [])
-        ≡ told (race_commands journal race)
-    by true = same
-    by false = ap told (append-nil (race_commands journal race))
-
-time_more : (journal : Journal) (entry : EntryParts) (c : Command) (race : ℕ) (b : Sail)
-    → entry.command ≡ c → ends_time b c ≡ false
-    → time (journal ++ entry ∷ []) race b ≡ time journal race b
-time_more journal entry c race b is none =
-    told_more (λ cs. time_by cs b) journal entry c race is
-    (time_of_others (race_commands journal race) c b none)
-
-held_more : (journal : Journal) (entry : EntryParts) (c : Command) (race : ℕ) (b : Sail)
-    → entry.command ≡ c → is_decision_on b c ≡ false
-    → held (journal ++ entry ∷ []) race b ≡ held journal race b
-held_more journal entry c race b is none =
-    told_more (λ cs. held_from cs b) journal entry c race is
-    (others_hold (race_commands journal race) c b none)
-
-module _ (rules : RulesParts) (journal : Journal) (o : IsOrderly rules journal)
-    (entry : EntryParts) (c : Command)
-    (is : entry.command ≡ c) (may : MayStep rules journal c) where
-  orderly_same : sail_entered c ≡ None → IsOrderly rules (journal ++ entry ∷ [])
-  orderly_same none =
-      let boats : entered (journal ++ entry ∷ []) ≡ entered journal = entered_more journal entry
-      ∙ rw (is, none) (append-nil _) in
-      let long : length (entered (journal ++ entry ∷ [])) ≡ length (entered journal) =
-      ap length boats in
-      record {
-        few = omega (arith, o.few, long);
-        apart = λ i j d h k. ap (λ xs. same_sail (get_or xs j d) (get_or xs i d)) boats
-            ∙ o.apart i j d h (omega (arith, long));
-        known = λ race b h. ap (λ xs. list_any (same_sail b) xs) boats
-            ∙ by race b (names_race race c)
-            (sym (ap (stands_in same_sail b) (order_more rules journal entry c race is may)) ∙ h);
-        nothing = λ race b out. (let before : is_entered journal b
-            ≡ false = sym (ap (λ xs. list_any (same_sail b) xs) boats) ∙ out in
-            held_more journal entry c race b is (undecided rules journal c may b before)
-            ∙ o.nothing race b before);
-        untimed = λ race b out. (let before : is_entered journal b
-            ≡ false = sym (ap (λ xs. list_any (same_sail b) xs) boats) ∙ out in
-            time_more journal entry c race b is (unended rules journal c may b before)
-            ∙ o.untimed race b before);
-        once = λ race. on_same (entered journal) (entered (journal ++ entry ∷ []))
-            (cond (names_race race c) (order_with (time journal race) (order rules journal race) c)
-            (order rules journal race)) (order rules (journal ++ entry ∷ []) race) boats
-            (order_more rules journal entry c race is may) (on race (names_race race c) refl);
-      }
-    where
-      on : (race : ℕ) (t : Bool) → names_race race c ≡ t → IsOnSheet (entered journal)
-          (cond t (order_with (time journal race) (order rules journal race) c)
-          (order rules journal race))
-      on race true named = on_after rules journal race (o.once race) (o.known race) c named may
-      on race false named = o.once race
-
-      by : (race : ℕ) (b : Sail) (t : Bool)
-          → stands_in same_sail b
-          (cond t (order_with (time journal race) (order rules journal race) c)
-          (order rules journal race))
-          ≡ true → is_entered journal b ≡ true
-      by race b true h = stands_entered rules journal o c race may b h
-      by race b false h = o.known race b h
+orderly_act : (rules : RulesParts) (journal : Journal) → IsOrderly rules journal
+    → (entry : EntryParts) (race : ℕ) (act : Act) → effect entry.command ≡ InRace race act
+    → MayAct rules journal race act → IsOrderly rules (journal ++ entry ∷ [])
+orderly_act rules journal o entry race act is may =
+    let boats : entered (journal ++ entry ∷ []) ≡ entered journal =
+    same_entered journal entry race act is in
+    let long : length (entered (journal ++ entry ∷ [])) ≡ length (entered journal) =
+    ap length boats in
+    let before : (b : Sail) → is_entered (journal ++ entry ∷ []) b ≡ is_entered journal b =
+    λ b. ap (λ xs. list_any (same_sail b) xs) boats in
+    let now : order_by rules (acts journal race ++ act ∷ [])
+    ≡ order_with (time journal race) (order rules journal race) act =
+    order_by_more rules (acts journal race) act (order_has_none rules (acts journal race))
+    (suits rules journal race act may) in
+    record {
+      few = omega (arith, o.few, long);
+      apart = λ i j d h k. ap (λ xs. same_sail (get_or xs j d) (get_or xs i d)) boats
+          ∙ o.apart i j d h (omega (arith, long));
+      known = λ r b h. before b
+          ∙ in_each_race
+          (λ n done. stands_in same_sail b (order_by rules done) ≡ true → is_entered journal b ≡ true)
+          journal entry race act is (λ n. o.known n b)
+          (λ k. stands_entered rules journal o race act may b
+          (sym (ap (stands_in same_sail b) now) ∙ k)) r h;
+      nothing = λ r b out. (let new : is_entered journal b ≡ false = sym (before b) ∙ out in
+          told_stays (λ done. held_from done b) journal entry race act is
+          (others_hold (acts journal race) act b (of_others rules journal race act may b new)) r
+          ∙ o.nothing r b new);
+      untimed = λ r b out. (let new : is_entered journal b ≡ false = sym (before b) ∙ out in
+          told_stays (λ done. time_by done b) journal entry race act is
+          (time_of_others (acts journal race) act b (of_others rules journal race act may b new)) r
+          ∙ o.untimed r b new);
+      once = λ r. on_same (entered journal) (entered (journal ++ entry ∷ []))
+          (order rules (journal ++ entry ∷ []) r) (order rules (journal ++ entry ∷ []) r) boats refl
+          (in_each_race (λ n done. IsOnSheet (entered journal) (order_by rules done)) journal entry race
+          act is o.once
+          (subst (IsOnSheet (entered journal)) (sym now)
+          (on_after rules journal race (o.once race) (o.known race) act may)) r);
+    }
 
 each_push : (xs : List Sail) (s x : Sail)
     → ((j : ℕ) (d : Sail) → j < length xs → same_sail (get_or xs j d) x ≡ false)
@@ -375,7 +277,7 @@ any_push p (x ∷ xs) s = ap (λ t. p x || t) (any_push p xs s)
 
 orderly_enter : (rules : RulesParts) (journal : Journal) → IsOrderly rules journal
     → (entry : EntryParts) (s : Sail)
-    → entry.command ≡ Enter s → is_entered journal s ≡ false
+    → effect entry.command ≡ Enters s → is_entered journal s ≡ false
     → length (entered journal) < limits.boats → IsOrderly rules (journal ++ entry ∷ [])
 orderly_enter rules journal o entry s is out room =
     let boats : entered (journal ++ entry ∷ []) ≡ entered journal ++ s ∷ [] =
@@ -384,59 +286,36 @@ orderly_enter rules journal o entry s is out room =
     ap length boats ∙ length-append (entered journal) (s ∷ []) in
     let longer : length (entered journal ++ s ∷ []) ≡ length (entered journal) + 1 =
     length-append (entered journal) (s ∷ []) in
+    let same : (race : ℕ) → acts (journal ++ entry ∷ []) race ≡ acts journal race =
+    λ race. same_acts journal entry race (ap (act_in race) is) in
+    let now : (b : Sail) → is_entered (journal ++ entry ∷ []) b
+    ≡ (is_entered journal b || (same_sail b s || false)) =
+    λ b. ap (λ xs. list_any (same_sail b) xs) boats
+    ∙ any_push (same_sail b) (entered journal) s in
+    let before : (b : Sail) → is_entered (journal ++ entry ∷ []) b ≡ false
+    → is_entered journal b ≡ false =
+    λ b h. (or_false (is_entered journal b) _ (sym (now b) ∙ h)).0 in
     record {
       few = omega (arith, long, room);
       apart = λ i j d h k. ap (λ xs. same_sail (get_or xs j d) (get_or xs i d)) boats
           ∙ apart_push (entered journal) s o.apart out i j d h (omega (arith, long, longer));
-      known = λ race b h. ap (λ xs. list_any (same_sail b) xs) boats
-          ∙ any_push (same_sail b) (entered journal) s
+      known = λ race b h. now b
           ∙ or_left (is_entered journal b) _
           (o.known race b
-          (sym (ap (stands_in same_sail b) (order_more rules journal entry (Enter s) race is out))
-          ∙ h));
-      nothing = λ race b h. (let before : is_entered journal b
-          ≡ false = (or_false (is_entered journal b) _
-          (sym (ap (λ xs. list_any (same_sail b) xs) boats
-          ∙ any_push (same_sail b) (entered journal) s) ∙ h)).0 in
-          held_more journal entry (Enter s) race b is refl ∙ o.nothing race b before);
-      untimed = λ race b h. (let before : is_entered journal b
-          ≡ false = (or_false (is_entered journal b) _
-          (sym (ap (λ xs. list_any (same_sail b) xs) boats
-          ∙ any_push (same_sail b) (entered journal) s) ∙ h)).0 in
-          time_more journal entry (Enter s) race b is refl ∙ o.untimed race b before);
+          (sym (ap (λ done. stands_in same_sail b (order_by rules done)) (same race)) ∙ h));
+      nothing = λ race b h. ap (λ done. held_from done b) (same race) ∙ o.nothing race b (before b h);
+      untimed = λ race b h. ap (λ done. time_by done b) (same race) ∙ o.untimed race b (before b h);
       once = λ race. on_same (entered journal ++ s ∷ []) (entered (journal ++ entry ∷ []))
           (order rules journal race) (order rules (journal ++ entry ∷ []) race) boats
-          (order_more rules journal entry (Enter s) race is out)
+          (ap (order_by rules) (same race))
           (on_more (entered journal) s (order rules journal race) (o.once race)
           (o.known race) room);
     }
 
 pub orderly_more : (rules : RulesParts) (journal : Journal) → IsOrderly rules journal
-    → (entry : EntryParts) (c : Command)
-    → entry.command ≡ c → MayStep rules journal c
-    → (sail_entered c ≢ None → length (entered journal) < limits.boats)
+    → (entry : EntryParts) (e : Effect) → effect entry.command ≡ e → MayStep rules journal e
     → IsOrderly rules (journal ++ entry ∷ [])
-orderly_more rules journal o entry (Enter s) is may room =
-    orderly_enter rules journal o entry s is may (room (λ h. cc))
-orderly_more rules journal o entry (Finish r s) is may room =
-    orderly_same rules journal o entry (Finish r s) is may refl
-orderly_more rules journal o entry (Tie r s other) is may room =
-    orderly_same rules journal o entry (Tie r s other) is may refl
-orderly_more rules journal o entry (Before r s other) is may room =
-    orderly_same rules journal o entry (Before r s other) is may refl
-orderly_more rules journal o entry (Time r s seconds) is may room =
-    orderly_same rules journal o entry (Time r s seconds) is may refl
-orderly_more rules journal o entry (Strike r s) is may room =
-    orderly_same rules journal o entry (Strike r s) is may refl
-orderly_more rules journal o entry (Mark r s code) is may room =
-    orderly_same rules journal o entry (Mark r s code) is may refl
-orderly_more rules journal o entry (Penalise r s kind) is may room =
-    orderly_same rules journal o entry (Penalise r s kind) is may refl
-orderly_more rules journal o entry (Redress r s redress) is may room =
-    orderly_same rules journal o entry (Redress r s redress) is may refl
-orderly_more rules journal o entry (Clear r s) is may room =
-    orderly_same rules journal o entry (Clear r s) is may refl
-orderly_more rules journal o entry (Score r) is may room =
-    orderly_same rules journal o entry (Score r) is may refl
-orderly_more rules journal o entry (Unscore r) is may room =
-    orderly_same rules journal o entry (Unscore r) is may refl
+orderly_more rules journal o entry (Enters s) is may =
+    orderly_enter rules journal o entry s is may.0 may.1
+orderly_more rules journal o entry (InRace race act) is may =
+    orderly_act rules journal o entry race act is may

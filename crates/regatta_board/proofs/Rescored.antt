@@ -1,23 +1,20 @@
 -- The most races that a command rescores, by what is kept and by the journal.
-use Rattle.std.proofs.Common.{◌≡◌, ℕ, ◌-◌, ◌<◌, true, false, cond, [], ◌∷◌, ◌++◌, ap}
-use Rattle.std.proofs.Common.{◌∙◌, sym, arith, length, get_or}
-use Rattle.std.proofs.lemmas.List.{get_or-set_same}
-use Rattle.std.proofs.lemmas.List.FromFn.{length-map-range_with_len, get_or-map-range_with_len}
+use Rattle.std.proofs.Common.{◌≡◌, ℕ, ◌-◌, false, cond, [], ◌∷◌, ◌++◌, ap}
+use Rattle.std.proofs.Common.{◌∙◌, sym, arith, length, filter, get_or}
+use Rattle.std.specs.List.{range_with_len}
+use Rattle.std.proofs.lemmas.List.FromFn.{get_or-map-range_with_len}
+use Rattle.regatta_terms.specs.Effects.{Act, Places, Strikes, Decides, Counts, Effect, Enters}
+use Rattle.regatta_terms.specs.Effects.{InRace, effect}
 use Rattle.regatta_terms.specs.Entries.{EntryParts, IsRace}
 use Rattle.regatta_terms.specs.Rules.{RulesParts}
-use Rattle.regatta_terms.specs.declared.command.Command.{Command}
-use Rattle.regatta_terms.specs.declared.command.Command.TheVariants.{Enter, Finish, Tie, Before}
-use Rattle.regatta_terms.specs.declared.command.Command.TheVariants.{Time, Strike, Mark, Penalise}
-use Rattle.regatta_terms.specs.declared.command.Command.TheVariants.{Redress, Clear, Score, Unscore}
-use Rattle.regatta_terms.specs.declared.command.PenaltyKind.TheVariants.{Zfp, Scp}
 use Rattle.regatta_terms.specs.declared.limits.TheConstants.{MAX_RACES}
-use Rattle.regatta_scores.specs.Journal.{Journal, is_scored}
-use Rattle.regatta_board.specs.Answers.{most_rescored}
+use Rattle.regatta_scores.specs.Journal.{Journal, acts, act_in, is_scored}
+use Rattle.regatta_scores.proofs.Apart.{one_act, same_acts}
+use Rattle.regatta_scores.proofs.OneMore.{counts_by, counts_after, counts_step}
+use Rattle.regatta_board.specs.Answers.{most_rescored_by}
 use Rattle.regatta_board.specs.KeptJournal.{kept_of, IsOrderly}
 use Rattle.regatta_board.specs.Scoring.{most_remade_by}
-use Rattle.regatta_board.specs.Step.{step, NamesRace, MayStep}
-use Rattle.regatta_board.specs.Table.{Kept, races}
-use Rattle.regatta_board.proofs.StepOf.{step_is}
+use Rattle.regatta_board.proofs.Accepted.{NamesRace}
 use Rattle.regatta_board.proofs.TableOf.{races_are}
 
 counts_at : (rules : RulesParts) (journal : Journal) (race : ℕ) → IsRace race
@@ -27,52 +24,27 @@ counts_at rules journal race within =
     (omega (arith, within.0, within.1)) (omega (arith, within.0))
 
 module _ (rules : RulesParts) (journal : Journal) (orderly : IsOrderly rules journal)
-    (entry : EntryParts) (orderly_next : IsOrderly rules (journal ++ entry ∷ [])) where
-  -- whether a race counts after the entry
-  count_next : (c : Command) → entry.command ≡ c → NamesRace c → MayStep rules journal c
-      → (race : ℕ) → IsRace race
-      → get_or (step (kept_of rules journal) c).counts (race - 1) false
-      ≡ is_scored (journal ++ entry ∷ []) race
-  count_next c is named may race within =
-      ap (λ k. get_or k.counts (race - 1) false)
-      (step_is rules journal orderly entry c is named may)
-      ∙ counts_at rules (journal ++ entry ∷ []) race within
+    (entry : EntryParts) where
+  -- whether a race counts after an entry of it
+  scored_next : (race : ℕ) (act : Act) → effect entry.command ≡ InRace race act
+      → is_scored (journal ++ entry ∷ []) race ≡ counts_after (is_scored journal race) act
+  scored_next race act is =
+      ap counts_by (one_act journal entry race act is) ∙ counts_step (acts journal race) act
 
-  at : (race : ℕ) → IsRace race → race - 1 < length (kept_of rules journal).counts
-  at race within =
-      omega (arith, within.0, within.1, length-map-range_with_len (is_scored journal) 1 MAX_RACES)
-
-  pub named_few : (c : Command) → entry.command ≡ c → NamesRace c → MayStep rules journal c
-      → most_remade_by (kept_of rules journal) c ≡ most_rescored (journal ++ entry ∷ []) c
-  named_few (Enter sail) is named may =
-      ap (λ (k : Kept). length (races k.counts))
-      (step_is rules journal orderly entry (Enter sail) is named may)
-      ∙ ap length (races_are rules (journal ++ entry ∷ []) orderly_next)
-  named_few (Finish race sail) is named may =
-      ap (λ b. cond b 1 0) (count_next (Finish race sail) is named may race named)
-  named_few (Tie race sail other) is named may =
-      ap (λ b. cond b 1 0) (count_next (Tie race sail other) is named may race named)
-  named_few (Before race sail other) is named may =
-      ap (λ b. cond b 1 0) (count_next (Before race sail other) is named may race named)
-  named_few (Time race sail seconds) is named may =
-      ap (λ b. cond b 1 0) (count_next (Time race sail seconds) is named may race named)
-  named_few (Strike race sail) is named may =
-      ap (λ b. cond b 1 0) (count_next (Strike race sail) is named may race named)
-  named_few (Mark race sail code) is named may =
-      ap (λ b. cond b 1 0) (count_next (Mark race sail code) is named may race named)
-  named_few (Penalise race sail Zfp) is named may =
-      ap (λ b. cond b 1 0) (count_next (Penalise race sail Zfp) is named may race named)
-  named_few (Penalise race sail Scp) is named may =
-      ap (λ b. cond b 1 0) (count_next (Penalise race sail Scp) is named may race named)
-  named_few (Redress race sail redress) is named may =
-      ap (λ b. cond b 1 0) (count_next (Redress race sail redress) is named may race named)
-  named_few (Clear race sail) is named may =
-      ap (λ b. cond b 1 0) (count_next (Clear race sail) is named may race named)
-  named_few (Score race) is named may =
-      ap (λ b. cond b 1 0)
-      (sym (get_or-set_same (kept_of rules journal).counts (race - 1) true false (at race named))
-      ∙ count_next (Score race) is named may race named)
-  named_few (Unscore race) is named may =
-      ap (λ b. cond b 1 0)
-      (sym (get_or-set_same (kept_of rules journal).counts (race - 1) false false (at race named))
-      ∙ count_next (Unscore race) is named may race named)
+  pub named_few : (e : Effect) → effect entry.command ≡ e → NamesRace e
+      → most_remade_by (kept_of rules journal) e ≡ most_rescored_by (journal ++ entry ∷ []) e
+  named_few (Enters sail) is named =
+      ap length (races_are rules journal orderly)
+      ∙ (λ i. length (filter (λ r. counts_by
+      (sym (same_acts journal entry r (ap (act_in r) is)) i)) (range_with_len 1 MAX_RACES)))
+  named_few (InRace race (Counts b)) is named =
+      ap (λ t. cond t 1 0) (sym (scored_next race (Counts b) is))
+  named_few (InRace race (Places sail placing)) is named =
+      ap (λ t. cond t 1 0)
+      (counts_at rules journal race named ∙ sym (scored_next race (Places sail placing) is))
+  named_few (InRace race (Strikes sail)) is named =
+      ap (λ t. cond t 1 0)
+      (counts_at rules journal race named ∙ sym (scored_next race (Strikes sail) is))
+  named_few (InRace race (Decides sail decision)) is named =
+      ap (λ t. cond t 1 0)
+      (counts_at rules journal race named ∙ sym (scored_next race (Decides sail decision) is))

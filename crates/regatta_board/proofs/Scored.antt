@@ -11,8 +11,10 @@ use Rattle.regatta_terms.specs.Rules.{RulesParts}
 use Rattle.regatta_terms.specs.declared.limits.TheConstants.{MAX_RACES}
 use Rattle.regatta_scores.specs.Sheet.{Sheet, empty_sheet}
 use Rattle.regatta_scores.specs.declared.boats.RaceScore.{RaceScore}
-use Rattle.regatta_board.specs.Outcomes.{line}
-use Rattle.regatta_board.specs.Table.{Kept, column, columns, races, scores, no_score}
+use Rattle.regatta_scores.specs.Lines.{line_by}
+use Rattle.regatta_scores.specs.RaceScores.{no_score, scores_in, ScoresAs}
+use Rattle.regatta_scores.proofs.AlikeScores.{line_unmarked, unmarked, unmarked_one}
+use Rattle.regatta_board.specs.Table.{Kept, column, columns, races}
 use Rattle.regatta_board.specs.Scoring.{AreColumns, column_at}
 use Rattle.regatta_board.proofs.Untouched.{map_passed}
 
@@ -59,25 +61,31 @@ module _ (rules : RulesParts) (kept : Kept) (found : List (List RaceScore))
       (λ apart. ap (λ s. cond (get_or kept.counts k false) (column rules s) [])
       (sym (get_or-set_other kept.sheets r k sheet (empty_sheet 0) apart)))
 
--- a boat keeps her line if her outcome in the only new column is the same
+-- a boat keeps her line if a line takes the same of her scores in the only new column
 pub line_stays : (rules : RulesParts) (counts : List Bool) (found : List (List RaceScore)) (r b : ℕ)
     (new : List RaceScore)
-    → get_or new b no_score ≡ get_or (get_or found r []) b no_score → r < length found
-    → line rules (scores (map (λ race. get_or (set found r new) (race - 1) []) (races counts)) b)
-    ≡ line rules (scores (map (λ race. get_or found (race - 1) []) (races counts)) b)
-line_stays rules counts found r b new same h = ap (line rules) (each (races counts))
+    → ScoresAs (get_or new b no_score) (get_or (get_or found r []) b no_score) → r < length found
+    → line_by rules (scores_in (map (λ race. get_or (set found r new) (race - 1) []) (races counts)) b)
+    ≡ line_by rules (scores_in (map (λ race. get_or found (race - 1) []) (races counts)) b)
+line_stays rules counts found r b new same h =
+    sym (line_unmarked rules
+    (scores_in (map (λ race. get_or (set found r new) (race - 1) []) (races counts)) b))
+    ∙ ap (line_by rules) (each (races counts))
+    ∙ line_unmarked rules
+    (scores_in (map (λ race. get_or found (race - 1) []) (races counts)) b)
   where
     each : (rs : List ℕ)
-        → scores (map (λ race. get_or (set found r new) (race - 1) []) rs) b
-        ≡ scores (map (λ race. get_or found (race - 1) []) rs) b
+        → map unmarked (scores_in (map (λ race. get_or (set found r new) (race - 1) []) rs) b)
+        ≡ map unmarked (scores_in (map (λ race. get_or found (race - 1) []) rs) b)
     each [] = refl
     each (x ∷ xs) = λ i. here i ∷ each xs i
       where
-        here : get_or (get_or (set found r new) (x - 1) []) b no_score
-            ≡ get_or (get_or found (x - 1) []) b no_score
+        here : unmarked (get_or (get_or (set found r new) (x - 1) []) b no_score)
+            ≡ unmarked (get_or (get_or found (x - 1) []) b no_score)
         here = one_or_other (x - 1) r
-            (λ e. rw e (ap (λ c. get_or c b no_score) (get_or-set_same found r new [] h) ∙ same))
-            (λ apart. ap (λ c. get_or c b no_score)
+            (λ e. rw e (ap (λ c. unmarked (get_or c b no_score)) (get_or-set_same found r new [] h)
+            ∙ unmarked_one (get_or new b no_score) (get_or (get_or found r []) b no_score) same))
+            (λ apart. ap (λ c. unmarked (get_or c b no_score))
             (get_or-set_other found r (x - 1) new [] apart))
 
 -- the column of the next race is appended

@@ -1,42 +1,48 @@
 -- The lengths of the scores that the board keeps, and when they stay.
 use Rattle.std.proofs.Common.{◌≡◌, ℕ, zero, suc, ◌+◌, ◌-◌, ◌<◌, ◌≤◌, true, false, List, [], ◌∷◌}
-use Rattle.std.proofs.Common.{ap, ◌∙◌, sym, subst, arith, length, map, get_or, All, Option, Some}
-use Rattle.std.proofs.Common.{None}
+use Rattle.std.proofs.Common.{ap, refl, ◌++◌, ◌∙◌, sym, subst, arith, length, map, get_or, All, Option, Some}
+use Rattle.std.proofs.Common.{None, nat_eq}
+use borrow.Author.Tests.{eqb-true}
 use Rattle.std.specs.List.{range_with_len, AllByRecursion}
 use Rattle.std.proofs.lemmas.List.{length-map, get_or-set_same}
 use Rattle.regatta_terms.specs.Entries.{IsRace}
 use Rattle.regatta_terms.specs.Rules.{RulesParts}
 use Rattle.regatta_terms.specs.declared.limits.TheConstants.{MAX_RACES}
+use Rattle.regatta_terms.specs.declared.sail.Sail.{Sail}
 use Rattle.regatta_scores.specs.Sheet.{Sheet}
 use Rattle.regatta_scores.specs.KeptRanking.{IsRanking}
 use Rattle.regatta_scores.specs.Ranking.{BoatScores}
 use Rattle.regatta_scores.proofs.Members.{all_passed}
+use Rattle.regatta_scores.specs.RaceScores.{no_score, scores_in, ScoresAs}
 use Rattle.regatta_board.specs.declared.column.NewColumns.{NewColumns}
 use Rattle.regatta_board.specs.declared.column.NewColumns.TheVariants.{Same}
 use Rattle.regatta_board.specs.declared.kept.Revision.{Revision}
 use Rattle.regatta_board.specs.declared.kept.Revision.TheVariants as revision
 use Rattle.regatta_scores.specs.declared.boats.RaceScore.{RaceScore}
-use Rattle.regatta_board.specs.Outcomes.{line}
+use Rattle.regatta_scores.specs.Lines.{line_by}
 use Rattle.regatta_board.specs.Revisions.{revised, may_change_standing}
 use Rattle.regatta_board.specs.Scoring.{Scoring, IsScoring, AreColumns, AreNewColumns}
 use Rattle.regatta_board.specs.Scoring.{RemakesOneColumn, RemakesOnly, with_columns, lines_by}
 use Rattle.regatta_board.specs.Scoring.{AreNewScores, FitLines, FitBoats, with_lines}
 use Rattle.regatta_board.specs.Scoring.{AreRanked, lines_after, ranking_after, with_scores}
+use Rattle.regatta_board.specs.Scoring.{races_after}
 use Rattle.regatta_board.specs.declared.scoring.NewLines.{NewLines}
+use Rattle.regatta_board.specs.declared.scoring.NewLines.TheVariants.{Added}
 use Rattle.regatta_board.specs.declared.scoring.NewScores.{NewScores}
 use Rattle.regatta_board.specs.declared.scoring.Ranked.{Ranked}
+use Rattle.regatta_board.specs.Refusals.{limits}
 use Rattle.regatta_board.specs.Step.{sheet_in}
-use Rattle.regatta_board.specs.Table.{Kept, IsKept, column, columns, races, scores, lines}
-use Rattle.regatta_board.specs.Table.{no_line, no_score}
+use Rattle.regatta_board.specs.Table.{Kept, IsKept, column, columns, races, lines}
+use Rattle.regatta_board.specs.Table.{no_line}
 use Rattle.regatta_board.proofs.Columns.{column_long}
-use Rattle.regatta_board.proofs.Lengths.{long_points}
+use Rattle.regatta_scores.proofs.Lengths.{long_points}
 use Rattle.regatta_board.proofs.LedgerLemmas.{sheet_long}
-use Rattle.regatta_board.proofs.Lines.{line_at, lines_long}
+use Rattle.regatta_board.proofs.Lines.{line_at, lines_long, lines_more}
 use Rattle.regatta_board.proofs.Numbers.{in_range}
 use Rattle.regatta_board.proofs.Scored.{columns_found, counted_at, line_stays, uncounted_sheet}
 use Rattle.regatta_board.proofs.Untouched.{untouched_columns}
 
--- the columns of the races that count have an outcome for each boat
+-- the columns of the races that count have a score for each boat
 pub columns_even : (rules : RulesParts) (kept : Kept) → IsKept kept
     → All (λ c. length c ≡ length kept.sails) (columns rules kept.sheets (races kept.counts))
 columns_even rules kept is =
@@ -69,7 +75,7 @@ module _ (rules : RulesParts) (kept : Kept) (is : IsKept kept) (slots : List (Li
       (subst (λ m. All (λ c. length c ≡ m) (columns rules kept.sheets (races kept.counts))) (sym e)
       (columns_even rules kept is))
 
--- the column of a race that counts has an outcome for each boat
+-- the column of a race that counts has a score for each boat
 pub column_even : (rules : RulesParts) (kept : Kept) → IsKept kept
     → (found : List (List RaceScore)) → AreColumns rules kept found → (race : ℕ) → IsRace race
     → get_or kept.counts (race - 1) false ≡ true
@@ -95,7 +101,8 @@ sheet_turns rules kept scoring change new one race sheet turned = record {
   column = subst (λ r. RemakesOneColumn rules r new) turned one scoring.columns;
 }
 
--- if the column of one race is recomputed, a boat with the same outcome keeps her line
+-- if the column of one race is recomputed, a boat keeps her line if a line takes the same of her
+-- scores in it
 module _ (rules : RulesParts) (kept : Kept) (scoring : Scoring)
     (is : IsScoring rules kept scoring) (change : Revision) (new : NewColumns) (race : ℕ)
     (turned : RemakesOnly rules kept change race scoring new) (within : IsRace race) where
@@ -104,8 +111,9 @@ module _ (rules : RulesParts) (kept : Kept) (scoring : Scoring)
       (races (revised kept change).counts)
       → (hers : List RaceScore) → hers ≡ get_or (with_columns scoring.columns new) (race - 1) []
       → (boat : ℕ) → boat < length scoring.lines
-      → get_or hers boat no_score ≡ get_or (get_or scoring.columns (race - 1) []) boat no_score
-      → get_or scoring.lines boat no_line ≡ line rules (scores found boat)
+      → ScoresAs (get_or hers boat no_score)
+      (get_or (get_or scoring.columns (race - 1) []) boat no_score)
+      → get_or scoring.lines boat no_line ≡ line_by rules (scores_in found boat)
   turned_line found made hers own boat h same =
       let r = race - 1 in
       let turn = column rules turned.sheet in
@@ -118,18 +126,19 @@ module _ (rules : RulesParts) (kept : Kept) (scoring : Scoring)
       let below : boat < n = omega (arith, h, ap length is.lines, lines_by_long rules kept) in
       ap (λ ls. get_or ls boat no_line) is.lines
       ∙ line_at rules all n boat no_line below
-      ∙ ap (λ cs. line rules (scores cs boat)) (sym (columns_found rules kept scoring.columns
+      ∙ ap (λ cs. line_by rules (scores_in cs boat)) (sym (columns_found rules kept scoring.columns
       is.columns))
       ∙ sym (line_stays rules kept.counts scoring.columns r boat turn
-      (ap (λ c. get_or c boat no_score) (sym is_turn) ∙ same) at)
-      ∙ ap (λ cs. line rules (scores cs boat)) (sym (made
+      (subst (λ c. ScoresAs (get_or c boat no_score)
+      (get_or (get_or scoring.columns r []) boat no_score)) is_turn same) at)
+      ∙ ap (λ cs. line_by rules (scores_in cs boat)) (sym (made
       ∙ (λ i. map (λ race. get_or (turned.column i) (race - 1) []) (races (turned.counts i)))))
 
 -- a boat's line has one score for each race that counts
 pub line_long : (rules : RulesParts) (found : List (List RaceScore)) (boat : ℕ) (hers : BoatScores)
-    → hers ≡ line rules (scores found boat) → length hers.points ≡ length found
+    → hers ≡ line_by rules (scores_in found boat) → length hers.points ≡ length found
 line_long rules found boat hers e =
-    ap (λ (l : BoatScores). length l.points) e ∙ long_points (scores found boat)
+    ap (λ (l : BoatScores). length l.points) e ∙ long_points (scores_in found boat)
     ∙ length-map found (λ c. get_or c boat no_score)
 
 pub all_long : (rules : RulesParts) (found : List (List RaceScore)) (n : ℕ)
@@ -177,14 +186,14 @@ module _ (rules : RulesParts) (kept : Kept) (is_kept : IsKept kept) (change : Re
 
       pub turned_stays : (hers was : List RaceScore) → hers ≡ get_or slots (race - 1) []
           → was ≡ get_or scoring.columns (race - 1) [] → (boat : ℕ) → boat < length ls
-          → get_or hers boat no_score ≡ get_or was boat no_score
-          → get_or ls boat no_line ≡ line rules (scores found boat)
+          → ScoresAs (get_or hers boat no_score) (get_or was boat no_score)
+          → get_or ls boat no_line ≡ line_by rules (scores_in found boat)
       turned_stays hers was e f boat h same =
           ap (λ xs. get_or xs boat no_line) lines_are
           ∙ turned_line rules kept scoring is change new race turned within found
           (each ∙ ap (map (λ race. get_or slots (race - 1) [])) counted) hers e boat
           (omega (arith, h, ap length lines_are))
-          (same ∙ ap (λ c. get_or c boat no_score) f)
+          (subst (λ c. ScoresAs (get_or hers boat no_score) (get_or c boat no_score)) f same)
 
       pub turned_all : (made : List BoatScores) → made ≡ lines rules found (length ls)
           → made ≡ lines_by rules (revised kept change)
@@ -197,6 +206,7 @@ pub scored_after : (rules : RulesParts) (before after : Kept) (old : Scoring)
     → IsScoring rules before old → (new : NewScores) → AreNewScores rules before after new
     → IsScoring rules after (with_scores old new)
 scored_after rules before after old is new are = record {
+  races = ap (λ rs. races_after rs new.races) is.races ∙ are.races;
   long = (are.columns old.columns is.long is.columns).0;
   columns = (are.columns old.columns is.long is.columns).1;
   lines = lines_are new.ranked are.ranked;
@@ -240,10 +250,12 @@ are_ranked rules before after old is ranked each made ranking = (
 -- a revision that can't change the standing changes no score
 pub untouched_scores : (rules : RulesParts) (kept : Kept) (change : Revision)
     → may_change_standing kept change ≡ false
-    → AreNewScores rules kept (revised kept change) (record { columns = Same; ranked = None })
+    → AreNewScores rules kept (revised kept change)
+    (record { races = None; columns = Same; ranked = None })
 untouched_scores rules kept (revision.Enter boats sheets) e = cc
 untouched_scores rules kept (revision.Counts race counts) e = cc
 untouched_scores rules kept (revision.Sheet race sheet) e = record {
+  races = refl;
   columns = λ old long are. (long, uncounted_sheet rules kept old are (race - 1) sheet e);
   ranked = λ i. lines rules (sym (untouched_columns rules kept race sheet e) i)
       (length kept.sails);
@@ -256,3 +268,29 @@ pub unchanged_lines : (rules : RulesParts) (before after : Kept) (scoring : Scor
     → with_lines scoring.lines new ≡ lines_by rules after → lines_by rules before ≡ lines_by rules after
 unchanged_lines rules before after scoring is new stay made =
     sym is.lines ∙ sym (stay scoring.lines) ∙ made
+
+pub none_there : (xs : List ℕ) → nat_eq (length xs) 0 ≡ true → xs ≡ []
+none_there [] e = refl
+none_there (x ∷ xs) e = let same = eqb-true (length (x ∷ xs)) 0 e in absurd (omega (arith, same))
+
+-- before a race counts, one more boat has one more line
+module _ (rules : RulesParts) (kept : Kept) (scoring : Scoring) (is : IsScoring rules kept scoring)
+    (boats : List Sail) (sheets : List Sheet) (adds : length boats ≡ length kept.sails + 1)
+    (none : races kept.counts ≡ []) where
+  abbrev next : Kept
+  next = revised kept (revision.Enter boats sheets)
+
+  pub boat_added : (hers : BoatScores) → hers ≡ line_by rules []
+      → with_lines scoring.lines (Added hers) ≡ lines_by rules next
+  boat_added hers e =
+      let n = length kept.sails in
+      (λ i. is.lines i ++ e i ∷ [])
+      ∙ ap (λ rs. lines rules (columns rules kept.sheets rs) n ++ line_by rules [] ∷ []) none
+      ∙ sym (lines_more rules [] n)
+      ∙ ap (lines rules []) (sym adds)
+      ∙ ap (λ rs. lines rules (columns rules sheets rs) (length boats)) (sym none)
+
+  pub room_for_boat : IsKept next → length scoring.lines < limits.boats
+  room_for_boat kept_next =
+      let few = kept_next.few in
+      omega (arith, few, adds, ap length is.lines, lines_by_long rules kept)

@@ -2,21 +2,19 @@
 use Rattle.std.specs.Prelude.{◌≡◌, ℕ, ◌+◌, min, Bool, true, false, not, ◌&&◌, ◌||◌, nat_eq, nat_le}
 use Rattle.std.specs.Prelude.{List, [], ◌∷◌, ◌++◌, length, filter, map, unwrap_or, Option, Some}
 use Rattle.std.specs.Prelude.{None, is_some, is_none, if◌then◌else◌}
-use Rattle.std.specs.List.{list_any}
+use Rattle.std.specs.List.{last_or, list_any}
+use Rattle.std.specs.Option.{option_map_or}
 use Rattle.regatta_terms.specs.declared.limits.TheConstants.{MAX_BOATS, MAX_ENTRIES, MAX_PENALTIES}
+use Rattle.regatta_terms.specs.Effects.{TiedWith, AheadOf, Penalises, Clears, Places, Strikes}
+use Rattle.regatta_terms.specs.Effects.{Decides, Counts, Effect, Enters, InRace, effect}
 use Rattle.regatta_terms.specs.Entries.{EntryParts}
 use Rattle.regatta_terms.specs.Rules.{RulesParts}
-use Rattle.regatta_terms.specs.Roles.{may_send, is_jury_code}
+use Rattle.regatta_terms.specs.Roles.{may_send, is_jury, is_jury_code}
 use Rattle.regatta_terms.specs.declared.sail.Sail.{Sail}
-use Rattle.regatta_terms.specs.declared.command.Code.{Code}
 use Rattle.regatta_terms.specs.declared.command.PenaltyKind.{PenaltyKind}
 use Rattle.regatta_terms.specs.declared.command.PenaltyKind.TheVariants.{Zfp, Scp}
 use Rattle.regatta_terms.specs.declared.command.Role.{Role}
-use Rattle.regatta_terms.specs.declared.command.Role.TheVariants as role
 use Rattle.regatta_terms.specs.declared.command.Command.{Command}
-use Rattle.regatta_terms.specs.declared.command.Command.TheVariants.{Enter, Finish, Tie, Before}
-use Rattle.regatta_terms.specs.declared.command.Command.TheVariants.{Time, Strike, Mark, Penalise}
-use Rattle.regatta_terms.specs.declared.command.Command.TheVariants.{Redress, Clear, Score, Unscore}
 use Rattle.regatta_terms.specs.declared.reply.Refusal.{Refusal}
 use Rattle.regatta_terms.specs.declared.reply.Refusal.TheVariants.{NoMemory, JournalFull, OldNumber}
 use Rattle.regatta_terms.specs.declared.reply.Refusal.TheVariants.{NotYours, EntryFull}
@@ -28,7 +26,7 @@ use Rattle.regatta_terms.specs.declared.reply.Refusal.TheVariants.{NotScored, No
 use Rattle.regatta_terms.specs.declared.reply.Refusal.TheVariants.{WrongSystem}
 use Rattle.regatta_scores.specs.declared.sheet.Held.{Held}
 use Rattle.regatta_scores.specs.Journal.{Journal, same_sail, entered, order, held, is_scored}
-use Rattle.regatta_scores.specs.Journal.{last_item, is_of_other_system}
+use Rattle.regatta_scores.specs.Journal.{is_of_other_system}
 use Rattle.regatta_scores.specs.Order.{stands_in, is_empty}
 
 -- how many boats may be entered, and how many entries a journal may have
@@ -46,7 +44,7 @@ limits = record { boats = MAX_BOATS; entries = MAX_ENTRIES }
 abbrev pub last_number : Journal → ℕ → ℕ
 last_number journal seat =
     unwrap_or
-    (last_item (map (λ entry. entry.nth) (filter (λ entry. nat_eq entry.seat seat) journal)))
+    (last_or None (map (λ entry. entry.nth) (filter (λ entry. nat_eq entry.seat seat) journal)))
     0
 
 -- the number after one; the greatest number stays
@@ -66,14 +64,9 @@ is_entered journal boat = list_any (same_sail boat) (entered journal)
 abbrev pub is_placed : RulesParts → Journal → ℕ → Sail → Bool
 is_placed rules journal race boat = stands_in same_sail boat (order rules journal race)
 
--- a code of the protest committee, DSQ or DNE (RRS A5.1 lists the others)
-abbrev pub is_protest_code : Option Code → Bool
-is_protest_code None = false
-is_protest_code (Some code) = is_jury_code code
-
--- she has a decision of the protest committee: DSQ, DNE or redress
+-- she has a decision of the protest committee: DSQ, DNE (RRS A5.1 lists the other codes) or redress
 abbrev pub is_decided : Held → Bool
-is_decided held = is_protest_code held.code || is_some held.redress
+is_decided held = option_map_or is_jury_code held.code false || is_some held.redress
 
 -- how many penalties of the kind she has: ZFP (RRS 30.2) or SCP (RRS 44.3(c))
 abbrev pub penalties : PenaltyKind → Held → ℕ
@@ -84,12 +77,6 @@ penalties Scp held = held.scp
 abbrev pub holds_nothing : Held → Bool
 holds_nothing held =
     is_none held.code && nat_eq held.zfp 0 && nat_eq held.scp 0 && is_none held.redress
-
--- the role of the protest committee; only it may clear its own decisions
-abbrev pub is_jury : Role → Bool
-is_jury role.Finish = false
-is_jury role.Jury = true
-is_jury role.Scorer = false
 
 -- ---- the refusals of each command, in the order in which they are checked
 
@@ -138,7 +125,7 @@ penalty_refusal journal race boat kind =
     else if nat_le MAX_PENALTIES (penalties kind (held journal race boat)) then Some PenaltyLimit
     else None
 
--- Clear: only the jury clears a decision of the protest committee
+-- Clear: only the protest committee clears its own decisions
 abbrev pub clear_refusal : Journal → Role → ℕ → Sail → Option Refusal
 clear_refusal journal role race boat =
     if not (is_entered journal boat) then Some NotEntered
@@ -157,25 +144,26 @@ score_refusal rules journal race =
 abbrev pub unscore_refusal : Journal → ℕ → Option Refusal
 unscore_refusal journal race = if is_scored journal race then None else Some NotScored
 
--- the refusal of a command; the finishing order is that of the rules of the series
-abbrev pub command_refusal : Limits → RulesParts → Journal → Role → Command → Option Refusal
-command_refusal most rules journal role (Enter sail) = enter_refusal most journal sail
-command_refusal most rules journal role (Finish race sail) = place_refusal rules journal race sail
-command_refusal most rules journal role (Tie race sail other) =
+-- the refusal of what a command does; the finishing order is that of the rules of the series
+abbrev pub command_refusal : Limits → RulesParts → Journal → Role → Effect → Option Refusal
+command_refusal most rules journal role (Enters sail) = enter_refusal most journal sail
+command_refusal most rules journal role (InRace race (Places sail (TiedWith other))) =
     place_by_refusal rules journal race sail other
-command_refusal most rules journal role (Before race sail other) =
+command_refusal most rules journal role (InRace race (Places sail (AheadOf other))) =
     place_by_refusal rules journal race sail other
-command_refusal most rules journal role (Time race sail seconds) =
+command_refusal most rules journal role (InRace race (Places sail alone)) =
     place_refusal rules journal race sail
-command_refusal most rules journal role (Strike race sail) = strike_refusal rules journal race sail
-command_refusal most rules journal role (Mark race sail code) = decision_refusal journal race sail
-command_refusal most rules journal role (Penalise race sail kind) =
+command_refusal most rules journal role (InRace race (Strikes sail)) =
+    strike_refusal rules journal race sail
+command_refusal most rules journal role (InRace race (Decides sail (Penalises kind))) =
     penalty_refusal journal race sail kind
-command_refusal most rules journal role (Redress race sail redress) =
+command_refusal most rules journal role (InRace race (Decides sail Clears)) =
+    clear_refusal journal role race sail
+command_refusal most rules journal role (InRace race (Decides sail mark_or_redress)) =
     decision_refusal journal race sail
-command_refusal most rules journal role (Clear race sail) = clear_refusal journal role race sail
-command_refusal most rules journal role (Score race) = score_refusal rules journal race
-command_refusal most rules journal role (Unscore race) = unscore_refusal journal race
+command_refusal most rules journal role (InRace race (Counts true)) =
+    score_refusal rules journal race
+command_refusal most rules journal role (InRace race (Counts false)) = unscore_refusal journal race
 
 -- why the journal refuses the entry, or None
 abbrev pub refusal : Limits → RulesParts → Journal → EntryParts → Option Refusal
@@ -184,8 +172,8 @@ refusal most rules journal entry =
     else if nat_le entry.nth (last_number journal entry.seat) then
     Some (OldNumber (last_number journal entry.seat))
     else if not (may_send entry.role entry.command) then Some NotYours
-    else if is_of_other_system rules entry.command then Some WrongSystem
-    else command_refusal most rules journal entry.role entry.command
+    else if is_of_other_system rules (effect entry.command) then Some WrongSystem
+    else command_refusal most rules journal entry.role (effect entry.command)
 
 -- what a call may return: the refusal that applies, or NoMemory if none applies
 abbrev pub IsRefusal : Option Refusal → Refusal → Type 0

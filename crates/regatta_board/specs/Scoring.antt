@@ -1,19 +1,20 @@
 -- The scores that the board keeps: a column for each race, a line for each boat, and their ranking.
-use Rattle.std.specs.Prelude.{◌≡◌, ℕ, ◌-◌, ◌<◌, Bool, true, false, List, [], length, slice_index_or, slice_set}
-use Rattle.std.specs.Prelude.{Option, Some, None, IfSome, ◌↔◌, ◌∷◌, ◌++◌, if◌then◌else◌, All as AllOf}
+use Rattle.std.specs.Prelude.{◌≡◌, ℕ, ◌+◌, ◌-◌, ◌<◌, ◌≤◌, false, List, [], length, slice_index_or}
+use Rattle.std.specs.Prelude.{Option, Some, None, IfSome, ◌↔◌, ◌∷◌, ◌++◌, if◌then◌else◌, slice_set}
+use Rattle.std.specs.Prelude.{vec_capacity}
 use Rattle.regatta_terms.specs.Rules.{RulesParts}
 use Rattle.regatta_terms.specs.declared.limits.TheConstants.{MAX_RACES}
 use Rattle.regatta_terms.specs.declared.reply.Touched.{Touched}
-use Rattle.regatta_terms.specs.declared.command.Command.{Command}
-use Rattle.regatta_terms.specs.declared.command.Command.TheVariants.{Enter, Finish, Tie, Before}
-use Rattle.regatta_terms.specs.declared.command.Command.TheVariants.{Time, Strike, Mark, Penalise}
-use Rattle.regatta_terms.specs.declared.command.Command.TheVariants.{Redress, Clear, Score, Unscore}
+use Rattle.regatta_terms.specs.Effects.{Counts, Effect, Enters, InRace}
 use Rattle.regatta_scores.specs.Sheet.{Sheet, empty_sheet}
+use Rattle.regatta_scores.specs.Current.{with_changed, AreOfBoats}
 use Rattle.regatta_scores.specs.KeptRanking.{IsRanking}
+use Rattle.regatta_scores.specs.Lines.{line_by}
+use Rattle.regatta_scores.specs.RaceScores.{scores_in, ScoresAs}
 use Rattle.regatta_scores.specs.Ranking.{BoatScores, net, place}
 use Rattle.regatta_board.specs.declared.column.NewColumns.{NewColumns}
 use Rattle.regatta_board.specs.declared.column.NewColumns.TheVariants.{Same, One, All}
-use Rattle.regatta_board.specs.declared.scoring.NewLine.{NewLine}
+use Rattle.regatta_scores.specs.declared.current.NewLine.{NewLine}
 use Rattle.regatta_board.specs.declared.scoring.NewLines.{NewLines}
 use Rattle.regatta_board.specs.declared.scoring.NewLines.TheVariants as lines
 use Rattle.regatta_board.specs.declared.scoring.Ranked.{Ranked}
@@ -21,19 +22,20 @@ use Rattle.regatta_board.specs.declared.scoring.NewScores.{NewScores}
 use Rattle.regatta_board.specs.declared.kept.Revision.{Revision}
 use Rattle.regatta_board.specs.declared.kept.Revision.TheVariants as revision
 use Rattle.regatta_scores.specs.declared.boats.RaceScore.{RaceScore}
-use Rattle.regatta_board.specs.Outcomes.{line as line_of}
+use Rattle.regatta_board.specs.Refusals.{limits}
 use Rattle.regatta_board.specs.Revisions.{revised}
 use Rattle.regatta_board.specs.Table.{Kept, column, columns, races, lines as lines_of}
-use Rattle.regatta_board.specs.Table.{no_line, scores}
+use Rattle.regatta_board.specs.Table.{no_line}
 
--- a column for each race of a series, which is empty if the race doesn't count; a line for each boat
--- (RRS A2.1); and the boats' numbers in order of rank (RRS A8)
+-- the races that count; a column for each race of a series, which is empty if the race doesn't
+-- count; a line for each boat (RRS A2.1); and the boats' numbers in order of rank (RRS A8)
 pub record Scoring : Type 0 where
+  pub races : List ℕ
   pub columns : List (List RaceScore)
   pub lines : List BoatScores
   pub ranking : List ℕ
 
--- the column at an index: each boat's outcome on the race's sheet, or nothing if the race doesn't
+-- the column at an index: each boat's score on the race's sheet, or nothing if the race doesn't
 -- count
 abbrev pub column_at : RulesParts → Kept → ℕ → List RaceScore
 column_at rules kept k =
@@ -60,20 +62,11 @@ most_remade kept (revision.Enter boats sheets) = length (races kept.counts)
 most_remade kept (revision.Sheet race sheet) = once_if_counted kept race
 most_remade kept (revision.Counts race counts) = if counts then 1 else 0
 
--- the same, by the accepted command
-abbrev pub most_remade_by : Kept → Command → ℕ
-most_remade_by kept (Enter sail) = length (races kept.counts)
-most_remade_by kept (Finish race sail) = once_if_counted kept race
-most_remade_by kept (Tie race sail other) = once_if_counted kept race
-most_remade_by kept (Before race sail other) = once_if_counted kept race
-most_remade_by kept (Time race sail seconds) = once_if_counted kept race
-most_remade_by kept (Strike race sail) = once_if_counted kept race
-most_remade_by kept (Mark race sail code) = once_if_counted kept race
-most_remade_by kept (Penalise race sail kind) = once_if_counted kept race
-most_remade_by kept (Redress race sail redress) = once_if_counted kept race
-most_remade_by kept (Clear race sail) = once_if_counted kept race
-most_remade_by kept (Score race) = 1
-most_remade_by kept (Unscore race) = 0
+-- the same, by what the accepted command does
+abbrev pub most_remade_by : Kept → Effect → ℕ
+most_remade_by kept (Enters sail) = length (races kept.counts)
+most_remade_by kept (InRace race (Counts counts)) = if counts then 1 else 0
+most_remade_by kept (InRace race act) = once_if_counted kept race
 
 -- the lines of all boats, computed from what is kept of the journal
 abbrev pub lines_by : RulesParts → Kept → List BoatScores
@@ -82,48 +75,51 @@ lines_by rules kept =
 
 -- each part is as computed from what is kept of the journal
 pub record IsScoring (rules : RulesParts) (kept : Kept) (scoring : Scoring) : Type 0 where
+  pub races : scoring.races ≡ races kept.counts
   pub long : length scoring.columns ≡ MAX_RACES
   pub columns : AreColumns rules kept scoring.columns
   pub lines : scoring.lines ≡ lines_by rules kept
   pub ranking : IsRanking scoring.lines scoring.ranking
 
--- the lines, after new ones replace those of their boats
-abbrev pub with_changed : List BoatScores → List NewLine → List BoatScores
-with_changed old [] = old
-with_changed old (new ∷ news) = with_changed (slice_set old new.boat new.line) news
+-- the races that count, after new ones, if there are any, replace them
+abbrev pub races_after : List ℕ → Option (List ℕ) → List ℕ
+races_after old None = old
+races_after old (Some new) = new
 
--- the flags, with those of the boats who have a new line set
-abbrev pub with_flags : List Bool → List NewLine → List Bool
-with_flags flags [] = flags
-with_flags flags (new ∷ news) = with_flags (slice_set flags new.boat true) news
+-- a revision that changes the entry list adds one boat to it
+abbrev pub AddsBoat : Kept → Revision → Type 0
+AddsBoat kept (revision.Enter boats sheets) = length boats ≡ length kept.sails + 1
+AddsBoat kept (revision.Sheet race sheet) = Unit {0}
+AddsBoat kept (revision.Counts race counts) = Unit {0}
 
 -- the new lines and that of one more boat, if she has one
 abbrev pub with_new : List NewLine → ℕ → Option BoatScores → List NewLine
 with_new news boat None = news
 with_new news boat (Some line) = news ++ record { boat = boat; line = line } ∷ []
 
--- a boat's new line is appended to the new lines, unless her outcome in the column that is
--- recomputed stays
+-- a boat's new line is appended to the new lines, unless a line takes the same of her scores before
+-- and after in the column that is recomputed
 pub record IsPushed (rules : RulesParts) (columns : List (List RaceScore)) (boat : ℕ)
     (old new : RaceScore) (before after : List NewLine) : Type 0 where
   pub line : Option BoatScores
-  pub stays : (line ≡ None) ↔ (new ≡ old)
-  pub value : IfSome line (λ found. found ≡ line_of rules (scores columns boat))
+  pub stays : (line ≡ None) ↔ ScoresAs new old
+  pub value : IfSome line (λ found. found ≡ line_by rules (scores_in columns boat))
   pub made : after ≡ with_new before boat line
 
--- the lines, after new ones replace some or all of them
+-- the lines, after new ones replace some or all of them, or one is added
 abbrev pub with_lines : List BoatScores → NewLines → List BoatScores
 with_lines old (lines.Changed new) = with_changed old new.items
+with_lines old (lines.Added line) = old ++ line ∷ []
 with_lines old (lines.All new) = new.items
 
--- each new line is that of a boat: her number is below the number of boats
-abbrev pub AreOfBoats : ℕ → List NewLine → Type 0
-AreOfBoats boats news = AllOf (λ new. new.boat < boats) news
-
--- if some lines are new, each is that of a boat
+-- if some lines are new, they are those of different boats in the order of their numbers, and there
+-- are no more than boats; for one more boat there is room; and the lines of all boats have room for
+-- all that a series may have
 abbrev pub FitBoats : List BoatScores → NewLines → Type 0
-FitBoats old (lines.Changed new) = AreOfBoats (length old) new.items
-FitBoats old (lines.All new) = Unit {0}
+FitBoats old (lines.Changed new) = AreOfBoats (length old) new.items × (length new.items ≤ length old)
+FitBoats old (lines.Added line) = length old < limits.boats
+FitBoats old (lines.All new) =
+    (length new.items ≤ limits.boats) × (limits.boats ≤ vec_capacity new)
 
 -- the new lines turn the lines before into those after, and the ranking is theirs; without new
 -- lines, the lines stay
@@ -160,10 +156,11 @@ pub record RemakesOnly (rules : RulesParts) (kept : Kept) (change : Revision) (r
 
 -- the new scores turn the scores before into those after
 pub record AreNewScores (rules : RulesParts) (before after : Kept) (new : NewScores) : Type 0 where
+  pub races : races_after (races before.counts) new.races ≡ races after.counts
   pub columns : AreNewColumns rules before after new.columns
   pub ranked : AreRanked rules before after new.ranked
 
--- new lines, if there are any, are those of boats
+-- new lines, if there are any, fit the boats
 abbrev pub FitLines : List BoatScores → Option Ranked → Type 0
 FitLines old None = Unit {0}
 FitLines old (Some ranked) = FitBoats old ranked.lines
@@ -181,6 +178,7 @@ ranking_after old (Some ranked) = ranked.ranking
 -- the scores, after the new ones are moved in
 abbrev pub with_scores : Scoring → NewScores → Scoring
 with_scores old new = record {
+  races = races_after old.races new.races;
   columns = with_columns old.columns new.columns;
   lines = lines_after old.lines new.ranked;
   ranking = ranking_after old.ranking new.ranked;

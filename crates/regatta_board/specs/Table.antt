@@ -1,6 +1,9 @@
 -- The standing from sheets, with boats and races by their numbers.
 use Rattle.std.specs.Prelude.{◌≡◌, ℕ, ◌-◌, ◌≤◌, Bool, false, List, [], length, map, filter}
-use Rattle.std.specs.Prelude.{slice_index_or, All, None, nat_lt, not, ◌&&◌}
+use Rattle.std.specs.Prelude.{slice_index_or, All, nat_lt, not, ◌&&◌, ◌∷◌, if◌then◌else◌}
+use Rattle.std.specs.Cmp.Lexicographic.{slice_cmp}
+use Rattle.std.specs.Ordering.{nat_cmp, ordering_then, is_le}
+use Rattle.std.specs.declared.cmp.Ordering.{Ordering}
 use Rattle.std.specs.List.{range_with_len}
 use Rattle.regatta_terms.specs.Rules.{RulesParts}
 use Rattle.regatta_terms.specs.declared.sail.Sail.{Sail}
@@ -9,14 +12,14 @@ use Rattle.regatta_scores.specs.declared.boats.Place.{Place}
 use Rattle.regatta_scores.specs.declared.table.Row.{Row}
 use Rattle.regatta_scores.specs.declared.table.Standing.{Standing}
 use Rattle.regatta_scores.specs.Sheet.{Sheet, boats, empty_sheet}
-use Rattle.regatta_scores.specs.RaceScores.{race_scores}
+use Rattle.regatta_scores.specs.Lines.{line_by}
+use Rattle.regatta_scores.specs.RaceScores.{race_scores, scores_in}
 use Rattle.regatta_scores.specs.Ranking.{BoatScores, place}
+use Rattle.regatta_scores.specs.Rows.{row_by}
 use Rattle.regatta_scores.specs.Standing as standings
 pub use Rattle.regatta_scores.specs.Entrants.{no_line}
-use Rattle.regatta_scores.specs.declared.boats.Averaged.TheVariants.{OverNone}
 use Rattle.regatta_scores.specs.declared.boats.RaceScore.{RaceScore}
 use Rattle.regatta_board.specs.Refusals.{limits}
-use Rattle.regatta_board.specs.Outcomes.{line, row, row_by}
 
 -- what is kept of a journal: the boats entered, each race's sheet, and whether it counts
 pub record Kept : Type 0 where
@@ -32,10 +35,6 @@ pub record IsKept (kept : Kept) : Type 0 where
   pub counts : length kept.counts ≡ MAX_RACES
   pub same : All (λ sheet. boats sheet ≡ length kept.sails) kept.sheets
 
--- the default score; no number of a boat leads to it
-abbrev pub no_score : RaceScore
-no_score = record { points = 0; averaged = OverNone; dne = false; mark = None }
-
 -- a column: the scores of all boats in one race, by the boats' numbers
 abbrev pub column : RulesParts → Sheet → List RaceScore
 column rules sheet = race_scores rules sheet
@@ -49,20 +48,16 @@ abbrev pub columns : RulesParts → List Sheet → List ℕ → List (List RaceS
 columns rules sheets races =
     map (λ race. column rules (slice_index_or sheets (race - 1) (empty_sheet 0))) races
 
--- one boat's score in each race that counts
-abbrev pub scores : List (List RaceScore) → ℕ → List RaceScore
-scores columns boat = map (λ column. slice_index_or column boat no_score) columns
-
 -- the lines of all boats: their points, and which of them are excluded (RRS A2.1)
 abbrev pub lines : RulesParts → List (List RaceScore) → ℕ → List BoatScores
-lines rules columns n = map (λ boat. line rules (scores columns boat)) (range_with_len 0 n)
+lines rules columns n = map (λ boat. line_by rules (scores_in columns boat)) (range_with_len 0 n)
 
 -- a boat's row of the table, with her rank among all the lines (RRS A8)
 abbrev pub row_of : RulesParts → List Sail → List (List RaceScore) → ℕ → Row
 row_of rules sails columns boat =
-    row rules (slice_index_or sails boat [])
-    (place (lines rules columns (length sails)) (line rules (scores columns boat)))
-    (scores columns boat)
+    let line = line_by rules (scores_in columns boat) in
+    row_by (slice_index_or sails boat []) (place (lines rules columns (length sails)) line) line
+    (scores_in columns boat)
 
 -- the rows of all boats, in the order of the table (RRS A8)
 abbrev pub rows : RulesParts → List Sail → List (List RaceScore) → List Row
@@ -77,17 +72,37 @@ no_rank = record { rank = 0; tied = false }
 abbrev pub row_at : List Sail → List (List RaceScore) → List BoatScores → List Place → ℕ → Row
 row_at sails columns lines ranks boat =
     row_by (slice_index_or sails boat []) (slice_index_or ranks boat no_rank)
-    (slice_index_or lines boat no_line) (scores columns boat)
+    (slice_index_or lines boat no_line) (scores_in columns boat)
 
--- what the order of the table takes of a boat's row: her sail and her rank
-abbrev pub row_head : List Sail → List Place → ℕ → Row
-row_head sails ranks boat = row_at sails [] [] ranks boat
+-- the order of boats in the table: by rank, then by sail (RRS A8), and between equal sails by
+-- number
+abbrev pub table_cmp : List Sail → List Place → ℕ → ℕ → Ordering
+table_cmp sails ranks a b =
+    ordering_then
+    (nat_cmp (slice_index_or ranks a no_rank).rank (slice_index_or ranks b no_rank).rank)
+    (ordering_then (slice_cmp nat_cmp (slice_index_or sails a []) (slice_index_or sails b []))
+    (nat_cmp a b))
 
--- whether there is a boat with the number `other`, and her row comes before that of `boat`
-abbrev pub row_is_before : List Sail → List Place → ℕ → ℕ → Bool
-row_is_before sails ranks boat other =
-    nat_lt other (length ranks)
-    && not (standings.comes_first (row_head sails ranks boat) (row_head sails ranks other))
+-- whether a boat comes no later in the table than another
+abbrev pub comes_first : List Sail → List Place → ℕ → ℕ → Bool
+comes_first sails ranks a b = is_le (table_cmp sails ranks a b)
+
+-- whether there is a boat with the number `other`, and she comes before `boat` in the table
+abbrev pub is_before : List Sail → List Place → ℕ → ℕ → Bool
+is_before sails ranks boat other =
+    nat_lt other (length ranks) && not (comes_first sails ranks boat other)
+
+-- a boat inserted into others in the order of the table, before the first that she comes no later
+-- than
+abbrev pub with_boat : List Sail → List Place → ℕ → List ℕ → List ℕ
+with_boat sails ranks boat [] = boat ∷ []
+with_boat sails ranks boat (x ∷ xs) =
+    if comes_first sails ranks boat x then boat ∷ x ∷ xs else x ∷ with_boat sails ranks boat xs
+
+-- boats in the order of the table
+abbrev pub in_order : List Sail → List Place → List ℕ → List ℕ
+in_order sails ranks [] = []
+in_order sails ranks (x ∷ xs) = with_boat sails ranks x (in_order sails ranks xs)
 
 -- the rows of all boats from their lines and ranks, in the order of the table (RRS A8)
 abbrev pub rows_by : List Sail → List (List RaceScore) → List BoatScores → List Place → List Row

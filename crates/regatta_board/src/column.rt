@@ -3,14 +3,15 @@ ghost use Rattle.std.specs.Prelude.{◌≡◌, ◌+◌, ◌-◌, ◌<◌, ◌≤
 ghost use Rattle.std.specs.Prelude.{map, slice_index_or, slice_set, IfOk, OnOk, if◌then◌else◌, ◌↔◌};
 ghost use Rattle.regatta_terms.specs.Entries.{IsRace};
 ghost use Rattle.regatta_scores.specs.declared.boats.RaceScore.{RaceScore};
+ghost use Rattle.regatta_scores.specs.RaceScores.{no_score};
 ghost use Rattle.regatta_board.specs.Revisions.{revised, may_change_standing};
 ghost use Rattle.regatta_board.specs.Scoring.{AreColumns, AreNewColumns, RemakesOneColumn};
 ghost use Rattle.regatta_board.specs.Scoring.{column_at, with_columns, most_remade};
-ghost use Rattle.regatta_board.specs.Table.{no_score, IsKept, column as column_of};
+ghost use Rattle.regatta_board.specs.Table.{IsKept, column as column_of};
 ghost use Rattle.regatta_board.specs.Table.{races as races_of};
 
 use crate::kept::{Draft, Kept, Revision};
-use regatta_scores::{Items, RaceScore, RaceScores, RaceSheet, Work, race_scores};
+use regatta_scores::{Items, RaceColumn, RaceScore, RaceScores, RaceSheet, Work, race_scores};
 use regatta_terms::{MAX_RACES, RaceNo, Rules};
 use std::alloc::{AllocError, Global};
 use std::marker::Model;
@@ -178,32 +179,8 @@ pub(crate) fn new_columns(
     }
 }
 
-/// The column of a race that counts.
-#[derive(Drop)]
-pub struct CurrentColumn<'a> {
-    column: &'a Column,
-}
-
-impl<'a> Model for CurrentColumn<'a> {
-    ghost use Rattle.std.specs.Prelude.{List};
-    ghost use Rattle.regatta_scores.specs.declared.boats.RaceScore.{RaceScore};
-
-    ghost Value = { List RaceScore };
-
-    ghost view = { λ c. c.column.now };
-}
-
-impl<'a> CurrentColumn<'a> {
-    pub(crate) fn score(&self, boat: usize) -> &RaceScore
-        requires { boat < length self.now }
-        ensures { result.now ≡ slice_index_or self.now boat no_score }
-    {
-        self.column.score(boat)
-    }
-}
-
 /// The column of a race, after new columns replace the old ones.
-pub(crate) fn current<'a>(old: &'a [Column], new: &'a NewColumns, race: RaceNo) -> CurrentColumn<'a>
+pub(crate) fn current<'a>(old: &'a [Column], new: &'a NewColumns, race: RaceNo) -> RaceColumn<'a>
     requires old { length old.now ≡ MAX_RACES }
     requires new { length (with_columns old.now new.now) ≡ MAX_RACES }
     ensures { result ≡ slice_index_or (with_columns old.now new.now) (race - 1) [] }
@@ -217,7 +194,7 @@ pub(crate) fn current<'a>(old: &'a [Column], new: &'a NewColumns, race: RaceNo) 
         NewColumns::Same | NewColumns::One { .. } => &old[at],
         NewColumns::All { columns } => &columns[at],
     };
-    CurrentColumn { column }
+    RaceColumn::new(&column.scores)
 }
 
 /// The columns of these races, after new ones replace the old ones.
@@ -226,7 +203,7 @@ pub(crate) fn current_columns<'a>(
     old: &'a [Column],
     new: &'a NewColumns,
     races: &[RaceNo],
-) -> Result<Vec<CurrentColumn<'a>>, AllocError>
+) -> Result<Vec<RaceColumn<'a>>, AllocError>
     requires old { length old.now ≡ MAX_RACES }
     requires new { length (with_columns old.now new.now) ≡ MAX_RACES }
     ensures { IfOk result (λ found. found.items

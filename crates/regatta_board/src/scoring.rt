@@ -1,70 +1,73 @@
 //! The scores that are kept: a column for each race, a line for each boat, and their ranking.
 ghost use Rattle.std.specs.Prelude.{◌≡◌, ◌+◌, ◌-◌, ◌<◌, ◌≤◌, ◌^◌, ℕ, true, false, length};
-ghost use Rattle.std.specs.Prelude.{◌++◌, ◌∷◌, [], List, replicate, slice_index_or, All, IfOk, IfSome, OnOk, None, ◌↔◌};
+ghost use Rattle.std.specs.Prelude.{◌++◌, ◌∷◌, [], List, slice_index_or, All, IfOk, IfSome, OnOk};
+ghost use Rattle.std.specs.Prelude.{None, ◌↔◌, vec_capacity};
 ghost use Rattle.regatta_terms.specs.Rules.{RulesParts};
-ghost use Rattle.regatta_scores.specs.Entrants.{lines_behind};
+ghost use Rattle.regatta_scores.specs.Current.{with_changed, AreOfBoats, AreWithin};
 ghost use Rattle.regatta_scores.specs.KeptRanking.{IsRanking};
+ghost use Rattle.regatta_scores.specs.Lines.{line_by as line_of};
+ghost use Rattle.regatta_scores.specs.RaceScores.{no_score, scores_in as scores_of, ScoresAs};
 ghost use Rattle.regatta_scores.specs.Ranking.{BoatScores};
-ghost use Rattle.regatta_board.specs.Outcomes.{line as line_of};
 ghost use Rattle.regatta_board.specs.Refusals.{limits};
 ghost use Rattle.regatta_board.specs.Revisions.{revised, may_change_standing};
 ghost use Rattle.regatta_board.specs.Scoring.{IsScoring, AreNewScores, AreNewColumns};
 ghost use Rattle.regatta_board.specs.Scoring.{AreColumns, RemakesOneColumn, RemakesOnly};
-ghost use Rattle.regatta_board.specs.Scoring.{AreOfBoats, FitBoats, FitLines};
+ghost use Rattle.regatta_board.specs.Scoring.{AddsBoat, FitBoats, FitLines, IsPushed};
 ghost use Rattle.regatta_board.specs.Scoring.{lines_by, most_remade, with_columns, with_scores};
-ghost use Rattle.regatta_board.specs.Scoring.{with_changed, with_flags, with_lines, IsPushed};
+ghost use Rattle.regatta_board.specs.Scoring.{races_after, with_lines};
 ghost use Rattle.regatta_board.specs.Scoring.{touched_at};
-ghost use Rattle.regatta_board.specs.Table.{no_line, no_score, IsKept};
-ghost use Rattle.regatta_board.specs.Table.{scores as scores_of, lines as lines_of};
+ghost use Rattle.regatta_board.specs.Table.{no_line, races as races_of, IsKept};
+ghost use Rattle.regatta_board.specs.Table.{lines as lines_of};
 ghost use Rattle.regatta_board.specs.Table.{table as table_of};
 
-use crate::column::{
-    Column, CurrentColumn, NewColumns, all_columns, current, current_columns, new_columns,
-};
+use crate::column::{Column, NewColumns, all_columns, current, current_columns, new_columns};
 use crate::kept::{Draft, Kept, Revision};
-use crate::line::{all_lines, boat_line};
 use crate::table::{races, sorted_rows};
-use regatta_scores::{BoatLine, Items, RaceScore, Ranking, Standing, Work};
-use regatta_terms::{MAX_RACES, RaceNo, Rules, Touched};
+use regatta_scores::{
+    BoatLine, Items, NewLine, RaceColumn, RaceScore, Races, Ranking, Standing, Work, boat_line,
+};
+use regatta_terms::{MAX_BOATS, MAX_RACES, RaceNo, Rules, Touched};
 use std::alloc::{AllocError, Global};
 use std::marker::Model;
 use std::mem::swap;
 
-/// A column for each race, which is empty if the race doesn't count, a line for each boat, and the
-/// boats in order of rank.
+/// The races that count, a column for each race, which is empty if the race doesn't count, a line
+/// for each boat, and the boats in order of rank.
 #[derive(Drop)]
 pub(crate) struct Scoring {
+    races: Races,
     columns: Vec<Column>,
+    /// With room for all boats that a series may have.
     lines: Vec<BoatLine>,
     ranking: Ranking,
 }
 
 impl Model for Scoring {
+    ghost use Rattle.std.specs.Prelude.{◌≤◌, vec_capacity};
+    ghost use Rattle.regatta_board.specs.Refusals.{limits};
     ghost use Rattle.regatta_board.specs.Scoring as kept;
 
     ghost Value = { kept.Scoring };
 
     ghost view = { λ s. record {
+      races = s.races;
       columns = s.columns.items;
       lines = s.lines.items;
       ranking = s.ranking;
     } };
-}
 
-/// A boat's line that replaces the one before.
-#[derive(Drop)]
-pub struct NewLine {
-    /// The boat's number.
-    boat: usize,
-    line: BoatLine,
+    ghost invariant = { λ s. limits.boats ≤ vec_capacity s.lines };
 }
 
 /// The lines that a command recomputes.
 #[derive(Drop)]
 pub enum NewLines {
-    /// Those of the boats whose outcome in a race changed. The lines of the others stay.
+    /// Those of the boats whose score in a race changed in more than its abbreviation, in the order
+    /// of their numbers. The lines of the others stay.
     Changed { lines: Vec<NewLine> },
-    /// The lines of all boats.
+    /// That of one more boat. The lines of the others stay.
+    Added { line: BoatLine },
+    /// The lines of all boats, with room for all boats that a series may have.
     All { lines: Vec<BoatLine> },
 }
 
@@ -75,7 +78,7 @@ impl NewLines {
     {
         match self {
             NewLines::Changed { lines } => lines.is_empty(),
-            NewLines::All { .. } => false,
+            NewLines::Added { .. } | NewLines::All { .. } => false,
         }
     }
 }
@@ -90,74 +93,11 @@ pub struct Ranked {
 /// The scores that a command changes.
 #[derive(Drop)]
 pub struct NewScores {
+    /// `None` if the same races count.
+    races: Option<Races>,
     columns: NewColumns,
     /// `None` if no boat's line changes.
     ranked: Option<Ranked>,
-}
-
-fn references(alloc: Global, lines: &[BoatLine]) -> Result<Vec<&BoatLine>, AllocError>
-    ensures { IfOk result (λ each. lines_behind each.items ≡ lines.now) }
-{
-    let mut each = Vec::with_capacity(alloc, lines.len())?;
-    for line in lines {
-        each.push_reserved(line);
-    }
-    Ok(each)
-}
-
-/// References to the lines of all boats, after new ones replace the old ones.
-fn current_lines<'a>(
-    alloc: Global,
-    old: &'a [BoatLine],
-    new: &'a [NewLine],
-) -> Result<Vec<&'a BoatLine>, AllocError>
-    requires { AreOfBoats (length old.now) new.now }
-    ensures { IfOk result (λ each. lines_behind each.items ≡ with_changed old.now new.now) }
-{
-    let mut each = references(alloc, old)?;
-    for k in 0..new.len() {
-        each[new[k].boat] = &new[k].line;
-    }
-    Ok(each)
-}
-
-/// A flag for each boat who has a new line.
-fn flags_of(alloc: Global, boats: usize, new: &[NewLine]) -> Result<Vec<bool>, AllocError>
-    requires { AreOfBoats boats new.now }
-    ensures { IfOk result (λ flags. flags.items ≡ with_flags (replicate boats false) new.now) }
-{
-    let mut flags = vec![in alloc; false; boats]?;
-    for k in 0..new.len() {
-        flags[new[k].boat] = true;
-    }
-    Ok(flags)
-}
-
-/// The ranking, after new lines replace those of some boats.
-fn changed_ranking(
-    alloc: Global,
-    ranking: &Ranking,
-    old: &[BoatLine],
-    new: &[NewLine],
-) -> Result<Ranking, AllocError>
-    requires each { AreOfBoats (length old.now) new.now }
-    requires ranking { IsRanking old.now ranking.now }
-    ensures { IfOk result (IsRanking (with_changed old.now new.now)) }
-{
-    let each = current_lines(alloc, old, new)?;
-    let flags = flags_of(alloc, old.len(), new)?;
-    let made = ranking.after(alloc, &each, &flags)?;
-    Ok(made)
-}
-
-/// The ranking of all boats by new lines. `near` is the one before.
-fn whole_ranking(alloc: Global, near: &Ranking, lines: &[BoatLine]) -> Result<Ranking, AllocError>
-    requires { (old : List BoatScores) × IsRanking old near.now }
-    ensures { IfOk result (IsRanking lines.now) }
-{
-    let each = references(alloc, lines)?;
-    let made = Ranking::of(alloc, &each, near)?;
-    Ok(made)
 }
 
 /// The ranking of all boats, after new lines replace the old ones.
@@ -167,31 +107,35 @@ fn new_ranking(
     old: &[BoatLine],
     new: &NewLines,
 ) -> Result<Ranking, AllocError>
+    requires few { length old.now ≤ limits.boats }
     requires each { FitBoats old.now new.now }
     requires ranking { IsRanking old.now ranking.now }
     ensures { IfOk result (IsRanking (with_lines old.now new.now)) }
 {
     match new {
-        NewLines::Changed { lines } => changed_ranking(alloc, ranking, old, lines),
-        NewLines::All { lines } => whole_ranking(alloc, ranking, lines),
+        NewLines::Changed { lines } => ranking.after(alloc, old, lines),
+        NewLines::Added { line } => ranking.with_boat(alloc, old, line),
+        NewLines::All { lines } => Ranking::of(alloc, lines),
     }
 }
 
-/// Appends a boat's new line after one column is recomputed, unless her outcome in it is the same.
+/// Appends a boat's new line after one column is recomputed, unless a line takes the same of her
+/// scores in it.
 fn push_if_changed(
     made: &mut Vec<NewLine>,
     old: &RaceScore,
     new: &RaceScore,
-    columns: &[CurrentColumn<'_>],
+    columns: &[RaceColumn<'_>],
     boat: usize,
     rules: &Rules,
 ) -> Result<(), AllocError>
     requires within { All (λ column. boat < length column) columns.now }
     requires few { length columns.now ≤ MAX_RACES }
+    requires boat { boat < limits.boats }
     ensures { OnOk result (IsPushed rules.now columns.now boat old.now new.now made.old.items
         made.new.items) }
 {
-    if new == old {
+    if new.scores_as(old) {
         return Ok(());
     }
     push_line(made, columns, boat, rules)?;
@@ -203,40 +147,46 @@ fn push_if_changed(
 #[inline(never)]
 fn push_line(
     made: &mut Vec<NewLine>,
-    columns: &[CurrentColumn<'_>],
+    columns: &[RaceColumn<'_>],
     boat: usize,
     rules: &Rules,
 ) -> Result<(), AllocError>
     requires within { All (λ column. boat < length column) columns.now }
     requires few { length columns.now ≤ MAX_RACES }
+    requires boat { boat < limits.boats }
     ensures { OnOk result (made.new.items ≡ made.old.items ++ record {
       boat = boat;
       line = line_of rules.now (scores_of columns.now boat);
     } ∷ []) }
 {
     let line = boat_line(columns, boat, rules);
-    made.push(NewLine { boat, line })?;
+    made.push(NewLine {
+        boat: boat as u16,
+        line,
+    })?;
     Ok(())
 }
 
-/// The lines that change when one column is recomputed.
+/// The lines that change when one column is recomputed, in the order of the boats' numbers.
 fn changed_lines(
     alloc: Global,
     lines: &[BoatLine],
     old: &Column,
-    new: &CurrentColumn<'_>,
-    columns: &[CurrentColumn<'_>],
+    new: &RaceColumn<'_>,
+    columns: &[RaceColumn<'_>],
     rules: &Rules,
 ) -> Result<Vec<NewLine>, AllocError>
+    requires most { length lines.now ≤ limits.boats }
     requires even { All (λ column. length column ≡ length lines.now) columns.now }
     requires few { length columns.now ≤ MAX_RACES }
     requires old { length old.now ≡ length lines.now }
     requires new { length new.now ≡ length lines.now }
     requires stays { (boat : ℕ) → boat < length lines.now
-        → slice_index_or new.now boat no_score ≡ slice_index_or old.now boat no_score
+        → ScoresAs (slice_index_or new.now boat no_score) (slice_index_or old.now boat no_score)
         → slice_index_or lines.now boat no_line
         ≡ line_of rules.now (scores_of columns.now boat) }
     ensures each { IfOk result (λ made. AreOfBoats (length lines.now) made.items) }
+    ensures fewer { IfOk result (λ made. length made.items ≤ length lines.now) }
     ensures value { IfOk result (λ made. with_changed lines.now made.items
         ≡ lines_of rules.now columns.now (length lines.now)) }
 {
@@ -254,23 +204,45 @@ fn changed_lines(
     Ok(made)
 }
 
+/// The lines of all boats, with room for all boats that a series may have.
+fn whole_lines(
+    alloc: Global,
+    columns: &[RaceColumn<'_>],
+    boats: usize,
+    rules: &Rules,
+) -> Result<Vec<BoatLine>, AllocError>
+    requires most { boats ≤ limits.boats }
+    requires even { All (λ column. length column ≡ boats) columns.now }
+    requires few { length columns.now ≤ MAX_RACES }
+    ensures value { IfOk result (λ lines. lines.items ≡ lines_of rules.now columns.now boats) }
+    ensures room { IfOk result (λ lines. limits.boats ≤ vec_capacity lines) }
+{
+    let mut lines = Vec::with_capacity(alloc, MAX_BOATS)?;
+    for boat in 0..boats {
+        lines.push_reserved(boat_line(columns, boat, rules));
+    }
+    Ok(lines)
+}
+
 /// Computes the lines of all boats from these columns.
 fn drafted_lines(
     alloc: Global,
     draft: &Draft,
     old: &[Column],
     new: &NewColumns,
+    races: &[RaceNo],
     rules: &Rules,
 ) -> Result<Vec<BoatLine>, AllocError>
     requires kept { IsKept draft.now }
     requires old { length old.now ≡ MAX_RACES }
     requires new { length (with_columns old.now new.now) ≡ MAX_RACES }
     requires columns { AreColumns rules.now draft.now (with_columns old.now new.now) }
-    ensures { IfOk result (λ lines. lines.items ≡ lines_by rules.now draft.now) }
+    requires races { races.now ≡ races_of draft.now.counts }
+    ensures value { IfOk result (λ lines. lines.items ≡ lines_by rules.now draft.now) }
+    ensures room { IfOk result (λ lines. limits.boats ≤ vec_capacity lines) }
 {
-    let races = races(alloc, draft)?;
-    let found = current_columns(alloc, old, new, &races)?;
-    let lines = all_lines(alloc, &found, draft.boats().len(), rules)?;
+    let found = current_columns(alloc, old, new, races)?;
+    let lines = whole_lines(alloc, &found, draft.boats().len(), rules)?;
     Ok(lines)
 }
 
@@ -294,8 +266,7 @@ fn remade_lines(
     ensures value { IfOk result (λ new.
         with_lines scoring.now.lines new ≡ lines_by rules.now (revised kept.now revision.now)) }
 {
-    let races = races(alloc, &Draft::new(kept, revision))?;
-    let found = current_columns(alloc, &scoring.columns, columns, &races)?;
+    let found = current_columns(alloc, &scoring.columns, columns, scoring.races.as_slice())?;
     let old = &scoring.columns[race.get() as usize - 1];
     let new = current(&scoring.columns, columns, race);
     let lines = changed_lines(alloc, &scoring.lines, old, &new, &found, rules)?;
@@ -309,25 +280,62 @@ fn new_lines(
     kept: &Kept,
     revision: &Revision,
     columns: &NewColumns,
+    races: &[RaceNo],
     rules: &Rules,
 ) -> Result<NewLines, AllocError>
     requires kept { IsKept kept.now }
     requires next { IsKept (revised kept.now revision.now) }
     requires scoring { IsScoring rules.now kept.now scoring.now }
     requires touched { may_change_standing kept.now revision.now ≡ true }
+    requires adds { AddsBoat kept.now revision.now }
     requires new { AreNewColumns rules.now kept.now (revised kept.now revision.now) columns.now }
     requires one { RemakesOneColumn rules.now revision.now columns.now }
+    requires races { races.now ≡ races_of (revised kept.now revision.now).counts }
     ensures each { IfOk result (FitBoats scoring.now.lines) }
     ensures value { IfOk result (λ new.
         with_lines scoring.now.lines new ≡ lines_by rules.now (revised kept.now revision.now)) }
 {
-    if let Revision::Sheet { race, .. } = revision {
-        let lines = remade_lines(alloc, scoring, kept, revision, *race, columns, rules)?;
-        return Ok(lines);
+    match revision {
+        Revision::Sheet { race, .. } => {
+            let lines = remade_lines(alloc, scoring, kept, revision, *race, columns, rules)?;
+            Ok(lines)
+        }
+        // Until a race counts, a boat's line is empty.
+        Revision::Enter { .. } if races.is_empty() => Ok(NewLines::Added {
+            line: boat_line(&[], kept.boats(), rules),
+        }),
+        Revision::Enter { .. } | Revision::Counts { .. } => {
+            let draft = Draft::new(kept, revision);
+            let lines = drafted_lines(alloc, &draft, &scoring.columns, columns, races, rules)?;
+            Ok(NewLines::All { lines })
+        }
     }
-    let draft = Draft::new(kept, revision);
-    let lines = drafted_lines(alloc, &draft, &scoring.columns, columns, rules)?;
-    Ok(NewLines::All { lines })
+}
+
+/// The races that count after a revision, if it changes which do.
+fn new_races(alloc: Global, kept: &Kept, revision: &Revision) -> Result<Option<Races>, AllocError>
+    requires { IsKept (revised kept.now revision.now) }
+    ensures { IfOk result (λ new. races_after (races_of kept.now.counts) new
+        ≡ races_of (revised kept.now revision.now).counts) }
+{
+    match revision {
+        Revision::Counts { .. } => {
+            let races = races(alloc, &Draft::new(kept, revision))?;
+            Ok(Some(Items::new(races)))
+        }
+        Revision::Enter { .. } => Ok(None),
+        Revision::Sheet { .. } => Ok(None),
+    }
+}
+
+/// The races that count, after new ones, if there are any, replace the old ones.
+fn current_races<'a>(old: &'a Races, new: &'a Option<Races>) -> &'a [RaceNo]
+    ensures { result.now ≡ races_after old.now new.now }
+{
+    match new {
+        Some(new) => new.as_slice(),
+        None => old.as_slice(),
+    }
 }
 
 /// Computes what a revision changes of the scores.
@@ -341,6 +349,7 @@ pub(crate) fn new_scores(
 ) -> Result<NewScores, AllocError>
     requires kept { IsKept kept.now }
     requires next { IsKept (revised kept.now revision.now) }
+    requires adds { AddsBoat kept.now revision.now }
     requires scoring { IsScoring rules.now kept.now scoring.now }
     requires work { work.old + MAX_RACES < 2 ^ 32 }
     ensures value { IfOk result
@@ -350,23 +359,36 @@ pub(crate) fn new_scores(
 {
     if !kept.may_change_standing(revision) {
         return Ok(NewScores {
+            races: None,
             columns: NewColumns::Same,
             ranked: None,
         });
     }
     let columns = new_columns(alloc, kept, revision, rules, work)?;
-    let lines = new_lines(alloc, scoring, kept, revision, &columns, rules)?;
+    let races = new_races(alloc, kept, revision)?;
+    let current = current_races(&scoring.races, &races);
+    let lines = new_lines(alloc, scoring, kept, revision, &columns, current, rules)?;
     if lines.is_empty() {
         return Ok(NewScores {
+            races,
             columns,
             ranked: None,
         });
     }
     let ranking = new_ranking(alloc, &scoring.ranking, &scoring.lines, &lines)?;
     Ok(NewScores {
+        races,
         columns,
         ranked: Some(Ranked { lines, ranking }),
     })
+}
+
+fn put_races(races: &mut Races, new: Option<Races>)
+    ensures { races.new ≡ races_after races.old new }
+{
+    if let Some(new) = new {
+        *races = new;
+    }
 }
 
 fn put_columns(columns: &mut Vec<Column>, new: NewColumns)
@@ -388,22 +410,26 @@ fn put_line(line: &mut BoatLine, new: &mut BoatLine)
 }
 
 fn put_changed(lines: &mut [BoatLine], new: Vec<NewLine>)
-    requires { AreOfBoats (length lines.old) new.items }
+    requires { AreWithin (length lines.old) new.items }
     ensures { lines.new ≡ with_changed lines.old new.items }
 {
     let mut changed = new;
     for k in 0..changed.len() {
-        let boat = changed[k].boat;
+        let boat = changed[k].boat as usize;
         put_line(&mut lines[boat], &mut changed[k].line);
     }
 }
 
+/// Moves new lines in. It doesn't allocate.
 fn put_lines(lines: &mut Vec<BoatLine>, new: NewLines)
-    requires { FitBoats lines.old.items new }
-    ensures { lines.new.items ≡ with_lines lines.old.items new }
+    requires each { FitBoats lines.old.items new }
+    requires room { limits.boats ≤ vec_capacity lines.old }
+    ensures value { lines.new.items ≡ with_lines lines.old.items new }
+    ensures room { limits.boats ≤ vec_capacity lines.new }
 {
     match new {
         NewLines::Changed { lines: changed } => put_changed(lines, changed),
+        NewLines::Added { line } => lines.push_reserved(line),
         NewLines::All { lines: all } => *lines = all,
     }
 }
@@ -415,10 +441,12 @@ impl Scoring {
         ensures { IfOk result (IsScoring rules.now kept.now) }
     {
         let draft = Draft::of(kept);
+        let races = races(alloc, &draft)?;
         let columns = all_columns(alloc, &draft, rules, &mut Work::new())?;
-        let lines = drafted_lines(alloc, &draft, &columns, &NewColumns::Same, rules)?;
-        let ranking = whole_ranking(alloc, &Ranking::new(alloc), &lines)?;
+        let lines = drafted_lines(alloc, &draft, &columns, &NewColumns::Same, &races, rules)?;
+        let ranking = Ranking::of(alloc, &lines)?;
         Ok(Scoring {
+            races: Items::new(races),
             columns,
             lines,
             ranking,
@@ -430,8 +458,14 @@ impl Scoring {
         requires each { FitLines self.old.lines new.ranked }
         ensures { self.new ≡ with_scores self.old new }
     {
-        put_columns(&mut self.columns, new.columns);
-        if let Some(Ranked { lines, ranking }) = new.ranked {
+        let NewScores {
+            races,
+            columns,
+            ranked,
+        } = new;
+        put_races(&mut self.races, races);
+        put_columns(&mut self.columns, columns);
+        if let Some(Ranked { lines, ranking }) = ranked {
             put_lines(&mut self.lines, lines);
             self.ranking = ranking;
         }
@@ -460,10 +494,17 @@ impl Scoring {
             → IsScoring rules kept.now self.now → made ≡ table_of rules kept.now) }
     {
         let draft = Draft::of(kept);
-        let races = races(alloc, &draft)?;
+        let races = Vec::from_slice(alloc, self.races.as_slice())?;
         let found = current_columns(alloc, &self.columns, &NewColumns::Same, &races)?;
         let places = self.ranking.places(alloc, &self.lines)?;
-        let rows = sorted_rows(alloc, &found, draft.boats(), &self.lines, places.as_slice())?;
+        let rows = sorted_rows(
+            alloc,
+            self.ranking.order(),
+            &found,
+            draft.boats(),
+            &self.lines,
+            places.as_slice(),
+        )?;
         Ok(Standing {
             races: Items::new(races),
             rows: Items::new(rows),

@@ -1,6 +1,6 @@
 -- What contracts see of a pass, and what holds of each.
 use Rattle.std.specs.Prelude.{◌≡◌, ℕ, ◌-◌, ◌<◌, ◌≤◌, List, [], ◌∷◌, ◌++◌, length, slice_get, Some}
-use Rattle.std.specs.Prelude.{IsTrue, All}
+use Rattle.std.specs.Prelude.{IsTrue, IfSome, All}
 use mathlib.Core.List.{IsPrefix}
 use Rattle.atomic_table.specs.Seated.{TableId}
 use Rattle.regatta_terms.specs.Entries.{EntryParts, is_seat}
@@ -9,9 +9,11 @@ use Rattle.regatta_terms.specs.declared.command.Command.{Command}
 use Rattle.regatta_terms.specs.declared.command.Role.{Role}
 use Rattle.regatta_scores.specs.Journal.{Journal}
 use Rattle.regatta_board.specs.Refusals.{next_entry}
+use Rattle.regatta_tables.specs.ShownText.{IsTextOfFirst}
 use Rattle.regatta_watch.specs.Views.{journal_of, Names}
 use Rattle.regatta_watch.specs.declared.publication.ReaderView.{ReaderView}
 use Rattle.regatta_desk.specs.Receipts.{EndsWith}
+use Rattle.regatta_desk.specs.declared.last_sheet.LastSheet.{LastSheet}
 use Rattle.regatta_desk.specs.declared.pass.Seen.{Seen}
 use Rattle.regatta_desk.specs.declared.told.Told.{Told}
 
@@ -51,14 +53,21 @@ pub record IsTold (history : TableId) (told : Told) : Type 0 where
   pub longest : IsKnown told.listener.longest told.length told.last
   pub each : All (λ j. IsPrefix j told.listener.longest) told.listener.told
 
+-- what is kept of a sheet of this journal: its ledger, or none, and the text of its first entries
+pub record IsLastSheet (rules : RulesParts) (journal : Journal) (sheet : LastSheet) : Type 0 where
+  pub ledger : IfSome sheet.ledger (λ l. l ≡ record { rules = rules; entries = journal })
+  pub text : IsTextOfFirst journal sheet.text
+
 -- what holds of each pass of the office with these rules and this history: its watcher sees no less
--- than the pass has seen, and it was told of journals of this history
+-- than the pass has seen, what it keeps of its last sheet is of the journal that it has seen, and it
+-- was told of journals of this history
 pub record IsPass (rules : RulesParts) (history : TableId) (seat : ℕ) (watcher : ReaderView)
-    (seen : Seen) (told : Told) (shared : TableId) : Type 0 where
+    (seen : Seen) (sheet : LastSheet) (told : Told) (shared : TableId) : Type 0 where
   pub seated : IsTrue (is_seat seat)
   pub front : IsPrefix (seen_of seen) watcher.seen
   pub noted : seen.journal.note.history ≡ history
   pub sees : seen.length ≡ length (seen_of seen)
   pub names : Names watcher rules history
+  pub keeps : IsLastSheet rules (seen_of seen) sheet
   pub heard : IsTold history told
   pub shares : shared ≡ history

@@ -12,7 +12,6 @@ ghost use Rattle.regatta_desk.specs.Replies.{DeskReplies, PassReplies};
 
 use crate::desk::Desk;
 use crate::pass::Pass;
-use regatta_tables::write_sheet;
 use regatta_talk::{answer_apart, make_room, ranked, reply_of, write_fitting};
 use regatta_terms::{Line, LineFault, Refusal, Reply, Role, Sail};
 use regatta_watch::{OfficeName, ShowFault};
@@ -101,8 +100,7 @@ fn show<N: OfficeName>(pass: &mut Pass<N>, out: &mut Vec<u8>)
 {
     let reply = match pass.show() {
         Ok(sheet) => {
-            let written = write_sheet(sheet.journal.as_slice(), &sheet.standing, out);
-            if written.is_ok() {
+            if pass.write(&sheet, out).is_ok() {
                 return;
             }
             Reply::Refused(Refusal::NoMemory)

@@ -4,6 +4,7 @@
 
 mod answers;
 mod desk;
+mod last_sheet;
 mod office;
 mod opening;
 mod pass;

@@ -63,34 +63,6 @@ whole_reads bytes none =
     in
     ap (λ (ls : List (List ℕ)). line_of (get_or ls 0 [])) lines ∙ heard_reads bytes
 
--- none of the bytes ends the line
-no_end_at : (bytes : List ℕ) (i : ℕ) (d : ℕ) → i < length bytes
-    → list_any is_line_end bytes ≡ false → is_line_end (get_or bytes i d) ≡ false
-no_end_at [] i d below none = absurd (omega (arith, below))
-no_end_at (byte ∷ bytes) i d below none =
-    by (is_line_end byte) refl none i below (λ j lt rest. no_end_at bytes j d lt rest)
-  where
-    by : (b : Bool) → is_line_end byte ≡ b → (b || list_any is_line_end bytes) ≡ false
-        → (i : ℕ) → i < suc (length bytes)
-        → ((j : ℕ) → j < length bytes → list_any is_line_end bytes ≡ false
-        → is_line_end (get_or bytes j d) ≡ false)
-        → is_line_end (get_or (byte ∷ bytes) i d) ≡ false
-    by true is none i below more = absurd cc
-    by false is none zero below more = is
-    by false is none (suc j) below more = more j (omega (arith, below)) none
-
--- one byte more of a slice
-pub fold_heard : (line bytes so_far new : List ℕ) (i byte d : ℕ) → i < length bytes
-    → list_any is_line_end bytes ≡ false → byte ≡ get_or bytes i d
-    → so_far ≡ fold heard_with line (take i bytes)
-    → new ≡ cond (is_line_end byte) so_far (heard_with so_far byte)
-    → new ≡ fold heard_with line (take (i + 1) bytes)
-fold_heard line bytes so_far new i byte d below none item is took =
-    let goes : is_line_end byte ≡ false = ap is_line_end item ∙ no_end_at bytes i d below none in
-    took ∙ ap (λ (b : Bool). cond b so_far (heard_with so_far byte)) goes
-    ∙ (λ j. heard_with (is j) (item j))
-    ∙ sym (fold_more heard_with line bytes i d below)
-
 -- a line without bytes
 empty_reads : line_of [] ≡ Err NoSuchWord
 unfolding line_of line_of_words

@@ -9,6 +9,5 @@ pub mod Refused
 pub mod Results
 pub mod Saying
 mod Seats
-pub mod ShownFacts
 pub mod Streams
 pub mod Whole

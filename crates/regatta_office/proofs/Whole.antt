@@ -11,14 +11,14 @@ use Rattle.regatta_streams.proofs.KnownBytes.{appends-none}
 use Rattle.regatta_office.specs.declared.form.Form.{Form}
 use Rattle.regatta_office.specs.Coming.{Cuts, IsTooLong, IsWithin, Stops, Point, ReadSome, Said}
 use Rattle.regatta_office.specs.Coming.{coming, said}
-use Rattle.regatta_terms.specs.TextLines.{ended_lines, lines_by}
-use Rattle.regatta_office.specs.Transcript.{EndsWithin, WroteSome, final_journal, final_text}
+use Rattle.regatta_terms.specs.TextLines.{ended_lines, lines, lines_by}
+use Rattle.regatta_office.specs.Transcript.{EndsWithin, WroteSome, final_text, talk_at_end}
 use Rattle.regatta_office.specs.Transcript.{has_quit, opening, replies, run_text, up_to_quit}
-use Rattle.regatta_office.specs.Transcript.{transcript, transcript_so_far}
+use Rattle.regatta_office.specs.Transcript.{transcript}
 use Rattle.regatta_office.proofs.Saying.{coming-whole}
 
 -- no line has ended in no text
-nothing_said : (rules : RulesParts) (start : Journal) → transcript_so_far rules start [] ≡ []
+nothing_said : (rules : RulesParts) (start : Journal) → transcript rules start (ended_lines []) ≡ []
 unfolding up_to_quit replies
 nothing_said rules start = refl
 
@@ -59,16 +59,17 @@ module _ (rules : RulesParts) (start : Journal) (board : BoardValue) (p : Point)
       let said_is = at_start true text in
       let rules_are : last.rules ≡ rules = same ∙ ap (λ (q : Point). q.rules) e
       ∙ ap (λ (v : BoardValue). v.rules) b in
-      let written : (coming true p text).text ≡ transcript rules start text = ap
+      let written : (coming true p text).text ≡ transcript rules start (lines text) = ap
       (λ (s : Said). s.text) said_is in
-      let journal_is : last.entries ≡ final_journal rules start text = carried ∙ after
+      let journal_is : last.entries
+      ≡ (talk_at_end rules (opening start) (up_to_quit (lines text))).journal = carried ∙ after
       ∙ ap (λ (s : Said). s.journal) said_is in
       subst (P c f) (λ i. written i ++ final_text (rules_are i) form (journal_is i))
       (join c d f (coming true p text).text (final_text last.rules form last.entries) wrote ends)
 
   pub read_broken : (a a' c d : Option (List ℕ))
       → ReadSome a a' c d (λ given. (coming false p given).text)
-      → ReadSome a a' c d (transcript_so_far rules start)
+      → ReadSome a a' c d (λ text. transcript rules start (ended_lines text))
   read_broken a a' c d (given, took, wrote) = (
     given,
     took,
@@ -78,7 +79,7 @@ module _ (rules : RulesParts) (start : Journal) (board : BoardValue) (p : Point)
   pub text_too_long : (a c d : Option (List ℕ)) (most : ℕ)
       → IfSome a (λ text. IsTooLong c d p most text)
       → IfSome a (λ text. (most < length text) × (has_quit (ended_lines (take most text)) ≡ false)
-      × Appends c d (transcript_so_far rules start (take most text)))
+      × Appends c d (transcript rules start (ended_lines (take most text))))
   text_too_long None c d most is = tt
   text_too_long (Some text) c d most is =
       let said_is = at_start false (take most text) in (
@@ -99,8 +100,8 @@ module _ (rules : RulesParts) (start : Journal) (board : BoardValue) (p : Point)
       → IfSome a (λ text. AppendsPrefix c d (run_text rules start form text))
   whole_cut None c d form k = tt
   whole_cut (Some text) c d form k =
-      prefix-longer c d (transcript rules start text)
-      (final_text rules form (final_journal rules start text))
+      prefix-longer c d (transcript rules start (lines text))
+      (final_text rules form (talk_at_end rules (opening start) (up_to_quit (lines text))).journal)
       (subst (λ (s : Said). AppendsPrefix c d s.text) (at_start true text) k)
 
   pub whole_stop : (a c d : Option (List ℕ)) → IfSome a (Stops c d p)

@@ -17,15 +17,14 @@ abbrev pub scribe_fault : ScribeFault → RunFault
 scribe_fault scribe.Write = Write
 scribe_fault scribe.NoMemory = NoMemory
 
--- a fault after the start, with the failures of the reader and the writer, before and after: a
--- failed device is reported as its own fault and as nothing else
-abbrev pub IsDeviceFault : ℕ → ℕ → ℕ → ℕ → RunFault → Type 0
-IsDeviceFault reads reads' writes writes' Read = (reads' ≡ reads + 1) × (writes' ≡ writes)
-IsDeviceFault reads reads' writes writes' Write = (reads' ≡ reads) × (writes' ≡ writes + 1)
-IsDeviceFault reads reads' writes writes' (Start at why) = ⊥
-IsDeviceFault reads reads' writes writes' _ = (reads' ≡ reads) × (writes' ≡ writes)
-
--- the same for a whole run: no device fails if the start is at fault
+-- a fault of a run, with the failures of the reader and the writer, before and after: a failed
+-- device is reported as its own fault and as nothing else
 abbrev pub IsRunFaultOf : ℕ → ℕ → ℕ → ℕ → RunFault → Type 0
-IsRunFaultOf reads reads' writes writes' (Start at why) = (reads' ≡ reads) × (writes' ≡ writes)
-IsRunFaultOf reads reads' writes writes' fault = IsDeviceFault reads reads' writes writes' fault
+IsRunFaultOf reads reads' writes writes' Read = (reads' ≡ reads + 1) × (writes' ≡ writes)
+IsRunFaultOf reads reads' writes writes' Write = (reads' ≡ reads) × (writes' ≡ writes + 1)
+IsRunFaultOf reads reads' writes writes' _ = (reads' ≡ reads) × (writes' ≡ writes)
+
+-- the same for a fault after the start
+abbrev pub IsDeviceFault : ℕ → ℕ → ℕ → ℕ → RunFault → Type 0
+IsDeviceFault reads reads' writes writes' (Start at why) = ⊥
+IsDeviceFault reads reads' writes writes' fault = IsRunFaultOf reads reads' writes writes' fault

@@ -6,7 +6,6 @@ pub mod Faults
 pub mod KeptStarts
 pub mod Runs
 pub mod Scribes
-pub mod ShownText
 pub mod Starts
 pub mod Transcript
 pub mod Words

@@ -2,7 +2,6 @@
 use Rattle.std.specs.Prelude.{◌≡◌, ◌⊎◌, length, take, ℕ, ◌≤◌, Bool, true, false, List, []}
 use Rattle.std.specs.Prelude.{◌∷◌, ◌++◌, Option, Result, Ok, Err, if◌then◌else◌}
 use Rattle.std.specs.Io.KnownBytes.{Appends}
-use Rattle.regatta_terms.specs.Entries.{EntryParts}
 use Rattle.regatta_terms.specs.Lines.{line_of}
 use Rattle.regatta_terms.specs.Rules.{RulesParts}
 use Rattle.regatta_terms.specs.declared.command.Command.{Command}
@@ -14,6 +13,7 @@ use Rattle.regatta_terms.specs.declared.line.LineFault.{LineFault}
 use Rattle.regatta_terms.specs.declared.reply.Refusal.{Refusal}
 use Rattle.regatta_terms.specs.declared.reply.Refusal.TheVariants.{NoMemory}
 use Rattle.regatta_terms.specs.declared.reply.Reply.{Reply}
+use Rattle.regatta_terms.specs.declared.reply.Reply.TheVariants.{RoleSet, Bye, Fault}
 use Rattle.regatta_scores.specs.Journal.{Journal}
 use Rattle.regatta_scores.specs.Standing.{standing}
 use Rattle.regatta_board.specs.Answers.{rank_of}
@@ -27,7 +27,7 @@ use Rattle.regatta_tables.specs.TableTexts.{table_text}
 use Rattle.regatta_office.specs.declared.form.Form.{Form}
 use Rattle.regatta_office.specs.declared.form.Form.TheVariants as form
 use Rattle.regatta_terms.specs.TextLines.{lines, ended_lines}
-use Rattle.regatta_talk.specs.Replies.{ranked, reply_apart, reply_of}
+use Rattle.regatta_talk.specs.Replies.{ranked, reply_of}
 
 -- the state of a run: the role of the next lines, and the journal so far
 pub record Talk : Type 0 where
@@ -40,53 +40,45 @@ opening start = record { role = Scorer; journal = start }
 
 -- ---- one line
 
--- the entry that a command makes: from the seat of a replay, in the current role
-abbrev pub entry_of : Talk → Command → EntryParts
-entry_of talk command = sent talk.journal talk.role command
+-- why a command is refused, from the seat of a replay and in the current role
+abbrev pub refusal_of : RulesParts → Talk → Command → Option Refusal
+refusal_of rules talk command =
+    refusal limits rules talk.journal (sent talk.journal talk.role command)
 
 -- running out of memory ends a run: it has no reply
 abbrev pub is_want_of_memory : Refusal → Bool
 is_want_of_memory NoMemory = true
 is_want_of_memory _ = false
 
--- why a command is refused
-abbrev pub refusal_of : RulesParts → Talk → Command → Option Refusal
-refusal_of rules talk command = refusal limits rules talk.journal (entry_of talk command)
-
 -- the reply to a command
 abbrev pub reply_to : RulesParts → Talk → Command → Reply
 reply_to rules talk command =
-    reply_of (reply_by rules talk.journal (entry_of talk command) (refusal_of rules talk command))
+    reply_of
+    (reply_by rules talk.journal (sent talk.journal talk.role command)
+    (refusal_of rules talk command))
 
 -- the journal after a command
 abbrev pub journal_after : RulesParts → Talk → Command → Journal
 journal_after rules talk command =
-    journal_by talk.journal (entry_of talk command) (refusal_of rules talk command)
+    journal_by talk.journal (sent talk.journal talk.role command) (refusal_of rules talk command)
 
--- the text to write for a line that can be read
-abbrev pub text_for : RulesParts → Talk → Line → List ℕ
-text_for rules talk (Do command) = reply_text (reply_to rules talk command)
-text_for rules talk (SetRole role) = reply_text (reply_apart (Ok (SetRole role)))
-text_for rules talk (Rank sail) = reply_text (ranked (rank_of rules talk.journal sail))
-text_for rules talk Show = sheet_text talk.journal (standing rules talk.journal)
-text_for rules talk Quit = reply_text (reply_apart (Ok Quit))
-
--- the state of the run after it
-abbrev pub talk_for : RulesParts → Talk → Line → Talk
-talk_for rules talk (Do command) = record talk { journal = journal_after rules talk command }
-talk_for rules talk (SetRole role) = record talk { role = role }
-talk_for rules talk (Rank sail) = talk
-talk_for rules talk Show = talk
-talk_for rules talk Quit = talk
-
--- the same for a line that may have a fault
+-- the text to write for a line, or for its fault
 abbrev pub text_after : RulesParts → Talk → Result Line LineFault → List ℕ
-text_after rules talk (Ok line) = text_for rules talk line
-text_after rules talk (Err fault) = reply_text (reply_apart (Err fault))
+text_after rules talk (Ok (Do command)) = reply_text (reply_to rules talk command)
+text_after rules talk (Ok (SetRole role)) = reply_text (RoleSet role)
+text_after rules talk (Ok (Rank sail)) = reply_text (ranked (rank_of rules talk.journal sail))
+text_after rules talk (Ok Show) = sheet_text talk.journal (standing rules talk.journal)
+text_after rules talk (Ok Quit) = reply_text Bye
+text_after rules talk (Err fault) = reply_text (Fault fault)
 
 -- the state of the run after it
 abbrev pub talk_after : RulesParts → Talk → Result Line LineFault → Talk
-talk_after rules talk (Ok line) = talk_for rules talk line
+talk_after rules talk (Ok (Do command)) =
+    record talk { journal = journal_after rules talk command }
+talk_after rules talk (Ok (SetRole role)) = record talk { role = role }
+talk_after rules talk (Ok (Rank sail)) = talk
+talk_after rules talk (Ok Show) = talk
+talk_after rules talk (Ok Quit) = talk
 talk_after rules talk (Err fault) = talk
 
 -- whether a line ends the run
@@ -121,19 +113,9 @@ talk_at_end rules talk (line ∷ rest) =
 
 -- ---- a whole text, from a journal on
 
--- the replies to the lines of the text
-abbrev pub transcript : RulesParts → Journal → List ℕ → List ℕ
-transcript rules start text = replies rules (opening start) (up_to_quit (lines text))
-
--- the replies to the lines that have ended, if more of the text may come
-abbrev pub transcript_so_far : RulesParts → Journal → List ℕ → List ℕ
-transcript_so_far rules start text =
-    replies rules (opening start) (up_to_quit (ended_lines text))
-
--- the journal after the text
-abbrev pub final_journal : RulesParts → Journal → List ℕ → Journal
-final_journal rules start text =
-    (talk_at_end rules (opening start) (up_to_quit (lines text))).journal
+-- the replies to lines, up to the first QUIT
+abbrev pub transcript : RulesParts → Journal → List (List ℕ) → List ℕ
+transcript rules start lines = replies rules (opening start) (up_to_quit lines)
 
 -- a journal as its table, its results as CSV, or its own text
 abbrev pub final_text : RulesParts → Form → Journal → List ℕ
@@ -144,7 +126,9 @@ final_text rules form.Journal journal = journal_text journal
 -- all that a run writes: the transcript, and then the final journal in the form asked for
 abbrev pub run_text : RulesParts → Journal → Form → List ℕ → List ℕ
 run_text rules start form text =
-    transcript rules start text ++ final_text rules form (final_journal rules start text)
+    transcript rules start (lines text)
+    ++ final_text rules form
+    (talk_at_end rules (opening start) (up_to_quit (lines text))).journal
 
 -- a text is no longer than `most` bytes, or a QUIT is among the lines that end within them
 abbrev pub EndsWithin : ℕ → List ℕ → Type 0
@@ -154,5 +138,5 @@ EndsWithin most text = (length text ≤ most) ⊎ (has_quit (ended_lines (take m
 -- it, or for all of them
 abbrev pub WroteSome : RulesParts → Journal → Option (List ℕ) → Option (List ℕ) → List ℕ → Type 0
 WroteSome rules start old new text =
-    ((n : ℕ) × Appends old new (transcript_so_far rules start (take n text)))
-    ⊎ Appends old new (transcript rules start text)
+    ((n : ℕ) × Appends old new (transcript rules start (ended_lines (take n text))))
+    ⊎ Appends old new (transcript rules start (lines text))

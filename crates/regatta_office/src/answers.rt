@@ -1,12 +1,12 @@
 //! Carries out the lines of a replay, and answers them.
-ghost use Rattle.std.specs.Prelude.{◌≡◌, ◌++◌, IfOk, OnOk, OnErr};
+ghost use Rattle.std.specs.Prelude.{◌≡◌, ◌++◌, Ok, IfOk, OnOk, OnErr};
 ghost use Rattle.regatta_board.specs.Answers.{rank_of};
 ghost use Rattle.regatta_tables.specs.ReplyTexts.{reply_text};
 ghost use Rattle.regatta_talk.specs.Replies.{ranked as ranked_by};
-ghost use Rattle.regatta_office.specs.Transcript.{entry_of as entry_by, is_quit as is_quit_of};
+ghost use Rattle.regatta_board.specs.Runs.{sent};
+ghost use Rattle.regatta_office.specs.Transcript.{is_quit as is_quit_of};
 ghost use Rattle.regatta_office.specs.Transcript.{is_want_of_memory as is_want_of_memory_by};
-ghost use Rattle.regatta_office.specs.Transcript.{journal_after, reply_to, talk_after, talk_for};
-ghost use Rattle.regatta_office.specs.Transcript.{text_after, text_for};
+ghost use Rattle.regatta_office.specs.Transcript.{journal_after, reply_to, talk_after, text_after};
 
 use crate::shown::Shown;
 use regatta_board::{REPLAY_SEAT, next_entry};
@@ -15,8 +15,7 @@ use regatta_terms::{Command, Entry, Line, LineFault, Refusal, Reply, Role, Sail}
 use std::alloc::AllocError;
 
 fn entry_of(board: &Shown, role: Role, command: Command) -> Entry
-    ensures { result
-        ≡ entry_by (record { role = role; journal = board.now.entries }) command }
+    ensures { result ≡ sent board.now.entries role command }
 {
     next_entry(REPLAY_SEAT, board.last_of(REPLAY_SEAT), role, command)
 }
@@ -87,11 +86,11 @@ fn answer_line(
     line: Line,
     out: &mut Vec<u8>,
 ) -> Result<(), AllocError>
-    ensures text { OnOk result (out.new.items ≡ out.old.items ++ text_for board.old.rules
-        (record { role = role.old; journal = board.old.entries }) line) }
+    ensures text { OnOk result (out.new.items ≡ out.old.items ++ text_after board.old.rules
+        (record { role = role.old; journal = board.old.entries }) (Ok line)) }
     ensures talk { OnOk result ((record { role = role.new; journal = board.new.entries })
-        ≡ talk_for board.old.rules
-        (record { role = role.old; journal = board.old.entries }) line) }
+        ≡ talk_after board.old.rules
+        (record { role = role.old; journal = board.old.entries }) (Ok line)) }
     ensures rules { OnOk result (board.new.rules ≡ board.old.rules) }
     ensures err { OnErr result ((board.new ≡ board.old) × (role.new ≡ role.old)
         × (out.new.items ≡ out.old.items)) }

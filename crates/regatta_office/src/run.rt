@@ -15,7 +15,7 @@ ghost use Rattle.regatta_terms.specs.TextLines.{ended_lines};
 ghost use Rattle.regatta_office.specs.Scribes.{point};
 ghost use Rattle.regatta_office.specs.Starts.{IsRunFault};
 ghost use Rattle.regatta_office.specs.Transcript.{EndsWithin, WroteSome, has_quit, run_text};
-ghost use Rattle.regatta_office.specs.Transcript.{transcript_so_far};
+ghost use Rattle.regatta_office.specs.Transcript.{transcript};
 
 use crate::final_part::print_final;
 use crate::form::Form;
@@ -77,6 +77,7 @@ fn turn<R: Source, W: Sink>(
     input: &mut R,
     output: &mut W,
     most: usize,
+    buffer: &mut [u8; PIECE],
 ) -> Result<Option<usize>, RunFault>
     requires { most ≤ INPUT_LIMIT }
     ensures talked { IfOk result (λ count. Talked (R.remaining input.old) (R.remaining input.new)
@@ -101,7 +102,6 @@ fn turn<R: Source, W: Sink>(
         (λ text. IsTooLong (W.contents output.old) (W.contents output.new) (point scribe.old)
         most text) }
 {
-    let mut buffer = [0; PIECE];
     let piece = &mut buffer[..PIECE.min(most + 1)];
     let Ok(count) = input.read(piece) else {
         return Err(RunFault::Read);
@@ -155,8 +155,9 @@ fn answer_all<R: Source, W: Sink>(
         INPUT_LIMIT text) }
 {
     let mut most = INPUT_LIMIT as usize;
+    let mut buffer = [0; PIECE];
     loop {
-        match turn(scribe, input, output, most) {
+        match turn(scribe, input, output, most, &mut buffer) {
             Ok(Some(count)) => most -= count,
             Ok(None) => return Ok(()),
             Err(fault) => return Err(fault),
@@ -213,12 +214,12 @@ pub fn replay<R: Source, W: Sink>(
     // some first lines.
     ensures read { IsErrOf result RunFault.Read → ReadSome (R.remaining input.old)
         (R.remaining input.new) (W.contents output.old) (W.contents output.new)
-        (transcript_so_far rules.now start.now) }
+        (λ text. transcript rules.now start.now (ended_lines text)) }
     ensures long { IsErrOf result RunFault.InputTooLong → IfSome (R.remaining input.old)
         (λ text. (INPUT_LIMIT < length text)
         × (has_quit (ended_lines (take INPUT_LIMIT text)) ≡ false)
         × Appends (W.contents output.old) (W.contents output.new)
-        (transcript_so_far rules.now start.now (take INPUT_LIMIT text))) }
+        (transcript rules.now start.now (ended_lines (take INPUT_LIMIT text)))) }
     ensures cut { IsErrOf result RunFault.Write → IfSome (R.remaining input.old)
         (λ text. AppendsPrefix (W.contents output.old) (W.contents output.new)
         (run_text rules.now start.now form text)) }

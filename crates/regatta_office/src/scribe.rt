@@ -3,8 +3,7 @@ ghost use Rattle.std.specs.Prelude.{◌≡◌, ◌≢◌, ◌+◌, ◌++◌, ◌
 ghost use Rattle.std.specs.Prelude.{OnErr, IsErrOf, IfSome, Some, ◌<◌, ◌≤◌, length};
 ghost use Rattle.std.specs.Io.KnownBytes.{Appends};
 ghost use Rattle.regatta_streams.specs.Texts.{AppendsPrefix};
-ghost use Rattle.std.specs.List.{fold, list_any};
-ghost use Rattle.regatta_talk.specs.HeardLines.{heard_with};
+ghost use Rattle.std.specs.List.{list_any};
 ghost use Rattle.regatta_terms.specs.Lines.{line_of};
 ghost use Rattle.regatta_terms.specs.TextLines.{is_line_end};
 ghost use Rattle.regatta_office.specs.Coming.{Broke, Cuts, Finished, Stops, Took, Went};
@@ -42,16 +41,6 @@ fn asked_by(line: &[u8]) -> Result<Line, LineFault>
         return Err(LineFault::NoSuchWord);
     }
     read_line(line)
-}
-
-/// Buffers bytes of a line, none of which ends it.
-fn hear(cutter: &mut Cutter, bytes: &[u8])
-    requires { list_any is_line_end bytes.now ≡ false }
-    ensures { cutter.new ≡ fold heard_with cutter.old bytes.now }
-{
-    for i in 0..bytes.len() {
-        cutter.take(bytes[i]);
-    }
 }
 
 /// The board, the role of the next lines, the current line, and the text not written yet.
@@ -136,7 +125,7 @@ impl Scribe {
         ensures err { OnErr result (self.new.due.items ≡ self.old.due.items) }
     {
         if !self.cutter.line().is_empty() {
-            hear(&mut self.cutter, rest);
+            self.cutter.hear(rest);
             return self.end_line();
         }
         self.answer(asked_by(rest))
@@ -155,7 +144,7 @@ impl Scribe {
     {
         let end = line_end(piece);
         if end == piece.len() {
-            hear(&mut self.cutter, piece);
+            self.cutter.hear(piece);
             return Ok(Some(end));
         }
         match self.take_line(&piece[..end]) {

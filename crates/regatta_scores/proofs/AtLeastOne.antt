@@ -1,14 +1,17 @@
 -- No score is below 1.0 point.
-use Rattle.std.proofs.Common.{◌≡◌, ℕ, zero, suc, ◌+◌, ◌*◌, ◌<◌, ◌≤◌, Bool, true, false, cond, not}
-use Rattle.std.proofs.Common.{List, [], ◌∷◌, refl, ◌∙◌, sym, arith, length, get_or, filter}
-use Rattle.std.proofs.Common.{filter_map, take, drop, All, Option, Some, None, nat_eq}
-use Rattle.std.specs.Prelude.{min, sum_by, remove, ◌-◌}
-use Rattle.std.specs.List.{AllByRecursion, suffix_len, last_or, enumerate_from}
+use Rattle.std.proofs.Common.{◌≡◌, ℕ, zero, suc, ◌+◌, ◌*◌, ◌<◌, ◌≤◌, Bool, true, false, cond}
+use Rattle.std.proofs.Common.{List, [], ◌∷◌, refl, ◌∙◌, sym, arith, length, get_or}
+use Rattle.std.proofs.Common.{fold, take, drop, All, Option, Some, None, nat_eq}
+use Rattle.std.specs.Prelude.{min, sum_by, remove}
+use Rattle.std.specs.List.{AllByRecursion, cons_option, enumerate_from}
 use Rattle.std.proofs.Math.Path.{subst}
 use Rattle.std.proofs.Math.Nat.{le-max_left}
 use Rattle.std.proofs.lemmas.List.Elements.{All-map, All-filter, All-take, All-drop, All-append}
 use Rattle.std.proofs.lemmas.List.Elements.{All-from_recursion, recursion_from_All}
-use Rattle.regatta_terms.specs.Entries.{EntryParts, IsCommand, IsEntry, IsRedress}
+use Rattle.regatta_terms.specs.Effects.{Decision, Marks, Penalises, Redresses, Clears, Act, Decides}
+use Rattle.regatta_terms.specs.Effects.{Effect, Enters, InRace, effect}
+use Rattle.regatta_terms.specs.Entries.{IsCommand, IsEntry, IsRedress}
+use Rattle.regatta_terms.specs.declared.command.PenaltyKind.TheVariants.{Zfp, Scp}
 use Rattle.regatta_terms.specs.Rules.{RulesParts}
 use Rattle.regatta_terms.specs.declared.rules.Absent.{Absent}
 use Rattle.regatta_terms.specs.declared.rules.Absent.TheVariants.{A52, A53}
@@ -18,26 +21,31 @@ use Rattle.regatta_terms.specs.declared.command.Redress as redress_type
 use Rattle.regatta_terms.specs.declared.command.Redress.TheVariants.{Points, AllRaces, RacesBefore}
 use Rattle.regatta_terms.specs.declared.command.Command.{Command}
 use Rattle.regatta_terms.specs.declared.command.Command.TheVariants.{Redress}
-use Rattle.regatta_scores.specs.declared.boats.RowItem.{RowItem}
+use Rattle.regatta_scores.specs.declared.boats.Averaged.{Averaged}
+use Rattle.regatta_scores.specs.declared.boats.Averaged.TheVariants.{OverNone, OverAll, OverBefore}
+use Rattle.regatta_scores.specs.declared.boats.RaceScore.{RaceScore}
 use Rattle.regatta_scores.specs.declared.table.Cell.{Cell}
 use Rattle.regatta_scores.specs.declared.table.Row.{Row}
-use Rattle.regatta_scores.specs.Journal.{Journal, same_sail, commands, names_race}
-use Rattle.regatta_scores.specs.Journal.{race_commands, is_decision_on, is_clear, redress_given, held}
-use Rattle.regatta_scores.specs.Journal.{lasting_decisions, scored}
+use Rattle.regatta_scores.specs.declared.sheet.Held.{Held}
+use Rattle.regatta_scores.specs.Changes.{with_decision}
+use Rattle.regatta_scores.specs.Journal.{Journal, same_sail, act_in, acts, held, scored}
+use Rattle.regatta_scores.proofs.OneMore.{is_fold, held_from, held_after, held_step}
+use Rattle.regatta_scores.specs.Sheet.{nothing_held}
 use Rattle.regatta_scores.specs.RacePoints.{Race, Status, Finished, Coded, shared_points, penalised}
 use Rattle.regatta_scores.specs.RacePoints.{finishers, dnf_by, base_by, status, groups_ahead}
 use Rattle.regatta_scores.specs.RacePoints.{sharing, place_points, number_came, dnf, base, plain}
 use Rattle.regatta_scores.specs.RacePoints.{penalty_points, journal_race}
 use Rattle.regatta_scores.specs.Averages as averages
-use Rattle.regatta_scores.specs.Averages.{has_average, own_points, average, average_over, counted}
-use Rattle.regatta_scores.specs.Averages.{award_or, total, redressed, redressed_by}
+use Rattle.regatta_scores.specs.Averages.{is_own, average, average_over, counted, total, redressed}
+use Rattle.regatta_scores.specs.Outcomes.{outcome, redress_by, score_of, scores}
 use Rattle.regatta_scores.specs.RankLaws.{cell_points}
-use Rattle.regatta_scores.specs.Standing.{row_items, points, line, cells, standing}
+use Rattle.regatta_scores.specs.Standing.{line, standing}
 use Rattle.regatta_scores.specs.ScoreLaws.{HasNoScoreBelowOne, NoScoreIsBelowOne}
 use Rattle.regatta_scores.specs.ScoreLaws.{BoatsBeatInThreeCases, EntriesBeatInThreeCases}
 use Rattle.regatta_scores.proofs.A8Cases.{boats_are_beaten_in_three_cases}
 use Rattle.regatta_scores.proofs.AverageBounds.{total_least, average_least}
-use Rattle.regatta_scores.proofs.StandingRows.{points_long, her_cells, standing_has_the_entered}
+use Rattle.regatta_scores.proofs.StandingRows.{cells_of, points_long, her_cells}
+use Rattle.regatta_scores.proofs.StandingRows.{standing_has_the_entered}
 
 -- ---- a score before redress
 
@@ -80,11 +88,11 @@ abbrev RedressIsInRange : Option redress_type.Redress → Type 0
 RedressIsInRange None = Unit {0}
 RedressIsInRange (Some redress) = IsRedress redress
 
-abbrev IsHigh : RowItem → Type 0
-IsHigh item = (10 ≤ item.plain) × (10 ≤ own_points item)
+abbrev IsHigh : RaceScore → Type 0
+IsHigh score = 10 ≤ score.points
 
 own_is_high : (plain : ℕ) (given : Option redress_type.Redress) → 10 ≤ plain →
-    RedressIsInRange given → 10 ≤ award_or plain given
+    RedressIsInRange given → 10 ≤ (redress_by plain given).0
 own_is_high plain None high range = high
 own_is_high plain (Some (Points award)) high range = range.0
 own_is_high plain (Some AllRaces) high range = high
@@ -94,98 +102,129 @@ some_number : (n : ℕ) → nat_eq n 0 ≡ false → 0 < n
 some_number zero e = cc
 some_number (suc n) e = omega arith
 
-average_is_high : (races : List RowItem) (plain : ℕ) → 10 ≤ plain → All IsHigh races →
+average_is_high : (races : List RaceScore) (plain : ℕ) → 10 ≤ plain → All IsHigh races →
     10 ≤ average_over races plain
 average_is_high races plain high each =
     by (length (counted races)) (total (counted races)) (nat_eq (length (counted races)) 0) refl
     (total_least (counted races) 10
-    (All-filter (λ (item : RowItem). not (has_average item.redress))
-    (λ item. 10 ≤ own_points item) races (λ k d h. (each k d h).1)))
+    (All-filter (λ (score : RaceScore). is_own score.averaged) IsHigh races each))
   where
     by : (n s : ℕ) (b : Bool) → nat_eq n 0 ≡ b → 10 * n ≤ s → 10 ≤ cond b plain (average n s)
     by n s true e least = high
     by n s false e least = average_least n s 10 (some_number n e) least
 
-redressed_is_high : (items : List RowItem) (i plain : ℕ)
-    (given : Option redress_type.Redress) → All IsHigh items → 10 ≤ plain →
-    10 ≤ award_or plain given → 10 ≤ redressed_by items i plain given
-redressed_is_high items i plain None each high own = high
-redressed_is_high items i plain (Some (Points award)) each high own = own
-redressed_is_high items i plain (Some AllRaces) each high own =
-    average_is_high (remove items i) plain high
-    (All-append IsHigh (take i items) (drop (suc i) items) (All-take IsHigh i items each)
-    (All-drop IsHigh (suc i) items each))
-redressed_is_high items i plain (Some RacesBefore) each high own =
-    average_is_high (take i items) plain high (All-take IsHigh i items each)
+redressed_is_high : (scores : List RaceScore) (i own : ℕ) (over : Averaged) → All IsHigh scores →
+    10 ≤ own → 10 ≤ redressed scores i own over
+redressed_is_high scores i own OverNone each high = high
+redressed_is_high scores i own OverAll each high =
+    average_is_high (remove scores i) own high
+    (All-append IsHigh (take i scores) (drop (suc i) scores) (All-take IsHigh i scores each)
+    (All-drop IsHigh (suc i) scores each))
+redressed_is_high scores i own OverBefore each high =
+    average_is_high (take i scores) own high (All-take IsHigh i scores each)
 
-numbered : (n : ℕ) (items : List RowItem) → AllByRecursion IsHigh items →
-    AllByRecursion (λ (race : ℕ × RowItem). IsHigh race.1) (enumerate_from n items)
+numbered : (n : ℕ) (scores : List RaceScore) → AllByRecursion IsHigh scores →
+    AllByRecursion (λ (race : ℕ × RaceScore). IsHigh race.1) (enumerate_from n scores)
 numbered n [] each = tt
-numbered n (item ∷ items) each = (each.0, numbered (n + 1) items each.1)
+numbered n (score ∷ scores) each = (each.0, numbered (n + 1) scores each.1)
 
-points_are_high : (items : List RowItem) → All IsHigh items →
-    All (λ p. 10 ≤ p) (averages.points items)
-points_are_high items each =
-    let all : All (λ (race : ℕ × RowItem). IsHigh race.1) (enumerate_from 0 items) =
-    All-from_recursion (λ (race : ℕ × RowItem). IsHigh race.1) (enumerate_from 0 items)
-    (numbered 0 items (recursion_from_All IsHigh items each)) in
-    All-map (λ p. 10 ≤ p) (λ (race : ℕ × RowItem). redressed items race.0 race.1)
-    (enumerate_from 0 items) (λ k d h. (let race = get_or (enumerate_from 0 items) k d in
-    redressed_is_high items race.0 race.1.plain race.1.redress each (all k d h).0 (all k d h).1))
+points_are_high : (scores : List RaceScore) → All IsHigh scores →
+    All (λ p. 10 ≤ p) (averages.points scores)
+points_are_high scores each =
+    let all : All (λ (race : ℕ × RaceScore). IsHigh race.1) (enumerate_from 0 scores) =
+    All-from_recursion (λ (race : ℕ × RaceScore). IsHigh race.1) (enumerate_from 0 scores)
+    (numbered 0 scores (recursion_from_All IsHigh scores each)) in
+    All-map (λ p. 10 ≤ p)
+    (λ (race : ℕ × RaceScore). redressed scores race.0 race.1.points race.1.averaged)
+    (enumerate_from 0 scores) (λ k d h. (let race = get_or (enumerate_from 0 scores) k d in
+    redressed_is_high scores race.0 race.1.points race.1.averaged each (all k d h)))
 
 -- ---- the redress that a boat has by the journal
 
-given_in_range : (cs : List Command) → AllByRecursion IsCommand cs →
-    AllByRecursion IsRedress (filter_map redress_given cs)
-given_in_range [] each = tt
-given_in_range (Redress race sail redress ∷ cs) each = (each.0.2, given_in_range cs each.1)
-given_in_range (other ∷ cs) each = given_in_range cs each.1
+-- the redress of an act is in range
+abbrev ActInRange : Act → Type 0
+ActInRange (Decides sail (Redresses redress)) = IsRedress redress
+ActInRange _ = Unit {0}
 
-last_in_range : (o : Option redress_type.Redress) (given : List redress_type.Redress) →
-    RedressIsInRange o → AllByRecursion IsRedress given → RedressIsInRange (last_or o given)
-last_in_range o [] here each = here
-last_in_range o (redress ∷ given) here each = last_in_range (Some redress) given each.0 each.1
+abbrev EffectInRange : Effect → Type 0
+EffectInRange (Enters sail) = Unit {0}
+EffectInRange (InRace race act) = ActInRange act
+
+command_in_range : (c : Command) → IsCommand c → EffectInRange (effect c)
+command_in_range (Redress race sail redress) h = h.2
+command_in_range _ h = tt
+
+acts_in_range : (race : ℕ) (journal : Journal) → AllByRecursion IsEntry journal →
+    AllByRecursion ActInRange (acts journal race)
+acts_in_range race [] each = tt
+acts_in_range race (entry ∷ journal) each =
+    by (effect entry.command) (command_in_range entry.command each.0.command)
+    (acts_in_range race journal each.1)
+  where
+    by : (e : Effect) → EffectInRange e → AllByRecursion ActInRange (acts journal race) →
+        AllByRecursion ActInRange (cons_option (act_in race e) (acts journal race))
+    by (Enters sail) range rest = rest
+    by (InRace r act) range rest = at (nat_eq race r)
+      where
+        at : (b : Bool) →
+            AllByRecursion ActInRange (cons_option (cond b (Some act) None) (acts journal race))
+        at true = (range, rest)
+        at false = rest
+
+held_in_range : (boat : Sail) (held : Held) (act : Act) → ActInRange act →
+    RedressIsInRange held.redress → RedressIsInRange (held_after boat held act).redress
+held_in_range boat held (Decides sail decision) range has =
+    by (same_sail boat sail) (decided decision range)
+  where
+    decided : (d : Decision) → ActInRange (Decides sail d) →
+        RedressIsInRange (with_decision held d).redress
+    decided (Marks code) range = has
+    decided (Penalises Zfp) range = has
+    decided (Penalises Scp) range = has
+    decided (Redresses redress) range = range
+    decided Clears range = tt
+
+    by : (b : Bool) → RedressIsInRange (with_decision held decision).redress →
+        RedressIsInRange (cond b (with_decision held decision) held).redress
+    by true after = after
+    by false after = has
+held_in_range boat held _ range has = has
+
+redress_after : (boat : Sail) (held : Held) (acts : List Act) → AllByRecursion ActInRange acts →
+    RedressIsInRange held.redress → RedressIsInRange (fold (held_after boat) held acts).redress
+redress_after boat held [] each has = has
+redress_after boat held (act ∷ acts) each has =
+    redress_after boat (held_after boat held act) acts each.1
+    (held_in_range boat held act each.0 has)
 
 redress_in_range : (journal : Journal) (race : ℕ) (boat : Sail) → All IsEntry journal →
     RedressIsInRange (held journal race boat).redress
 redress_in_range journal race boat each =
-    let all : All IsCommand (commands journal) =
-    All-map IsCommand (λ (entry : EntryParts). entry.command) journal
-    (λ k d h. (each k d h).command) in
-    let of_race : All IsCommand (race_commands journal race) =
-    All-filter (names_race race) IsCommand (commands journal) all in
-    let hers = filter (is_decision_on boat) (race_commands journal race) in
-    let of_boat : All IsCommand (filter (is_decision_on boat) (race_commands journal race)) =
-    All-filter (is_decision_on boat) IsCommand (race_commands journal race) of_race in
-    let stand : All IsCommand (lasting_decisions (race_commands journal race) boat) =
-    All-drop IsCommand (length hers - suffix_len (λ c. not (is_clear c)) hers) hers of_boat in
-    let decisions = lasting_decisions (race_commands journal race) boat in
-    last_in_range None (filter_map redress_given decisions) tt
-    (given_in_range decisions (recursion_from_All IsCommand decisions stand))
+    subst (λ h. RedressIsInRange h.redress)
+    (sym (is_fold (λ done. held_from done boat) (held_after boat) (held_step boat) []
+    (acts journal race)))
+    (redress_after boat nothing_held (acts journal race)
+    (acts_in_range race journal (recursion_from_All IsEntry journal each)) tt)
 
 -- ---- all scores by the journal
 
 module _ (rules : RulesParts) (journal : Journal) (each : All IsEntry journal) where
-  items_are_high : (boat : Sail) → All IsHigh (row_items rules journal boat)
-  items_are_high boat =
-      All-map IsHigh (λ (race : ℕ). record {
-        plain = plain same_sail rules (journal_race rules journal race) boat;
-        redress = (held journal race boat).redress;
-      }) (scored journal) (λ k d h. at (get_or (scored journal) k d))
+  races_are_high : (boat : Sail) → All IsHigh (scores rules journal boat)
+  races_are_high boat =
+      All-map IsHigh (λ (race : ℕ).
+      score_of (outcome same_sail rules (journal_race rules journal race) boat)) (scored journal)
+      (λ k d h. at (get_or (scored journal) k d))
     where
-      at : (race : ℕ) → IsHigh (record {
-        plain = plain same_sail rules (journal_race rules journal race) boat;
-        redress = (held journal race boat).redress;
-      })
+      at : (race : ℕ)
+          → IsHigh (score_of (outcome same_sail rules (journal_race rules journal race) boat))
       at race =
-          let high = plain_is_high rules (journal_race rules journal race) boat in (
-            high,
-            own_is_high (plain same_sail rules (journal_race rules journal race) boat)
-                (held journal race boat).redress high (redress_in_range journal race boat each),
-          )
+          own_is_high (plain same_sail rules (journal_race rules journal race) boat)
+          (held journal race boat).redress
+          (plain_is_high rules (journal_race rules journal race) boat)
+          (redress_in_range journal race boat each)
 
-  scores_are_high : (boat : Sail) → All (λ p. 10 ≤ p) (points rules journal boat)
-  scores_are_high boat = points_are_high (row_items rules journal boat) (items_are_high boat)
+  scores_are_high : (boat : Sail) → All (λ p. 10 ≤ p) (line rules journal boat).points
+  scores_are_high boat = points_are_high (scores rules journal boat) (races_are_high boat)
 
   cells_by : (hers : List Cell) → AllByRecursion (λ p. 10 ≤ p) (cell_points hers) →
       AllByRecursion (λ (cell : Cell). 10 ≤ cell.points) hers
@@ -193,10 +232,10 @@ module _ (rules : RulesParts) (journal : Journal) (each : All IsEntry journal) w
   cells_by (cell ∷ hers) all = (all.0, cells_by hers all.1)
 
   cells_are_high : (boat : Sail) →
-      All (λ (cell : Cell). 10 ≤ cell.points) (cells rules journal boat)
+      All (λ (cell : Cell). 10 ≤ cell.points) (cells_of rules journal boat)
   cells_are_high boat =
-      let hers = cells rules journal boat in
-      let high : All (λ p. 10 ≤ p) (cell_points (cells rules journal boat)) =
+      let hers = cells_of rules journal boat in
+      let high : All (λ p. 10 ≤ p) (cell_points (cells_of rules journal boat)) =
       subst (All (λ p. 10 ≤ p)) (sym (her_cells rules journal boat).0) (scores_are_high boat) in
       All-from_recursion (λ (cell : Cell). 10 ≤ cell.points) hers
       (cells_by hers (recursion_from_All (λ p. 10 ≤ p) (cell_points hers) high))

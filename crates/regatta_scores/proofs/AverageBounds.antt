@@ -5,27 +5,27 @@ use Rattle.std.proofs.lemmas.List.Sums.{sum_by-cons}
 use Rattle.std.proofs.Math.Nat.{le-div_iff_mul-le, div-lt_iff_lt-mul, mul_left_comm, mul-suc}
 use Rattle.std.proofs.Math.Nat.{mul-div-le, lt-mul-div-succ}
 use borrow.Author.Tests.{eqb-true}
-use Rattle.regatta_scores.specs.declared.boats.RowItem.{RowItem}
-use Rattle.regatta_scores.specs.Averages.{own_points, average, average_or, counted, total}
+use Rattle.regatta_scores.specs.declared.boats.RaceScore.{RaceScore}
+use Rattle.regatta_scores.specs.Averages.{average, average_or, counted, total}
 use Rattle.regatta_scores.specs.RedressLaws.{AveragesLieBetween, AveragesAreNearest}
 
 -- if each of n points is at least `low`, their sum is at least n times `low`
-pub total_least : (xs : List RowItem) (low : ℕ) →
-    All (λ item. low ≤ own_points item) xs → low * length xs ≤ total xs
+pub total_least : (xs : List RaceScore) (low : ℕ) →
+    All (λ score. low ≤ score.points) xs → low * length xs ≤ total xs
 total_least [] low each = omega arith
 total_least (x ∷ xs) low each =
-    let here : low ≤ own_points x = each zero x (omega arith) in
+    let here : low ≤ x.points = each zero x (omega arith) in
     let rest = total_least xs low (λ k d h. each (suc k) d (omega arith)) in
-    let sum = sum_by-cons (λ (item : RowItem). own_points item) x xs in
+    let sum = sum_by-cons (λ (score : RaceScore). score.points) x xs in
     omega (arith, here, rest, sum, mul-suc low (length xs))
 
-total_most : (xs : List RowItem) (high : ℕ) →
-    All (λ item. own_points item ≤ high) xs → total xs ≤ high * length xs
+total_most : (xs : List RaceScore) (high : ℕ) →
+    All (λ score. score.points ≤ high) xs → total xs ≤ high * length xs
 total_most [] high each = omega arith
 total_most (x ∷ xs) high each =
-    let here : own_points x ≤ high = each zero x (omega arith) in
+    let here : x.points ≤ high = each zero x (omega arith) in
     let rest = total_most xs high (λ k d h. each (suc k) d (omega arith)) in
-    let sum = sum_by-cons (λ (item : RowItem). own_points item) x xs in
+    let sum = sum_by-cons (λ (score : RaceScore). score.points) x xs in
     omega (arith, here, rest, sum, mul-suc high (length xs))
 
 pub average_least : (n s low : ℕ) → 0 < n → low * n ≤ s → low ≤ average n s

@@ -1,15 +1,12 @@
 -- A boat that is given a code leaves the finishing order.
-use Rattle.std.proofs.Common.{◌≡◌, ℕ, ◌+◌, ◌-◌, ◌≤◌, Bool, true, false, cond, not, List, [], ◌∷◌}
-use Rattle.std.proofs.Common.{◌++◌, refl, ap, ◌∙◌, arith, length, length-append, drop, filter}
-use Rattle.std.proofs.Common.{filter_map, count_by, sum_by, Option, Some, None, is_none, find}
+use Rattle.std.proofs.Common.{◌≡◌, ℕ, ◌+◌, ◌≤◌, Bool, true, false, cond, List, [], ◌∷◌}
+use Rattle.std.proofs.Common.{◌++◌, refl, ap, ◌∙◌, arith}
+use Rattle.std.proofs.Common.{count_by, sum_by, Option, Some, None, is_none, find}
 use Rattle.std.proofs.Common.{unwrap_or}
-use Rattle.std.specs.List.{after_last, suffix_len, prefix_len, last_or, before_first}
-use Rattle.std.specs.List.{position_or_len}
-use Rattle.std.proofs.lemmas.List.{reverse-append, drop-append-le}
-use Rattle.std.proofs.lemmas.List.Elements.{filter-append, filter_map-append}
+use Rattle.std.specs.List.{before_first, position_or_len}
 use Rattle.std.proofs.lemmas.List.Sums.{sum_by-take-le}
 use Rattle.std.specs.Cmp.Lexicographic.{bytes_decides}
-use borrow.Author.Tests.{eq-eqb}
+use Rattle.regatta_terms.specs.Effects.{Marks, Decides, InRace, effect}
 use Rattle.regatta_terms.specs.Entries.{EntryParts}
 use Rattle.regatta_terms.specs.Rules.{RulesParts}
 use Rattle.regatta_terms.specs.declared.sail.Sail.{Sail}
@@ -17,68 +14,36 @@ use Rattle.regatta_terms.specs.declared.command.Code.{Code}
 use Rattle.regatta_terms.specs.declared.command.Command.TheVariants.{Mark}
 use Rattle.regatta_scores.specs.declared.sheet.Held.{Held}
 use Rattle.regatta_scores.specs.Order.{in_group, stands_in}
-use Rattle.regatta_scores.specs.Journal.{Journal, same_sail, race_commands, order}
-use Rattle.regatta_scores.specs.Journal.{held, is_decision_on, is_clear, code_marked}
-use Rattle.regatta_scores.specs.Journal.{last_item}
+use Rattle.regatta_scores.specs.Journal.{Journal, same_sail, acts, order, held}
 use Rattle.regatta_scores.specs.RacePoints.{Finished, Coded, journal_race, status}
 use Rattle.regatta_scores.specs.RacePoints.{status_by, finishers, groups_ahead, her_group}
 use Rattle.regatta_scores.specs.RaceLaws.{CodedBoatsLeaveTheOrder}
-use Rattle.regatta_scores.proofs.Apart.{race_commands_more, order_stays, held_stays}
-use Rattle.regatta_scores.proofs.LastingTimes.{places}
+use Rattle.regatta_scores.proofs.Apart.{one_act, order_stays, held_stays}
+use Rattle.regatta_scores.proofs.OneMore.{held_from, held_step}
 use Rattle.regatta_scores.proofs.Counts.{count_split, sum_split, count_one, sum_one, found_le}
-
--- appending an element that fails the test adds it to those after the last that passes
-pub after_last_push : {X : Type 0} (p : X → Bool) (xs : List X) (x : X) → p x ≡ false →
-    after_last p (xs ++ x ∷ []) ≡ after_last p xs ++ x ∷ []
-after_last_push p xs x h =
-    let n = suffix_len (λ y. not (p y)) xs in
-    let more : suffix_len (λ y. not (p y)) (xs ++ x ∷ []) ≡ 1 + n =
-    ap (prefix_len (λ y. not (p y))) (reverse-append xs (x ∷ [])) ∙ rw h refl in
-    let cut : length (xs ++ x ∷ []) - suffix_len (λ y. not (p y)) (xs ++ x ∷ []) ≡ length xs - n =
-    omega (arith, length-append xs (x ∷ []), more) in
-    ap (λ k. drop k (xs ++ x ∷ [])) cut ∙ drop-append-le (length xs - n) xs (x ∷ []) (omega arith)
-
-pub last_push : {X : Type 0} (o : Option X) (xs : List X) (x : X) →
-    last_or o (xs ++ x ∷ []) ≡ Some x
-last_push o [] x = refl
-last_push o (y ∷ ys) x = last_push (Some y) ys x
 
 -- ---- the race after the Mark
 
 module _ (rules : RulesParts) (journal : Journal) (entry : EntryParts) (race : ℕ) (coded : Sail)
     (code : Code) (is_mark : entry.command ≡ Mark race coded code) where
-  commands_after : race_commands (journal ++ entry ∷ []) race
-      ≡ race_commands journal race ++ Mark race coded code ∷ []
-  commands_after = race_commands_more journal entry race ∙ rw is_mark (rw (eq-eqb race race refl))
+  does : effect entry.command ≡ InRace race (Decides coded (Marks code))
+  does = ap effect is_mark
 
   order_is : order rules (journal ++ entry ∷ []) race ≡ order rules journal race
-  order_is = order_stays rules journal entry (ap places is_mark) race
-
-  decisions_by : (boat : Sail) (b : Bool) → same_sail boat coded ≡ b →
-      filter (is_decision_on boat) (race_commands (journal ++ entry ∷ []) race)
-      ≡ filter (is_decision_on boat) (race_commands journal race) ++ cond b (Mark race coded code ∷ []) []
-  decisions_by boat b e =
-      ap (filter (is_decision_on boat)) commands_after
-      ∙ filter-append (is_decision_on boat) (race_commands journal race) (Mark race coded code ∷ [])
-      ∙ rw e refl
+  order_is = order_stays journal entry race coded (Marks code) does rules race
 
   held_is : (boat : Sail) → same_sail boat coded ≡ false →
       held (journal ++ entry ∷ []) race boat ≡ held journal race boat
-  held_is boat e = held_stays journal entry boat (ap (is_decision_on boat) is_mark ∙ e) race
+  held_is boat apart = held_stays journal entry race coded (Marks code) does boat apart race
 
   code_given : (boat : Sail) → same_sail boat coded ≡ true →
       (held (journal ++ entry ∷ []) race boat).code ≡ Some code
   code_given boat e =
-      let ds = filter (is_decision_on boat) (race_commands journal race) in
-      let now : after_last is_clear (filter (is_decision_on boat)
-      (race_commands (journal ++ entry ∷ []) race))
-      ≡ after_last is_clear ds ++ Mark race coded code ∷ [] =
-      ap (after_last is_clear) (decisions_by boat true e)
-      ∙ after_last_push is_clear ds (Mark race coded code) refl in
-      ap (λ cs. last_item (filter_map code_marked cs)) now
-      ∙ ap last_item (filter_map-append code_marked (after_last is_clear ds)
-      (Mark race coded code ∷ [])) ∙ last_push None
-      (filter_map code_marked (after_last is_clear ds)) code
+      ap (λ (h : Held). h.code)
+      (ap (λ done. held_from done boat)
+      (one_act journal entry race (Decides coded (Marks code)) does)
+      ∙ held_step boat (acts journal race) (Decides coded (Marks code)))
+      ∙ rw e refl
 
   status_after : (boat : Sail) (b : Bool) → same_sail boat coded ≡ b →
       status same_sail (journal_race rules (journal ++ entry ∷ []) race) boat

@@ -25,7 +25,7 @@ upto_last start (end ∷ ends) last rises =
     omega (arith, first, rest)
 
 -- appending boats after a group doesn't change it
-between_append : (start end : ℕ) (xs ys : List ℕ) → end ≤ length xs →
+pub between_append : (start end : ℕ) (xs ys : List ℕ) → end ≤ length xs →
     between start end (xs ++ ys) ≡ between start end xs
 between_append start end xs ys within =
     between_is (xs ++ ys) start end ∙ ap (drop start) (take-append-le end xs ys within)
@@ -63,17 +63,17 @@ no_groups (x ∷ xs) = (
 
 -- ---- one group
 
-begin_from : ℕ → List ℕ → ℕ → ℕ
+unfoldable pub begin_from : ℕ → List ℕ → ℕ → ℕ
 begin_from start ends zero = start
 begin_from start ends (suc at) = get_or ends at 0
 
-begin_next : (start end : ℕ) (ends : List ℕ) (at : ℕ) →
+pub begin_next : (start end : ℕ) (ends : List ℕ) (at : ℕ) →
     begin_from start (end ∷ ends) (suc at) ≡ begin_from end ends at
 unfolding begin_from
 begin_next start end ends zero = refl
 begin_next start end ends (suc at) = refl
 
-begin_is : (ends : List ℕ) (at : ℕ) → begin ends at ≡ begin_from 0 ends at
+pub begin_is : (ends : List ℕ) (at : ℕ) → begin ends at ≡ begin_from 0 ends at
 unfolding begin_from
 begin_is ends zero = refl
 begin_is ends (suc at) =
@@ -120,7 +120,7 @@ drop_none : (n : ℕ) → ◌≡◌ {A = List ℕ} (drop n []) []
 drop_none zero = refl
 drop_none (suc n) = refl
 
-drop_again : (n m : ℕ) (xs : List ℕ) → drop m (drop n xs) ≡ drop (n + m) xs
+pub drop_again : (n m : ℕ) (xs : List ℕ) → drop m (drop n xs) ≡ drop (n + m) xs
 drop_again zero m xs = let same : m ≡ 0 + m = omega arith in ap (λ k. drop k xs) same
 drop_again (suc n) m [] = drop_none m ∙ sym (drop_none (suc n + m))
 drop_again (suc n) m (x ∷ xs) =

@@ -1,29 +1,27 @@
--- The times in force, and the finishing order, after one more command of a race.
-use Rattle.std.proofs.Common.{◌≡◌, ℕ, Bool, true, false, cond, not, ◌||◌, List, [], ◌∷◌, ◌++◌, refl}
-use Rattle.std.proofs.Common.{ap, ◌∙◌, sym, filter, fold, append_assoc, Option, Some, None}
+-- The times in force, and the finishing order, after one more act in a race.
+use Rattle.std.proofs.Common.{◌≡◌, ℕ, Bool, true, false, cond, not, List, [], ◌∷◌, ◌++◌, refl, ap}
+use Rattle.std.proofs.Common.{◌∙◌, sym, subst, append_assoc, filter, fold, ◌||◌, Option, Some, None}
 use Rattle.std.specs.List.{list_any, AllByRecursion}
 use Rattle.std.proofs.lemmas.List.{append-nil}
 use Rattle.std.proofs.lemmas.List.Elements.{filter-append, recursion_from_All}
 use Rattle.std.proofs.lemmas.List.Folds.{list_any-append}
 use Rattle.std.proofs.lemmas.List.Sums.{fold_push}
 use Rattle.std.specs.Cmp.Lexicographic.{bytes_decides}
+use Rattle.regatta_terms.specs.Effects.{Act, Places, Strikes, Decides, Counts, AtEnd, TiedWith}
+use Rattle.regatta_terms.specs.Effects.{AheadOf, ByTime}
 use Rattle.regatta_terms.specs.Rules.{RulesParts}
 use Rattle.regatta_terms.specs.declared.sail.Sail.{Sail}
-use Rattle.regatta_terms.specs.declared.command.Command.{Command}
-use Rattle.regatta_terms.specs.declared.command.Command.TheVariants.{Enter, Finish, Tie, Before}
-use Rattle.regatta_terms.specs.declared.command.Command.TheVariants.{Time, Strike, Mark, Penalise}
-use Rattle.regatta_terms.specs.declared.command.Command.TheVariants.{Redress, Clear, Score, Unscore}
 use Rattle.regatta_scores.specs.Order.{is_empty, stands_in, HasNoEmptyGroup, without}
 use Rattle.regatta_scores.specs.CorrectedTimes.{CorrectedTime, order_of_times, time_in, with_time}
-use Rattle.regatta_scores.specs.Journal.{same_sail, order_after, order_by, time_given, ends_time}
-use Rattle.regatta_scores.specs.Journal.{unless_ended, lasting_times}
+use Rattle.regatta_scores.specs.Journal.{same_sail, order_after, order_by, ends_time, time_left}
+use Rattle.regatta_scores.specs.Journal.{lasting_times}
 use Rattle.regatta_scores.proofs.Members.{all_passed}
-use Rattle.regatta_scores.proofs.RisingNumbers.{or_false}
+use Rattle.regatta_scores.proofs.OneMore.{is_fold}
 use Rattle.regatta_scores.proofs.TimedOrders.{order_with_time, order_without, stays_by}
 
--- the boat's time after these commands of a race, if one is in force
-abbrev pub time_by : List Command → Sail → Option ℕ
-time_by commands boat = time_in same_sail (lasting_times commands) boat
+-- the boat's time after these acts in a race, if one is in force
+abbrev pub time_by : List Act → Sail → Option ℕ
+time_by acts boat = time_in same_sail (lasting_times acts) boat
 
 same_is : (x y : Sail) → same_sail x y ≡ true → x ≡ y
 same_is x y e = (bytes_decides x y).0 e
@@ -31,52 +29,73 @@ same_is x y e = (bytes_decides x y).0 e
 is_same : (x : Sail) → same_sail x x ≡ true
 is_same x = (bytes_decides x x).1 refl
 
-all_append : {X : Type 0} (P : X → Type 0) (xs ys : List X) → AllByRecursion P xs →
-    AllByRecursion P ys → AllByRecursion P (xs ++ ys)
-all_append P [] ys first rest = rest
-all_append P (x ∷ xs) ys first rest = (first.0, all_append P xs ys first.1 rest)
-
--- ---- one more command
-
-lasting_more : (given : Option (CorrectedTime Sail)) (cs : List Command) (c : Command) →
-    unless_ended given (cs ++ c ∷ []) ≡ filter (λ t. not (ends_time t.boat c)) (unless_ended given cs)
-lasting_more None cs c = refl
-lasting_more (Some t) cs c =
-    ap (λ b. cond b [] (t ∷ [])) (list_any-append (ends_time t.boat) cs (c ∷ []))
-    ∙ by (list_any (ends_time t.boat) cs) (ends_time t.boat c) refl
+pub apart_back : (x y : Sail) → same_sail x y ≡ false → same_sail y x ≡ false
+apart_back x y h = by (same_sail y x) refl
   where
-    by : (a b : Bool) → ends_time t.boat c ≡ b → cond (a || (b || false)) [] (t ∷ [])
-        ≡ filter (λ (o : CorrectedTime Sail). not (ends_time o.boat c)) (cond a [] (t ∷ []))
+    by : (b : Bool) → same_sail y x ≡ b → b ≡ false
+    by true e =
+        let no_way : true ≡ false =
+        sym (is_same x) ∙ ap (same_sail x) (sym (same_is y x e)) ∙ h in cc
+    by false e = refl
+
+-- ---- the times after one more act
+
+left_more : (given : Act) (acts : List Act) (act : Act) →
+    time_left given (acts ++ act ∷ [])
+    ≡ filter (λ t. not (ends_time t.boat act)) (time_left given acts)
+left_more (Places sail (ByTime seconds)) acts act =
+    ap (λ b. cond b [] (record { boat = sail; seconds = seconds } ∷ []))
+    (list_any-append (ends_time sail) acts (act ∷ []))
+    ∙ by (list_any (ends_time sail) acts) (ends_time sail act) refl
+  where
+    by : (a b : Bool) → ends_time sail act ≡ b →
+        cond (a || (b || false)) [] (record { boat = sail; seconds = seconds } ∷ [])
+        ≡ filter (λ (t : CorrectedTime Sail). not (ends_time t.boat act))
+        (cond a [] (record { boat = sail; seconds = seconds } ∷ []))
     by true b e = refl
     by false true e = rw e refl
     by false false e = rw e refl
+left_more _ acts act = refl
 
-pub times_more : (cs : List Command) (c : Command) →
-    lasting_times (cs ++ c ∷ [])
-    ≡ filter (λ t. not (ends_time t.boat c)) (lasting_times cs) ++ unless_ended (time_given c) []
-times_more [] c = append-nil (unless_ended (time_given c) [])
-times_more (d ∷ cs) c =
-    let left = filter (λ (t : CorrectedTime Sail). not (ends_time t.boat c)) in
-    let new = unless_ended (time_given c) [] in
-    (λ i. lasting_more (time_given d) cs c i ++ times_more cs c i)
-    ∙ sym (ap (λ ts. ts ++ new)
-    (filter-append (λ t. not (ends_time t.boat c)) (unless_ended (time_given d) cs) (lasting_times cs))
-    ∙ append_assoc (left (unless_ended (time_given d) cs)) (left (lasting_times cs)) new)
+times_push : (acts : List Act) (act : Act) →
+    lasting_times (acts ++ act ∷ [])
+    ≡ filter (λ t. not (ends_time t.boat act)) (lasting_times acts) ++ time_left act []
+times_push [] act = append-nil (time_left act [])
+times_push (given ∷ acts) act =
+    let left = filter (λ (t : CorrectedTime Sail). not (ends_time t.boat act)) in
+    (λ i. left_more given acts act i ++ times_push acts act i)
+    ∙ sym (ap (λ ts. ts ++ time_left act [])
+    (filter-append (λ t. not (ends_time t.boat act)) (time_left given acts) (lasting_times acts))
+    ∙ append_assoc (left (time_left given acts)) (left (lasting_times acts)) (time_left act []))
 
-all_left : {X : Type 0} (p : X → Bool) → ((x : X) → p x ≡ true) → (xs : List X) →
-    filter p xs ≡ xs
-all_left p each [] = refl
-all_left p each (x ∷ xs) = rw (each x) (ap (λ ys. x ∷ ys) (all_left p each xs))
+-- the times without that of this boat
+abbrev pub without_time : List (CorrectedTime Sail) → Sail → List (CorrectedTime Sail)
+without_time times boat = filter (λ time. not (same_sail time.boat boat)) times
 
--- a command without a time or strike leaves the times as they are
-pub times_stay : (cs : List Command) (c : Command) → time_given c ≡ None →
-    ((boat : Sail) → ends_time boat c ≡ false) →
-    lasting_times (cs ++ c ∷ []) ≡ lasting_times cs
-times_stay cs c none no_end =
-    times_more cs c
-    ∙ (λ i. all_left (λ (t : CorrectedTime Sail). not (ends_time t.boat c))
-    (λ t. ap not (no_end t.boat)) (lasting_times cs) i ++ unless_ended (none i) [])
-    ∙ append-nil (lasting_times cs)
+abbrev pub times_after : List (CorrectedTime Sail) → Act → List (CorrectedTime Sail)
+times_after times (Places sail (ByTime seconds)) =
+    without_time times sail ++ record { boat = sail; seconds = seconds } ∷ []
+times_after times (Strikes sail) = without_time times sail
+times_after times _ = times
+
+all_left : {X : Type 0} (xs : List X) → filter (λ x. true) xs ≡ xs
+all_left [] = refl
+all_left (x ∷ xs) = ap (λ ys. x ∷ ys) (all_left xs)
+
+pub times_more : (acts : List Act) (act : Act) →
+    lasting_times (acts ++ act ∷ []) ≡ times_after (lasting_times acts) act
+times_more acts (Places sail (ByTime seconds)) = times_push acts (Places sail (ByTime seconds))
+times_more acts (Strikes sail) = times_push acts (Strikes sail) ∙ append-nil _
+times_more acts (Decides sail decision) =
+    times_push acts (Decides sail decision) ∙ append-nil _ ∙ all_left (lasting_times acts)
+times_more acts (Counts counts) =
+    times_push acts (Counts counts) ∙ append-nil _ ∙ all_left (lasting_times acts)
+times_more acts (Places sail AtEnd) =
+    times_push acts (Places sail AtEnd) ∙ append-nil _ ∙ all_left (lasting_times acts)
+times_more acts (Places sail (TiedWith other)) =
+    times_push acts (Places sail (TiedWith other)) ∙ append-nil _ ∙ all_left (lasting_times acts)
+times_more acts (Places sail (AheadOf other)) =
+    times_push acts (Places sail (AheadOf other)) ∙ append-nil _ ∙ all_left (lasting_times acts)
 
 -- ---- each boat has one time
 
@@ -84,49 +103,80 @@ Distinct : List (CorrectedTime Sail) → Type 0
 Distinct [] = Unit {0}
 Distinct (t ∷ ts) = AllByRecursion (λ o. same_sail t.boat o.boat ≡ false) ts × Distinct ts
 
-none_given : (boat : Sail) (d : Command) (cs : List Command) → ends_time boat d ≡ false →
-    AllByRecursion (λ o. same_sail boat o.boat ≡ false) (unless_ended (time_given d) cs)
-none_given boat (Time race sail seconds) cs h = by (list_any (ends_time sail) cs)
+all_filtered : {X : Type 0} (P : X → Type 0) (p : X → Bool) (xs : List X) → AllByRecursion P xs →
+    AllByRecursion P (filter p xs)
+all_filtered P p [] all = tt
+all_filtered P p (x ∷ xs) all = by (p x) (all_filtered P p xs all.1)
   where
-    by : (b : Bool) → AllByRecursion (λ (o : CorrectedTime Sail). same_sail boat o.boat ≡ false)
-        (cond b [] (record { boat = sail; seconds = seconds } ∷ []))
-    by true = tt
-    by false = (h, tt)
-none_given boat (Enter sail) cs h = tt
-none_given boat (Finish race sail) cs h = tt
-none_given boat (Tie race sail other) cs h = tt
-none_given boat (Before race sail other) cs h = tt
-none_given boat (Strike race sail) cs h = tt
-none_given boat (Mark race sail code) cs h = tt
-none_given boat (Penalise race sail kind) cs h = tt
-none_given boat (Redress race sail redress) cs h = tt
-none_given boat (Clear race sail) cs h = tt
-none_given boat (Score race) cs h = tt
-none_given boat (Unscore race) cs h = tt
+    by : (b : Bool) → AllByRecursion P (filter p xs) →
+        AllByRecursion P (cond b (x ∷ filter p xs) (filter p xs))
+    by true rest = (all.0, rest)
+    by false rest = rest
 
-none_stands : (boat : Sail) (cs : List Command) → list_any (ends_time boat) cs ≡ false →
-    AllByRecursion (λ o. same_sail boat o.boat ≡ false) (lasting_times cs)
-none_stands boat [] h = tt
-none_stands boat (d ∷ cs) h =
-    let parts = or_false (ends_time boat d) (list_any (ends_time boat) cs) h in
-    all_append (λ o. same_sail boat o.boat ≡ false) (unless_ended (time_given d) cs) (lasting_times cs)
-    (none_given boat d cs parts.0) (none_stands boat cs parts.1)
+all_pushed : {X : Type 0} (P : X → Type 0) (xs : List X) (x : X) → AllByRecursion P xs → P x →
+    AllByRecursion P (xs ++ x ∷ [])
+all_pushed P [] x all last = (last, tt)
+all_pushed P (y ∷ ys) x all last = (all.0, all_pushed P ys x all.1 last)
 
-distinct_more : (given : Option (CorrectedTime Sail)) (cs : List Command) →
-    Distinct (lasting_times cs) → Distinct (unless_ended given cs ++ lasting_times cs)
-unfolding Distinct
-distinct_more None cs rest = rest
-distinct_more (Some t) cs rest = by (list_any (ends_time t.boat) cs) refl
+-- the times without that of a boat are those of others
+left_are_others : (ts : List (CorrectedTime Sail)) (boat : Sail) →
+    AllByRecursion (λ t. same_sail t.boat boat ≡ false) (without_time ts boat)
+left_are_others [] boat = tt
+left_are_others (t ∷ ts) boat = by (same_sail t.boat boat) refl (left_are_others ts boat)
   where
-    by : (b : Bool) → list_any (ends_time t.boat) cs ≡ b →
-        Distinct (cond b [] (t ∷ []) ++ lasting_times cs)
-    by true e = rest
-    by false e = (none_stands t.boat cs e, rest)
+    by : (b : Bool) → same_sail t.boat boat ≡ b →
+        AllByRecursion (λ (o : CorrectedTime Sail). same_sail o.boat boat ≡ false)
+        (without_time ts boat) →
+        AllByRecursion (λ (o : CorrectedTime Sail). same_sail o.boat boat ≡ false)
+        (cond (not b) (t ∷ without_time ts boat) (without_time ts boat))
+    by true e rest = rest
+    by false e rest = (e, rest)
 
-distinct : (cs : List Command) → Distinct (lasting_times cs)
+distinct_left : (ts : List (CorrectedTime Sail)) (boat : Sail) → Distinct ts →
+    Distinct (without_time ts boat)
 unfolding Distinct
-distinct [] = tt
-distinct (d ∷ cs) = distinct_more (time_given d) cs (distinct cs)
+distinct_left [] boat apart = tt
+distinct_left (t ∷ ts) boat apart =
+    by (same_sail t.boat boat) (distinct_left ts boat apart.1)
+  where
+    by : (b : Bool) → Distinct (without_time ts boat) →
+        Distinct (cond (not b) (t ∷ without_time ts boat) (without_time ts boat))
+    by true rest = rest
+    by false rest = (
+      all_filtered (λ o. same_sail t.boat o.boat ≡ false) (λ o. not (same_sail o.boat boat)) ts apart.0,
+      rest,
+    )
+
+distinct_pushed : (ts : List (CorrectedTime Sail)) (t : CorrectedTime Sail) → Distinct ts →
+    AllByRecursion (λ o. same_sail o.boat t.boat ≡ false) ts → Distinct (ts ++ t ∷ [])
+unfolding Distinct
+distinct_pushed [] t apart others = (tt, tt)
+distinct_pushed (o ∷ ts) t apart others = (
+  all_pushed (λ x. same_sail o.boat x.boat ≡ false) ts t apart.0 others.0,
+  distinct_pushed ts t apart.1 others.1,
+)
+
+distinct_after : (ts : List (CorrectedTime Sail)) (act : Act) → Distinct ts →
+    Distinct (times_after ts act)
+distinct_after ts (Places sail (ByTime seconds)) apart =
+    distinct_pushed (without_time ts sail) (record { boat = sail; seconds = seconds })
+    (distinct_left ts sail apart) (left_are_others ts sail)
+distinct_after ts (Strikes sail) apart = distinct_left ts sail apart
+distinct_after ts _ apart = apart
+
+distinct_fold : (acts : List Act) (ts : List (CorrectedTime Sail)) → Distinct ts →
+    Distinct (fold times_after ts acts)
+distinct_fold [] ts apart = apart
+distinct_fold (act ∷ acts) ts apart =
+    distinct_fold acts (times_after ts act) (distinct_after ts act apart)
+
+nobody : Distinct []
+unfolding Distinct
+nobody = tt
+
+distinct : (acts : List Act) → Distinct (lasting_times acts)
+distinct acts = subst Distinct (sym (is_fold lasting_times times_after times_more [] acts))
+    (distinct_fold acts [] nobody)
 
 own_time : (ts : List (CorrectedTime Sail)) → Distinct ts →
     AllByRecursion (λ t. time_in same_sail ts t.boat ≡ Some t.seconds) ts
@@ -144,10 +194,10 @@ own_time (t ∷ ts) apart = (
     wider [] first rest = tt
     wider (o ∷ os) first rest = (rw (first.0) rest.0, wider os first.1 rest.1)
 
--- ---- the time of each boat after one more command
+-- ---- the time of each boat after one more act
 
 time_struck : (ts : List (CorrectedTime Sail)) (boat x : Sail) →
-    time_in same_sail (filter (λ t. not (same_sail t.boat boat)) ts) x
+    time_in same_sail (without_time ts boat) x
     ≡ cond (same_sail boat x) None (time_in same_sail ts x)
 time_struck [] boat x = by (same_sail boat x)
   where
@@ -159,7 +209,7 @@ time_struck (t ∷ ts) boat x =
     (time_struck ts boat x)
   where
     left : List (CorrectedTime Sail)
-    left = filter (λ o. not (same_sail o.boat boat)) ts
+    left = without_time ts boat
 
     by : (a : Bool) → same_sail t.boat boat ≡ a → (b : Bool) → same_sail t.boat x ≡ b →
         (c : Bool) → same_sail boat x ≡ c →
@@ -201,220 +251,117 @@ time_kept [] t x h = rw h refl
 time_kept (o ∷ ts) t x h =
     ap (λ time. cond (same_sail o.boat x) (Some o.seconds) time) (time_kept ts t x h)
 
-module _ (cs : List Command) (race : ℕ) (boat : Sail) where
-  pub timed_now : (seconds : ℕ) → time_by (cs ++ Time race boat seconds ∷ []) boat ≡ Some seconds
+module _ (acts : List Act) (boat : Sail) where
+  pub timed_now : (seconds : ℕ) → time_by (acts ++ Places boat (ByTime seconds) ∷ []) boat
+      ≡ Some seconds
   timed_now seconds =
-      let left = filter (λ (t : CorrectedTime Sail). not (same_sail t.boat boat))
-      (lasting_times cs) in
-      let new : CorrectedTime Sail = record { boat = boat; seconds = seconds } in
-      ap (λ ts. time_in same_sail ts boat) (times_more cs (Time race boat seconds))
-      ∙ time_pushed left new boat (time_struck (lasting_times cs) boat boat
-      ∙ rw (is_same boat) refl)
+      ap (λ ts. time_in same_sail ts boat) (times_more acts (Places boat (ByTime seconds)))
+      ∙ time_pushed (without_time (lasting_times acts) boat)
+      (record { boat = boat; seconds = seconds }) boat
+      (time_struck (lasting_times acts) boat boat ∙ rw (is_same boat) refl)
       ∙ rw (is_same boat) refl
 
-  pub others_timed : (seconds : ℕ) (x : Sail) → same_sail boat x ≡ false →
-      time_by (cs ++ Time race boat seconds ∷ []) x ≡ time_by cs x
-  others_timed seconds x apart =
-      let left = filter (λ (t : CorrectedTime Sail). not (same_sail t.boat boat))
-      (lasting_times cs) in
-      let new : CorrectedTime Sail = record { boat = boat; seconds = seconds } in
-      ap (λ ts. time_in same_sail ts x) (times_more cs (Time race boat seconds))
-      ∙ time_kept left new x apart
-      ∙ time_struck (lasting_times cs) boat x ∙ rw apart refl
-
-  pub struck_now : time_by (cs ++ Strike race boat ∷ []) boat ≡ None
+  pub struck_now : time_by (acts ++ Strikes boat ∷ []) boat ≡ None
   struck_now =
-      let left = filter (λ (t : CorrectedTime Sail). not (same_sail t.boat boat))
-      (lasting_times cs) in
-      ap (λ ts. time_in same_sail ts boat)
-      (times_more cs (Strike race boat) ∙ append-nil left)
-      ∙ time_struck (lasting_times cs) boat boat ∙ rw (is_same boat) refl
+      ap (λ ts. time_in same_sail ts boat) (times_more acts (Strikes boat))
+      ∙ time_struck (lasting_times acts) boat boat ∙ rw (is_same boat) refl
 
-  pub others_struck : (x : Sail) → same_sail boat x ≡ false →
-      time_by (cs ++ Strike race boat ∷ []) x ≡ time_by cs x
-  others_struck x apart =
-      let left = filter (λ (t : CorrectedTime Sail). not (same_sail t.boat boat))
-      (lasting_times cs) in
-      ap (λ ts. time_in same_sail ts x) (times_more cs (Strike race boat) ∙ append-nil left)
-      ∙ time_struck (lasting_times cs) boat x ∙ rw apart refl
+-- an act concerns no boat, or another than this one
+abbrev pub IsOfOthers : Sail → Act → Type 0
+IsOfOthers boat (Places sail placing) = same_sail boat sail ≡ false
+IsOfOthers boat (Strikes sail) = same_sail boat sail ≡ false
+IsOfOthers boat (Decides sail decision) = same_sail boat sail ≡ false
+IsOfOthers boat (Counts counts) = Unit {0}
 
--- ---- the order after one more command
+-- such an act leaves her time as it is
+time_stays : (ts : List (CorrectedTime Sail)) (act : Act) (boat : Sail) → IsOfOthers boat act →
+    time_in same_sail (times_after ts act) boat ≡ time_in same_sail ts boat
+time_stays ts (Places sail (ByTime seconds)) boat h =
+    time_kept (without_time ts sail) (record { boat = sail; seconds = seconds }) boat
+    (apart_back boat sail h)
+    ∙ time_struck ts sail boat ∙ rw (apart_back boat sail h) refl
+time_stays ts (Strikes sail) boat h = time_struck ts sail boat ∙ rw (apart_back boat sail h) refl
+time_stays ts _ boat h = refl
 
--- whether a command can change a finishing order
-abbrev pub places : Command → Bool
-places (Enter sail) = false
-places (Finish race sail) = true
-places (Tie race sail other) = true
-places (Before race sail other) = true
-places (Time race sail seconds) = true
-places (Strike race sail) = true
-places (Mark race sail code) = false
-places (Penalise race sail kind) = false
-places (Redress race sail redress) = false
-places (Clear race sail) = false
-places (Score race) = false
-places (Unscore race) = false
+pub time_of_others : (acts : List Act) (act : Act) (boat : Sail) → IsOfOthers boat act →
+    time_by (acts ++ act ∷ []) boat ≡ time_by acts boat
+time_of_others acts act boat h =
+    ap (λ ts. time_in same_sail ts boat) (times_more acts act)
+    ∙ time_stays (lasting_times acts) act boat h
 
--- the order after one more command, given the times in force
-abbrev pub order_with : (Sail → Option ℕ) → List (List Sail) → Command → List (List Sail)
-order_with time order (Enter sail) = order
-order_with time order (Finish race sail) = order_after order (Finish race sail)
-order_with time order (Tie race sail other) = order_after order (Tie race sail other)
-order_with time order (Before race sail other) = order_after order (Before race sail other)
-order_with time order (Time race sail seconds) = with_time time order sail seconds
-order_with time order (Strike race sail) = without same_sail order sail
-order_with time order (Mark race sail code) = order
-order_with time order (Penalise race sail kind) = order
-order_with time order (Redress race sail redress) = order
-order_with time order (Clear race sail) = order
-order_with time order (Score race) = order
-order_with time order (Unscore race) = order
+-- ---- the order after one more act
 
-pub no_time : (c : Command) → places c ≡ false →
-    (time_given c ≡ None) × ((boat : Sail) → ends_time boat c ≡ false)
-    × ((order : List (List Sail)) → order_after order c ≡ order)
-no_time (Enter sail) h = (refl, λ boat. refl, λ order. refl)
-no_time (Finish race sail) h = cc
-no_time (Tie race sail other) h = cc
-no_time (Before race sail other) h = cc
-no_time (Time race sail seconds) h = cc
-no_time (Strike race sail) h = cc
-no_time (Mark race sail code) h = (refl, λ boat. refl, λ order. refl)
-no_time (Penalise race sail kind) h = (refl, λ boat. refl, λ order. refl)
-no_time (Redress race sail redress) h = (refl, λ boat. refl, λ order. refl)
-no_time (Clear race sail) h = (refl, λ boat. refl, λ order. refl)
-no_time (Score race) h = (refl, λ boat. refl, λ order. refl)
-no_time (Unscore race) h = (refl, λ boat. refl, λ order. refl)
+-- the order after one more act, given the times in force
+abbrev pub order_with : (Sail → Option ℕ) → List (List Sail) → Act → List (List Sail)
+order_with time order (Places sail (ByTime seconds)) = with_time time order sail seconds
+order_with time order act = order_after order act
 
--- a command that places no boat leaves the order as it is
-pub order_by_stays : (rules : RulesParts) (cs : List Command) (c : Command) → places c ≡ false →
-    order_by rules (cs ++ c ∷ []) ≡ order_by rules cs
-order_by_stays rules cs c h =
-    let none = no_time c h in
-    λ i. cond rules.handicap (order_of_times (times_stay cs c none.0 none.1 i))
-    ((fold_push order_after [] cs c ∙ none.2 (fold order_after [] cs)) i)
-
-struck_by : (rules : RulesParts) (cs : List Command) (race : ℕ) (sail : Sail) →
-    order_by rules (cs ++ Strike race sail ∷ []) ≡ without same_sail (order_by rules cs) sail
-struck_by rules cs race sail = by rules.handicap
-  where
-    timed : order_of_times (lasting_times (cs ++ Strike race sail ∷ []))
-        ≡ without same_sail (order_of_times (lasting_times cs)) sail
-    timed =
-        ap order_of_times (times_more cs (Strike race sail) ∙ append-nil _)
-        ∙ order_without same_sail (lasting_times cs) sail
-
-    by : (b : Bool) → cond b (order_of_times (lasting_times (cs ++ Strike race sail ∷ [])))
-        (fold order_after [] (cs ++ Strike race sail ∷ []))
-        ≡ without same_sail
-        (cond b (order_of_times (lasting_times cs)) (fold order_after [] cs)) sail
-    by true = timed
-    by false = fold_push order_after [] cs (Strike race sail)
-
--- without corrected times, a command changes the order of finishing
-finished_by : (rules : RulesParts) (cs : List Command) (c : Command) → rules.handicap ≡ false →
-    order_by rules (cs ++ c ∷ []) ≡ order_after (order_by rules cs) c
-finished_by rules cs c h = rw h (fold_push order_after [] cs c)
-
--- with corrected times, a time is added to an order without empty groups
-timed_by : (rules : RulesParts) (cs : List Command) (race : ℕ) (sail : Sail) (seconds : ℕ) →
-    rules.handicap ≡ true → HasNoEmptyGroup (order_by rules cs) →
-    stands_in same_sail sail (order_by rules cs) ≡ false →
-    order_by rules (cs ++ Time race sail seconds ∷ [])
-    ≡ with_time (time_by cs) (order_by rules cs) sail seconds
-timed_by rules cs race sail seconds h full out =
-    let now : order_by rules cs ≡ order_of_times (lasting_times cs) = rw h refl in
-    let left = filter (λ (t : CorrectedTime Sail). not (same_sail t.boat sail))
-    (lasting_times cs) in
-    let new : CorrectedTime Sail = record { boat = sail; seconds = seconds } in
-    let later : order_by rules (cs ++ Time race sail seconds ∷ [])
-    ≡ order_of_times (lasting_times (cs ++ Time race sail seconds ∷ [])) = rw h refl in
-    later ∙ ap order_of_times (times_more cs (Time race sail seconds))
-    ∙ order_with_time (time_by cs) left
-    (all_passed (λ t. time_by cs t.boat ≡ Some t.seconds) (λ t. not (same_sail t.boat sail))
-    (lasting_times cs) (own_time (lasting_times cs) (distinct cs))) new
-    ∙ ap (λ order. with_time (time_by cs) order sail seconds)
-    (order_without same_sail (lasting_times cs) sail
-    ∙ ap (λ order. without same_sail order sail) (sym now)
-    ∙ stays_by same_sail sail (order_by rules cs)
-    (recursion_from_All (λ group. is_empty group ≡ false) (order_by rules cs) full) out)
-
-pub apart_back : (x y : Sail) → same_sail x y ≡ false → same_sail y x ≡ false
-apart_back x y h = by (same_sail y x) refl
-  where
-    by : (b : Bool) → same_sail y x ≡ b → b ≡ false
-    by true e =
-        let no_way : true ≡ false =
-        sym (is_same x) ∙ ap (same_sail x) (sym (same_is y x e)) ∙ h in cc
-    by false e = refl
-
--- a command leaves a boat's time as it is unless it ends it
-pub time_of_others : (cs : List Command) (c : Command) (boat : Sail) → ends_time boat c ≡ false →
-    time_by (cs ++ c ∷ []) boat ≡ time_by cs boat
-time_of_others cs (Time race sail seconds) boat h =
-    others_timed cs race sail seconds boat (apart_back boat sail h)
-time_of_others cs (Strike race sail) boat h =
-    others_struck cs race sail boat (apart_back boat sail h)
-time_of_others cs (Enter sail) boat h =
-    ap (λ ts. time_in same_sail ts boat) (times_stay cs (Enter sail) refl (λ x. refl))
-time_of_others cs (Finish race sail) boat h =
-    ap (λ ts. time_in same_sail ts boat) (times_stay cs (Finish race sail) refl (λ x. refl))
-time_of_others cs (Tie race sail other) boat h =
-    ap (λ ts. time_in same_sail ts boat) (times_stay cs (Tie race sail other) refl (λ x. refl))
-time_of_others cs (Before race sail other) boat h =
-    ap (λ ts. time_in same_sail ts boat) (times_stay cs (Before race sail other) refl (λ x. refl))
-time_of_others cs (Mark race sail code) boat h =
-    ap (λ ts. time_in same_sail ts boat) (times_stay cs (Mark race sail code) refl (λ x. refl))
-time_of_others cs (Penalise race sail kind) boat h =
-    ap (λ ts. time_in same_sail ts boat) (times_stay cs (Penalise race sail kind) refl (λ x. refl))
-time_of_others cs (Redress race sail redress) boat h =
-    ap (λ ts. time_in same_sail ts boat)
-    (times_stay cs (Redress race sail redress) refl (λ x. refl))
-time_of_others cs (Clear race sail) boat h =
-    ap (λ ts. time_in same_sail ts boat) (times_stay cs (Clear race sail) refl (λ x. refl))
-time_of_others cs (Score race) boat h =
-    ap (λ ts. time_in same_sail ts boat) (times_stay cs (Score race) refl (λ x. refl))
-time_of_others cs (Unscore race) boat h =
-    ap (λ ts. time_in same_sail ts boat) (times_stay cs (Unscore race) refl (λ x. refl))
-
--- what a command requires of the order that it changes: the rules use its system, and a boat that
--- is timed isn't in the order
-abbrev pub Suits : RulesParts → List (List Sail) → Command → Type 0
-Suits rules order (Time race sail seconds) =
+-- what an act requires of the order that it changes: the rules use its system, and a boat that is
+-- timed isn't in the order
+abbrev pub Suits : RulesParts → List (List Sail) → Act → Type 0
+Suits rules order (Places sail (ByTime seconds)) =
     (rules.handicap ≡ true) × (stands_in same_sail sail order ≡ false)
-Suits rules order (Finish race sail) = rules.handicap ≡ false
-Suits rules order (Tie race sail other) = rules.handicap ≡ false
-Suits rules order (Before race sail other) = rules.handicap ≡ false
-Suits rules order (Enter sail) = Unit {0}
-Suits rules order (Strike race sail) = Unit {0}
-Suits rules order (Mark race sail code) = Unit {0}
-Suits rules order (Penalise race sail kind) = Unit {0}
-Suits rules order (Redress race sail redress) = Unit {0}
-Suits rules order (Clear race sail) = Unit {0}
-Suits rules order (Score race) = Unit {0}
-Suits rules order (Unscore race) = Unit {0}
+Suits rules order (Places sail by_finishing) = rules.handicap ≡ false
+Suits rules order _ = Unit {0}
 
--- the order of the whole journal is the previous order, changed by the new command
-pub order_by_more : (rules : RulesParts) (cs : List Command) (c : Command) →
-    HasNoEmptyGroup (order_by rules cs) → Suits rules (order_by rules cs) c →
-    order_by rules (cs ++ c ∷ []) ≡ order_with (time_by cs) (order_by rules cs) c
-order_by_more rules cs (Time race sail seconds) full suits =
-    timed_by rules cs race sail seconds suits.0 full suits.1
-order_by_more rules cs (Finish race sail) full suits =
-    finished_by rules cs (Finish race sail) suits
-order_by_more rules cs (Tie race sail other) full suits =
-    finished_by rules cs (Tie race sail other) suits
-order_by_more rules cs (Before race sail other) full suits =
-    finished_by rules cs (Before race sail other) suits
-order_by_more rules cs (Strike race sail) full suits = struck_by rules cs race sail
-order_by_more rules cs (Enter sail) full suits = order_by_stays rules cs (Enter sail) refl
-order_by_more rules cs (Mark race sail code) full suits =
-    order_by_stays rules cs (Mark race sail code) refl
-order_by_more rules cs (Penalise race sail kind) full suits =
-    order_by_stays rules cs (Penalise race sail kind) refl
-order_by_more rules cs (Redress race sail redress) full suits =
-    order_by_stays rules cs (Redress race sail redress) refl
-order_by_more rules cs (Clear race sail) full suits =
-    order_by_stays rules cs (Clear race sail) refl
-order_by_more rules cs (Score race) full suits = order_by_stays rules cs (Score race) refl
-order_by_more rules cs (Unscore race) full suits = order_by_stays rules cs (Unscore race) refl
+module _ (rules : RulesParts) (acts : List Act) where
+  pub order_by_push : (act : Act) → order_by rules (acts ++ act ∷ [])
+      ≡ cond rules.handicap (order_of_times (times_after (lasting_times acts) act))
+      (order_after (fold order_after [] acts) act)
+  order_by_push act i =
+      cond rules.handicap (order_of_times (times_more acts act i))
+      (fold_push order_after [] acts act i)
+
+  struck_by : (sail : Sail) →
+      order_by rules (acts ++ Strikes sail ∷ []) ≡ without same_sail (order_by rules acts) sail
+  struck_by sail = order_by_push (Strikes sail) ∙ by rules.handicap
+    where
+      by : (b : Bool) → cond b (order_of_times (without_time (lasting_times acts) sail))
+          (without same_sail (fold order_after [] acts) sail)
+          ≡ without same_sail
+          (cond b (order_of_times (lasting_times acts)) (fold order_after [] acts)) sail
+      by true = order_without same_sail (lasting_times acts) sail
+      by false = refl
+
+  -- without corrected times, an act changes the order of finishing
+  finished_by : (act : Act) → rules.handicap ≡ false →
+      order_by rules (acts ++ act ∷ []) ≡ order_after (order_by rules acts) act
+  finished_by act h = rw h (fold_push order_after [] acts act)
+
+  -- with corrected times, a time is added to an order without empty groups
+  timed_by : (sail : Sail) (seconds : ℕ) →
+      rules.handicap ≡ true → HasNoEmptyGroup (order_by rules acts) →
+      stands_in same_sail sail (order_by rules acts) ≡ false →
+      order_by rules (acts ++ Places sail (ByTime seconds) ∷ [])
+      ≡ with_time (time_by acts) (order_by rules acts) sail seconds
+  timed_by sail seconds h full out =
+      let now : order_by rules acts ≡ order_of_times (lasting_times acts) = rw h refl in
+      let left = without_time (lasting_times acts) sail in
+      let new : CorrectedTime Sail = record { boat = sail; seconds = seconds } in
+      let later : order_by rules (acts ++ Places sail (ByTime seconds) ∷ [])
+      ≡ order_of_times (left ++ new ∷ []) =
+      order_by_push (Places sail (ByTime seconds)) ∙ rw h refl in
+      later
+      ∙ order_with_time (time_by acts) left
+      (all_passed (λ t. time_by acts t.boat ≡ Some t.seconds) (λ t. not (same_sail t.boat sail))
+      (lasting_times acts) (own_time (lasting_times acts) (distinct acts))) new
+      ∙ ap (λ order. with_time (time_by acts) order sail seconds)
+      (order_without same_sail (lasting_times acts) sail
+      ∙ ap (λ order. without same_sail order sail) (sym now)
+      ∙ stays_by same_sail sail (order_by rules acts)
+      (recursion_from_All (λ group. is_empty group ≡ false) (order_by rules acts) full) out)
+
+  -- the order of the whole journal is the previous order, changed by the new act
+  pub order_by_more : (act : Act) → HasNoEmptyGroup (order_by rules acts) →
+      Suits rules (order_by rules acts) act →
+      order_by rules (acts ++ act ∷ []) ≡ order_with (time_by acts) (order_by rules acts) act
+  order_by_more (Places sail (ByTime seconds)) full suits =
+      timed_by sail seconds suits.0 full suits.1
+  order_by_more (Places sail AtEnd) full suits = finished_by (Places sail AtEnd) suits
+  order_by_more (Places sail (TiedWith other)) full suits =
+      finished_by (Places sail (TiedWith other)) suits
+  order_by_more (Places sail (AheadOf other)) full suits =
+      finished_by (Places sail (AheadOf other)) suits
+  order_by_more (Strikes sail) full suits = struck_by sail
+  order_by_more (Decides sail decision) full suits = order_by_push (Decides sail decision)
+  order_by_more (Counts counts) full suits = order_by_push (Counts counts)

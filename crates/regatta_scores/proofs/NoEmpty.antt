@@ -5,19 +5,15 @@ use Rattle.std.specs.Prelude.{◌↔◌}
 use Rattle.std.specs.List.{AllByRecursion, range_with_len}
 use Rattle.std.proofs.lemmas.List.Elements.{All-from_recursion, recursion_from_All}
 use borrow.Author.Tests.{eq-eqb}
+use Rattle.regatta_terms.specs.Effects.{Act, Places, Strikes, AtEnd, TiedWith, AheadOf}
 use Rattle.regatta_terms.specs.Rules.{RulesParts}
 use Rattle.regatta_terms.specs.declared.sail.Sail.{Sail}
-use Rattle.regatta_terms.specs.declared.command.Command.{Command}
-use Rattle.regatta_terms.specs.declared.command.Command.TheVariants.{Enter, Finish, Tie, Before}
-use Rattle.regatta_terms.specs.declared.command.Command.TheVariants.{Time, Strike, Mark, Penalise}
-use Rattle.regatta_terms.specs.declared.command.Command.TheVariants.{Redress, Clear, Score, Unscore}
 use Rattle.regatta_scores.specs.Order.{is_empty, in_group, stands_in, with_last, joined, with_ahead}
 use Rattle.regatta_scores.specs.Order.{without, HasNoEmptyGroup}
 use Rattle.regatta_scores.specs.CorrectedTimes.{CorrectedTime, times_behind, tied_times}
 use Rattle.regatta_scores.specs.CorrectedTimes.{order_of_times, is_lower, is_later, group_time}
 use Rattle.regatta_scores.specs.CorrectedTimes.{lower_groups, equal_boats, later_groups, with_time}
-use Rattle.regatta_scores.specs.Journal.{same_sail, order_after, order_by, race_commands}
-use Rattle.regatta_scores.specs.Journal.{lasting_times}
+use Rattle.regatta_scores.specs.Journal.{same_sail, order_after, order_by, acts, lasting_times}
 use Rattle.regatta_scores.specs.RaceLaws.{OrdersHaveNoEmptyGroup}
 use Rattle.regatta_scores.proofs.Members.{all_passed}
 
@@ -111,26 +107,21 @@ module _ {B : Type 0} (time : B → Option ℕ) where
 
 -- ---- the orders of a journal
 
-after_has_none : (order : List (List Sail)) (command : Command) → HasNoEmptyGroup order →
-    HasNoEmptyGroup (order_after order command)
-after_has_none order (Enter sail) each = each
-after_has_none order (Finish race sail) each = last_has_none same_sail order sail each
-after_has_none order (Tie race sail other) each = joined_has_none same_sail order sail other each
-after_has_none order (Before race sail other) each = ahead_has_none same_sail order sail other each
-after_has_none order (Time race sail seconds) each = each
-after_has_none order (Strike race sail) each = without_has_none same_sail order sail
-after_has_none order (Mark race sail code) each = each
-after_has_none order (Penalise race sail kind) each = each
-after_has_none order (Redress race sail redress) each = each
-after_has_none order (Clear race sail) each = each
-after_has_none order (Score race) each = each
-after_has_none order (Unscore race) each = each
+after_has_none : (order : List (List Sail)) (act : Act) → HasNoEmptyGroup order →
+    HasNoEmptyGroup (order_after order act)
+after_has_none order (Places sail AtEnd) each = last_has_none same_sail order sail each
+after_has_none order (Places sail (TiedWith other)) each =
+    joined_has_none same_sail order sail other each
+after_has_none order (Places sail (AheadOf other)) each =
+    ahead_has_none same_sail order sail other each
+after_has_none order (Strikes sail) each = without_has_none same_sail order sail
+after_has_none order _ each = each
 
-fold_has_none : (commands : List Command) (order : List (List Sail)) →
-    HasNoEmptyGroup order → HasNoEmptyGroup (fold order_after order commands)
+fold_has_none : (acts : List Act) (order : List (List Sail)) →
+    HasNoEmptyGroup order → HasNoEmptyGroup (fold order_after order acts)
 fold_has_none [] order each = each
-fold_has_none (command ∷ commands) order each =
-    fold_has_none commands (order_after order command) (after_has_none order command each)
+fold_has_none (act ∷ acts) order each =
+    fold_has_none acts (order_after order act) (after_has_none order act each)
 
 named : {B C : Type 0} (name : B → C) (groups : List (List B)) → AllByRecursion HasBoats groups →
     AllByRecursion HasBoats (map (map name) groups)
@@ -145,18 +136,18 @@ times_have_none times =
     (with_boats {B = CorrectedTime Sail} (λ a b. true)
     (map (times_behind times) (range_with_len 0 (length times)))))
 
--- no order after commands of a race has an empty group
-pub order_has_none : (rules : RulesParts) (commands : List Command) →
-    HasNoEmptyGroup (order_by rules commands)
-order_has_none rules commands = by rules.handicap
+-- no order after the acts in a race has an empty group
+pub order_has_none : (rules : RulesParts) (acts : List Act) →
+    HasNoEmptyGroup (order_by rules acts)
+order_has_none rules acts = by rules.handicap
   where
     by : (b : Bool) → HasNoEmptyGroup
-        (cond b (order_of_times (lasting_times commands)) (fold order_after [] commands))
-    by true = times_have_none (lasting_times commands)
-    by false = fold_has_none commands [] (All-from_recursion HasBoats [] tt)
+        (cond b (order_of_times (lasting_times acts)) (fold order_after [] acts))
+    by true = times_have_none (lasting_times acts)
+    by false = fold_has_none acts [] (All-from_recursion HasBoats [] tt)
 
 pub orders_have_no_empty_group : OrdersHaveNoEmptyGroup
-orders_have_no_empty_group rules journal race = order_has_none rules (race_commands journal race)
+orders_have_no_empty_group rules journal race = order_has_none rules (acts journal race)
 
 -- ---- an order without boats
 

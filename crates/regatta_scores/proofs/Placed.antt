@@ -14,7 +14,8 @@ use Rattle.regatta_scores.specs.Sheet.{nothing_held}
 use Rattle.regatta_scores.specs.RacePoints.{race_of, status, status_by, came, place_points}
 use Rattle.regatta_scores.specs.RacePoints.{number_came, dnf_by, base_by, plain, penalised}
 use Rattle.regatta_scores.specs.RacePoints.{penalty_points}
-use Rattle.regatta_scores.specs.RaceScores.{race_score, score_of}
+use Rattle.regatta_scores.specs.Outcomes.{score_of}
+use Rattle.regatta_scores.specs.RaceScores.{race_score}
 use Rattle.regatta_scores.specs.PlacedPoints.{HasPlacedPoints, placed_points, came_with}
 use Rattle.regatta_scores.specs.PlacedPoints.{number_came_with, plain_with, score_with}
 

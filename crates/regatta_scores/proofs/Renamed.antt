@@ -12,6 +12,7 @@ use Rattle.regatta_scores.specs.RacePoints.{Race, status, status_by, came, finis
 use Rattle.regatta_scores.specs.RacePoints.{her_group, finishing_place, sharing, number_came, dnf}
 use Rattle.regatta_scores.specs.RacePoints.{dnf_by, base, base_by, plain, penalised, penalty_points}
 use Rattle.regatta_scores.specs.RacePoints.{shared_points}
+use Rattle.regatta_scores.specs.Outcomes.{outcome}
 use Rattle.regatta_scores.specs.Renaming.{IsRenamed}
 use Rattle.regatta_scores.proofs.Counts.{count_cons}
 
@@ -80,7 +81,7 @@ module _ {B C : Type 0} (same_b : B → B → Bool) (same_c : C → C → Bool) 
       list_any_map name (λ o. same_c o (name boat)) (λ o. same_b o boat) (λ x. r.tells x boat known)
       group
 
-  pub order_same : (boat : B) → Known boat →
+  order_same : (boat : B) → Known boat →
       stands_in same_c (name boat) renamed.order ≡ stands_in same_b boat race.order
   order_same boat known =
       ap (stands_in same_c (name boat)) r.finish
@@ -137,8 +138,17 @@ module _ {B C : Type 0} (same_b : B → B → Bool) (same_c : C → C → Bool) 
       (shared_points (place_same boat known i) (sharing_same boat known i)) (entered_same i)
       (dnf_same rules i)
 
-  pub plain_same : (rules : RulesParts) (boat : B) → Known boat →
+  plain_same : (rules : RulesParts) (boat : B) → Known boat →
       plain same_c rules renamed (name boat) ≡ plain same_b rules race boat
   plain_same rules boat known i =
       penalised (base_same rules boat known i)
       (penalty_points rules (dnf_same rules i) (r.holds boat i)) (dnf_same rules i)
+
+  -- a boat's outcome is the same
+  pub outcome_same : (rules : RulesParts) (boat : B) → Known boat →
+      outcome same_c rules renamed (name boat) ≡ outcome same_b rules race boat
+  outcome_same rules boat known i = record {
+    plain = plain_same rules boat known i;
+    held = r.holds boat i;
+    placed = order_same boat known i;
+  }

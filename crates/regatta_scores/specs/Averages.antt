@@ -1,28 +1,16 @@
 -- Points with redress (RRS A9), of one boat over the scored races in order.
-use Rattle.std.specs.Prelude.{ℕ, ◌+◌, ◌*◌, ◌/◌, Bool, true, false, not, List, length, map, filter}
-use Rattle.std.specs.Prelude.{take, sum_by, remove, nat_eq, Option, Some, None, if◌then◌else◌}
+use Rattle.std.specs.Prelude.{ℕ, ◌+◌, ◌*◌, ◌/◌, Bool, true, false, List, length, map, filter}
+use Rattle.std.specs.Prelude.{take, sum_by, remove, nat_eq, if◌then◌else◌}
 use Rattle.std.specs.List.{enumerate_from}
-use Rattle.regatta_terms.specs.declared.command.Redress.{Redress}
-use Rattle.regatta_terms.specs.declared.command.Redress.TheVariants.{Points, AllRaces, RacesBefore}
-use Rattle.regatta_scores.specs.declared.boats.RowItem.{RowItem}
+use Rattle.regatta_scores.specs.declared.boats.Averaged.{Averaged}
+use Rattle.regatta_scores.specs.declared.boats.Averaged.TheVariants.{OverNone, OverAll, OverBefore}
+use Rattle.regatta_scores.specs.declared.boats.RaceScore.{RaceScore}
 
--- her redress in the race is an average, of all races or of those before (A9 (a), (b))
-abbrev pub has_average : Option Redress → Bool
-has_average None = false
-has_average (Some (Points award)) = false
-has_average (Some AllRaces) = true
-has_average (Some RacesBefore) = true
-
--- the points given as redress (A9 (c)), or else her score
-abbrev pub award_or : ℕ → Option Redress → ℕ
-award_or plain None = plain
-award_or plain (Some (Points award)) = award
-award_or plain (Some AllRaces) = plain
-award_or plain (Some RacesBefore) = plain
-
--- her points in a race in which her redress isn't an average: those given (A9 (c)), or her score
-abbrev pub own_points : RowItem → ℕ
-own_points item = award_or item.plain item.redress
+-- no average replaces her points (A9)
+abbrev pub is_own : Averaged → Bool
+is_own OverNone = true
+is_own OverAll = false
+is_own OverBefore = false
 
 -- the average of n points with sum s, to the nearest tenth, 0.05 upward (A9)
 abbrev pub average : ℕ → ℕ → ℕ
@@ -32,30 +20,26 @@ average n s = (2 * s + n) / (2 * n)
 abbrev pub average_or : ℕ → ℕ → ℕ → ℕ
 average_or plain n s = if nat_eq n 0 then plain else average n s
 
--- the races that an average counts: those in which her redress isn't an average (A9)
-abbrev pub counted : List RowItem → List RowItem
-counted races = filter (λ item. not (has_average item.redress)) races
+-- the races that an average counts: those in which no average replaces her points (A9)
+abbrev pub counted : List RaceScore → List RaceScore
+counted races = filter (λ score. is_own score.averaged) races
 
 -- the sum of her points in these races (A9)
-abbrev pub total : List RowItem → ℕ
-total races = sum_by own_points races
+abbrev pub total : List RaceScore → ℕ
+total races = sum_by (λ score. score.points) races
 
 -- her average over these races, or her score without redress if none is counted (A9)
-abbrev pub average_over : List RowItem → ℕ → ℕ
+abbrev pub average_over : List RaceScore → ℕ → ℕ
 average_over races plain = average_or plain (length (counted races)) (total (counted races))
 
--- her points in race i of the list, by her redress there: her score without any; the points given
--- (A9 (c)); the average of all other races (A9 (a)); the average of those before (A9 (b))
-abbrev pub redressed_by : List RowItem → ℕ → ℕ → Option Redress → ℕ
-redressed_by row i plain None = plain
-redressed_by row i plain (Some (Points award)) = award
-redressed_by row i plain (Some AllRaces) = average_over (remove row i) plain
-redressed_by row i plain (Some RacesBefore) = average_over (take i row) plain
-
--- her points in race i of the list (A9)
-abbrev pub redressed : List RowItem → ℕ → RowItem → ℕ
-redressed row i item = redressed_by row i item.plain item.redress
+-- her points in race i of the list: her own; the average of all other races (A9 (a)); the average of
+-- those before (A9 (b))
+abbrev pub redressed : List RaceScore → ℕ → ℕ → Averaged → ℕ
+redressed scores i own OverNone = own
+redressed scores i own OverAll = average_over (remove scores i) own
+redressed scores i own OverBefore = average_over (take i scores) own
 
 -- her points in each scored race, with redress (A9)
-abbrev pub points : List RowItem → List ℕ
-points row = map (λ race. redressed row race.0 race.1) (enumerate_from 0 row)
+abbrev pub points : List RaceScore → List ℕ
+points scores =
+    map (λ race. redressed scores race.0 race.1.points race.1.averaged) (enumerate_from 0 scores)

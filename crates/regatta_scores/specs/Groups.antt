@@ -1,5 +1,5 @@
 -- A finishing order as one list of boats and the positions where its groups end.
-use Rattle.std.specs.Prelude.{◌≡◌, ℕ, ◌-◌, ◌≤◌, nat_eq, List, [], ◌∷◌, slice_index_or}
+use Rattle.std.specs.Prelude.{◌≡◌, ℕ, ◌+◌, ◌-◌, ◌≤◌, nat_eq, List, [], ◌∷◌, slice_index_or}
 use Rattle.std.specs.Prelude.{if◌then◌else◌}
 use Rattle.std.specs.List.{between}
 
@@ -15,3 +15,7 @@ Rises start (end ∷ ends) last = (start ≤ end) × Rises end ends last
 
 abbrev pub begin : List ℕ → ℕ → ℕ
 begin ends at = if nat_eq at 0 then 0 else slice_index_or ends (at - 1) 0
+
+-- the end of a group, if the boats from `begin` on come after `ahead` others
+abbrev pub moved_end : ℕ → ℕ → ℕ → ℕ
+moved_end begin ahead end = end - begin + ahead

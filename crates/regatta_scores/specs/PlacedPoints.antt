@@ -9,7 +9,7 @@ use Rattle.regatta_terms.specs.declared.command.Code.{Code}
 use Rattle.regatta_scores.specs.declared.boats.RaceScore.{RaceScore}
 use Rattle.regatta_scores.specs.declared.sheet.Held.{Held}
 use Rattle.regatta_scores.specs.Order.{in_group, stands_in}
-use Rattle.regatta_scores.specs.RaceScores.{score_of}
+use Rattle.regatta_scores.specs.Outcomes.{score_of}
 use Rattle.regatta_scores.specs.Sheet.{nothing_held}
 use Rattle.regatta_scores.specs.RacePoints.{Race, race_of, status_by, came, place_points, dnf_by}
 use Rattle.regatta_scores.specs.RacePoints.{base_by, penalised, penalty_points}

@@ -2,13 +2,14 @@
 use Rattle.std.specs.Prelude.{◌≡◌, ◌≢◌, ℕ, ◌+◌, ◌*◌, ◌≤◌, Bool, true, false, [], ◌∷◌, ◌++◌}
 use Rattle.std.specs.Prelude.{count_by, sum_by, if◌then◌else◌}
 use Rattle.std.specs.List.{range_with_len}
+use Rattle.regatta_terms.specs.Effects.{Act, InRace, effect}
 use Rattle.regatta_terms.specs.Entries.{EntryParts}
 use Rattle.regatta_terms.specs.Rules.{RulesParts}
 use Rattle.regatta_terms.specs.declared.sail.Sail.{Sail}
 use Rattle.regatta_terms.specs.declared.command.Code.{Code}
 use Rattle.regatta_terms.specs.declared.command.Command.TheVariants.{Enter, Mark}
 use Rattle.regatta_scores.specs.Order.{HasNoEmptyGroup, in_group, stands_in, times_placed}
-use Rattle.regatta_scores.specs.Journal.{Journal, same_sail, names_race, order, held}
+use Rattle.regatta_scores.specs.Journal.{Journal, same_sail, order, held}
 use Rattle.regatta_scores.specs.RacePoints.{Race, Status, Finished, Coded, journal_race, status}
 use Rattle.regatta_scores.specs.RacePoints.{shared_points, groups_ahead, her_group, finishing_place}
 use Rattle.regatta_scores.specs.RacePoints.{sharing, dnf, plain}
@@ -29,8 +30,8 @@ pub record SaysTheSame (rules : RulesParts) (old new : Journal) (race : ℕ) : T
 
 -- Under any rules, a command of one race changes no other race.
 abbrev pub RacesAreApart : Type 0
-RacesAreApart = (rules : RulesParts) (journal : Journal) (entry : EntryParts) (race other : ℕ) →
-    names_race race entry.command ≡ true → other ≢ race →
+RacesAreApart = (rules : RulesParts) (journal : Journal) (entry : EntryParts) (race other : ℕ)
+    (act : Act) → effect entry.command ≡ InRace race act → other ≢ race →
     SaysTheSame rules journal (journal ++ entry ∷ []) other
 
 -- Under any rules, Enter changes no finishing order and nothing that a boat holds.

@@ -8,12 +8,12 @@ use Rattle.regatta_scores.specs.declared.table.Row.{Row}
 use Rattle.regatta_scores.specs.Journal.{Journal}
 use Rattle.regatta_scores.specs.Ranking.{beats}
 use Rattle.regatta_scores.specs.RankLaws.{IsBetter}
-use Rattle.regatta_scores.specs.Standing.{points, line, standing}
+use Rattle.regatta_scores.specs.Standing.{line, standing}
 
 -- under these rules no score of a boat by the journal is below 1.0, and none in a cell of the
 -- standing
 pub record HasNoScoreBelowOne (rules : RulesParts) (journal : Journal) : Type 0 where
-  pub of_boats : (boat : Sail) → All (λ points. 10 ≤ points) (points rules journal boat)
+  pub of_boats : (boat : Sail) → All (λ points. 10 ≤ points) (line rules journal boat).points
   pub in_cells :
       All (λ (row : Row). All (λ (cell : Cell). 10 ≤ cell.points) row.cells)
       (standing rules journal).rows

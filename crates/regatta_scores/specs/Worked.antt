@@ -6,7 +6,7 @@ use Rattle.regatta_terms.specs.Rules.{exclusions_of}
 use Rattle.regatta_terms.specs.declared.command.Redress.TheVariants.{Points, AllRaces, RacesBefore}
 use Rattle.regatta_scores.specs.declared.boats.RowItem.{RowItem}
 use Rattle.regatta_scores.specs.declared.boats.Scored.{Scored}
-use Rattle.regatta_scores.specs.Averages.{points}
+use Rattle.regatta_scores.specs.RowItems.{points}
 use Rattle.regatta_scores.specs.Exclusions as exclusion
 use Rattle.regatta_scores.specs.Ranking.{BoatScores, better, places}
 use Rattle.regatta_scores.specs.declared.ranking.TheConstants.{MAX_RANKED}

@@ -1,12 +1,16 @@
 //! One boat's race scores, and her place in the series.
+ghost use Rattle.std.specs.Prelude.{◌≡◌, ◌↔◌, true};
+ghost use Rattle.regatta_scores.specs.RaceScores.{ScoresAs};
+
 use crate::items::Items;
 use crate::table::Abbrev;
 use regatta_terms::{Redress, Tenths};
 
 /// Over which other races a boat's points in a race are an average (RRS A9).
-#[derive(Clone, Copy, Debug, PartialEq, Eq)]
+#[derive(Clone, Copy, Debug, Default, PartialEq, Eq)]
 pub enum Averaged {
     /// Over none: they aren't an average.
+    #[default]
     OverNone,
     /// Over all other races.
     OverAll,
@@ -17,7 +21,7 @@ pub enum Averaged {
 /// A boat's score in one race, before averages: what her line and her cell take of the race.
 ///
 /// It is small, since a line reads one for each race.
-#[derive(Clone, Copy, Debug, PartialEq, Eq)]
+#[derive(Clone, Copy, Debug, Default, PartialEq, Eq)]
 pub struct RaceScore {
     /// The points given as redress (RRS A9(c)), else those before redress, in tenths.
     pub points: Tenths,
@@ -27,6 +31,15 @@ pub struct RaceScore {
     pub dne: bool,
     /// The abbreviation in her cell (RRS A10).
     pub mark: Option<Abbrev>,
+}
+
+impl RaceScore {
+    /// Whether a line takes the same of both scores: they differ in the abbreviation at most.
+    pub fn scores_as(&self, other: &RaceScore) -> bool
+        ensures { (result ≡ true) ↔ ScoresAs self.now other.now }
+    {
+        self.points == other.points && self.averaged == other.averaged && self.dne == other.dne
+    }
 }
 
 /// The scores of the boats in one race, in the order of their numbers.

@@ -1,8 +1,9 @@
 //! A finishing order as one list of boats and the position where each group ends (RRS A3, A7).
-ghost use Rattle.std.specs.Prelude.{◌≡◌, ◌<◌, ◌++◌, ◌∷◌, [], length, nat_eq, slice_index_or};
-ghost use Rattle.std.specs.Prelude.{IsTrue, ◌↔◌, IfOk, OnOk, if◌then◌else◌};
-ghost use Rattle.regatta_scores.specs.Order.{stands_in};
-ghost use Rattle.regatta_scores.specs.Groups.{begin, cut, Rises};
+ghost use Rattle.std.specs.Prelude.{◌≡◌, ◌<◌, ◌≤◌, ◌^◌, ◌++◌, ◌∷◌, [], length, map, take, drop};
+ghost use Rattle.std.specs.Prelude.{IsTrue, ◌↔◌, IfOk, OnOk, if◌then◌else◌, nat_eq, slice_index_or};
+ghost use Rattle.std.specs.Prelude.{All, ℕ, true, false};
+ghost use Rattle.regatta_scores.specs.Order.{in_group, stands_in};
+ghost use Rattle.regatta_scores.specs.Groups.{begin, cut, moved_end, Rises};
 
 use std::alloc::{AllocError, Global};
 use std::marker::Model;
@@ -25,9 +26,10 @@ impl Model for Groups {
     ghost invariant = { λ g. Rises 0 g.ends.items (length g.boats.items) };
 }
 
-/// The position of the group's first boat, by the ends of the groups.
+/// The position of the group's first boat, by the ends of the groups. After the last group, it is
+/// the number of boats.
 fn begin(ends: &[usize], at: usize) -> usize
-    requires { at < length ends.now }
+    requires { at ≤ length ends.now }
     ensures { result ≡ begin ends.now at }
 {
     if at == 0 { 0 } else { ends[at - 1] }
@@ -42,6 +44,24 @@ fn group_in<'a>(boats: &'a [u16], ends: &[usize], at: usize) -> &'a [u16]
     &boats[begin(ends, at)..ends[at]]
 }
 
+/// Appends the ends of later groups, whose boats from `begin` on come after `ahead` others now.
+fn push_ends(
+    ends: &mut Vec<usize>,
+    rest: &[usize],
+    begin: usize,
+    ahead: usize,
+) -> Result<(), AllocError>
+    requires low { All (λ end. begin ≤ end) rest.now }
+    requires high { All (λ end. moved_end begin ahead end < 2 ^ 64) rest.now }
+    ensures { OnOk result
+        (ends.new.items ≡ ends.old.items ++ map (moved_end begin ahead) rest.now) }
+{
+    for end in rest {
+        ends.push(*end - begin + ahead)?;
+    }
+    Ok(())
+}
+
 impl Groups {
     pub(crate) fn new(alloc: Global) -> Groups
         ensures { result ≡ [] }
@@ -54,7 +74,8 @@ impl Groups {
 
     #[tactic(auto, using(crate::proofs::Cut::many_groups))]
     pub(crate) fn len(&self) -> usize
-        ensures { result ≡ length self.now }
+        ensures value { result ≡ length self.now }
+        ensures fits { result < 2 ^ 63 }
     {
         self.ends.len()
     }
@@ -78,6 +99,53 @@ impl Groups {
         ensures { result ≡ stands_in nat_eq boat self.now }
     {
         self.boats.contains(&boat)
+    }
+
+    /// The position of the first group with the boat, or the number of groups if she is in none.
+    pub(crate) fn group_with(&self, boat: u16) -> usize
+        ensures bound { result ≤ length self.now }
+        ensures fits { result < 2 ^ 63 }
+        ensures before { (k : ℕ) → k < result
+            → in_group nat_eq boat (slice_index_or self.now k []) ≡ false }
+        ensures here { result < length self.now
+            → in_group nat_eq boat (slice_index_or self.now result []) ≡ true }
+    {
+        for at in 0..self.len() {
+            if self.group(at).contains(&boat) {
+                return at;
+            }
+        }
+        self.len()
+    }
+
+    /// Copies the first groups, with room for the others, one more and one more boat.
+    #[tactic(auto, using(crate::proofs::Cut::many_groups, crate::proofs::Parts::begin_within))]
+    pub(crate) fn first(&self, alloc: Global, many: usize) -> Result<Groups, AllocError>
+        requires { many ≤ length self.now }
+        ensures { IfOk result (λ new. new ≡ take many self.now) }
+    {
+        let mut boats = Vec::with_capacity(alloc, self.boats.len() + 1)?;
+        boats.extend_from_slice(&self.boats[..begin(&self.ends, many)])?;
+        let mut ends = Vec::with_capacity(alloc, self.ends.len() + 1)?;
+        ends.extend_from_slice(&self.ends[..many])?;
+        Ok(Groups { boats, ends })
+    }
+
+    /// Appends the groups of an order from one position on.
+    #[tactic(auto, using(crate::proofs::Cut::many_groups, crate::proofs::Parts::begin_within))]
+    pub(crate) fn followed_by(self, order: &Groups, from: usize) -> Result<Groups, AllocError>
+        requires { from ≤ length order.now }
+        ensures { IfOk result (λ new. new ≡ self ++ drop from order.now) }
+    {
+        let Groups {
+            mut boats,
+            mut ends,
+        } = self;
+        let ahead = boats.len();
+        let begin = begin(&order.ends, from);
+        boats.extend_from_slice(&order.boats[begin..])?;
+        push_ends(&mut ends, &order.ends[from..], begin, ahead)?;
+        Ok(Groups { boats, ends })
     }
 
     /// Appends a group.

@@ -1,7 +1,7 @@
 //! What a line and a cell take of a boat's outcome in one race.
-ghost use Rattle.std.specs.Prelude.{◌≡◌};
-ghost use Rattle.regatta_scores.specs.Averages.{award_or};
-ghost use Rattle.regatta_scores.specs.RaceScores.{averaged, holds_nothing, score_of};
+ghost use Rattle.std.specs.Prelude.{◌≡◌, ℕ};
+ghost use Rattle.regatta_scores.specs.Outcomes.{redress_by, score_of};
+ghost use Rattle.regatta_scores.specs.RaceScores.{holds_nothing};
 ghost use Rattle.regatta_scores.specs.Sheet.{nothing_held};
 
 use crate::boats::{Averaged, RaceScore};
@@ -13,7 +13,7 @@ use regatta_terms::{Redress, Tenths};
 
 /// Her points given as redress, else those before redress.
 fn award_or(plain: Tenths, held: &Held) -> Tenths
-    ensures { result ≡ award_or plain held.now.redress }
+    ensures { result ≡ (redress_by plain held.now.redress).0 }
 {
     match held.redress {
         Some(Redress::Points(points)) => tenths(points.get()),
@@ -22,7 +22,7 @@ fn award_or(plain: Tenths, held: &Held) -> Tenths
 }
 
 fn averages_by(redress: Option<Redress>) -> Averaged
-    ensures { result ≡ averaged redress }
+    ensures { (plain : ℕ) → result ≡ (redress_by plain redress).1 }
 {
     match redress {
         None | Some(Redress::Points(_)) => Averaged::OverNone,

@@ -140,6 +140,7 @@ impl RaceSheet {
     }
 
     fn order_after(&self, alloc: Global, change: &Change) -> Result<Groups, AllocError>
+        requires { Allows self.now change.now }
         ensures { IfOk result (λ order. order ≡ (after self.now change.now).order) }
     {
         match *change {

@@ -1,8 +1,7 @@
 -- Numbers as digits.
-use Rattle.std.proofs.Common.{◌≡◌, ℕ, ◌+◌, ◌<◌, ◌≤◌, ◌/◌, ◌%◌, List, [], ◌∷◌, ◌++◌, length, decimal}
-use Rattle.std.proofs.Common.{sym, ap, ◌∙◌, append_assoc, arith, length-append}
+use Rattle.std.proofs.Common.{◌≡◌, ℕ, ◌+◌, ◌<◌, ◌≤◌, ◌/◌, ◌%◌, List, [], ◌∷◌, ◌++◌, decimal}
+use Rattle.std.proofs.Common.{sym, ap, ◌∙◌, append_assoc, arith}
 use Rattle.std.proofs.lemmas.Fmt.{decimal_digit, decimal_step}
-use Rattle.regatta_terms.specs.Entries.{points_text}
 
 -- a digit is its own text
 pub one_digit : (n : ℕ) → n < 10 → decimal n ≡ (48 + n) ∷ []
@@ -34,34 +33,24 @@ four_digits n more few =
     ∙ append_assoc (decimal (n / 10 / 10)) ((48 + n / 10 % 10) ∷ []) ((48 + n % 10) ∷ [])
     ∙ (λ i. decimal (hundreds i) ++ (sym ten i ++ sym one i))
 
--- how many digits there are
-pub length_one : (n : ℕ) → n < 10 → length (decimal n) ≡ 1
-length_one n few = ap length (decimal_digit n few)
+-- the digits of a number of one, of two and of three
+pub number_of_one : (n : ℕ) → n < 10 → decimal n ≡ (48 + n % 10) ∷ []
+number_of_one n few =
+    let same : n ≡ n % 10 = omega (arith, few) in
+    one_digit n few ∙ ap (λ (d : ℕ). (48 + d) ∷ []) same
 
-pub length_two : (n : ℕ) → 10 ≤ n → n < 100 → length (decimal n) ≡ 2
-length_two n more few =
-    ap length (two_digits n more few) ∙ length-append (decimal (n / 10)) (decimal (n % 10))
-    ∙ (λ i. length_one (n / 10) (omega (arith, few)) i + length_one (n % 10) (omega arith) i)
+pub number_of_two : (n : ℕ) → 10 ≤ n → n < 100
+    → decimal n ≡ (48 + n / 10 % 10) ∷ (48 + n % 10) ∷ []
+number_of_two n more few =
+    two_digits n more few
+    ∙ (λ i. number_of_one (n / 10) (omega (arith, few)) i ++ digit_text n i)
 
-pub length_more : (n : ℕ) → 100 ≤ n → n < 10000
-    → length (decimal n) ≡ length (decimal (n / 100)) + 2
-length_more n more few =
-    let two : length (decimal (n % 100 / 10) ++ decimal (n % 100 % 10)) ≡ 2 =
-    length-append (decimal (n % 100 / 10)) (decimal (n % 100 % 10))
-    ∙ (λ i. length_one (n % 100 / 10) (omega arith) i
-    + length_one (n % 100 % 10) (omega arith) i) in
-    ap length (four_digits n more few)
-    ∙ length-append (decimal (n / 100)) (decimal (n % 100 / 10) ++ decimal (n % 100 % 10))
-    ∙ ap (λ (k : ℕ). length (decimal (n / 100)) + k) two
-
-pub length_three : (n : ℕ) → 100 ≤ n → n < 1000 → length (decimal n) ≡ 3
-length_three n more few = length_more n more (omega (arith, few))
-    ∙ ap (λ (k : ℕ). k + 2) (length_one (n / 100) (omega (arith, few)))
-
-pub length_four : (n : ℕ) → 1000 ≤ n → n < 10000 → length (decimal n) ≡ 4
-length_four n more few = length_more n (omega (arith, more)) few
-    ∙ ap (λ (k : ℕ). k + 2) (length_two (n / 100) (omega (arith, more)) (omega (arith, few)))
-
--- points are digits, a point and a digit
-pub length_points : (tenths : ℕ) → length (points_text tenths) ≡ length (decimal (tenths / 10)) + 2
-length_points tenths = length-append (decimal (tenths / 10)) (46 ∷ (48 + tenths % 10) ∷ [])
+pub number_of_three : (n : ℕ) → 100 ≤ n → n < 1000
+    → decimal n ≡ (48 + n / 100) ∷ (48 + n / 10 % 10) ∷ (48 + n % 10) ∷ []
+number_of_three n more few =
+    let tens : n % 100 / 10 % 10 ≡ n / 10 % 10 = omega arith in
+    let ones : n % 100 % 10 % 10 ≡ n % 10 = omega arith in
+    four_digits n more (omega (arith, few))
+    ∙ (λ i. one_digit (n / 100) (omega (arith, few)) i
+    ++ (number_of_one (n % 100 / 10) (omega arith) i ++ number_of_one (n % 100 % 10) (omega arith) i))
+    ∙ (λ i. (48 + n / 100) ∷ (48 + tens i) ∷ (48 + ones i) ∷ [])

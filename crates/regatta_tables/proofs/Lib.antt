@@ -1,4 +1,3 @@
-pub mod CellFacts
 pub mod CsvFacts
 pub mod DigitFacts
 pub mod JournalFacts
@@ -6,4 +5,5 @@ pub mod LineFacts
 pub mod ListFacts
 pub mod ListLaws
 pub mod ReadBack
+pub mod ShownFacts
 pub mod WrittenFacts

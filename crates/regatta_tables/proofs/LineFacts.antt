@@ -3,7 +3,7 @@ use Rattle.std.proofs.Common.{◌≡◌, ℕ, ◌+◌, ◌<◌, ◌≤◌, List,
 use Rattle.std.proofs.Common.{ap, ◌∙◌, sym, append_assoc, append-nil, length-append, arith, codes}
 use Rattle.std.specs.List.{join_with_byte, flat_map}
 use Rattle.std.proofs.Math.Seq.{take-append_seam}
-use Rattle.std.proofs.lemmas.List.{map_more, flat_map_more, take_more, take-take}
+use Rattle.std.proofs.lemmas.List.{flat_map_more, take_more, take-take}
 use Rattle.std.proofs.lemmas.List.Folds.{length-flat_map-take}
 use Rattle.regatta_terms.specs.Words.{spaced}
 use Rattle.regatta_terms.proofs.TextFacts.{no_room_for_words}
@@ -77,10 +77,6 @@ length_pieces a b c = omega (
   length-append c [],
 )
 
--- what has no room doesn't fit
-pub never_both : {X : Type 0} (room need : ℕ) → room < need → need ≤ room → X
-never_both room need full fits = absurd (omega arith)
-
 -- the next piece makes the text of one piece more
 pub pushed_piece : (pieces : List (Bor (List ℕ))) (i : ℕ) (d : Bor (List ℕ))
     (before text new : List ℕ) → i < length pieces
@@ -93,24 +89,6 @@ pushed_piece pieces i d before text new below so_far pushed =
     (get_or pieces i d)
     ∙ ap (λ (ps : List (Bor (List ℕ))). before ++ flat_map (λ piece. piece.now) ps)
     (sym (take_more pieces i d below))
-
--- if all pieces have room the next one has, so that the capacity stays
-pub stays_more : (pieces : List (Bor (List ℕ))) (i : ℕ) (d : Bor (List ℕ)) (before text : List ℕ)
-    (first cap new old len : ℕ) → i < length pieces
-    → text ≡ before ++ flat_map (λ piece. piece.now) (take i pieces) → old ≡ length before
-    → len ≡ length text
-    → (old + length (flat_map (λ piece. piece.now) pieces) ≤ first → cap ≡ first)
-    → (len + length (get_or pieces i d).now ≤ cap → new ≡ cap)
-    → old + length (flat_map (λ piece. piece.now) pieces) ≤ first → new ≡ first
-stays_more pieces i d before text first cap new old len below so_far start end stays next fits =
-    let same : cap ≡ first = stays fits in
-    let room : len + length (get_or pieces i d).now ≤ cap = omega (
-      arith,
-      length-flat_map-take (λ (piece : Bor (List ℕ)). piece.now) pieces i d below,
-      ap length so_far,
-      length-append before (flat_map (λ piece. piece.now) (take i pieces)),
-    ) in
-    next room ∙ same
 
 -- what begins with a longer text begins with its beginning
 pub start_stays : (old more longer text : List ℕ) (a b : ℕ) → a ≡ length old → b ≡ length longer
@@ -129,17 +107,6 @@ text_more f xs i x start text new below item so_far pushed =
     pushed ∙ ap (λ (t : List ℕ). t ++ f x) so_far ∙ flat_map_more f start (take i xs) x
     ∙ ap (λ y. start ++ flat_map f (take i xs ++ y ∷ [])) item
     ∙ ap (λ ys. start ++ flat_map f ys) (sym (take_more xs i x below))
-
--- a space and the next word make the text of one word more
-pub spaced_more : {X : Type 0} (f : X → List ℕ) (xs : List X) (i : ℕ) (x : X)
-    (start text new : List ℕ) → i < length xs → x ≡ get_or xs i x
-    → text ≡ start ++ spaced (map f (take i xs)) → new ≡ text ++ 32 ∷ f x
-    → new ≡ start ++ spaced (map f (take (i + 1) xs))
-spaced_more f xs i x start text new below item so_far word =
-    word ∙ ap (λ (t : List ℕ). t ++ 32 ∷ f x) so_far
-    ∙ flat_map_more (λ word. 32 ∷ word) start (map f (take i xs)) (f x)
-    ∙ ap (λ (w : List ℕ). start ++ spaced (map f (take i xs) ++ w ∷ [])) (ap f item)
-    ∙ ap (λ (ws : List (List ℕ)). start ++ spaced ws) (sym (map_more f xs i x below))
 
 -- a first text, words that are each preceded by a space, and a line feed
 ended : (old first start text new : List ℕ) (words : List (List ℕ)) → start ≡ old ++ first
@@ -186,3 +153,32 @@ no_room_for_end old a b c start text words room cap first len begins goes before
       length_pieces a b c,
       length_line a b c words,
     )
+
+-- a line is its first three words, the others after spaces, and a line feed
+line_of_head : (a b c : List ℕ) (words : List (List ℕ))
+    → (join_with_byte 32 (a ∷ b ∷ c ∷ []) ++ spaced words) ++ 10 ∷ []
+    ≡ line (a ∷ b ∷ c ∷ words)
+line_of_head a b c words = rw (joined c words) (simp append_assoc)
+
+-- a line whose first three words are a head
+pub headed : (old a b c head out page all : List ℕ) (words : List (List ℕ))
+    → head ≡ join_with_byte 32 (a ∷ b ∷ c ∷ []) → out ++ page ≡ (old ++ head) ++ spaced words
+    → all ≡ page ++ 10 ∷ [] → out ++ all ≡ old ++ line (a ∷ b ∷ c ∷ words)
+headed old a b c head out page all words begins goes ends =
+    ap (λ (t : List ℕ). out ++ t) ends ∙ sym (append_assoc out page (10 ∷ []))
+    ∙ ap (λ (t : List ℕ). t ++ 10 ∷ []) (goes
+    ∙ ap (λ (t : List ℕ). (old ++ t) ++ spaced words) begins
+    ∙ append_assoc old (join_with_byte 32 (a ∷ b ∷ c ∷ [])) (spaced words))
+    ∙ append_assoc old (join_with_byte 32 (a ∷ b ∷ c ∷ []) ++ spaced words) (10 ∷ [])
+    ∙ ap (λ (t : List ℕ). old ++ t) (line_of_head a b c words)
+
+-- the length of such a line
+pub length_headed : (a b c : List ℕ) (words : List (List ℕ))
+    → length (line (a ∷ b ∷ c ∷ words))
+    ≡ length (join_with_byte 32 (a ∷ b ∷ c ∷ [])) + length (spaced words) + 1
+length_headed a b c words = omega (
+  arith,
+  ap length (line_of_head a b c words),
+  length-append (join_with_byte 32 (a ∷ b ∷ c ∷ [])) (spaced words),
+  length-append (join_with_byte 32 (a ∷ b ∷ c ∷ []) ++ spaced words) (10 ∷ []),
+)

@@ -6,6 +6,7 @@ pub mod Laws
 pub mod Lines
 pub mod ReplyTexts
 pub mod SheetTexts
+pub mod ShownText
 pub mod TableTexts
 pub mod Worked
 pub mod WorkedFiles

@@ -2,15 +2,17 @@
 #![tactic(auto)]
 
 mod cells;
-mod digits;
 mod entries;
 mod journals;
 pub mod laws;
+mod page;
 mod pieces;
 mod records;
 mod replies;
 mod results;
+mod rows;
 mod sheets;
+mod shown;
 mod tables;
 
 pub use entries::{EntriesFault, Sails, read_entries};
@@ -18,4 +20,5 @@ pub use journals::{Journal, JournalFault, read_journal, write_entries, write_jou
 pub use replies::{REPLY_ROOM, write_reply};
 pub use results::write_csv;
 pub use sheets::{write_sheet, write_sheet_of};
+pub use shown::ShownText;
 pub use tables::write_table;

@@ -8,7 +8,7 @@ ghost use Rattle.csv.specs.Writing.{row_text};
 ghost use Rattle.regatta_tables.specs.CsvTexts.{any_lengths, csv_text, header_fields, race_name};
 ghost use Rattle.regatta_tables.specs.TableTexts.{row_words, cell_text};
 
-use crate::cells::push_cell;
+use crate::cells::{CELL_ROOM, put_cell};
 use crate::pieces::rank_word;
 use csv::{Error, Writer, WriterBuilder};
 use itoa::Buffer;
@@ -173,7 +173,7 @@ fn row_record(alloc: Global, row: &Row) -> Result<Vec<Vec<u8>>, AllocError>
 {
     let (mut rank, mut net) = ([0; 6], [0; 11]);
     let rank = rank_word(&mut rank, row.rank, row.tied);
-    let sail = row.sail.text().as_bytes();
+    let sail = row.sail.as_bytes();
     let net = points_word(&mut net, row.net);
     let mut record = Vec::new(alloc);
     push_fields(alloc, &[rank, sail, net], &mut record)?;
@@ -200,7 +200,7 @@ fn push_cell_fields(
 fn cell_field(alloc: Global, cell: &Cell) -> Result<Vec<u8>, AllocError>
     ensures { IfOk result (λ field. field.items ≡ cell_text cell.now) }
 {
-    let mut field = Vec::new(alloc);
-    push_cell(cell, &mut field)?;
-    Ok(field)
+    let mut text = [0; CELL_ROOM];
+    let end = put_cell(&mut text, 0, cell);
+    Vec::from_slice(alloc, &text[..end])
 }

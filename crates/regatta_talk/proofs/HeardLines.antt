@@ -1,13 +1,15 @@
 -- The buffered lines are those of the text, and each reads as its whole line.
 use Rattle.std.proofs.Common.{◌≡◌, ℕ, ◌+◌, ◌-◌, ◌<◌, ◌≤◌, Bool, true, false, cond, List, []}
 use Rattle.std.proofs.Common.{◌∷◌, ◌++◌}
-use Rattle.std.proofs.Common.{length, take, map, Err, refl, sym, ap, ◌∙◌, arith, append-nil}
+use Rattle.std.proofs.Common.{length, take, drop, get_or, map, Err, refl, sym, ap, ◌∙◌, arith}
+use Rattle.std.proofs.Common.{append-nil}
 use Rattle.std.proofs.Common.{append_assoc}
 use Rattle.std.specs.Prelude.{nat_le, nat_lt}
-use Rattle.std.specs.List.{slice_split, onto_first}
+use Rattle.std.specs.List.{fold, slice_split, onto_first}
 use Rattle.std.specs.Str.Lines.{strip_carriage_return}
-use Rattle.std.proofs.lemmas.Bool.{cond-false, lt-leb, le-ltb, ltb-false, ltb-true}
-use Rattle.std.proofs.lemmas.List.{length-append, length-take-le, take-append-le, take_all}
+use Rattle.std.proofs.lemmas.Bool.{cond-false, cond-true, lt-leb, lt-ltb, le-ltb, ltb-false, ltb-true}
+use Rattle.std.proofs.lemmas.List.Sums.{fold-append, fold_more}
+use Rattle.std.proofs.lemmas.List.{take-append-drop, length-append, length-take-le, take-append-le, take_all}
 use Rattle.std.proofs.lemmas.List.Splits.{slice_split-cons_yes, slice_split-cons_no}
 use Rattle.std.proofs.lemmas.List.Splits.{length-slice_split}
 use Rattle.regatta_terms.specs.Lines.{line_of, line_of_words}
@@ -161,3 +163,35 @@ heard_of_text counts text =
     heard_from counts [] text
     ∙ ap (λ (ps : List (List ℕ)). map (take MAX_HEARD) (lines_of_pieces counts ps))
     (onto-none (slice_split is_line_end text) (some_piece text))
+
+-- ---- bytes at once
+
+-- a full buffer stays
+full_with : (line : List ℕ) (byte : ℕ) → MAX_HEARD ≤ length line → heard_with line byte ≡ line
+full_with line byte full = cond-false (nat_lt (length line) MAX_HEARD) (line ++ byte ∷ []) line
+    (le-ltb (length line) MAX_HEARD full)
+
+full_stays : (line bytes : List ℕ) → MAX_HEARD ≤ length line → fold heard_with line bytes ≡ line
+full_stays line [] full = refl
+full_stays line (byte ∷ bytes) full =
+    ap (λ (l : List ℕ). fold heard_with l bytes) (full_with line byte full)
+    ∙ full_stays line bytes full
+
+-- what is full after some bytes is what is buffered of all of them
+pub full_after : (before line bytes : List ℕ) (i : ℕ) → MAX_HEARD ≤ length line
+    → line ≡ fold heard_with before (take i bytes) → line ≡ fold heard_with before bytes
+full_after before line bytes i full is =
+    sym (ap (fold heard_with before) (sym (take-append-drop i bytes))
+    ∙ fold-append heard_with before (take i bytes) (drop i bytes)
+    ∙ ap (λ (l : List ℕ). fold heard_with l (drop i bytes)) (sym is)
+    ∙ full_stays line (drop i bytes) full)
+
+-- one byte more is buffered
+pub heard_next : (before line new bytes : List ℕ) (i d : ℕ) → i < length bytes
+    → length line < MAX_HEARD → line ≡ fold heard_with before (take i bytes)
+    → new ≡ line ++ get_or bytes i d ∷ [] → new ≡ fold heard_with before (take (i + 1) bytes)
+heard_next before line new bytes i d below short is pushed =
+    pushed ∙ sym (fold_more heard_with before bytes i d below
+    ∙ ap (λ (l : List ℕ). heard_with l (get_or bytes i d)) (sym is)
+    ∙ cond-true (nat_lt (length line) MAX_HEARD) (line ++ get_or bytes i d ∷ []) line
+    (lt-ltb (length line) MAX_HEARD short))

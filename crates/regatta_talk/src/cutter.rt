@@ -1,5 +1,6 @@
 //! The lines of a text that comes in pieces.
 ghost use Rattle.std.specs.Prelude.{◌≡◌, [], if◌then◌else◌};
+ghost use Rattle.std.specs.List.{fold};
 ghost use Rattle.regatta_terms.specs.TextLines.{is_line_end};
 ghost use Rattle.regatta_talk.specs.HeardLines.{heard_with};
 
@@ -49,6 +50,18 @@ impl Cutter {
             self.heard.push(byte);
         }
         false
+    }
+
+    /// Takes bytes of the text, none of which ends the line. What isn't buffered isn't looked at.
+    pub fn hear(&mut self, bytes: &[u8])
+        ensures { self.new ≡ fold heard_with self.old bytes.now }
+    {
+        for byte in bytes {
+            if self.heard.is_full() {
+                return;
+            }
+            self.heard.push(*byte);
+        }
     }
 
     /// The buffered bytes of the current line, without its LF.

@@ -4,8 +4,7 @@ use Rattle.std.proofs.Common.{length, Option, Some, None, refl, sym, ap, ◌∙�
 use Rattle.std.specs.Char.{is_ascii_digit}
 use Rattle.std.specs.List.{list_all, slice_split, join_with_byte}
 use Rattle.std.proofs.lemmas.List.Splits.{length-slice_split, join_with_byte-slice_split}
-use Rattle.regatta_terms.specs.Numbers.{is_dot}
-use Rattle.regatta_times.specs.Texts.{number_of, sixty_of, with_sixtieths, is_colon}
+use Rattle.regatta_times.specs.Texts.{is_dot, number_of, sixty_of, with_sixtieths, is_colon}
 use Rattle.regatta_times.specs.Texts.{seconds_of_parts, clock_of_parts, decimals_of}
 use Rattle.regatta_times.specs.Texts.{decimal_of_parts, with_decimals, decimal_of}
 

@@ -1,15 +1,17 @@
 -- The names of races, systems and rules for rounding.
 use Rattle.std.specs.Prelude.{ℕ, List, Option, Some, None, codes, if◌then◌else◌}
 use Rattle.std.specs.Str.{bytes_eq}
-use Rattle.regatta_terms.specs.Numbers.{race_of}
+use Rattle.std.specs.Option.{option_and_then}
+use Rattle.regatta_terms.specs.declared.limits.TheConstants.{MAX_RACES}
+use Rattle.regatta_terms.specs.Numbers.{number_of, within}
 use Rattle.regatta_times.specs.declared.fraction.Rounding.{Rounding}
 use Rattle.regatta_times.specs.declared.fraction.Rounding.TheVariants.{HalfUp, HalfDown, Down, Up}
 use Rattle.regatta_times.specs.declared.system.System.{System}
 use Rattle.regatta_times.specs.declared.system.System.TheVariants.{Tcf, Py, Tod}
 
--- the race that a text names, as in a line of the office
+-- the race that a text of one or two digits names, as in a line of the office
 abbrev pub race_of_text : List ℕ → Option ℕ
-race_of_text text = race_of text
+race_of_text text = option_and_then (within 1 MAX_RACES) (number_of 2 text)
 
 -- the system of rating that a text names
 abbrev pub system_of : List ℕ → Option System

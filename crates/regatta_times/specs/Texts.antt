@@ -6,7 +6,11 @@ use Rattle.std.specs.Char.{is_ascii_digit}
 use Rattle.std.specs.List.{list_all, slice_split}
 use Rattle.std.specs.Option.{option_map, option_and_then}
 use Rattle.std.specs.Str.Parse.{digits_value}
-use Rattle.regatta_terms.specs.Numbers.{is_dot, within}
+use Rattle.regatta_terms.specs.Numbers.{within}
+
+-- a decimal point
+abbrev pub is_dot : ℕ → Bool
+is_dot b = b == 46
 
 -- from least to most digits from 0 to 9, and no other byte
 abbrev pub are_digits : ℕ → ℕ → List ℕ → Bool

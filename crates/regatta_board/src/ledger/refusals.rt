@@ -1,5 +1,6 @@
 //! Which commands are refused, and why.
 ghost use Rattle.std.specs.Prelude.{◌≡◌, length, nat_le, true};
+ghost use Rattle.regatta_terms.specs.Effects.{effect};
 ghost use Rattle.regatta_scores.specs.Journal.{entered, order, is_of_other_system};
 ghost use Rattle.regatta_scores.specs.Journal.{is_scored as is_scored_in, held as held_in};
 ghost use Rattle.regatta_scores.specs.Order.{is_empty};
@@ -200,7 +201,7 @@ impl Ledger {
     /// Why a command that the role may give is refused, or `None`.
     fn command_refusal(&self, role: Role, command: Command) -> Option<Refusal>
         ensures { result
-            ≡ refusals.command_refusal limits self.now.rules self.now.entries role command }
+            ≡ refusals.command_refusal limits self.now.rules self.now.entries role (effect command) }
     {
         match command {
             Command::Enter { sail } => self.enter_refusal(sail),
@@ -220,7 +221,7 @@ impl Ledger {
 
     /// Whether the rules of the series use the other system for places (RRS A3).
     fn is_of_other_system(&self, command: Command) -> bool
-        ensures { result ≡ is_of_other_system self.now.rules command }
+        ensures { result ≡ is_of_other_system self.now.rules (effect command) }
     {
         match command {
             Command::Finish { .. } | Command::Tie { .. } | Command::Before { .. } => {

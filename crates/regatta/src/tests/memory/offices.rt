@@ -278,11 +278,17 @@ impl<N: OfficeName, H: Wait + Drop, R: Wait> Seats<'_, N, H, R> {
     }
 
     /// Whether the journal has these boats, seat 1 knows that it has sent them, and seat 2 is shown them.
-    fn has_entered(&mut self) -> bool {
+    /// After an answer to SHOW that ran out of memory, seat 2 isn't asked: its pass keeps what it is
+    /// shown, and each of these answers is to be that of a pass that was shown nothing.
+    fn has_entered(&mut self, call: &SeatCall, outcome: Outcome) -> bool {
         let journal = journal_of(self.entered);
+        let is_unseen = matches!(
+            (call, outcome),
+            (SeatCall::AnswerShow, Outcome::OutOfMemory)
+        );
         self.first.last() == self.entered
             && has_journal(self.rt, self.alloc, &self.office, journal)
-            && is_shown(self.alloc, &mut self.second, journal)
+            && (is_unseen || is_shown(self.alloc, &mut self.second, journal))
     }
 
     /// The outcome of a call, with a command to enter the next boat, and what a reply is appended to.
@@ -311,7 +317,7 @@ impl<N: OfficeName, H: Wait + Drop, R: Wait> Caller<SeatCall> for Seats<'_, N, H
         let outcome = self.call_outcome(call, command, &mut out);
         hoard.give_back();
         self.count_boat(call, outcome);
-        outcome_if(self.has_entered(), outcome)
+        outcome_if(self.has_entered(call, outcome), outcome)
     }
 }
 

@@ -1,6 +1,9 @@
-use Rattle.std.proofs.Common.{◌∙◌, ap}
-use Rattle.regatta_board.specs.Scoring.{lines_by}
-use Rattle.regatta_board.proofs.ScoringFacts.{sheet_turns}
+use Rattle.std.proofs.Common.{◌≡◌, ◌∙◌, [], ap, arith, length, subst, sym}
+use Rattle.regatta_board.specs.Revisions.{revised}
+use Rattle.regatta_board.specs.Scoring.{Scoring, AddsBoat, AreColumns, lines_by, with_columns}
+use Rattle.regatta_board.specs.Table.{Kept, IsKept, races}
+use Rattle.regatta_board.proofs.ScoringFacts.{sheet_turns, boat_added, room_for_boat, none_there}
+use Rattle.regatta_board.proofs.ScoringFacts.{lines_by_long}
 use Rattle.regatta_board.proofs.scoring.new_lines.Goals as goal
 
 pub remade_lines-requires-clause-turned : goal.remade_lines-requires-clause-turned
@@ -8,6 +11,55 @@ remade_lines-requires-clause-turned c =
     sheet_turns c.args.rules.now c.args.kept.now c.args.scoring.now c.args.revision.now
     c.args.columns.now c.requires.one c.in-Sheet.race c.in-Sheet.sheet c.in-Sheet.is
 
-pub returns-clause-value : goal.returns-clause-value
-returns-clause-value c =
-    c.in_ok-lines-2.ensures ∙ ap (lines_by c.args.rules.now) c.new-draft.ensures
+pub drafted_lines-requires-clause-columns : goal.drafted_lines-requires-clause-columns
+drafted_lines-requires-clause-columns c =
+    let a = c.args in
+    let cols : c.deref.result.now ≡ a.scoring.now.columns =
+    c.deref.ensures.value ∙ ap (λ (s : Scoring). s.columns) c.scoring.view_is in
+    subst (λ (k : Kept). AreColumns a.rules.now k (with_columns c.deref.result.now a.columns.now))
+    (sym c.new-draft.ensures)
+    (subst (λ cs. AreColumns a.rules.now (revised a.kept.now a.revision.now)
+    (with_columns cs a.columns.now)) (sym cols)
+    (c.requires.new a.scoring.now.columns c.requires.scoring.long c.requires.scoring.columns).1)
+
+pub drafted_lines-requires-clause-races : goal.drafted_lines-requires-clause-races
+drafted_lines-requires-clause-races c =
+    c.requires.races ∙ ap (λ (k : Kept). races k.counts) (sym c.new-draft.ensures)
+
+pub returns-in-Enter-clause-each : goal.returns-in-Enter-clause-each
+returns-in-Enter-clause-each c =
+    let a = c.args in
+    let none : races a.kept.now.counts ≡ [] =
+    ap (λ r. races (revised a.kept.now r).counts) (sym c.in-Enter.is) ∙ sym c.requires.races
+    ∙ none_there a.races.now (sym c.is_empty.ensures ∙ c.if-is_empty.true) in
+    room_for_boat a.rules.now a.kept.now a.scoring.now c.requires.scoring c.in-Enter.boats
+    c.in-Enter.sheets (subst (λ r. AddsBoat a.kept.now r) c.in-Enter.is c.requires.adds) none
+    (subst (λ r. IsKept (revised a.kept.now r)) c.in-Enter.is c.requires.next)
+
+pub returns-in-Enter-clause-value : goal.returns-in-Enter-clause-value
+returns-in-Enter-clause-value c =
+    let a = c.args in
+    let none : races a.kept.now.counts ≡ [] =
+    ap (λ r. races (revised a.kept.now r).counts) (sym c.in-Enter.is) ∙ sym c.requires.races
+    ∙ none_there a.races.now (sym c.is_empty.ensures ∙ c.if-is_empty.true) in
+    boat_added a.rules.now a.kept.now a.scoring.now c.requires.scoring c.in-Enter.boats
+    c.in-Enter.sheets (subst (λ r. AddsBoat a.kept.now r) c.in-Enter.is c.requires.adds) none
+    c.boat_line.result c.boat_line.ensures.value
+    ∙ ap (λ r. lines_by a.rules.now (revised a.kept.now r)) (sym c.in-Enter.is)
+
+pub returns-in_ok-lines-in-Enter-2-clause-each : goal.returns-in_ok-lines-in-Enter-2-clause-each
+returns-in_ok-lines-in-Enter-2-clause-each c =
+    let a = c.args in (
+      omega (
+        arith,
+        ap length c.in_ok-lines-in-Enter-2.ensures.value,
+        lines_by_long a.rules.now c.new-draft.result,
+        ap (λ (k : Kept). length k.sails) c.new-draft.ensures,
+        c.requires.next.few,
+      ),
+      c.in_ok-lines-in-Enter-2.ensures.room,
+    )
+
+pub returns-in_ok-lines-in-Enter-2-clause-value : goal.returns-in_ok-lines-in-Enter-2-clause-value
+returns-in_ok-lines-in-Enter-2-clause-value c =
+    c.in_ok-lines-in-Enter-2.ensures.value ∙ ap (lines_by c.args.rules.now) c.new-draft.ensures

@@ -1,15 +1,33 @@
-use Rattle.std.proofs.Common.{◌≡◌, ◌∙◌, ap, sym, subst}
+use Rattle.std.proofs.Common.{◌≡◌, ◌∙◌, ap, arith, length, sym, subst}
 use Rattle.regatta_scores.specs.KeptRanking.{IsRanking}
 use Rattle.regatta_board.specs.Revisions.{revised}
-use Rattle.regatta_board.specs.Scoring.{Scoring, FitBoats, with_lines}
+use Rattle.regatta_board.specs.Scoring.{Scoring, FitBoats, races_after, with_lines}
 use Rattle.regatta_board.proofs.ScoringFacts.{untouched_scores, unchanged_lines}
-use Rattle.regatta_board.proofs.ScoringFacts.{are_ranked}
+use Rattle.regatta_board.proofs.ScoringFacts.{are_ranked, lines_by_long}
 use Rattle.regatta_board.proofs.scoring.new_scores.Goals as goal
 
 pub returns-then-not-may_change_standing-clause-value : goal.returns-then-not-may_change_standing-clause-value
 returns-then-not-may_change_standing-clause-value c =
     untouched_scores c.args.rules.now c.args.kept.now c.args.revision.now
     (sym c.may_change_standing.ensures ∙ c.if-not-may_change_standing.true)
+
+pub new_lines-requires-clause-races : goal.new_lines-requires-clause-races
+new_lines-requires-clause-races c =
+    c.current_races-current.ensures
+    ∙ ap (λ rs. races_after rs c.in_ok-races.races)
+    (ap (λ (s : Scoring). s.races) c.scoring.view_is ∙ c.requires.scoring.races)
+    ∙ c.in_ok-races.ensures
+
+pub new_ranking-requires-clause-few : goal.new_ranking-requires-clause-few
+new_ranking-requires-clause-few c =
+    let ls = ap length (c.deref.ensures.value ∙ ap (λ (s : Scoring). s.lines) c.scoring.view_is) in
+    omega (
+      arith,
+      ls,
+      ap length c.requires.scoring.lines,
+      lines_by_long c.args.rules.now c.args.kept.now,
+      c.requires.kept.few,
+    )
 
 pub new_ranking-requires-clause-each : goal.new_ranking-requires-clause-each
 new_ranking-requires-clause-each c =
@@ -25,6 +43,7 @@ new_ranking-requires-clause-ranking c =
 
 pub returns-then-is_empty-clause-value : goal.returns-then-is_empty-clause-value
 returns-then-is_empty-clause-value c = record {
+  races = c.in_ok-races.ensures;
   columns = c.in_ok-columns.ensures.value;
   ranked =
       unchanged_lines c.args.rules.now c.args.kept.now
@@ -37,6 +56,7 @@ returns-clause-value c =
     let ls : c.deref.result.now ≡ c.args.scoring.now.lines =
     c.deref.ensures.value ∙ ap (λ (s : Scoring). s.lines) c.scoring.view_is in
     record {
+      races = c.in_ok-races.ensures;
       columns = c.in_ok-columns.ensures.value;
       ranked =
           are_ranked c.args.rules.now c.args.kept.now

@@ -1,6 +1,6 @@
 use Rattle.std.proofs.Common.{◌≡◌, ℕ, ◌≤◌, drop, length, get_or}
-use Rattle.regatta_board.specs.declared.scoring.NewLine.{NewLine}
-use Rattle.regatta_board.specs.Scoring.{with_changed}
+use Rattle.regatta_scores.specs.declared.current.NewLine.{NewLine}
+use Rattle.regatta_scores.specs.Current.{with_changed}
 use Rattle.regatta_board.proofs.scoring.put_changed.Given as goal
 
 -- with the new lines to come, the lines so far are those after all of them

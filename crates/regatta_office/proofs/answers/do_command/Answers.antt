@@ -1,8 +1,8 @@
 use Rattle.std.proofs.Common.{Option, sym, ap, ◌∙◌}
 use Rattle.regatta_terms.specs.declared.reply.Refusal.{Refusal}
 use Rattle.regatta_talk.specs.Replies.{reply_of}
-use Rattle.regatta_board.specs.Runs.{journal_by, reply_by}
-use Rattle.regatta_office.specs.Transcript.{Talk, entry_of}
+use Rattle.regatta_board.specs.Runs.{journal_by, reply_by, sent}
+use Rattle.regatta_office.specs.Transcript.{Talk}
 use Rattle.regatta_office.proofs.Refused.{due_is}
 use Rattle.regatta_office.proofs.answers.do_command.Goals as goal
 
@@ -12,7 +12,7 @@ returns-else-is_want_of_memory-clause-reply c =
     let talk : Talk = record { role = c.args.role; journal = board.entries } in
     c.reply_of-in-Err.ensures
     ∙ ap (λ (why : Option Refusal). reply_of (reply_by board.rules board.entries
-    (entry_of talk c.args.command) why)) (sym (due_is board.rules talk c.args.command _ _
+    (sent talk.journal talk.role c.args.command) why)) (sym (due_is board.rules talk c.args.command _ _
     c.entry_of.ensures c.in-Err.ensures.refused
     (sym c.is_want_of_memory.ensures ∙ c.if-is_want_of_memory.false)))
 
@@ -26,5 +26,5 @@ returns-else-is_want_of_memory-clause-journal c =
     c.in-Err.ensures.err
     ∙ (λ i. record {
       rules = board.rules;
-      entries = journal_by board.entries (entry_of talk c.args.command) (sym due i);
+      entries = journal_by board.entries (sent talk.journal talk.role c.args.command) (sym due i);
     })

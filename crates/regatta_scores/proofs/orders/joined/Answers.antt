@@ -1,12 +1,32 @@
-use Rattle.std.proofs.Common.{◌∙◌, ◌++◌, ◌∷◌, [], ap, sym, nat_eq, ℕ, List, arith}
-use Rattle.std.proofs.lemmas.List.{map_more}
-use Rattle.regatta_scores.specs.Order.{joined_group}
+use Rattle.std.proofs.Common.{◌≡◌, ◌+◌, ◌∙◌, ◌++◌, ◌∷◌, [], ℕ, List, ap, arith, drop, get_or, sym}
+use Rattle.regatta_scores.proofs.Splices.{stands_first, joined_is}
 use Rattle.regatta_scores.proofs.orders.joined.Goals as goal
 
--- one more group
-pub loop-i-preserved : goal.loop-i-preserved
-loop-i-preserved c =
-    let grown = λ (group : List ℕ). joined_group nat_eq group c.args.boat c.args.other in
-    let group = c.deref.ensures.value ∙ c.in_ok-group.ensures ∙ ap grown c.group.ensures in
-    c.in_ok-push.ensures ∙ (λ j. c.loop-i.invariant j ++ group j ∷ [])
-    ∙ sym (map_more grown c.args.order.now c.loop-i.i [] (omega arith))
+pub group-requires : goal.group-requires
+group-requires c =
+    let found = c.group_with-at.ensures in
+    stands_first c.args.order.now c.args.other c.group_with-at.result c.requires.placed
+    found.bound found.before found.here
+
+pub followed_by-requires : goal.followed_by-requires
+followed_by-requires c =
+    let found = c.group_with-at.ensures in
+    let within = stands_first c.args.order.now c.args.other c.group_with-at.result
+    c.requires.placed found.bound found.before found.here in
+    omega (arith, within)
+
+pub returns : goal.returns
+returns c =
+    let order = c.args.order.now in
+    let found = c.group_with-at.ensures in
+    let at = c.group_with-at.result in
+    let within = stands_first order c.args.other at c.requires.placed found.bound found.before
+    found.here in
+    let group : c.deref.result.now ≡ get_or order at [] ++ c.args.boat ∷ [] =
+    c.deref.ensures.value ∙ c.in_ok-group.ensures
+    ∙ ap (λ (g : List ℕ). g ++ c.args.boat ∷ []) c.group.ensures in
+    c.in_ok-new-2.ensures
+    ∙ (λ i. (c.in_ok-push.ensures ∙ (λ j. c.in_ok-new.ensures j ++ group j ∷ [])) i
+    ++ drop (at + 1) order)
+    ∙ sym (joined_is order c.args.boat c.args.other at within c.requires.once found.before
+    found.here)

@@ -1,12 +1,16 @@
-use Rattle.std.proofs.Common.{◌∙◌, ◌++◌, ap, sym, nat_eq, ℕ, List, [], arith}
-use Rattle.regatta_scores.specs.Order.{group_with_ahead}
-use Rattle.regatta_scores.proofs.Steps.{with_ahead_more}
+use Rattle.std.proofs.Common.{◌∙◌, ◌++◌, ◌∷◌, [], drop, sym}
+use Rattle.regatta_scores.proofs.Splices.{stands_first, ahead_is}
 use Rattle.regatta_scores.proofs.orders.with_ahead.Goals as goal
 
--- one more group
-pub loop-i-preserved : goal.loop-i-preserved
-loop-i-preserved c =
-    let grown = λ (group : List ℕ). group_with_ahead nat_eq group c.args.boat c.args.other in
-    c.in_ok-push_ahead.ensures
-    ∙ (λ j. c.loop-i.invariant j ++ ap grown c.group.ensures j)
-    ∙ sym (with_ahead_more c.args.order.now c.loop-i.i [] c.args.boat c.args.other (omega arith))
+pub returns : goal.returns
+returns c =
+    let order = c.args.order.now in
+    let found = c.group_with-at.ensures in
+    let at = c.group_with-at.result in
+    let within = stands_first order c.args.other at c.requires.placed found.bound found.before
+    found.here in
+    c.in_ok-new-2.ensures
+    ∙ (λ i. (c.in_ok-push.ensures ∙ (λ j. c.in_ok-new.ensures j ++ (c.args.boat ∷ []) ∷ [])) i
+    ++ drop at order)
+    ∙ sym (ahead_is order c.args.boat c.args.other at within c.requires.once found.before
+    found.here)

@@ -1,11 +1,40 @@
-use Rattle.std.proofs.Common.{◌∙◌, ◌++◌, ◌∷◌, [], sym, nat_eq, arith}
-use Rattle.regatta_scores.specs.Order.{without}
-use Rattle.regatta_scores.proofs.Steps.{without_more}
+use Rattle.std.proofs.Common.{◌≡◌, ◌+◌, ◌∙◌, ◌++◌, ◌∷◌, [], ap, arith, cond, drop, get_or}
+use Rattle.std.proofs.Common.{nat_eq, not, sym, length}
+use Rattle.regatta_scores.specs.Order.{is_empty, others}
+use Rattle.regatta_scores.proofs.Splices.{no_boats, stands_first, without_is}
 use Rattle.regatta_scores.proofs.orders.without.Goals as goal
 
--- one more group
-pub loop-i-preserved : goal.loop-i-preserved
-loop-i-preserved c =
-    c.in_ok-push_without.ensures
-    ∙ (λ j. c.loop-i.invariant j ++ without nat_eq (c.group.ensures j ∷ []) c.args.boat)
-    ∙ sym (without_more c.args.order.now c.loop-i.i [] c.args.boat (omega arith))
+pub group-requires : goal.group-requires
+group-requires c =
+    let found = c.group_with-at.ensures in
+    stands_first c.args.order.now c.args.boat c.group_with-at.result c.requires.placed
+    found.bound found.before found.here
+
+pub followed_by-requires : goal.followed_by-requires
+followed_by-requires c =
+    let found = c.group_with-at.ensures in
+    let within = stands_first c.args.order.now c.args.boat c.group_with-at.result
+    c.requires.placed found.bound found.before found.here in
+    omega (arith, within)
+
+pub returns : goal.returns
+returns c =
+    let order = c.args.order.now in
+    let found = c.group_with-at.ensures in
+    let at = c.group_with-at.result in
+    let within = stands_first order c.args.boat at c.requires.placed found.bound found.before
+    found.here in
+    let rest : c.in_ok-rest.rest.items ≡ others nat_eq c.args.boat (get_or order at []) =
+    c.in_ok-rest.ensures ∙ ap (others nat_eq c.args.boat) c.group.ensures in
+    let group : c.deref.result.now ≡ others nat_eq c.args.boat (get_or order at []) =
+    c.deref.ensures.value ∙ rest in
+    let wanted : not c.is_empty.result
+    ≡ not (is_empty (others nat_eq c.args.boat (get_or order at []))) =
+    ap not (c.is_empty.ensures ∙ ap (λ n. nat_eq n 0) (c.in_ok-rest.rest.ok.0 ∙ ap length rest)
+    ∙ no_boats (others nat_eq c.args.boat (get_or order at []))) in
+    c.in_ok-new-2.ensures
+    ∙ (λ i. (c.in_ok-push_if.ensures
+    ∙ (λ j. c.in_ok-new.ensures j ++ cond (wanted j) (group j ∷ []) [])) i
+    ++ drop (at + 1) order)
+    ∙ sym (without_is order c.args.boat c.args.boat at within c.requires.once found.before
+    found.here c.requires.no_empty)

@@ -1,6 +1,6 @@
 use Rattle.std.proofs.Common.{◌∙◌, ap, sym}
 use Rattle.regatta_scores.specs.PlacedPoints.{score_with}
-use Rattle.regatta_scores.specs.RaceScores.{score_of}
+use Rattle.regatta_scores.specs.Outcomes.{score_of}
 use Rattle.regatta_scores.specs.Sheet.{nothing_held}
 use Rattle.regatta_scores.proofs.BareScores.{nothing_is}
 use Rattle.regatta_scores.proofs.points.race_score.Goals as goal

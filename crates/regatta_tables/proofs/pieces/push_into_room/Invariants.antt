@@ -4,6 +4,6 @@ use Rattle.regatta_tables.proofs.pieces.push_into_room.Given as goal
 -- the text ends in the bytes so far
 abbrev pub invariant-loop-byte : goal.invariant-loop-byte
 invariant-loop-byte l = record {
-  text : l.out.items ≡ l.fn.out.items ++ take l.byte-index l.piece;
-  room : vec_capacity l.out ≡ vec_capacity l.fn.out;
+  text : l.text.items ≡ l.fn.out.items ++ take l.byte-index l.piece;
+  room : vec_capacity l.text ≡ vec_capacity l.fn.out;
 }

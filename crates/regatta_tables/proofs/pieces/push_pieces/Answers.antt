@@ -1,6 +1,6 @@
 use Rattle.std.proofs.Common.{rules, arith, ◌<◌, ◌+◌, length, vec_len, vec_capacity}
 use Rattle.std.specs.List.{flat_map}
-use Rattle.regatta_tables.proofs.LineFacts.{never_both, no_room, pushed_piece, stays_more}
+use Rattle.regatta_tables.proofs.LineFacts.{no_room, pushed_piece}
 use Rattle.regatta_tables.proofs.pieces.push_pieces.Goals as goal
 
 pub returns-in_err-push_piece-clause-full : goal.returns-in_err-push_piece-clause-full
@@ -12,21 +12,9 @@ returns-in_err-push_piece-clause-full c =
     c.in_err-push_piece.ensures.full in
     search rules
 
-pub returns-in_err-push_piece-clause-stays : goal.returns-in_err-push_piece-clause-stays
-returns-in_err-push_piece-clause-stays c =
-    let full : vec_capacity c.args.out.now < vec_len c.args.out.now + length
-    (flat_map (λ piece. piece.now) c.args.pieces.now) =
-    no_room _ _ _ _ _ _ _ _ _ c.loop-piece-test.true c.loop-piece.invariant.text
-    c.args.out.now.ok.0 c.loop-piece.out.ok.0 c.loop-piece.invariant.room
-    c.in_err-push_piece.ensures.full in
-    λ fits. never_both _ _ full fits
-
 pub loop-piece-preserved : goal.loop-piece-preserved
 loop-piece-preserved c = record {
   text = pushed_piece _ _ _ _ _ _ c.loop-piece-test.true c.loop-piece.invariant.text
       c.in_ok-push_piece.ensures.ok;
   room = omega arith;
-  stays = stays_more _ _ _ _ _ _ _ _ _ _ c.loop-piece-test.true c.loop-piece.invariant.text
-      c.args.out.now.ok.0 c.loop-piece.out.ok.0 c.loop-piece.invariant.stays
-      c.in_ok-push_piece.ensures.stays;
 }

@@ -5,7 +5,7 @@ use Rattle.regatta_tables.proofs.results.row_record.Goals as goal
 pub returns : goal.returns
 returns c =
     let rank = c.rank_word-rank.ensures.text in
-    let sail = c.as_bytes-sail.ensures.value ∙ c.text.ensures.text in
+    let sail = c.as_bytes-sail.ensures.text in
     let net = c.points_word-net.ensures.text in
     let cells = c.as_slice.ensures in
     let none = c.new-record.ensures.items in

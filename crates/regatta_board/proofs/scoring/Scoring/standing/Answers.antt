@@ -1,9 +1,11 @@
 use Rattle.std.proofs.Common.{◌≡◌, ◌-◌, ◌∙◌, [], ap, arith, refl, sym, subst, map, get_or, length, All}
+use Rattle.std.proofs.Common.{IsPermutation}
+use Rattle.std.specs.List.{range_with_len}
 use Rattle.std.proofs.lemmas.List.{length-map}
 use Rattle.regatta_scores.specs.Ranking.{BoatScores, place, places}
 use Rattle.regatta_board.specs.Scoring.{Scoring, lines_by}
 use Rattle.regatta_board.specs.Table.{Kept, columns, races, rows_by}
-use Rattle.regatta_board.proofs.Columns.{columns_few}
+use Rattle.regatta_board.proofs.Columns.{columns_few, races_few}
 use Rattle.regatta_board.proofs.Lines.{rows_are}
 use Rattle.regatta_board.proofs.ScoringFacts.{found_columns, found_even, lines_by_long, all_long}
 use Rattle.regatta_board.proofs.scoring.Scoring.standing.Goals as goal
@@ -18,6 +20,19 @@ places-requires-clause-few c =
       c.requires.kept.few,
     )
 
+pub sorted_rows-requires-clause-ranking : goal.sorted_rows-requires-clause-ranking
+sorted_rows-requires-clause-ranking c =
+    let is = c.requires.scoring.1 in
+    let boats : c.boats.result.now ≡ c.args.kept.now.sails =
+    c.boats.ensures ∙ ap (λ (k : Kept). k.sails) c.of-draft.ensures in
+    let many = ap length is.lines ∙ lines_by_long c.requires.scoring.0 c.args.kept.now
+    ∙ ap length (sym boats) in
+    let order : c.order.result.now ≡ c.args.self.now.ranking =
+    c.order.ensures ∙ ap (λ (s : Scoring). s.ranking) c.self.view_is in
+    subst (λ n. IsPermutation (range_with_len 0 n) c.order.result.now) many
+    (subst (IsPermutation (range_with_len 0 (length c.args.self.now.lines))) (sym order)
+    is.ranking.each)
+
 pub sorted_rows-requires-clause-even : goal.sorted_rows-requires-clause-even
 sorted_rows-requires-clause-even c =
     let rules = c.requires.scoring.0 in
@@ -29,8 +44,8 @@ sorted_rows-requires-clause-even c =
     let boats : c.boats.result.now ≡ c.args.kept.now.sails =
     c.boats.ensures ∙ ap (λ (k : Kept). k.sails) c.of-draft.ensures in
     let rs : c.deref-2.result.now ≡ races c.args.kept.now.counts =
-    c.deref-2.ensures.value ∙ c.in_ok-races.ensures.value
-    ∙ ap (λ (k : Kept). races k.counts) c.of-draft.ensures in
+    c.deref-2.ensures.value ∙ c.in_ok-races.ensures.items ∙ c.as_slice.ensures
+    ∙ ap (λ (s : Scoring). s.races) c.self.view_is ∙ is.races in
     let each : c.deref-4.result.now
     ≡ map (λ race. get_or c.args.self.now.columns (race - 1) []) c.deref-2.result.now =
     c.deref-4.ensures.value ∙ c.in_ok-found.ensures
@@ -52,8 +67,8 @@ sorted_rows-requires-clause-lines c =
     let boats : c.boats.result.now ≡ c.args.kept.now.sails =
     c.boats.ensures ∙ ap (λ (k : Kept). k.sails) c.of-draft.ensures in
     let rs : c.deref-2.result.now ≡ races c.args.kept.now.counts =
-    c.deref-2.ensures.value ∙ c.in_ok-races.ensures.value
-    ∙ ap (λ (k : Kept). races k.counts) c.of-draft.ensures in
+    c.deref-2.ensures.value ∙ c.in_ok-races.ensures.items ∙ c.as_slice.ensures
+    ∙ ap (λ (s : Scoring). s.races) c.self.view_is ∙ is.races in
     let each : c.deref-4.result.now
     ≡ map (λ race. get_or c.args.self.now.columns (race - 1) []) c.deref-2.result.now =
     c.deref-4.ensures.value ∙ c.in_ok-found.ensures
@@ -74,8 +89,8 @@ sorted_rows-requires-clause-long c =
     let boats : c.boats.result.now ≡ c.args.kept.now.sails =
     c.boats.ensures ∙ ap (λ (k : Kept). k.sails) c.of-draft.ensures in
     let rs : c.deref-2.result.now ≡ races c.args.kept.now.counts =
-    c.deref-2.ensures.value ∙ c.in_ok-races.ensures.value
-    ∙ ap (λ (k : Kept). races k.counts) c.of-draft.ensures in
+    c.deref-2.ensures.value ∙ c.in_ok-races.ensures.items ∙ c.as_slice.ensures
+    ∙ ap (λ (s : Scoring). s.races) c.self.view_is ∙ is.races in
     let each : c.deref-4.result.now
     ≡ map (λ race. get_or c.args.self.now.columns (race - 1) []) c.deref-2.result.now =
     c.deref-4.ensures.value ∙ c.in_ok-found.ensures
@@ -100,16 +115,16 @@ sorted_rows-requires-clause-ranks c =
     let boats : c.boats.result.now ≡ c.args.kept.now.sails =
     c.boats.ensures ∙ ap (λ (k : Kept). k.sails) c.of-draft.ensures in
     let rs : c.deref-2.result.now ≡ races c.args.kept.now.counts =
-    c.deref-2.ensures.value ∙ c.in_ok-races.ensures.value
-    ∙ ap (λ (k : Kept). races k.counts) c.of-draft.ensures in
+    c.deref-2.ensures.value ∙ c.in_ok-races.ensures.items ∙ c.as_slice.ensures
+    ∙ ap (λ (s : Scoring). s.races) c.self.view_is ∙ is.races in
     let each : c.deref-4.result.now
     ≡ map (λ race. get_or c.args.self.now.columns (race - 1) []) c.deref-2.result.now =
     c.deref-4.ensures.value ∙ c.in_ok-found.ensures
     ∙ (λ i. map (λ race. get_or (cols i) (race - 1) []) c.deref-2.result.now) in
     let found = found_columns rules c.args.kept.now c.requires.kept c.args.self.now.columns
     is.columns c.deref-2.result.now rs c.deref-4.result.now each in
-    let ps : c.as_slice.result.now ≡ places c.args.self.now.lines =
-    c.as_slice.ensures ∙ c.in_ok-places.ensures
+    let ps : c.as_slice-2.result.now ≡ places c.args.self.now.lines =
+    c.as_slice-2.ensures ∙ c.in_ok-places.ensures
     ∙ ap places (c.deref-3.ensures.value ∙ ap (λ (s : Scoring). s.lines) c.self.view_is) in
     ap length ps
     ∙ length-map c.args.self.now.lines (place c.args.self.now.lines) ∙ ap length is.lines
@@ -121,14 +136,16 @@ returns c rules is =
     c.deref.ensures.value ∙ ap (λ (s : Scoring). s.columns) c.self.view_is in
     let ls : c.deref-5.result.now ≡ c.args.self.now.lines =
     c.deref-5.ensures.value ∙ ap (λ (s : Scoring). s.lines) c.self.view_is in
-    let ps : c.as_slice.result.now ≡ places c.args.self.now.lines =
-    c.as_slice.ensures ∙ c.in_ok-places.ensures
+    let ps : c.as_slice-2.result.now ≡ places c.args.self.now.lines =
+    c.as_slice-2.ensures ∙ c.in_ok-places.ensures
     ∙ ap places (c.deref-3.ensures.value ∙ ap (λ (s : Scoring). s.lines) c.self.view_is) in
     let boats : c.boats.result.now ≡ c.args.kept.now.sails =
     c.boats.ensures ∙ ap (λ (k : Kept). k.sails) c.of-draft.ensures in
-    let counted = ap (λ (k : Kept). races k.counts) c.of-draft.ensures in
+    let counted : c.in_ok-races.races.items ≡ races c.args.kept.now.counts =
+    c.in_ok-races.ensures.items ∙ c.as_slice.ensures
+    ∙ ap (λ (s : Scoring). s.races) c.self.view_is ∙ is.races in
     let rs : c.deref-2.result.now ≡ races c.args.kept.now.counts =
-    c.deref-2.ensures.value ∙ c.in_ok-races.ensures.value ∙ counted in
+    c.deref-2.ensures.value ∙ counted in
     let each : c.deref-4.result.now
     ≡ map (λ race. get_or c.args.self.now.columns (race - 1) []) c.deref-2.result.now =
     c.deref-4.ensures.value ∙ c.in_ok-found.ensures
@@ -136,7 +153,7 @@ returns c rules is =
     let found = found_columns rules c.args.kept.now c.requires.kept c.args.self.now.columns
     is.columns c.deref-2.result.now rs c.deref-4.result.now each in
     let all = columns rules c.args.kept.now.sheets (races c.args.kept.now.counts) in
-    let races_are = c.new.ensures ∙ c.in_ok-races.ensures.value ∙ counted in
+    let races_are = c.new.ensures ∙ counted in
     let rows_made = c.new-2.ensures ∙ c.in_ok-rows.ensures
     ∙ (λ i. rows_by (boats i) (found i) (ls i) (ps i))
     ∙ rows_are rules c.args.kept.now.sails all c.args.self.now.lines (places c.args.self.now.lines)
@@ -145,6 +162,9 @@ returns c rules is =
 
 pub sorted_rows-requires-clause-few : goal.sorted_rows-requires-clause-few
 sorted_rows-requires-clause-few c =
+    let is = c.requires.scoring.1 in
+    let rs : c.deref-2.result.now ≡ races c.args.kept.now.counts =
+    c.deref-2.ensures.value ∙ c.in_ok-races.ensures.items ∙ c.as_slice.ensures
+    ∙ ap (λ (s : Scoring). s.races) c.self.view_is ∙ is.races in
     columns_few _ c.deref-2.result.now c.deref-4.result.now
-    (c.deref-4.ensures.value ∙ c.in_ok-found.ensures)
-    (rw c.deref-2.ensures.value c.in_ok-races.ensures.few)
+    (c.deref-4.ensures.value ∙ c.in_ok-found.ensures) (rw rs (races_few c.args.kept.now.counts))

@@ -10,7 +10,7 @@ use Rattle.regatta_office.proofs.scribe.Scribe.take_line.Goals as goal
 -- the line goes over two pieces
 pub returns-then-not-is_empty-clause-went : goal.returns-then-not-is_empty-clause-went
 returns-then-not-is_empty-clause-went c =
-    line_taken_ok _ _ (point c.args.self.now) _ c.args.rest.now c.hear.new.cutter [] _ refl
+    line_taken_ok _ _ (point c.args.self.now) _ c.args.rest.now c.hear.new.self [] _ refl
     c.requires (ap line_of (sym c.hear.ensures)) c.end_line.ensures.quit c.end_line.ensures.due
     c.end_line.ensures.after
 
