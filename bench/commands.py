@@ -55,7 +55,7 @@ def sailed(boats):
 
 
 def counted(program, boats, lines):
-    """The instructions of the last line, in a series of so many boats."""
+    """The instructions of the last line, in a series of `boats` boats."""
     if lines is None:
         before, last = entered(boats - 1), entered(boats)[-1]
     else:

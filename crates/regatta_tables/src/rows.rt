@@ -71,7 +71,7 @@ fn put_head(page: &mut [u8], row: &Row) -> usize
 }
 
 /// Makes room for a score in the page: if there is none, the text so far is appended to `out`, and
-/// the page begins anew.
+/// the page is empty again.
 fn make_way(page: &[u8], at: usize, out: &mut Vec<u8>) -> Result<usize, AllocError>
     requires page { length page.now ≡ PAGE_ROOM }
     requires within { at ≤ PAGE_ROOM }

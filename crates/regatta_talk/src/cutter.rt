@@ -52,7 +52,7 @@ impl Cutter {
         false
     }
 
-    /// Takes bytes of the text, none of which ends the line. What isn't buffered isn't looked at.
+    /// Takes bytes of the text, none of which ends the line. What isn't buffered isn't read.
     pub fn hear(&mut self, bytes: &[u8])
         ensures { self.new ≡ fold heard_with self.old bytes.now }
     {
