@@ -34,8 +34,10 @@ impl<N: OfficeName, R: Wait + Drop> Desk<N, R> {
         ranked(self.board().rank(sail))
     }
 
-    /// Does what a line asks of the desk, and returns the reply.
-    fn reply<W: Wait>(&mut self, rt: &W, pass: &mut Pass<N>, role: Role, line: Line) -> Reply
+    /// Does what a line with a command or RANK asks of the desk: runs the command for the pass in this
+    /// role, or looks the boat up. Returns the reply. Each journal that the pass had been told of is a
+    /// beginning of the one that the desk had before.
+    pub fn reply<W: Wait>(&mut self, rt: &W, pass: &mut Pass<N>, role: Role, line: Line) -> Reply
         requires { is_for_desk (Ok line) ≡ true }
         ensures replied { DeskReplies N.rules line role self.old self.new pass.old pass.new result }
         ensures told { All (λ j. IsPrefix j self.old.entries) pass.old.told }

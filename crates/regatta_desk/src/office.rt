@@ -16,6 +16,11 @@ use regatta_watch::{History, JournalNote, Note, OfficeName, Publisher, SharedHis
 use std::alloc::{AllocError, Global};
 use std::marker::{Brand, Model};
 use std::sync::{Mutex, MutexGuard, Wait};
+use std::thread::yield_now;
+
+/// How many turns a thread gives up before it sleeps for the lock: who sleeps has to be woken, which
+/// takes longer than a command.
+const TURNS: u32 = 200;
 
 /// An office that isn't locked yet.
 ///
@@ -60,6 +65,12 @@ pub struct Office<N: OfficeName, R: Wait + Drop> {
 impl<N: OfficeName, R: Wait + Drop> Office<N, R> {
     /// Waits for the lock and returns the desk. There is no other way to it.
     pub fn desk<W: Wait>(&self, rt: &W) -> MutexGuard<'_, Desk<N, R>> {
+        for _ in 0..TURNS {
+            if let Some(desk) = self.desk.try_lock() {
+                return desk;
+            }
+            yield_now();
+        }
         self.desk.lock(rt)
     }
 }
