@@ -1,8 +1,7 @@
 -- What an accepted command requires of the journal before it.
-use Rattle.std.proofs.Common.{◌≡◌, ◌<◌, ℕ, Bool, true, false, not, ◌&&◌, length, nat_le, None}
-use Rattle.std.proofs.Common.{refl}
+use Rattle.std.proofs.Common.{◌≡◌, ◌<◌, ℕ, Bool, true, false, not, ◌&&◌, length, nat_le, None, refl}
 use borrow.Author.Tests.{leb-false}
-use Rattle.regatta_terms.specs.Effects.{Placing, AtEnd, TiedWith, AheadOf, ByTime, Clears, Act, Places}
+use Rattle.regatta_terms.specs.Effects.{Placing, AtEnd, TiedWith, AheadOf, ByTime, Act, Places}
 use Rattle.regatta_terms.specs.Effects.{Strikes, Decides, Counts, Effect, Enters, InRace}
 use Rattle.regatta_terms.specs.Entries.{IsRace}
 use Rattle.regatta_terms.specs.Rules.{RulesParts}
@@ -73,8 +72,6 @@ may_step rules journal role (InRace r (Places s (ByTime seconds))) ours none =
     )
 may_step rules journal role (InRace r (Strikes s)) ours none =
     (yes_test (is_entered journal s) _ _ none).0
-may_step rules journal role (InRace r (Decides s Clears)) ours none =
-    (yes_test (is_entered journal s) _ _ none).0
-may_step rules journal role (InRace r (Decides s _)) ours none =
+may_step rules journal role (InRace r (Decides s decision)) ours none =
     (yes_test (is_entered journal s) _ _ none).0
 may_step rules journal role (InRace r (Counts counts)) ours none = tt

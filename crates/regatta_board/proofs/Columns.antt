@@ -5,6 +5,7 @@ use Rattle.std.specs.List.{range_with_len}
 use Rattle.std.proofs.lemmas.List.{length-map}
 use Rattle.std.proofs.lemmas.List.FromFn.{length-map-range_with_len, length-range_with_len}
 use Rattle.std.proofs.lemmas.List.Elements.{filter-append}
+use Rattle.std.proofs.lemmas.List.Sums.{length-filter, count_by-le-length}
 use Rattle.regatta_terms.specs.Rules.{RulesParts}
 use Rattle.regatta_terms.specs.declared.limits.TheConstants.{MAX_RACES}
 use Rattle.regatta_scores.specs.Sheet.{Sheet, boats}
@@ -42,20 +43,12 @@ pub few_more : (b : Bool) (found new : List ℕ) (i r : ℕ) → new ≡ found +
     → length found ≤ i → length new ≤ i + 1
 few_more b found new i r e h = omega (arith, ap length e, one_long b found r)
 
-filter_few : (p : ℕ → Bool) (xs : List ℕ) → length (filter p xs) ≤ length xs
-filter_few p [] = omega arith
-filter_few p (x ∷ xs) = by (p x) (filter_few p xs)
-  where
-    by : (b : Bool) → length (filter p xs) ≤ length xs
-        → length (cond b (x ∷ filter p xs) (filter p xs)) ≤ length (x ∷ xs)
-    by true rest = omega (arith, rest)
-    by false rest = omega (arith, rest)
-
 pub races_few : (counts : List Bool) → length (races counts) ≤ MAX_RACES
 races_few counts =
     omega (
       arith,
-      filter_few (λ race. get_or counts (race - 1) false) (range_with_len 1 MAX_RACES),
+      length-filter (λ race. get_or counts (race - 1) false) (range_with_len 1 MAX_RACES),
+      count_by-le-length (λ race. get_or counts (race - 1) false) (range_with_len 1 MAX_RACES),
       length-range_with_len 1 MAX_RACES,
     )
 

@@ -1,7 +1,6 @@
 -- The effect of one more act in a race on what a boat holds.
-use Rattle.std.proofs.Common.{◌≡◌, ℕ, suc, ◌+◌, ◌<◌, Bool, true, false, cond, not, List, []}
-use Rattle.std.proofs.Common.{◌∷◌, ◌++◌, refl, ap, ◌∙◌, sym, arith, length, map}
-use Rattle.std.proofs.Common.{get_or, slice_set}
+use Rattle.std.proofs.Common.{◌≡◌, ℕ, suc, ◌+◌, ◌<◌, Bool, true, false, cond, not, List, [], ◌∷◌}
+use Rattle.std.proofs.Common.{◌++◌, refl, ap, ◌∙◌, sym, arith, length, map, get_or, slice_set}
 use Rattle.std.specs.List.{AllByRecursion}
 use Rattle.std.proofs.lemmas.List.Elements.{recursion_from_All}
 use Rattle.regatta_terms.specs.Effects.{Decision, Act, Places, Strikes, Decides, Counts}
@@ -10,7 +9,7 @@ use Rattle.regatta_scores.specs.Changes.{with_decision}
 use Rattle.regatta_scores.specs.Journal.{same_sail}
 use Rattle.regatta_scores.proofs.LastingTimes.{IsOfOthers}
 use Rattle.regatta_scores.proofs.OneMore.{held_from, held_step}
-use Rattle.regatta_board.proofs.Numbers.{index_in, same_is, is_same}
+use Rattle.regatta_board.proofs.Numbers.{index_in, same_is, is_same, map_known}
 
 pub decided : (acts : List Act) (boat : Sail) (decision : Decision)
     → held_from (acts ++ Decides boat decision ∷ []) boat
@@ -37,11 +36,6 @@ held_replaced f g s (z ∷ zs) same apart =
     by (same_sail s z) refl
     (held_replaced f g s zs same (λ i j d h k. apart (suc i) (suc j) d (omega arith) (omega arith)))
   where
-    rest_same : (ys : List Sail) → AllByRecursion (λ x. same_sail x s ≡ false) ys
-        → map g ys ≡ map f ys
-    rest_same [] all = refl
-    rest_same (y ∷ ys) all = λ i. same y all.0 i ∷ rest_same ys all.1 i
-
     other : (x y : Sail) → same_sail x y ≡ false → (b : Bool) → same_sail y x ≡ b → b ≡ false
     other x y h true e = let one : x ≡ y = sym (same_is y x e) in let no_way : true ≡ false =
         sym (is_same x) ∙ ap (same_sail x) one ∙ h in absurd (cc)
@@ -56,7 +50,8 @@ held_replaced f g s (z ∷ zs) same apart =
         recursion_from_All (λ x. same_sail x s ≡ false) zs
         (λ k d h. ap (same_sail (get_or zs k d)) one
         ∙ apart 0 (suc k) d (omega arith) (omega arith)) in
-        rw e (λ i. g (sym one i) ∷ rest_same zs apart_from i)
+        let rest_same = map_known (λ x. same_sail x s ≡ false) g f same zs apart_from in
+        rw e (λ i. g (sym one i) ∷ rest_same i)
     by false e rest =
         let step : ◌≡◌ {A = ℕ} (1 + index_in zs s) (suc (index_in zs s)) = omega arith in
         let head : g z ≡ f z = same z (other s z e (same_sail z s) refl) in

@@ -1,5 +1,5 @@
 -- What is kept of a journal agrees with the journal.
-use Rattle.std.proofs.Common.{◌≡◌, ℕ, ◌-◌, ◌<◌, ◌≤◌, true, false, ◌&&◌, List, [], ◌∷◌, refl}
+use Rattle.std.proofs.Common.{◌≡◌, ℕ, ◌-◌, ◌<◌, ◌≤◌, true, false, ◌&&◌}
 use Rattle.std.proofs.Common.{ap, ◌∙◌, sym, subst, arith, length, map, get_or, nat_eq, nat_le, None}
 use Rattle.std.specs.List.{list_any}
 use Rattle.std.proofs.lemmas.List.FromFn.{get_or-map-range_with_len}
@@ -24,8 +24,9 @@ use Rattle.regatta_board.proofs.Allowed.{index_below, number_below, placed_same,
 use Rattle.regatta_board.proofs.Accepted.{MayStep, NamesRace}
 use Rattle.regatta_board.proofs.Lawful.{no_test, yes_test}
 use Rattle.regatta_board.proofs.Numbers.{found_under}
+use Rattle.regatta_board.proofs.Renumbered.{same_emptiness}
 
-sheet_is : (rules : RulesParts) (journal : Journal) (race : ℕ) → IsRace race
+pub sheet_is : (rules : RulesParts) (journal : Journal) (race : ℕ) → IsRace race
     → sheet_in (kept_of rules journal) race ≡ sheet_of rules journal race
 sheet_is rules journal race r =
     let low : 1 ≤ race = r.0 in
@@ -34,17 +35,13 @@ sheet_is rules journal race r =
     (omega arith)
     (omega arith)
 
-counts_are : (rules : RulesParts) (journal : Journal) (race : ℕ) → IsRace race
+pub counts_are : (rules : RulesParts) (journal : Journal) (race : ℕ) → IsRace race
     → get_or (kept_of rules journal).counts (race - 1) false ≡ is_scored journal race
 counts_are rules journal race r =
     let low : 1 ≤ race = r.0 in
     let high : race ≤ MAX_RACES = r.1 in
     get_or-map-range_with_len (is_scored journal) 1 MAX_RACES (race - 1) race false (omega arith)
     (omega arith)
-
-same_emptiness : {X Y : Type 0} (f : X → Y) (xs : List X) → is_empty (map f xs) ≡ is_empty xs
-same_emptiness f [] = refl
-same_emptiness f (x ∷ xs) = refl
 
 module _ (rules : RulesParts) (journal : Journal) (o : IsOrderly rules journal) (kept : Kept)
     (e : kept ≡ kept_of rules journal)

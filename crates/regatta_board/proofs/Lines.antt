@@ -1,10 +1,9 @@
 -- Lines and rows of all boats.
-use Rattle.std.proofs.Common.{◌≡◌, ℕ, ◌+◌, ◌<◌, ◌≤◌, List, [], ◌∷◌, ◌++◌, refl, ap, ◌∙◌}
-use Rattle.std.proofs.Common.{arith, length, map, drop, get_or}
+use Rattle.std.proofs.Common.{◌≡◌, ℕ, ◌+◌, ◌<◌, List, [], ◌∷◌, ◌++◌, refl, ap, ◌∙◌, arith, length}
+use Rattle.std.proofs.Common.{map, drop, get_or}
 use Rattle.std.specs.List.{range_with_len}
 use Rattle.std.proofs.lemmas.List.{get_or-map}
-use Rattle.std.proofs.lemmas.List.FromFn.{length-map-range_with_len}
-use Rattle.std.proofs.lemmas.List.FromFn.{get_or-map-range_with_len}
+use Rattle.std.proofs.lemmas.List.FromFn.{length-map-range_with_len, get_or-map-range_with_len}
 use Rattle.std.proofs.lemmas.List.FromFn.{map-range_with_len_more}
 use Rattle.regatta_terms.specs.Rules.{RulesParts}
 use Rattle.regatta_terms.specs.declared.sail.Sail.{Sail}
@@ -13,11 +12,10 @@ use Rattle.regatta_scores.specs.Ranking.{BoatScores, place, places}
 use Rattle.regatta_scores.specs.Standing.{sorted_rows}
 use Rattle.regatta_scores.specs.declared.boats.RaceScore.{RaceScore}
 use Rattle.regatta_scores.specs.Lines.{line_by}
-use Rattle.regatta_scores.specs.Rows.{row_by}
+use Rattle.regatta_scores.specs.Lines.{row_by}
 use Rattle.regatta_scores.specs.RaceScores.{scores_in}
-use Rattle.regatta_board.specs.Table.{lines, no_line, no_rank, row_of, row_at, rows}
-use Rattle.regatta_board.specs.Table.{rows_by}
-use Rattle.regatta_board.proofs.Numbers.{map_known, in_range}
+use Rattle.regatta_board.specs.Table.{lines, no_line, no_rank, row_of, row_at, rows, rows_by}
+use Rattle.regatta_board.proofs.Numbers.{map_range}
 
 pub lines_more : (rules : RulesParts) (columns : List (List RaceScore)) (n : ℕ)
     → lines rules columns (n + 1) ≡ lines rules columns n ++ line_by rules (scores_in columns n)
@@ -61,9 +59,7 @@ rows_are rules sails columns ls ps e f =
     let all = lines rules columns n in
     let same : ps ≡ places all = f ∙ ap places e in
     ap sorted_rows ((λ i. map (row_at sails columns (e i) (same i)) (range_with_len 0 n))
-    ∙ map_known (λ b. (0 ≤ b) × (b < 0 + n)) (row_at sails columns all (places all))
-    (row_of rules sails columns) (λ b h.
-    (let within : b < n = (let below : b < 0 + n = h.1 in omega arith) in
+    ∙ map_range (row_at sails columns all (places all)) (row_of rules sails columns) 0 n
+    (λ b low high. (let within : b < n = omega (arith, high) in
     λ i. row_by (get_or sails b []) (rank_at rules columns n b no_rank within i)
-    (line_at rules columns n b no_line within i) (scores_in columns b))) (range_with_len 0 n)
-    (in_range 0 n))
+    (line_at rules columns n b no_line within i) (scores_in columns b))))

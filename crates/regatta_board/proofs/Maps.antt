@@ -1,9 +1,7 @@
 -- Lists computed by functions.
-use Rattle.std.proofs.Common.{◌≡◌, ℕ, ◌+◌, ◌<◌, ◌≤◌, List, [], ◌∷◌, ◌++◌, refl, ap, ◌∙◌, sym, arith}
+use Rattle.std.proofs.Common.{◌≡◌, ℕ, ◌+◌, ◌<◌, ◌≤◌, List, [], ◌∷◌, ◌++◌, refl, ap, ◌∙◌, sym}
 use Rattle.std.proofs.Common.{length, get_or, map, take}
-use Rattle.std.specs.List.{range_with_len}
 use Rattle.std.proofs.lemmas.List.{map_more, take_all}
-use Rattle.std.proofs.lemmas.List.FromFn.{map-range_with_len_more}
 
 -- mapping by one function after another
 pub map_map : {X Y Z : Type 0} (f : Y → Z) (g : X → Y) (xs : List X)
@@ -28,10 +26,3 @@ pushed_more f xs i x y old new within is made so_far pushed = pushed
 pub pushed_all : {X Y : Type 0} (f : X → Y) (xs : List X) (i : ℕ) (found : List Y) → length xs ≤ i
     → found ≡ map f (take i xs) → found ≡ map f xs
 pushed_all f xs i found all is = is ∙ ap (map f) (take_all i xs all)
-
--- a loop that fills a list appends the result for one more number
-pub pushed_number : {Y : Type 0} (f : ℕ → Y) (n : ℕ) (y : Y) (old new : List Y) → y ≡ f n
-    → old ≡ map f (range_with_len 0 n) → new ≡ old ++ y ∷ []
-    → new ≡ map f (range_with_len 0 (n + 1))
-pushed_number f n y old new made so_far pushed = pushed ∙ (λ j. so_far j ++ made j ∷ [])
-    ∙ sym (map-range_with_len_more f 0 n n (omega arith))

@@ -1,6 +1,6 @@
 -- A finishing order that a sheet may have, by the boats' numbers, stays one.
-use Rattle.std.proofs.Common.{◌≡◌, ℕ, ◌<◌, true, false, List, [], ◌∷◌, ◌++◌, ap, ◌∙◌}
-use Rattle.std.proofs.Common.{refl, sym, arith, length, map, nat_eq, None}
+use Rattle.std.proofs.Common.{◌≡◌, ℕ, ◌<◌, true, false, List, [], ◌∷◌, ◌++◌, ap, ◌∙◌, refl, sym}
+use Rattle.std.proofs.Common.{arith, length, map, nat_eq, None}
 use Rattle.std.specs.List.{list_any}
 use Rattle.std.proofs.lemmas.List.{length-map, map-append}
 use Rattle.regatta_terms.specs.Effects.{AtEnd, TiedWith, AheadOf, ByTime, Act, Places, Strikes}
@@ -8,12 +8,10 @@ use Rattle.regatta_terms.specs.Effects.{Decides, Counts}
 use Rattle.regatta_terms.specs.declared.limits.TheConstants.{MAX_BOATS}
 use Rattle.regatta_terms.specs.Rules.{RulesParts}
 use Rattle.regatta_terms.specs.declared.sail.Sail.{Sail}
-use Rattle.regatta_scores.specs.Order.{stands_in, with_last, joined, with_ahead, without}
+use Rattle.regatta_scores.specs.Order.{stands_in}
 use Rattle.regatta_scores.specs.Sheet.{nothing_held, time_of}
 use Rattle.regatta_scores.specs.SheetFacts.{IsSheet}
-use Rattle.regatta_scores.specs.Journal.{Journal, same_sail, entered, order}
-use Rattle.regatta_scores.specs.Journal.{time}
-use Rattle.regatta_scores.specs.CorrectedTimes.{with_time}
+use Rattle.regatta_scores.specs.Journal.{Journal, same_sail, entered, order, time}
 use Rattle.regatta_scores.proofs.Sheets.{last_sheet, joined_sheet, ahead_sheet, without_sheet}
 use Rattle.regatta_scores.proofs.Sheets.{more_sheet, copied_sheet, timed_sheet}
 use Rattle.regatta_scores.proofs.LastingTimes.{order_with}
@@ -23,8 +21,7 @@ use Rattle.regatta_board.proofs.Accepted.{MayAct}
 use Rattle.regatta_board.proofs.Numbers.{index_in, found_under}
 use Rattle.regatta_board.proofs.Allowed.{placed_same, index_below}
 use Rattle.regatta_board.proofs.Renumbered.{last_numbered, joined_numbered, ahead_numbered}
-use Rattle.regatta_board.proofs.Renumbered.{without_numbered, timed_numbered}
-use Rattle.regatta_board.proofs.Renumbered.{order_stays}
+use Rattle.regatta_board.proofs.Renumbered.{without_numbered, timed_numbered, order_stays}
 
 -- if nothing changes
 pub on_same : (old new : List Sail) (o p : List (List Sail)) → new ≡ old → p ≡ o
@@ -70,11 +67,14 @@ module _ (rules : RulesParts) (journal : Journal) (race : ℕ)
       ≡ false
   out s known free = placed_same rules journal race s known ∙ free
 
-  renumbered : (new : List (List Sail)) (numbers : List (List ℕ))
-      → map (map (number journal)) new ≡ numbers → IsSheet numbers (blank (entered journal))
+  abbrev numbers : List (List ℕ)
+  numbers = map (map (number journal)) (order rules journal race)
+
+  renumbered : (new : List (List Sail)) (named : List (List ℕ))
+      → map (map (number journal)) new ≡ named → IsSheet named (blank (entered journal))
       → IsOnSheet (entered journal) new
-  renumbered new numbers e sheet =
-      copied_sheet numbers (map (map (number journal)) new) (blank (entered journal))
+  renumbered new named e sheet =
+      copied_sheet named (map (map (number journal)) new) (blank (entered journal))
       (blank (entered journal)) e refl sheet
 
   -- after an act that isn't refused
@@ -82,40 +82,26 @@ module _ (rules : RulesParts) (journal : Journal) (race : ℕ)
       → IsOnSheet (entered journal)
       (order_with (time journal race) (order rules journal race) act)
   on_after (Places s AtEnd) may =
-      renumbered (with_last same_sail (order rules journal race) s)
-      (with_last nat_eq (map (map (number journal)) (order rules journal race)) (number journal s))
-      (last_numbered (entered journal) (order rules journal race) s)
-      (last_sheet (map (map (number journal)) (order rules journal race)) (blank (entered journal))
-      (number journal s) is (below s may.0) (out s may.0 may.1))
+      renumbered _ _ (last_numbered (entered journal) (order rules journal race) s)
+      (last_sheet numbers (blank (entered journal)) (number journal s) is (below s may.0)
+      (out s may.0 may.1))
   on_after (Places s (TiedWith other)) may =
-      renumbered (joined same_sail (order rules journal race) s other)
-      (joined nat_eq (map (map (number journal)) (order rules journal race)) (number journal s)
-      (number journal other))
-      (joined_numbered (entered journal) (order rules journal race) s other may.2.1)
-      (joined_sheet (map (map (number journal)) (order rules journal race)) (blank
-      (entered journal))
-      (number journal s) (number journal other) is (below s may.0) (out s may.0 may.1))
+      renumbered _ _ (joined_numbered (entered journal) (order rules journal race) s other may.2.1)
+      (joined_sheet numbers (blank (entered journal)) (number journal s) (number journal other) is
+      (below s may.0) (out s may.0 may.1))
   on_after (Places s (AheadOf other)) may =
-      renumbered (with_ahead same_sail (order rules journal race) s other)
-      (with_ahead nat_eq (map (map (number journal)) (order rules journal race)) (number journal s)
-      (number journal other))
-      (ahead_numbered (entered journal) (order rules journal race) s other may.2.1)
-      (ahead_sheet (map (map (number journal)) (order rules journal race)) (blank (entered journal))
-      (number journal s) (number journal other) is (below s may.0) (out s may.0 may.1))
+      renumbered _ _ (ahead_numbered (entered journal) (order rules journal race) s other may.2.1)
+      (ahead_sheet numbers (blank (entered journal)) (number journal s) (number journal other) is
+      (below s may.0) (out s may.0 may.1))
   on_after (Places s (ByTime seconds)) may =
-      let numbers = map (map (number journal)) (order rules journal race) in
       let times = time_of (map (time journal race) (entered journal)) in
-      renumbered (with_time (time journal race) (order rules journal race) s seconds)
-      (with_time times numbers (number journal s) seconds)
+      renumbered _ _
       (timed_numbered (entered journal) (time journal race) times (order rules journal race) s
       seconds (λ x h. time_there x (all_entered x h)))
       (timed_sheet times seconds numbers (blank (entered journal)) (number journal s) is
       (below s may.0) (out s may.0 may.1))
   on_after (Strikes s) may =
-      renumbered (without same_sail (order rules journal race) s)
-      (without nat_eq (map (map (number journal)) (order rules journal race)) (number journal s))
-      (without_numbered (entered journal) (order rules journal race) s may)
-      (without_sheet (map (map (number journal)) (order rules journal race))
-      (blank (entered journal)) (number journal s) is)
+      renumbered _ _ (without_numbered (entered journal) (order rules journal race) s may)
+      (without_sheet numbers (blank (entered journal)) (number journal s) is)
   on_after (Decides s decision) may = is
   on_after (Counts counts) may = is

@@ -1,6 +1,6 @@
 -- The finishing order by numbers after one more change.
 use Rattle.std.proofs.Common.{◌≡◌, ℕ, ◌+◌, Bool, true, false, cond, not, ◌||◌, List, [], ◌∷◌, ◌++◌}
-use Rattle.std.proofs.Common.{refl, ap, ◌∙◌, map, filter, flat_map, nat_eq, Option}
+use Rattle.std.proofs.Common.{refl, ap, sym, ◌∙◌, map, filter, flat_map, nat_eq, Option}
 use Rattle.std.specs.List.{list_any}
 use Rattle.std.proofs.lemmas.List.{map-append}
 use Rattle.regatta_terms.specs.declared.sail.Sail.{Sail}
@@ -9,7 +9,8 @@ use Rattle.regatta_scores.specs.Order.{is_empty, in_group, stands_in, with_last,
 use Rattle.regatta_scores.specs.Order.{without}
 use Rattle.regatta_scores.specs.CorrectedTimes.{is_lower, is_equal, is_later, group_time}
 use Rattle.regatta_scores.specs.CorrectedTimes.{lower_groups, equal_boats, later_groups, with_time}
-use Rattle.regatta_scores.proofs.Members.{or_left, or_right}
+use Rattle.std.proofs.lemmas.Bool.{or_left, or_right}
+use Rattle.regatta_scores.proofs.TiedTimes.{map_filter}
 use Rattle.regatta_board.proofs.Numbers.{index_in, numbers_tell, is_same}
 
 pub last_numbered : (boats : List Sail) (order : List (List Sail)) (sail : Sail)
@@ -67,26 +68,20 @@ ahead_numbered boats (g ∷ gs) sail other known =
 group_struck : (boats : List Sail) (sail : Sail) → list_any (same_sail sail) boats ≡ true
     → (g : List Sail) → map (index_in boats) (filter (λ o. not (same_sail o sail)) g)
     ≡ filter (λ o. not (nat_eq o (index_in boats sail))) (map (index_in boats) g)
-group_struck boats sail known [] = refl
-group_struck boats sail known (x ∷ xs) =
-    by (same_sail x sail) (numbers_tell boats x sail known) (group_struck boats sail known xs)
-  where
-    by : (b : Bool) → nat_eq (index_in boats x) (index_in boats sail) ≡ b
-        → map (index_in boats) (filter (λ o. not (same_sail o sail)) xs)
-        ≡ filter (λ o. not (nat_eq o (index_in boats sail))) (map (index_in boats) xs)
-        → map (index_in boats)
-        (cond (not b) (x ∷ filter (λ o. not (same_sail o sail)) xs)
-        (filter (λ o. not (same_sail o sail)) xs))
-        ≡ filter (λ o. not (nat_eq o (index_in boats sail))) (map (index_in boats) (x ∷ xs))
-    by true e rest = rw e rest
-    by false e rest = rw e (ap (λ ys. index_in boats x ∷ ys) rest)
+group_struck boats sail known g =
+    (λ i. map (index_in boats) (filter (λ o. not (sym (numbers_tell boats o sail known) i)) g))
+    ∙ sym (map_filter (index_in boats) (λ o. not (nat_eq o (index_in boats sail))) g)
+
+pub same_emptiness : {X Y : Type 0} (f : X → Y) (xs : List X) → is_empty (map f xs) ≡ is_empty xs
+same_emptiness f [] = refl
+same_emptiness f (x ∷ xs) = refl
 
 kept_numbered : {X Y : Type 0} (f : X → Y) (gs : List (List X))
     → map (map f) (filter (λ g. not (is_empty g)) gs)
     ≡ filter (λ g. not (is_empty g)) (map (map f) gs)
-kept_numbered f [] = refl
-kept_numbered f ([] ∷ gs) = kept_numbered f gs
-kept_numbered f ((x ∷ xs) ∷ gs) = ap (λ hs. map f (x ∷ xs) ∷ hs) (kept_numbered f gs)
+kept_numbered f gs =
+    (λ i. map (map f) (filter (λ g. not (sym (same_emptiness f g) i)) gs))
+    ∙ sym (map_filter (map f) (λ g. not (is_empty g)) gs)
 
 struck_groups : (boats : List Sail) (sail : Sail) → list_any (same_sail sail) boats ≡ true
     → (gs : List (List Sail))

@@ -1,27 +1,20 @@
 -- The most races that a command rescores, by what is kept and by the journal.
-use Rattle.std.proofs.Common.{◌≡◌, ℕ, ◌-◌, false, cond, [], ◌∷◌, ◌++◌, ap}
-use Rattle.std.proofs.Common.{◌∙◌, sym, arith, length, filter, get_or}
+use Rattle.std.proofs.Common.{◌≡◌, ℕ, cond, [], ◌∷◌, ◌++◌, ap, ◌∙◌, sym, length, filter}
 use Rattle.std.specs.List.{range_with_len}
-use Rattle.std.proofs.lemmas.List.FromFn.{get_or-map-range_with_len}
 use Rattle.regatta_terms.specs.Effects.{Act, Places, Strikes, Decides, Counts, Effect, Enters}
 use Rattle.regatta_terms.specs.Effects.{InRace, effect}
-use Rattle.regatta_terms.specs.Entries.{EntryParts, IsRace}
+use Rattle.regatta_terms.specs.Entries.{EntryParts}
 use Rattle.regatta_terms.specs.Rules.{RulesParts}
 use Rattle.regatta_terms.specs.declared.limits.TheConstants.{MAX_RACES}
 use Rattle.regatta_scores.specs.Journal.{Journal, acts, act_in, is_scored}
 use Rattle.regatta_scores.proofs.Apart.{one_act, same_acts}
 use Rattle.regatta_scores.proofs.OneMore.{counts_by, counts_after, counts_step}
-use Rattle.regatta_board.specs.Answers.{most_rescored_by}
+use Rattle.regatta_board.specs.Answers.{most_rescored}
 use Rattle.regatta_board.specs.KeptJournal.{kept_of, IsOrderly}
 use Rattle.regatta_board.specs.Scoring.{most_remade_by}
 use Rattle.regatta_board.proofs.Accepted.{NamesRace}
+use Rattle.regatta_board.proofs.KeptFacts.{counts_are}
 use Rattle.regatta_board.proofs.TableOf.{races_are}
-
-counts_at : (rules : RulesParts) (journal : Journal) (race : ℕ) → IsRace race
-    → get_or (kept_of rules journal).counts (race - 1) false ≡ is_scored journal race
-counts_at rules journal race within =
-    get_or-map-range_with_len (is_scored journal) 1 MAX_RACES (race - 1) race false
-    (omega (arith, within.0, within.1)) (omega (arith, within.0))
 
 module _ (rules : RulesParts) (journal : Journal) (orderly : IsOrderly rules journal)
     (entry : EntryParts) where
@@ -32,7 +25,7 @@ module _ (rules : RulesParts) (journal : Journal) (orderly : IsOrderly rules jou
       ap counts_by (one_act journal entry race act is) ∙ counts_step (acts journal race) act
 
   pub named_few : (e : Effect) → effect entry.command ≡ e → NamesRace e
-      → most_remade_by (kept_of rules journal) e ≡ most_rescored_by (journal ++ entry ∷ []) e
+      → most_remade_by (kept_of rules journal) e ≡ most_rescored (journal ++ entry ∷ []) e
   named_few (Enters sail) is named =
       ap length (races_are rules journal orderly)
       ∙ (λ i. length (filter (λ r. counts_by
@@ -41,10 +34,10 @@ module _ (rules : RulesParts) (journal : Journal) (orderly : IsOrderly rules jou
       ap (λ t. cond t 1 0) (sym (scored_next race (Counts b) is))
   named_few (InRace race (Places sail placing)) is named =
       ap (λ t. cond t 1 0)
-      (counts_at rules journal race named ∙ sym (scored_next race (Places sail placing) is))
+      (counts_are rules journal race named ∙ sym (scored_next race (Places sail placing) is))
   named_few (InRace race (Strikes sail)) is named =
       ap (λ t. cond t 1 0)
-      (counts_at rules journal race named ∙ sym (scored_next race (Strikes sail) is))
+      (counts_are rules journal race named ∙ sym (scored_next race (Strikes sail) is))
   named_few (InRace race (Decides sail decision)) is named =
       ap (λ t. cond t 1 0)
-      (counts_at rules journal race named ∙ sym (scored_next race (Decides sail decision) is))
+      (counts_are rules journal race named ∙ sym (scored_next race (Decides sail decision) is))

@@ -1,9 +1,11 @@
 -- The lengths of the scores that the board keeps, and when they stay.
-use Rattle.std.proofs.Common.{◌≡◌, ℕ, zero, suc, ◌+◌, ◌-◌, ◌<◌, ◌≤◌, true, false, List, [], ◌∷◌}
-use Rattle.std.proofs.Common.{ap, refl, ◌++◌, ◌∙◌, sym, subst, arith, length, map, get_or, All, Option, Some}
-use Rattle.std.proofs.Common.{None, nat_eq}
+use Rattle.std.proofs.Common.{◌≡◌, ℕ, zero, suc, ◌+◌, ◌-◌, ◌<◌, true, false, List, [], ◌∷◌, ap}
+use Rattle.std.proofs.Common.{refl, ◌++◌, ◌∙◌, sym, subst, arith, length, map, get_or, All, Option}
+use Rattle.std.proofs.Common.{Some, None, nat_eq}
 use borrow.Author.Tests.{eqb-true}
 use Rattle.std.specs.List.{range_with_len, AllByRecursion}
+use Rattle.std.specs.Option.{option_map_or, unwrap_or}
+use Rattle.std.specs.Prelude.{IfSome}
 use Rattle.std.proofs.lemmas.List.{length-map, get_or-set_same}
 use Rattle.regatta_terms.specs.Entries.{IsRace}
 use Rattle.regatta_terms.specs.Rules.{RulesParts}
@@ -23,22 +25,19 @@ use Rattle.regatta_scores.specs.Lines.{line_by}
 use Rattle.regatta_board.specs.Revisions.{revised, may_change_standing}
 use Rattle.regatta_board.specs.Scoring.{Scoring, IsScoring, AreColumns, AreNewColumns}
 use Rattle.regatta_board.specs.Scoring.{RemakesOneColumn, RemakesOnly, with_columns, lines_by}
-use Rattle.regatta_board.specs.Scoring.{AreNewScores, FitLines, FitBoats, with_lines}
-use Rattle.regatta_board.specs.Scoring.{AreRanked, lines_after, ranking_after, with_scores}
-use Rattle.regatta_board.specs.Scoring.{races_after}
+use Rattle.regatta_board.specs.Scoring.{AreNewScores, FitBoats, with_lines, AreRanked, with_scores}
 use Rattle.regatta_board.specs.declared.scoring.NewLines.{NewLines}
 use Rattle.regatta_board.specs.declared.scoring.NewLines.TheVariants.{Added}
 use Rattle.regatta_board.specs.declared.scoring.NewScores.{NewScores}
 use Rattle.regatta_board.specs.declared.scoring.Ranked.{Ranked}
 use Rattle.regatta_board.specs.Refusals.{limits}
 use Rattle.regatta_board.specs.Step.{sheet_in}
-use Rattle.regatta_board.specs.Table.{Kept, IsKept, column, columns, races, lines}
-use Rattle.regatta_board.specs.Table.{no_line}
+use Rattle.regatta_board.specs.Table.{Kept, IsKept, column, columns, races, lines, no_line}
 use Rattle.regatta_board.proofs.Columns.{column_long}
 use Rattle.regatta_scores.proofs.Lengths.{long_points}
 use Rattle.regatta_board.proofs.LedgerLemmas.{sheet_long}
 use Rattle.regatta_board.proofs.Lines.{line_at, lines_long, lines_more}
-use Rattle.regatta_board.proofs.Numbers.{in_range}
+use Rattle.regatta_board.proofs.Numbers.{all_races}
 use Rattle.regatta_board.proofs.Scored.{columns_found, counted_at, line_stays, uncounted_sheet}
 use Rattle.regatta_board.proofs.Untouched.{untouched_columns}
 
@@ -47,17 +46,15 @@ pub columns_even : (rules : RulesParts) (kept : Kept) → IsKept kept
     → All (λ c. length c ≡ length kept.sails) (columns rules kept.sheets (races kept.counts))
 columns_even rules kept is =
     even (races kept.counts)
-    (all_passed (λ r. (1 ≤ r) × (r < 1 + MAX_RACES)) (λ r. get_or kept.counts (r - 1) false)
-    (range_with_len 1 MAX_RACES) (in_range 1 MAX_RACES))
+    (all_passed IsRace (λ r. get_or kept.counts (r - 1) false) (range_with_len 1 MAX_RACES)
+    all_races)
   where
-    even : (rs : List ℕ) → AllByRecursion (λ r. (1 ≤ r) × (r < 1 + MAX_RACES)) rs
+    even : (rs : List ℕ) → AllByRecursion IsRace rs
         → (k : ℕ) (d : List RaceScore) → k < length (columns rules kept.sheets rs)
         → length (get_or (columns rules kept.sheets rs) k d) ≡ length kept.sails
     even [] all k d h = absurd (omega (arith, h))
     even (r ∷ rs) all zero d h =
-        let low : 1 ≤ r = all.0.0 in
-        let high : r < 1 + MAX_RACES = all.0.1 in
-        column_long rules (sheet_in kept r) ∙ sheet_long kept is r (low, omega arith)
+        column_long rules (sheet_in kept r) ∙ sheet_long kept is r all.0
     even (r ∷ rs) all (suc k) d h = even rs all.1 k d (omega (arith, h))
 
 -- columns that are looked up one by one are those of the sheets
@@ -101,39 +98,6 @@ sheet_turns rules kept scoring change new one race sheet turned = record {
   column = subst (λ r. RemakesOneColumn rules r new) turned one scoring.columns;
 }
 
--- if the column of one race is recomputed, a boat keeps her line if a line takes the same of her
--- scores in it
-module _ (rules : RulesParts) (kept : Kept) (scoring : Scoring)
-    (is : IsScoring rules kept scoring) (change : Revision) (new : NewColumns) (race : ℕ)
-    (turned : RemakesOnly rules kept change race scoring new) (within : IsRace race) where
-  pub turned_line : (found : List (List RaceScore))
-      → found ≡ map (λ race. get_or (with_columns scoring.columns new) (race - 1) [])
-      (races (revised kept change).counts)
-      → (hers : List RaceScore) → hers ≡ get_or (with_columns scoring.columns new) (race - 1) []
-      → (boat : ℕ) → boat < length scoring.lines
-      → ScoresAs (get_or hers boat no_score)
-      (get_or (get_or scoring.columns (race - 1) []) boat no_score)
-      → get_or scoring.lines boat no_line ≡ line_by rules (scores_in found boat)
-  turned_line found made hers own boat h same =
-      let r = race - 1 in
-      let turn = column rules turned.sheet in
-      let at : r < length scoring.columns = omega (arith, within.0, within.1, is.long) in
-      let is_turn : hers ≡ turn = own ∙ ap (λ cs. get_or cs r []) turned.column
-      ∙ get_or-set_same scoring.columns r turn [] at in
-      let counted = races kept.counts in
-      let all = columns rules kept.sheets counted in
-      let n = length kept.sails in
-      let below : boat < n = omega (arith, h, ap length is.lines, lines_by_long rules kept) in
-      ap (λ ls. get_or ls boat no_line) is.lines
-      ∙ line_at rules all n boat no_line below
-      ∙ ap (λ cs. line_by rules (scores_in cs boat)) (sym (columns_found rules kept scoring.columns
-      is.columns))
-      ∙ sym (line_stays rules kept.counts scoring.columns r boat turn
-      (subst (λ c. ScoresAs (get_or c boat no_score)
-      (get_or (get_or scoring.columns r []) boat no_score)) is_turn same) at)
-      ∙ ap (λ cs. line_by rules (scores_in cs boat)) (sym (made
-      ∙ (λ i. map (λ race. get_or (turned.column i) (race - 1) []) (races (turned.counts i)))))
-
 -- a boat's line has one score for each race that counts
 pub line_long : (rules : RulesParts) (found : List (List RaceScore)) (boat : ℕ) (hers : BoatScores)
     → hers ≡ line_by rules (scores_in found boat) → length hers.points ≡ length found
@@ -147,14 +111,25 @@ all_long rules found n k d h =
     line_long rules found k (get_or (lines rules found n) k d)
     (line_at rules found n k d (omega (arith, h, lines_long rules found n)))
 
--- what the lines need, if one column is changed
-module _ (rules : RulesParts) (kept : Kept) (is_kept : IsKept kept) (change : Revision)
+-- what holds of the lines when the column `was` of one race becomes `hers`: all columns have a score
+-- for each boat, and a boat keeps her line if a line takes the same of her scores in both
+pub record AreTurned (rules : RulesParts) (ls : List BoatScores) (was hers : List RaceScore)
+    (found : List (List RaceScore)) : Type 0 where
+  pub even : All (λ c. length c ≡ length ls) found
+  pub old : length was ≡ length ls
+  pub new : length hers ≡ length ls
+  pub stays : (boat : ℕ) → boat < length ls
+      → ScoresAs (get_or hers boat no_score) (get_or was boat no_score)
+      → get_or ls boat no_line ≡ line_by rules (scores_in found boat)
+
+module _ (rules : RulesParts) (kept : Kept) (change : Revision)
     (next : IsKept (revised kept change)) (scoring : Scoring)
     (is : IsScoring rules kept scoring) (new : NewColumns)
-    (are : AreNewColumns rules kept (revised kept change) new) (race : ℕ) (within : IsRace race)
-    (counts : get_or kept.counts (race - 1) false ≡ true)
+    (are : AreNewColumns rules kept (revised kept change) new) (race : ℕ)
     (turned : RemakesOnly rules kept change race scoring new) (ls : List BoatScores)
-    (lines_are : ls ≡ scoring.lines) where
+    (lines_are : ls ≡ scoring.lines) (rs : List ℕ) (counted : rs ≡ races kept.counts)
+    (found : List (List RaceScore))
+    (each : found ≡ map (λ race. get_or (with_columns scoring.columns new) (race - 1) []) rs) where
   abbrev slots : List (List RaceScore)
   slots = with_columns scoring.columns new
 
@@ -162,51 +137,62 @@ module _ (rules : RulesParts) (kept : Kept) (is_kept : IsKept kept) (change : Re
   slots_are = (are scoring.columns is.long is.columns).1
 
   long : length ls ≡ length kept.sails
-  long = ap length lines_are ∙ ap length is.lines ∙ lines_by_long rules kept
+  long = ap length (lines_are ∙ is.lines) ∙ lines_by_long rules kept
 
-  pub old_long : (was : List RaceScore) → was ≡ get_or scoring.columns (race - 1) []
-      → length was ≡ length ls
-  old_long was e = ap length e
-      ∙ column_even rules kept is_kept scoring.columns is.columns race within counts ∙ sym long
+  long_after : length ls ≡ length (revised kept change).sails
+  long_after = long ∙ ap length (sym turned.sails)
 
-  pub new_long : (hers : List RaceScore) → hers ≡ get_or slots (race - 1) []
-      → length hers ≡ length ls
-  new_long hers e = ap length e
-      ∙ column_even rules (revised kept change) next slots slots_are race within
-      (ap (λ bs. get_or bs (race - 1) false) turned.counts ∙ counts)
-      ∙ ap length turned.sails ∙ sym long
+  counted_after : rs ≡ races (revised kept change).counts
+  counted_after = counted ∙ ap races (sym turned.counts)
 
-  module _ (rs : List ℕ) (counted : rs ≡ races (revised kept change).counts)
-      (found : List (List RaceScore)) (each : found ≡ map (λ race. get_or slots (race - 1) []) rs)
-    where
-      pub turned_even : All (λ c. length c ≡ length ls) found
-      turned_even =
-          found_even rules (revised kept change) next slots slots_are rs counted found each
-          (length ls) (long ∙ ap length (sym turned.sails))
+  -- the lines computed from the columns found are those of what is kept afterwards
+  pub turned_all : lines rules found (length ls) ≡ lines_by rules (revised kept change)
+  turned_all i =
+      lines rules (found_columns rules (revised kept change) next slots slots_are rs counted_after
+      found each i) (long_after i)
 
-      pub turned_stays : (hers was : List RaceScore) → hers ≡ get_or slots (race - 1) []
-          → was ≡ get_or scoring.columns (race - 1) [] → (boat : ℕ) → boat < length ls
-          → ScoresAs (get_or hers boat no_score) (get_or was boat no_score)
-          → get_or ls boat no_line ≡ line_by rules (scores_in found boat)
-      turned_stays hers was e f boat h same =
-          ap (λ xs. get_or xs boat no_line) lines_are
-          ∙ turned_line rules kept scoring is change new race turned within found
-          (each ∙ ap (map (λ race. get_or slots (race - 1) [])) counted) hers e boat
-          (omega (arith, h, ap length lines_are))
-          (subst (λ c. ScoresAs (get_or hers boat no_score) (get_or c boat no_score)) f same)
+  module _ (is_kept : IsKept kept) (within : IsRace race)
+      (counts : get_or kept.counts (race - 1) false ≡ true) (was hers : List RaceScore)
+      (was_is : was ≡ get_or scoring.columns (race - 1) [])
+      (hers_is : hers ≡ get_or (with_columns scoring.columns new) (race - 1) []) where
+    line_kept : (boat : ℕ) → boat < length ls
+        → ScoresAs (get_or hers boat no_score) (get_or was boat no_score)
+        → get_or ls boat no_line ≡ line_by rules (scores_in found boat)
+    line_kept boat h same =
+        let r = race - 1 in
+        let turn = column rules turned.sheet in
+        let at : r < length scoring.columns = omega (arith, within.0, within.1, is.long) in
+        let is_turn : hers ≡ turn = hers_is ∙ ap (λ cs. get_or cs r []) turned.column
+        ∙ get_or-set_same scoring.columns r turn [] at in
+        ap (λ xs. get_or xs boat no_line) (lines_are ∙ is.lines)
+        ∙ line_at rules (columns rules kept.sheets (races kept.counts)) (length kept.sails) boat
+        no_line (omega (arith, h, long))
+        ∙ ap (λ cs. line_by rules (scores_in cs boat))
+        (sym (columns_found rules kept scoring.columns is.columns))
+        ∙ sym (line_stays rules kept.counts scoring.columns r boat turn
+        (subst (λ c. ScoresAs (get_or turn boat no_score) (get_or c boat no_score)) was_is
+        (subst (λ c. ScoresAs (get_or c boat no_score) (get_or was boat no_score)) is_turn same)) at)
+        ∙ ap (λ cs. line_by rules (scores_in cs boat)) (sym (each
+        ∙ (λ i. map (λ race. get_or (turned.column i) (race - 1) []) (counted i))))
 
-      pub turned_all : (made : List BoatScores) → made ≡ lines rules found (length ls)
-          → made ≡ lines_by rules (revised kept change)
-      turned_all made e = e
-          ∙ (λ i. lines rules (found_columns rules (revised kept change) next slots slots_are rs
-          counted found each i) ((long ∙ ap length (sym turned.sails)) i))
+    pub turned_lines : AreTurned rules ls was hers found
+    turned_lines = record {
+      even = found_even rules (revised kept change) next slots slots_are rs counted_after found
+          each (length ls) long_after;
+      old = ap length was_is
+          ∙ column_even rules kept is_kept scoring.columns is.columns race within counts ∙ sym long;
+      new = ap length hers_is
+          ∙ column_even rules (revised kept change) next slots slots_are race within
+          (ap (λ bs. get_or bs (race - 1) false) turned.counts ∙ counts) ∙ sym long_after;
+      stays = line_kept;
+    }
 
 -- after new scores are moved in, the scores are those of what is kept afterwards
 pub scored_after : (rules : RulesParts) (before after : Kept) (old : Scoring)
     → IsScoring rules before old → (new : NewScores) → AreNewScores rules before after new
     → IsScoring rules after (with_scores old new)
 scored_after rules before after old is new are = record {
-  races = ap (λ rs. races_after rs new.races) is.races ∙ are.races;
+  races = ap (unwrap_or new.races) is.races ∙ are.races;
   long = (are.columns old.columns is.long is.columns).0;
   columns = (are.columns old.columns is.long is.columns).1;
   lines = lines_are new.ranked are.ranked;
@@ -214,12 +200,14 @@ scored_after rules before after old is new are = record {
 }
   where
     lines_are : (ranked : Option Ranked) → AreRanked rules before after ranked
-        → lines_after old.lines ranked ≡ lines_by rules after
+        → option_map_or (λ (r : Ranked). with_lines old.lines r.lines) ranked old.lines
+        ≡ lines_by rules after
     lines_are None e = is.lines ∙ e
     lines_are (Some ranked) e = ap (λ ls. with_lines ls ranked.lines) is.lines ∙ e.1
 
     ranking_is : (ranked : Option Ranked) → AreRanked rules before after ranked
-        → IsRanking (lines_after old.lines ranked) (ranking_after old.ranking ranked)
+        → IsRanking (option_map_or (λ (r : Ranked). with_lines old.lines r.lines) ranked old.lines)
+        (option_map_or (λ (r : Ranked). r.ranking) ranked old.ranking)
     ranking_is None e = is.ranking
     ranking_is (Some ranked) e =
         subst (λ ls. IsRanking ls ranked.ranking) (sym (lines_are (Some ranked) e)) e.2
@@ -227,11 +215,11 @@ scored_after rules before after old is new are = record {
 -- new lines, if there are any, are those of boats
 pub new_lines_fit : (rules : RulesParts) (before after : Kept) (old : Scoring)
     → IsScoring rules before old → (new : NewScores) → AreNewScores rules before after new
-    → FitLines old.lines new.ranked
+    → IfSome new.ranked (λ ranked. FitBoats old.lines ranked.lines)
 new_lines_fit rules before after old is new are = by new.ranked are.ranked
   where
     by : (ranked : Option Ranked) → AreRanked rules before after ranked
-        → FitLines old.lines ranked
+        → IfSome ranked (λ r. FitBoats old.lines r.lines)
     by None e = tt
     by (Some ranked) e = subst (λ ls. FitBoats ls ranked.lines) (sym is.lines) e.0
 
@@ -280,11 +268,10 @@ module _ (rules : RulesParts) (kept : Kept) (scoring : Scoring) (is : IsScoring 
   abbrev next : Kept
   next = revised kept (revision.Enter boats sheets)
 
-  pub boat_added : (hers : BoatScores) → hers ≡ line_by rules []
-      → with_lines scoring.lines (Added hers) ≡ lines_by rules next
-  boat_added hers e =
+  pub boat_added : with_lines scoring.lines Added ≡ lines_by rules next
+  boat_added =
       let n = length kept.sails in
-      (λ i. is.lines i ++ e i ∷ [])
+      ap (λ ls. ls ++ no_line ∷ []) is.lines
       ∙ ap (λ rs. lines rules (columns rules kept.sheets rs) n ++ line_by rules [] ∷ []) none
       ∙ sym (lines_more rules [] n)
       ∙ ap (lines rules []) (sym adds)

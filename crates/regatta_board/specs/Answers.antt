@@ -9,8 +9,6 @@ use Rattle.regatta_terms.specs.Rules.{RulesParts}
 use Rattle.regatta_terms.specs.declared.sail.Sail.{Sail}
 use Rattle.regatta_terms.specs.declared.reply.Answer.{Answer}
 use Rattle.regatta_terms.specs.declared.reply.Touched.{Touched}
-use Rattle.regatta_terms.specs.declared.command.Command.{Command}
-use Rattle.regatta_scores.specs.declared.table.Row.{Row}
 use Rattle.regatta_scores.specs.Journal.{Journal, same_sail, is_scored, scored}
 use Rattle.regatta_scores.specs.Standing.{standing}
 
@@ -22,30 +20,23 @@ boat_named (InRace race (Strikes sail)) = Some sail
 boat_named (InRace race (Decides sail decision)) = Some sail
 boat_named (InRace race (Counts counts)) = None
 
--- the part of a row that an answer has: rank (RRS A8), whether it is shared, and net points
-abbrev pub touched_by : Row → Touched
-touched_by row = record { rank = row.rank; tied = row.tied; net = row.net }
-
--- the boat's row of the standing, if she is entered
+-- what an answer has of the boat's row, if she is entered: her rank (RRS A8), whether it is shared,
+-- and her net points
 abbrev pub rank_of : RulesParts → Journal → Sail → Option Touched
 rank_of rules journal boat =
-    option_map touched_by (find (λ row. same_sail boat row.sail) (standing rules journal).rows)
+    option_map (λ row. record { rank = row.rank; tied = row.tied; net = row.net })
+    (find (λ row. same_sail boat row.sail) (standing rules journal).rows)
 
 -- the place of the entry, and the new row of the boat that it names
 abbrev pub answer : RulesParts → Journal → EntryParts → Answer
-answer rules journal entry =
-    record {
-      place = length journal + 1;
-      touched =
-          option_and_then (rank_of rules (journal ++ entry ∷ [])) (boat_named (effect entry.command));
-    }
+answer rules journal entry = record {
+  place = length journal + 1;
+  touched =
+      option_and_then (rank_of rules (journal ++ entry ∷ [])) (boat_named (effect entry.command));
+}
 
 -- the most races that an effect rescores, by the journal that ends with it: all that count if it
 -- enters a boat, else its own, if that counts
-abbrev pub most_rescored_by : Journal → Effect → ℕ
-most_rescored_by journal (Enters sail) = length (scored journal)
-most_rescored_by journal (InRace race act) = if is_scored journal race then 1 else 0
-
--- the most races that a command rescores
-abbrev pub most_rescored : Journal → Command → ℕ
-most_rescored journal command = most_rescored_by journal (effect command)
+abbrev pub most_rescored : Journal → Effect → ℕ
+most_rescored journal (Enters sail) = length (scored journal)
+most_rescored journal (InRace race act) = if is_scored journal race then 1 else 0

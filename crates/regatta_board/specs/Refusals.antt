@@ -5,8 +5,9 @@ use Rattle.std.specs.Prelude.{None, is_some, is_none, if◌then◌else◌}
 use Rattle.std.specs.List.{last_or, list_any}
 use Rattle.std.specs.Option.{option_map_or}
 use Rattle.regatta_terms.specs.declared.limits.TheConstants.{MAX_BOATS, MAX_ENTRIES, MAX_PENALTIES}
-use Rattle.regatta_terms.specs.Effects.{TiedWith, AheadOf, Penalises, Clears, Places, Strikes}
-use Rattle.regatta_terms.specs.Effects.{Decides, Counts, Effect, Enters, InRace, effect}
+use Rattle.regatta_terms.specs.Effects.{Placing, AtEnd, TiedWith, AheadOf, ByTime, Decision, Marks}
+use Rattle.regatta_terms.specs.Effects.{Penalises, Redresses, Clears, Places, Strikes, Decides}
+use Rattle.regatta_terms.specs.Effects.{Counts, Effect, Enters, InRace, effect}
 use Rattle.regatta_terms.specs.Entries.{EntryParts}
 use Rattle.regatta_terms.specs.Rules.{RulesParts}
 use Rattle.regatta_terms.specs.Roles.{may_send, is_jury, is_jury_code}
@@ -43,18 +44,13 @@ limits = record { boats = MAX_BOATS; entries = MAX_ENTRIES }
 -- the last number of the seat, or 0 if it has none
 abbrev pub last_number : Journal → ℕ → ℕ
 last_number journal seat =
-    unwrap_or
-    (last_or None (map (λ entry. entry.nth) (filter (λ entry. nat_eq entry.seat seat) journal)))
-    0
+    let numbers = map (λ entry. entry.nth) (filter (λ entry. nat_eq entry.seat seat) journal) in
+    unwrap_or (last_or None numbers) 0
 
--- the number after one; the greatest number stays
-abbrev pub number_after : ℕ → ℕ
-number_after last = min (last + 1) 4294967295
-
--- the next entry of a seat whose last number is this one
+-- the next entry of a seat whose last number is this one; the greatest number stays
 abbrev pub next_entry : ℕ → ℕ → Role → Command → EntryParts
 next_entry seat last role command =
-    record { seat = seat; nth = number_after last; role = role; command = command }
+    record { seat = seat; nth = min (last + 1) 4294967295; role = role; command = command }
 
 -- the boat is in the entry list (RRS A2.2)
 abbrev pub is_entered : Journal → Sail → Bool
@@ -73,97 +69,66 @@ abbrev pub penalties : PenaltyKind → Held → ℕ
 penalties Zfp held = held.zfp
 penalties Scp held = held.scp
 
--- she has no code, penalty or redress, so Clear has nothing to remove
-abbrev pub holds_nothing : Held → Bool
-holds_nothing held =
-    is_none held.code && nat_eq held.zfp 0 && nat_eq held.scp 0 && is_none held.redress
-
--- ---- the refusals of each command, in the order in which they are checked
-
--- Enter: a boat is entered once (RRS A2.2), if there is room for her
-abbrev pub enter_refusal : Limits → Journal → Sail → Option Refusal
-enter_refusal most journal boat =
-    if is_entered journal boat then Some AlreadyEntered
-    else if nat_le most.boats (length (entered journal)) then Some EntryFull
-    else None
-
--- Finish and Time: a boat is placed once in a race (RRS A3)
-abbrev pub place_refusal : RulesParts → Journal → ℕ → Sail → Option Refusal
-place_refusal rules journal race boat =
-    if not (is_entered journal boat) then Some NotEntered
-    else if is_placed rules journal race boat then Some AlreadyPlaced
-    else None
+-- ---- the refusals of commands, in the order in which they are checked
 
 -- Tie and Before: a place by that of another boat (RRS A3, A7)
 abbrev pub place_by_refusal : RulesParts → Journal → ℕ → Sail → Sail → Option Refusal
 place_by_refusal rules journal race boat other =
     if not (is_entered journal boat && is_entered journal other) then Some NotEntered
     else if is_placed rules journal race boat then Some AlreadyPlaced
-    else if not (is_placed rules journal race other) then Some NotPlaced
-    else None
+    else if not (is_placed rules journal race other) then Some NotPlaced else None
 
--- Strike: the boat has to be in the order
-abbrev pub strike_refusal : RulesParts → Journal → ℕ → Sail → Option Refusal
-strike_refusal rules journal race boat =
+-- a place in a race: a boat is placed once (RRS A3)
+abbrev pub place_refusal : RulesParts → Journal → ℕ → Sail → Placing → Option Refusal
+place_refusal rules journal race boat AtEnd =
     if not (is_entered journal boat) then Some NotEntered
-    else if not (is_placed rules journal race boat) then Some NotPlaced
-    else None
-
--- Mark and Redress: a decision of the protest committee stays until it is cleared
-abbrev pub decision_refusal : Journal → ℕ → Sail → Option Refusal
-decision_refusal journal race boat =
+    else if is_placed rules journal race boat then Some AlreadyPlaced else None
+place_refusal rules journal race boat (TiedWith other) =
+    place_by_refusal rules journal race boat other
+place_refusal rules journal race boat (AheadOf other) =
+    place_by_refusal rules journal race boat other
+place_refusal rules journal race boat (ByTime seconds) =
     if not (is_entered journal boat) then Some NotEntered
-    else if is_decided (held journal race boat) then Some Decided
-    else None
+    else if is_placed rules journal race boat then Some AlreadyPlaced else None
 
--- Penalise: at most MAX_PENALTIES ZFP (RRS 30.2) and as many SCP (RRS 44.3(c)), and none after a
--- decision of the protest committee
-abbrev pub penalty_refusal : Journal → ℕ → Sail → PenaltyKind → Option Refusal
-penalty_refusal journal race boat kind =
-    if not (is_entered journal boat) then Some NotEntered
-    else if is_decided (held journal race boat) then Some Decided
-    else if nat_le MAX_PENALTIES (penalties kind (held journal race boat)) then Some PenaltyLimit
-    else None
+-- a decision on a boat that holds this: one of the protest committee stays until the protest
+-- committee clears it; there are at most MAX_PENALTIES ZFP (RRS 30.2) and as many SCP (44.3(c)); and
+-- what is cleared is a code, penalty or redress
+abbrev pub decision_refusal : Role → Held → Decision → Option Refusal
+decision_refusal role held (Marks code) = if is_decided held then Some Decided else None
+decision_refusal role held (Redresses redress) = if is_decided held then Some Decided else None
+decision_refusal role held (Penalises kind) =
+    if is_decided held then Some Decided
+    else if nat_le MAX_PENALTIES (penalties kind held) then Some PenaltyLimit else None
+decision_refusal role held Clears =
+    if is_decided held && not (is_jury role) then Some Decided
+    else if is_none held.code && nat_eq held.zfp 0 && nat_eq held.scp 0 && is_none held.redress
+    then Some NothingToClear else None
 
--- Clear: only the protest committee clears its own decisions
-abbrev pub clear_refusal : Journal → Role → ℕ → Sail → Option Refusal
-clear_refusal journal role race boat =
-    if not (is_entered journal boat) then Some NotEntered
-    else if is_decided (held journal race boat) && not (is_jury role) then Some Decided
-    else if holds_nothing (held journal race boat) then Some NothingToClear
-    else None
-
--- Score: a race counts once, and only if its order has a boat; a boat with a code is enough
-abbrev pub score_refusal : RulesParts → Journal → ℕ → Option Refusal
-score_refusal rules journal race =
+-- Score and Unscore: a race counts once, and only if its order has a boat (one with a code is
+-- enough); a race that doesn't count can't stop counting
+abbrev pub count_refusal : RulesParts → Journal → ℕ → Bool → Option Refusal
+count_refusal rules journal race true =
     if is_scored journal race then Some AlreadyScored
-    else if is_empty (order rules journal race) then Some NoFinisher
-    else None
+    else if is_empty (order rules journal race) then Some NoFinisher else None
+count_refusal rules journal race false = if is_scored journal race then None else Some NotScored
 
--- Unscore: the race has to count
-abbrev pub unscore_refusal : Journal → ℕ → Option Refusal
-unscore_refusal journal race = if is_scored journal race then None else Some NotScored
-
--- the refusal of what a command does; the finishing order is that of the rules of the series
+-- the refusal of what a command does: a boat is entered once (RRS A2.2), if there is room for her;
+-- in a race only boats that are entered are named; and a boat is struck from a place that she has
 abbrev pub command_refusal : Limits → RulesParts → Journal → Role → Effect → Option Refusal
-command_refusal most rules journal role (Enters sail) = enter_refusal most journal sail
-command_refusal most rules journal role (InRace race (Places sail (TiedWith other))) =
-    place_by_refusal rules journal race sail other
-command_refusal most rules journal role (InRace race (Places sail (AheadOf other))) =
-    place_by_refusal rules journal race sail other
-command_refusal most rules journal role (InRace race (Places sail alone)) =
-    place_refusal rules journal race sail
+command_refusal most rules journal role (Enters sail) =
+    if is_entered journal sail then Some AlreadyEntered
+    else if nat_le most.boats (length (entered journal)) then Some EntryFull else None
+command_refusal most rules journal role (InRace race (Places sail placing)) =
+    place_refusal rules journal race sail placing
 command_refusal most rules journal role (InRace race (Strikes sail)) =
-    strike_refusal rules journal race sail
-command_refusal most rules journal role (InRace race (Decides sail (Penalises kind))) =
-    penalty_refusal journal race sail kind
-command_refusal most rules journal role (InRace race (Decides sail Clears)) =
-    clear_refusal journal role race sail
-command_refusal most rules journal role (InRace race (Decides sail mark_or_redress)) =
-    decision_refusal journal race sail
-command_refusal most rules journal role (InRace race (Counts true)) =
-    score_refusal rules journal race
-command_refusal most rules journal role (InRace race (Counts false)) = unscore_refusal journal race
+    if not (is_entered journal sail) then Some NotEntered
+    else if not (is_placed rules journal race sail) then Some NotPlaced else None
+command_refusal most rules journal role (InRace race (Decides sail decision)) =
+    if not (is_entered journal sail) then Some NotEntered
+    else decision_refusal role (held journal race sail) decision
+command_refusal most rules journal role (InRace race (Counts counts)) =
+    count_refusal rules journal race counts
 
 -- why the journal refuses the entry, or None
 abbrev pub refusal : Limits → RulesParts → Journal → EntryParts → Option Refusal
@@ -180,16 +145,11 @@ abbrev pub IsRefusal : Option Refusal → Refusal → Type 0
 IsRefusal (Some due) why = why ≡ due
 IsRefusal None why = why ≡ NoMemory
 
--- the refusal at this place, or else the first one after it
-abbrev pub refused_or : Option Refusal → ℕ → Option (ℕ × Refusal) → Option (ℕ × Refusal)
-refused_or (Some why) at rest = Some (at, why)
-refused_or None at rest = rest
-
 -- the first entry refused after those before it: its place, from 1, and why
 abbrev pub refused_from : Limits → RulesParts → Journal → List EntryParts → Option (ℕ × Refusal)
 refused_from most rules before [] = None
 refused_from most rules before (entry ∷ entries) =
-    refused_or (refusal most rules before entry) (length before + 1)
+    option_map_or (λ why. Some (length before + 1, why)) (refusal most rules before entry)
     (refused_from most rules (before ++ entry ∷ []) entries)
 
 -- a journal that a board may hold: no entry is refused after those before it

@@ -1,6 +1,5 @@
 -- What is kept, after some of its parts are replaced.
 use Rattle.std.specs.Prelude.{◌-◌, Bool, true, false, slice_set, slice_index_or}
-use Rattle.std.specs.Prelude.{Option, Some, None}
 use Rattle.regatta_board.specs.declared.kept.Revision.{Revision}
 use Rattle.regatta_board.specs.declared.kept.Revision.TheVariants.{Enter, Sheet, Counts}
 use Rattle.regatta_board.specs.Table.{Kept}
@@ -10,11 +9,6 @@ abbrev pub revised : Kept → Revision → Kept
 revised kept (Enter boats sheets) = record kept { sails = boats; sheets = sheets }
 revised kept (Sheet race sheet) = record kept { sheets = slice_set kept.sheets (race - 1) sheet }
 revised kept (Counts race counts) = record kept { counts = slice_set kept.counts (race - 1) counts }
-
--- the same, if there may be no revision
-abbrev pub revised_by : Kept → Option Revision → Kept
-revised_by kept None = kept
-revised_by kept (Some revision) = revised kept revision
 
 -- whether a revision can change the standing: only the sheet of a race that doesn't count can't
 abbrev pub may_change_standing : Kept → Revision → Bool

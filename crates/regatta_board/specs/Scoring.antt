@@ -1,11 +1,12 @@
 -- The scores that the board keeps: a column for each race, a line for each boat, and their ranking.
 use Rattle.std.specs.Prelude.{◌≡◌, ℕ, ◌+◌, ◌-◌, ◌<◌, ◌≤◌, false, List, [], length, slice_index_or}
 use Rattle.std.specs.Prelude.{Option, Some, None, IfSome, ◌↔◌, ◌∷◌, ◌++◌, if◌then◌else◌, slice_set}
-use Rattle.std.specs.Prelude.{vec_capacity}
+use Rattle.std.specs.Prelude.{vec_capacity, unwrap_or}
+use Rattle.std.specs.Option.{option_map_or}
 use Rattle.regatta_terms.specs.Rules.{RulesParts}
 use Rattle.regatta_terms.specs.declared.limits.TheConstants.{MAX_RACES}
 use Rattle.regatta_terms.specs.declared.reply.Touched.{Touched}
-use Rattle.regatta_terms.specs.Effects.{Counts, Effect, Enters, InRace}
+use Rattle.regatta_terms.specs.Effects.{Places, Strikes, Decides, Counts, Effect, Enters, InRace}
 use Rattle.regatta_scores.specs.Sheet.{Sheet, empty_sheet}
 use Rattle.regatta_scores.specs.Current.{with_changed, AreOfBoats}
 use Rattle.regatta_scores.specs.KeptRanking.{IsRanking}
@@ -24,8 +25,7 @@ use Rattle.regatta_board.specs.declared.kept.Revision.TheVariants as revision
 use Rattle.regatta_scores.specs.declared.boats.RaceScore.{RaceScore}
 use Rattle.regatta_board.specs.Refusals.{limits}
 use Rattle.regatta_board.specs.Revisions.{revised}
-use Rattle.regatta_board.specs.Table.{Kept, column, columns, races, lines as lines_of}
-use Rattle.regatta_board.specs.Table.{no_line}
+use Rattle.regatta_board.specs.Table.{Kept, column, columns, races, lines as lines_of, no_line}
 
 -- the races that count; a column for each race of a series, which is empty if the race doesn't
 -- count; a line for each boat (RRS A2.1); and the boats' numbers in order of rank (RRS A8)
@@ -35,8 +35,7 @@ pub record Scoring : Type 0 where
   pub lines : List BoatScores
   pub ranking : List ℕ
 
--- the column at an index: each boat's score on the race's sheet, or nothing if the race doesn't
--- count
+-- the column at an index: each boat's score on the race's sheet, or nothing unless the race counts
 abbrev pub column_at : RulesParts → Kept → ℕ → List RaceScore
 column_at rules kept k =
     if slice_index_or kept.counts k false
@@ -66,7 +65,9 @@ most_remade kept (revision.Counts race counts) = if counts then 1 else 0
 abbrev pub most_remade_by : Kept → Effect → ℕ
 most_remade_by kept (Enters sail) = length (races kept.counts)
 most_remade_by kept (InRace race (Counts counts)) = if counts then 1 else 0
-most_remade_by kept (InRace race act) = once_if_counted kept race
+most_remade_by kept (InRace race (Places sail placing)) = once_if_counted kept race
+most_remade_by kept (InRace race (Strikes sail)) = once_if_counted kept race
+most_remade_by kept (InRace race (Decides sail decision)) = once_if_counted kept race
 
 -- the lines of all boats, computed from what is kept of the journal
 abbrev pub lines_by : RulesParts → Kept → List BoatScores
@@ -80,11 +81,6 @@ pub record IsScoring (rules : RulesParts) (kept : Kept) (scoring : Scoring) : Ty
   pub columns : AreColumns rules kept scoring.columns
   pub lines : scoring.lines ≡ lines_by rules kept
   pub ranking : IsRanking scoring.lines scoring.ranking
-
--- the races that count, after new ones, if there are any, replace them
-abbrev pub races_after : List ℕ → Option (List ℕ) → List ℕ
-races_after old None = old
-races_after old (Some new) = new
 
 -- a revision that changes the entry list adds one boat to it
 abbrev pub AddsBoat : Kept → Revision → Type 0
@@ -106,10 +102,10 @@ pub record IsPushed (rules : RulesParts) (columns : List (List RaceScore)) (boat
   pub value : IfSome line (λ found. found ≡ line_by rules (scores_in columns boat))
   pub made : after ≡ with_new before boat line
 
--- the lines, after new ones replace some or all of them, or one is added
+-- the lines, after new ones replace some or all of them, or an empty one is added
 abbrev pub with_lines : List BoatScores → NewLines → List BoatScores
 with_lines old (lines.Changed new) = with_changed old new.items
-with_lines old (lines.Added line) = old ++ line ∷ []
+with_lines old lines.Added = old ++ no_line ∷ []
 with_lines old (lines.All new) = new.items
 
 -- if some lines are new, they are those of different boats in the order of their numbers, and there
@@ -117,7 +113,7 @@ with_lines old (lines.All new) = new.items
 -- all that a series may have
 abbrev pub FitBoats : List BoatScores → NewLines → Type 0
 FitBoats old (lines.Changed new) = AreOfBoats (length old) new.items × (length new.items ≤ length old)
-FitBoats old (lines.Added line) = length old < limits.boats
+FitBoats old lines.Added = length old < limits.boats
 FitBoats old (lines.All new) =
     (length new.items ≤ limits.boats) × (limits.boats ≤ vec_capacity new)
 
@@ -156,36 +152,20 @@ pub record RemakesOnly (rules : RulesParts) (kept : Kept) (change : Revision) (r
 
 -- the new scores turn the scores before into those after
 pub record AreNewScores (rules : RulesParts) (before after : Kept) (new : NewScores) : Type 0 where
-  pub races : races_after (races before.counts) new.races ≡ races after.counts
+  pub races : unwrap_or new.races (races before.counts) ≡ races after.counts
   pub columns : AreNewColumns rules before after new.columns
   pub ranked : AreRanked rules before after new.ranked
-
--- new lines, if there are any, fit the boats
-abbrev pub FitLines : List BoatScores → Option Ranked → Type 0
-FitLines old None = Unit {0}
-FitLines old (Some ranked) = FitBoats old ranked.lines
-
--- the lines, after new ones, if there are any, replace them
-abbrev pub lines_after : List BoatScores → Option Ranked → List BoatScores
-lines_after old None = old
-lines_after old (Some ranked) = with_lines old ranked.lines
-
--- the ranking, after a new one, if there is one, replaces it
-abbrev pub ranking_after : List ℕ → Option Ranked → List ℕ
-ranking_after old None = old
-ranking_after old (Some ranked) = ranked.ranking
 
 -- the scores, after the new ones are moved in
 abbrev pub with_scores : Scoring → NewScores → Scoring
 with_scores old new = record {
-  races = races_after old.races new.races;
+  races = unwrap_or new.races old.races;
   columns = with_columns old.columns new.columns;
-  lines = lines_after old.lines new.ranked;
-  ranking = ranking_after old.ranking new.ranked;
+  lines = option_map_or (λ (ranked : Ranked). with_lines old.lines ranked.lines) new.ranked old.lines;
+  ranking = option_map_or (λ (ranked : Ranked). ranked.ranking) new.ranked old.ranking;
 }
 
--- what an answer has about the boat with this number: rank (RRS A8), whether it is shared, and net
--- points
+-- what an answer has about the boat with this number: rank (RRS A8), whether it is shared, net
 abbrev pub touched_at : Scoring → ℕ → Touched
 touched_at scoring n = record {
   rank = (place scoring.lines (slice_index_or scoring.lines n no_line)).rank;

@@ -15,7 +15,7 @@ use Rattle.regatta_scores.specs.Sheet.{Sheet, boats, empty_sheet}
 use Rattle.regatta_scores.specs.Lines.{line_by}
 use Rattle.regatta_scores.specs.RaceScores.{race_scores, scores_in}
 use Rattle.regatta_scores.specs.Ranking.{BoatScores, place}
-use Rattle.regatta_scores.specs.Rows.{row_by}
+use Rattle.regatta_scores.specs.Lines.{row_by}
 use Rattle.regatta_scores.specs.Standing as standings
 pub use Rattle.regatta_scores.specs.Entrants.{no_line}
 use Rattle.regatta_scores.specs.declared.boats.RaceScore.{RaceScore}
@@ -27,8 +27,7 @@ pub record Kept : Type 0 where
   pub sheets : List Sheet
   pub counts : List Bool
 
--- there is a sheet for each race, there are no more boats than may be entered, and each sheet has
--- all
+-- there is a sheet for each race, no more boats than may be entered, and each sheet has them all
 pub record IsKept (kept : Kept) : Type 0 where
   pub few : length kept.sails ≤ limits.boats
   pub sheets : length kept.sheets ≡ MAX_RACES
@@ -74,8 +73,7 @@ row_at sails columns lines ranks boat =
     row_by (slice_index_or sails boat []) (slice_index_or ranks boat no_rank)
     (slice_index_or lines boat no_line) (scores_in columns boat)
 
--- the order of boats in the table: by rank, then by sail (RRS A8), and between equal sails by
--- number
+-- the order of boats in the table: by rank, then by sail (RRS A8), and equal sails by number
 abbrev pub table_cmp : List Sail → List Place → ℕ → ℕ → Ordering
 table_cmp sails ranks a b =
     ordering_then
@@ -92,8 +90,7 @@ abbrev pub is_before : List Sail → List Place → ℕ → ℕ → Bool
 is_before sails ranks boat other =
     nat_lt other (length ranks) && not (comes_first sails ranks boat other)
 
--- a boat inserted into others in the order of the table, before the first that she comes no later
--- than
+-- a boat inserted into others in the order of the table, before the first that she isn't after
 abbrev pub with_boat : List Sail → List Place → ℕ → List ℕ → List ℕ
 with_boat sails ranks boat [] = boat ∷ []
 with_boat sails ranks boat (x ∷ xs) =

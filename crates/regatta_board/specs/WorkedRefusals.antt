@@ -8,12 +8,7 @@ use Rattle.regatta_terms.specs.declared.command.Command.{Command}
 use Rattle.regatta_terms.specs.declared.command.Command.TheVariants.{Enter, Finish, Tie, Strike}
 use Rattle.regatta_terms.specs.declared.command.Command.TheVariants.{Mark, Penalise, Redress, Clear}
 use Rattle.regatta_terms.specs.declared.command.Command.TheVariants.{Score, Unscore}
-use Rattle.regatta_terms.specs.declared.reply.Refusal.TheVariants.{NotYours, AlreadyEntered}
-use Rattle.regatta_terms.specs.declared.reply.Refusal.TheVariants.{NotEntered, AlreadyPlaced}
-use Rattle.regatta_terms.specs.declared.reply.Refusal.TheVariants.{NotPlaced, Decided}
-use Rattle.regatta_terms.specs.declared.reply.Refusal.TheVariants.{NothingToClear, AlreadyScored}
-use Rattle.regatta_terms.specs.declared.reply.Refusal.TheVariants.{NotScored, NoFinisher}
-use Rattle.regatta_terms.specs.declared.reply.Refusal.TheVariants.{PenaltyLimit}
+use Rattle.regatta_terms.specs.declared.reply.Refusal.TheVariants as why
 use Rattle.regatta_scores.specs.declared.table.Abbrev.TheVariants as abbreviation
 use Rattle.regatta_scores.specs.Standing.{standing}
 use Rattle.regatta_scores.specs.WorkedStandings.{a, b, scorer, jury, default_rules, table, row}
@@ -54,26 +49,26 @@ each_refusal_commands =
 pub each_refusal_replies :
     replies default_rules [] each_refusal_commands
     ≡ ok 1 1 false 0
-    ∷ Err AlreadyEntered
-    ∷ Err NotEntered
-    ∷ Err NotPlaced
-    ∷ Err NotPlaced
-    ∷ Err NoFinisher
-    ∷ Err NotScored
-    ∷ Err NothingToClear
+    ∷ Err why.AlreadyEntered
+    ∷ Err why.NotEntered
+    ∷ Err why.NotPlaced
+    ∷ Err why.NotPlaced
+    ∷ Err why.NoFinisher
+    ∷ Err why.NotScored
+    ∷ Err why.NothingToClear
     ∷ ok 2 1 false 0
-    ∷ Err AlreadyPlaced
-    ∷ Err AlreadyPlaced
+    ∷ Err why.AlreadyPlaced
+    ∷ Err why.AlreadyPlaced
     ∷ ok_alone 3
-    ∷ Err AlreadyScored
-    ∷ Err NotYours
+    ∷ Err why.AlreadyScored
+    ∷ Err why.NotYours
     ∷ ok 4 1 false 20
-    ∷ Err Decided
-    ∷ Err Decided
-    ∷ Err Decided
+    ∷ Err why.Decided
+    ∷ Err why.Decided
+    ∷ Err why.Decided
     ∷ ok 5 1 false 10
     ∷ ok 6 1 false 25
-    ∷ Err Decided
+    ∷ Err why.Decided
     ∷ []
 each_refusal_replies = refl
 
@@ -91,5 +86,5 @@ nine_penalties = scorer (Enter a) ∷ replicate 9 (scorer (Penalise 1 a kind.Zfp
 pub tenth_penalty :
     replies default_rules (journal_after default_rules [] nine_penalties)
     (scorer (Penalise 1 a kind.Zfp) ∷ jury (Penalise 1 a kind.Scp) ∷ [])
-    ≡ Err PenaltyLimit ∷ ok 11 1 false 0 ∷ []
+    ≡ Err why.PenaltyLimit ∷ ok 11 1 false 0 ∷ []
 tenth_penalty = refl

@@ -8,10 +8,9 @@ use Rattle.regatta_terms.specs.declared.command.Role.TheVariants.{Finish}
 use Rattle.regatta_terms.specs.declared.command.Command.{Command}
 use Rattle.regatta_terms.specs.declared.command.Command.TheVariants.{Enter, Mark, Redress}
 use Rattle.regatta_terms.specs.declared.reply.Refusal.TheVariants.{NotYours, Decided}
-use Rattle.regatta_scores.specs.WorkedStandings.{a, b, c, d, scorer, jury, journal}
+use Rattle.regatta_scores.specs.WorkedStandings.{a, b, c, scorer, jury, journal}
 use Rattle.regatta_scores.specs.WorkedStandings.{default_rules, no_exclusions, tie_for_first}
-use Rattle.regatta_scores.specs.WorkedStandings.{two_of_three, two_races, average_in_the_second}
-use Rattle.regatta_board.specs.Refusals.{limits, is_lawful}
+use Rattle.regatta_scores.specs.WorkedStandings.{two_races, average_in_the_second}
 use Rattle.regatta_board.specs.Runs.{replies, journal_after}
 use Rattle.regatta_board.specs.Worked.{ok, ok_alone}
 
@@ -45,20 +44,6 @@ pub refused_leave_no_trace :
     ≡ journal (tie_for_first ++ jury (Mark 1 a code.Dsq) ∷ [])
 refused_leave_no_trace = refl
 
--- a late entry is scored DNC in the earlier race (A2.2, A5.2)
-pub late_entry_replies :
-    replies default_rules [] (two_of_three ++ scorer (Enter d) ∷ [])
-    ≡ ok 1 1 false 0
-    ∷ ok 2 1 true 0
-    ∷ ok 3 1 true 0
-    ∷ ok 4 1 true 0
-    ∷ ok 5 1 true 0
-    ∷ ok 6 1 true 0
-    ∷ ok_alone 7
-    ∷ ok 8 3 true 50
-    ∷ []
-late_entry_replies = refl
-
 -- an average as redress depends on her other races (A9)
 pub average_follows_replies :
     replies no_exclusions [] average_in_the_second
@@ -75,7 +60,7 @@ pub average_follows_replies :
     ∷ []
 average_follows_replies = refl
 
--- a late entry, with an average as redress (A2.2, A9)
+-- a late entry is scored DNC in the earlier races (A2.2, A5.2), and one average is redress (A9)
 pub late_entry_with_average_replies :
     replies no_exclusions [] (two_races ++ jury (Redress 1 a AllRaces) ∷ scorer (Enter c) ∷ [])
     ≡ ok 1 1 false 0
@@ -89,7 +74,3 @@ pub late_entry_with_average_replies :
     ∷ ok 9 2 true 80
     ∷ []
 late_entry_with_average_replies = refl
-
--- the journal of a run is lawful
-pub average_follows_lawful : is_lawful limits no_exclusions (journal average_in_the_second) ≡ true
-average_follows_lawful = refl

@@ -9,7 +9,7 @@ use Rattle.regatta_terms.specs.declared.reply.Refusal.TheVariants.{NotEntered, N
 use Rattle.regatta_scores.specs.Standing.{standing}
 use Rattle.regatta_scores.specs.WorkedStandings.{a, b, c, d, scorer, jury, journal, default_rules}
 use Rattle.regatta_scores.specs.WorkedStandings.{tie_for_first, plain, row, table}
-use Rattle.regatta_scores.specs.WorkedTimes.{by_times, three_timed, timed_again}
+use Rattle.regatta_scores.specs.WorkedTimes.{by_times, timed_again}
 use Rattle.regatta_board.specs.Refusals.{limits, is_lawful, refused_from}
 use Rattle.regatta_board.specs.Runs.{replies, journal_after}
 use Rattle.regatta_board.specs.Worked.{ok, ok_alone}
@@ -69,8 +69,3 @@ places_under_handicap = refl
 pub finishes_refused : refused_from limits by_times [] (journal tie_for_first)
     ≡ Some (4, WrongSystem)
 finishes_refused = refl
-
--- without handicap, so is a journal of corrected times
-pub times_refused : refused_from limits default_rules [] (journal three_timed)
-    ≡ Some (4, WrongSystem)
-times_refused = refl

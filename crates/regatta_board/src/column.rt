@@ -11,7 +11,9 @@ ghost use Rattle.regatta_board.specs.Table.{IsKept, column as column_of};
 ghost use Rattle.regatta_board.specs.Table.{races as races_of};
 
 use crate::kept::{Draft, Kept, Revision};
-use regatta_scores::{Items, RaceColumn, RaceScore, RaceScores, RaceSheet, Work, race_scores};
+use regatta_scores::{
+    Items, PerRace, RaceColumn, RaceScore, RaceScores, RaceSheet, Work, race_scores,
+};
 use regatta_terms::{MAX_RACES, RaceNo, Rules};
 use std::alloc::{AllocError, Global};
 use std::marker::Model;
@@ -197,21 +199,22 @@ pub(crate) fn current<'a>(old: &'a [Column], new: &'a NewColumns, race: RaceNo) 
     RaceColumn::new(&column.scores)
 }
 
-/// The columns of these races, after new ones replace the old ones.
-pub(crate) fn current_columns<'a>(
-    alloc: Global,
+/// Appends the columns of these races, after new ones replace the old ones.
+// The caller's list is filled, since a list that is returned is copied.
+pub(crate) fn push_columns<'a>(
+    found: &mut PerRace<RaceColumn<'a>>,
     old: &'a [Column],
     new: &'a NewColumns,
     races: &[RaceNo],
-) -> Result<Vec<RaceColumn<'a>>, AllocError>
+)
     requires old { length old.now ≡ MAX_RACES }
     requires new { length (with_columns old.now new.now) ≡ MAX_RACES }
-    ensures { IfOk result (λ found. found.items
-        ≡ map (λ race. slice_index_or (with_columns old.now new.now) (race - 1) []) races.now) }
+    requires few { length races.now ≤ MAX_RACES }
+    requires none { found.old.items ≡ [] }
+    ensures { found.new.items
+        ≡ map (λ race. slice_index_or (with_columns old.now new.now) (race - 1) []) races.now }
 {
-    let mut found = Vec::with_capacity(alloc, races.len())?;
     for &race in races {
-        found.push(current(old, new, race))?;
+        found.push(current(old, new, race));
     }
-    Ok(found)
 }

@@ -1,7 +1,7 @@
 //! The scores that are kept: a column for each race, a line for each boat, and their ranking.
 ghost use Rattle.std.specs.Prelude.{◌≡◌, ◌+◌, ◌-◌, ◌<◌, ◌≤◌, ◌^◌, ℕ, true, false, length};
 ghost use Rattle.std.specs.Prelude.{◌++◌, ◌∷◌, [], List, slice_index_or, All, IfOk, IfSome, OnOk};
-ghost use Rattle.std.specs.Prelude.{None, ◌↔◌, vec_capacity};
+ghost use Rattle.std.specs.Prelude.{None, ◌↔◌, unwrap_or, vec_capacity};
 ghost use Rattle.regatta_terms.specs.Rules.{RulesParts};
 ghost use Rattle.regatta_scores.specs.Current.{with_changed, AreOfBoats, AreWithin};
 ghost use Rattle.regatta_scores.specs.KeptRanking.{IsRanking};
@@ -12,24 +12,23 @@ ghost use Rattle.regatta_board.specs.Refusals.{limits};
 ghost use Rattle.regatta_board.specs.Revisions.{revised, may_change_standing};
 ghost use Rattle.regatta_board.specs.Scoring.{IsScoring, AreNewScores, AreNewColumns};
 ghost use Rattle.regatta_board.specs.Scoring.{AreColumns, RemakesOneColumn, RemakesOnly};
-ghost use Rattle.regatta_board.specs.Scoring.{AddsBoat, FitBoats, FitLines, IsPushed};
+ghost use Rattle.regatta_board.specs.Scoring.{AddsBoat, FitBoats, IsPushed};
 ghost use Rattle.regatta_board.specs.Scoring.{lines_by, most_remade, with_columns, with_scores};
-ghost use Rattle.regatta_board.specs.Scoring.{races_after, with_lines};
-ghost use Rattle.regatta_board.specs.Scoring.{touched_at};
+ghost use Rattle.regatta_board.specs.Scoring.{touched_at, with_lines};
 ghost use Rattle.regatta_board.specs.Table.{no_line, races as races_of, IsKept};
 ghost use Rattle.regatta_board.specs.Table.{lines as lines_of};
 ghost use Rattle.regatta_board.specs.Table.{table as table_of};
 
-use crate::column::{Column, NewColumns, all_columns, current, current_columns, new_columns};
+use crate::column::{Column, NewColumns, all_columns, current, new_columns, push_columns};
 use crate::kept::{Draft, Kept, Revision};
 use crate::table::{races, sorted_rows};
 use regatta_scores::{
-    BoatLine, Items, NewLine, RaceColumn, RaceScore, Races, Ranking, Standing, Work, boat_line,
+    BoatLine, Items, NewLine, PerRace, RaceColumn, RaceScore, Races, Ranking, Standing, Work,
+    boat_line,
 };
 use regatta_terms::{MAX_BOATS, MAX_RACES, RaceNo, Rules, Touched};
 use std::alloc::{AllocError, Global};
 use std::marker::Model;
-use std::mem::swap;
 
 /// The races that count, a column for each race, which is empty if the race doesn't count, a line
 /// for each boat, and the boats in order of rank.
@@ -65,8 +64,8 @@ pub enum NewLines {
     /// Those of the boats whose score in a race changed in more than its abbreviation, in the order
     /// of their numbers. The lines of the others stay.
     Changed { lines: Vec<NewLine> },
-    /// That of one more boat. The lines of the others stay.
-    Added { line: BoatLine },
+    /// That of one more boat, which is empty, since no race counts. The lines of the others stay.
+    Added,
     /// The lines of all boats, with room for all boats that a series may have.
     All { lines: Vec<BoatLine> },
 }
@@ -78,7 +77,7 @@ impl NewLines {
     {
         match self {
             NewLines::Changed { lines } => lines.is_empty(),
-            NewLines::Added { .. } | NewLines::All { .. } => false,
+            NewLines::Added | NewLines::All { .. } => false,
         }
     }
 }
@@ -114,7 +113,7 @@ fn new_ranking(
 {
     match new {
         NewLines::Changed { lines } => ranking.after(alloc, old, lines),
-        NewLines::Added { line } => ranking.with_boat(alloc, old, line),
+        NewLines::Added => ranking.with_boat(alloc, old, &BoatLine::empty()),
         NewLines::All { lines } => Ranking::of(alloc, lines),
     }
 }
@@ -241,7 +240,8 @@ fn drafted_lines(
     ensures value { IfOk result (λ lines. lines.items ≡ lines_by rules.now draft.now) }
     ensures room { IfOk result (λ lines. limits.boats ≤ vec_capacity lines) }
 {
-    let found = current_columns(alloc, old, new, races)?;
+    let mut found = PerRace::new();
+    push_columns(&mut found, old, new, races);
     let lines = whole_lines(alloc, &found, draft.boats().len(), rules)?;
     Ok(lines)
 }
@@ -266,7 +266,13 @@ fn remade_lines(
     ensures value { IfOk result (λ new.
         with_lines scoring.now.lines new ≡ lines_by rules.now (revised kept.now revision.now)) }
 {
-    let found = current_columns(alloc, &scoring.columns, columns, scoring.races.as_slice())?;
+    let mut found = PerRace::new();
+    push_columns(
+        &mut found,
+        &scoring.columns,
+        columns,
+        scoring.races.as_slice(),
+    );
     let old = &scoring.columns[race.get() as usize - 1];
     let new = current(&scoring.columns, columns, race);
     let lines = changed_lines(alloc, &scoring.lines, old, &new, &found, rules)?;
@@ -301,9 +307,7 @@ fn new_lines(
             Ok(lines)
         }
         // Until a race counts, a boat's line is empty.
-        Revision::Enter { .. } if races.is_empty() => Ok(NewLines::Added {
-            line: boat_line(&[], kept.boats(), rules),
-        }),
+        Revision::Enter { .. } if races.is_empty() => Ok(NewLines::Added),
         Revision::Enter { .. } | Revision::Counts { .. } => {
             let draft = Draft::new(kept, revision);
             let lines = drafted_lines(alloc, &draft, &scoring.columns, columns, races, rules)?;
@@ -315,7 +319,7 @@ fn new_lines(
 /// The races that count after a revision, if it changes which do.
 fn new_races(alloc: Global, kept: &Kept, revision: &Revision) -> Result<Option<Races>, AllocError>
     requires { IsKept (revised kept.now revision.now) }
-    ensures { IfOk result (λ new. races_after (races_of kept.now.counts) new
+    ensures { IfOk result (λ new. unwrap_or new (races_of kept.now.counts)
         ≡ races_of (revised kept.now revision.now).counts) }
 {
     match revision {
@@ -330,7 +334,7 @@ fn new_races(alloc: Global, kept: &Kept, revision: &Revision) -> Result<Option<R
 
 /// The races that count, after new ones, if there are any, replace the old ones.
 fn current_races<'a>(old: &'a Races, new: &'a Option<Races>) -> &'a [RaceNo]
-    ensures { result.now ≡ races_after old.now new.now }
+    ensures { result.now ≡ unwrap_or new.now old.now }
 {
     match new {
         Some(new) => new.as_slice(),
@@ -384,7 +388,7 @@ pub(crate) fn new_scores(
 }
 
 fn put_races(races: &mut Races, new: Option<Races>)
-    ensures { races.new ≡ races_after races.old new }
+    ensures { races.new ≡ unwrap_or new races.old }
 {
     if let Some(new) = new {
         *races = new;
@@ -403,20 +407,18 @@ fn put_columns(columns: &mut Vec<Column>, new: NewColumns)
 }
 
 /// Moves a boat's new line in.
-fn put_line(line: &mut BoatLine, new: &mut BoatLine)
-    ensures { line.new ≡ new.old }
+fn put_line(line: &mut BoatLine, new: BoatLine)
+    ensures { line.new ≡ new }
 {
-    swap(line, new);
+    *line = new;
 }
 
 fn put_changed(lines: &mut [BoatLine], new: Vec<NewLine>)
     requires { AreWithin (length lines.old) new.items }
     ensures { lines.new ≡ with_changed lines.old new.items }
 {
-    let mut changed = new;
-    for k in 0..changed.len() {
-        let boat = changed[k].boat as usize;
-        put_line(&mut lines[boat], &mut changed[k].line);
+    for changed in new {
+        put_line(&mut lines[changed.boat as usize], changed.line);
     }
 }
 
@@ -429,7 +431,7 @@ fn put_lines(lines: &mut Vec<BoatLine>, new: NewLines)
 {
     match new {
         NewLines::Changed { lines: changed } => put_changed(lines, changed),
-        NewLines::Added { line } => lines.push_reserved(line),
+        NewLines::Added => lines.push_reserved(BoatLine::empty()),
         NewLines::All { lines: all } => *lines = all,
     }
 }
@@ -455,7 +457,7 @@ impl Scoring {
 
     pub(crate) fn revise(&mut self, new: NewScores)
         requires long { length self.old.columns ≡ MAX_RACES }
-        requires each { FitLines self.old.lines new.ranked }
+        requires each { IfSome new.ranked (λ ranked. FitBoats self.old.lines ranked.lines) }
         ensures { self.new ≡ with_scores self.old new }
     {
         let NewScores {
@@ -495,7 +497,8 @@ impl Scoring {
     {
         let draft = Draft::of(kept);
         let races = Vec::from_slice(alloc, self.races.as_slice())?;
-        let found = current_columns(alloc, &self.columns, &NewColumns::Same, &races)?;
+        let mut found = PerRace::new();
+        push_columns(&mut found, &self.columns, &NewColumns::Same, &races);
         let places = self.ranking.places(alloc, &self.lines)?;
         let rows = sorted_rows(
             alloc,

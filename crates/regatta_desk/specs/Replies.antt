@@ -15,7 +15,7 @@ use Rattle.regatta_terms.specs.declared.reply.Reply.TheVariants.{Closed, Refused
 use Rattle.regatta_scores.specs.Journal.{Journal}
 use Rattle.regatta_scores.specs.Standing.{standing}
 use Rattle.regatta_board.specs.Answers.{answer, rank_of}
-use Rattle.regatta_board.specs.Refusals.{limits, refusal, is_lawful, number_after, IsRefusal}
+use Rattle.regatta_board.specs.Refusals.{limits, refusal, is_lawful, IsRefusal}
 use Rattle.regatta_tables.specs.ReplyTexts.{reply_text}
 use Rattle.regatta_tables.specs.SheetTexts.{sheet_text}
 use Rattle.regatta_talk.specs.Replies.{ranked, reply_apart, reply_of}
@@ -43,7 +43,7 @@ pub record RanCommand (rules : RulesParts) (role : Role) (command : Command) (ol
   pub accepted : refusal limits rules old.entries (entry_of before role command) ≡ None
   pub desk : new ≡ desk_with old (entry_of before role command)
   pub pass : after ≡ record before {
-    last = number_after before.last;
+    last = (entry_of before role command).nth;
     told = before.told ++ new.entries ∷ [];
   }
   pub answered : reply ≡ reply_of (Ok (answer rules old.entries (entry_of before role command)))

@@ -6,11 +6,12 @@ use Rattle.regatta_terms.specs.Rules.{RulesParts}
 use Rattle.regatta_terms.specs.declared.command.Command.{Command}
 use Rattle.regatta_board.specs.Refusals.{IsRefusal, limits, refusal}
 use Rattle.regatta_board.specs.Runs.{sent}
-use Rattle.regatta_office.specs.Transcript.{Talk, is_want_of_memory, refusal_of}
+use Rattle.regatta_office.specs.Transcript.{Talk}
+use Rattle.regatta_office.specs.Turns.{is_out_of_memory}
 
 pub refused_is : (due : Option Refusal) (why : Refusal) → IsRefusal due why
-    → is_want_of_memory why ≡ false → due ≡ Some why
-refused_is None why is known = absurd (want (sym (ap is_want_of_memory is) ∙ known))
+    → is_out_of_memory why ≡ false → due ≡ Some why
+refused_is None why is known = absurd (want (sym (ap is_out_of_memory is) ∙ known))
   where
     want : true ≡ false → ⊥
     want e = cc
@@ -19,7 +20,7 @@ refused_is (Some due) why is known = ap Some (sym is)
 -- the reason of a refused command is the one that applies to its entry
 pub due_is : (rules : RulesParts) (talk : Talk) (command : Command) (entry : EntryParts)
     (why : Refusal) → entry ≡ sent talk.journal talk.role command
-    → IsRefusal (refusal limits rules talk.journal entry) why → is_want_of_memory why ≡ false
-    → refusal_of rules talk command ≡ Some why
+    → IsRefusal (refusal limits rules talk.journal entry) why → is_out_of_memory why ≡ false
+    → refusal limits rules talk.journal (sent talk.journal talk.role command) ≡ Some why
 due_is rules talk command entry why made is known =
     ap (refusal limits rules talk.journal) (sym made) ∙ refused_is _ why is known

@@ -27,41 +27,22 @@ err_as U e f is = ap Err (error_is e f is)
 pub write_is : {T : Type 0} (fault : ScribeFault) (r : RunFault) → r ≡ scribe_fault fault
     → IsErrOf {T = T} (Err r) Write → fault ≡ scribe.Write
 write_is scribe.Write r made is = refl
-write_is scribe.NoMemory r made is = absurd (differ (sym made ∙ error_is r Write is))
-  where
-    differ : NoMemory ≡ Write → ⊥
-    differ e = cc
+write_is scribe.NoMemory r made is = absurd (cc (made, error_is r Write is))
 
 pub memory_is : {T : Type 0} (fault : ScribeFault) (r : RunFault) → r ≡ scribe_fault fault
     → IsErrOf {T = T} (Err r) NoMemory → fault ≡ scribe.NoMemory
 memory_is scribe.NoMemory r made is = refl
-memory_is scribe.Write r made is = absurd (differ (sym made ∙ error_is r NoMemory is))
-  where
-    differ : Write ≡ NoMemory → ⊥
-    differ e = cc
+memory_is scribe.Write r made is = absurd (cc (made, error_is r NoMemory is))
 
 pub read_is_no_write : {T : Type 0} (fault : ScribeFault) (r : RunFault) (P : Type 0)
     → r ≡ scribe_fault fault → IsErrOf {T = T} (Err r) Read → P
-read_is_no_write scribe.Write r P made is = absurd (differ (sym made ∙ error_is r Read is))
-  where
-    differ : Write ≡ Read → ⊥
-    differ e = cc
-read_is_no_write scribe.NoMemory r P made is = absurd (differ (sym made ∙ error_is r Read is))
-  where
-    differ : NoMemory ≡ Read → ⊥
-    differ e = cc
+read_is_no_write scribe.Write r P made is = absurd (cc (made, error_is r Read is))
+read_is_no_write scribe.NoMemory r P made is = absurd (cc (made, error_is r Read is))
 
 pub long_is_no_write : {T : Type 0} (fault : ScribeFault) (r : RunFault) (P : Type 0)
     → r ≡ scribe_fault fault → IsErrOf {T = T} (Err r) InputTooLong → P
-long_is_no_write scribe.Write r P made is = absurd (differ (sym made ∙ error_is r InputTooLong is))
-  where
-    differ : Write ≡ InputTooLong → ⊥
-    differ e = cc
-long_is_no_write scribe.NoMemory r P made is =
-    absurd (differ (sym made ∙ error_is r InputTooLong is))
-  where
-    differ : NoMemory ≡ InputTooLong → ⊥
-    differ e = cc
+long_is_no_write scribe.Write r P made is = absurd (cc (made, error_is r InputTooLong is))
+long_is_no_write scribe.NoMemory r P made is = absurd (cc (made, error_is r InputTooLong is))
 
 -- if the writing broke off, no entry of the start is refused
 pub start_stands : (due : Option (ℕ × Refusal)) (fault : ScribeFault) (r : RunFault)

@@ -10,8 +10,9 @@ use Rattle.regatta_terms.specs.TextLines.{is_line_end, lines_by}
 use Rattle.regatta_office.specs.Coming.{Point, Said, ahead, coming, ended, said}
 use Rattle.regatta_talk.specs.HeardLines.{heard, heard_with, heard_lines}
 use Rattle.regatta_office.specs.Coming.{unless}
-use Rattle.regatta_office.specs.Transcript.{Talk, has_quit, is_quit, replies, talk_after}
-use Rattle.regatta_office.specs.Transcript.{talk_at_end, text_after, up_to_quit}
+use Rattle.regatta_office.specs.Transcript.{Talk, has_quit, is_quit, replies, talk_at_end}
+use Rattle.regatta_office.specs.Transcript.{up_to_quit}
+use Rattle.regatta_office.specs.Turns.{talk_after, text_after}
 use Rattle.regatta_talk.proofs.HeardLines.{heard_end, heard_of_text, heard_reads}
 use Rattle.regatta_office.proofs.HeardFacts.{bytes_lines}
 

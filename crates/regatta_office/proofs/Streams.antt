@@ -11,14 +11,15 @@ use Rattle.std.specs.Io.KnownBytes.{Appends, Consumes, Keeps}
 use Rattle.regatta_terms.specs.Lines.{line_of}
 use Rattle.regatta_streams.proofs.KnownBytes.{appends-none, appends-then, consumes-keeps}
 use Rattle.regatta_streams.proofs.KnownBytes.{consumes-then}
-use Rattle.regatta_terms.specs.TextLines.{is_line_end, last_line}
+use Rattle.regatta_terms.specs.TextLines.{is_line_end, lines_of_pieces}
 use Rattle.regatta_office.specs.Coming.{Cuts, Stops, Finished, IsTooLong, IsWithin, Point, ReadSome}
 use Rattle.regatta_office.specs.Coming.{Said, Talked, Went, said, ahead, coming, ended, unless}
 use Rattle.regatta_talk.specs.HeardLines.{heard_with, heard_lines}
 use Rattle.regatta_terms.specs.declared.line.Line.{Line}
 use Rattle.regatta_terms.specs.declared.line.LineFault.{LineFault}
 use Rattle.std.specs.List.{fold, list_any}
-use Rattle.regatta_office.specs.Transcript.{is_quit, talk_after, text_after}
+use Rattle.regatta_office.specs.Transcript.{is_quit}
+use Rattle.regatta_office.specs.Turns.{talk_after, text_after}
 use Rattle.regatta_office.proofs.Saying.{ahead-ahead, line_ends, line_goes, line_last, line_none}
 use Rattle.regatta_office.proofs.Saying.{said-none}
 
@@ -204,7 +205,7 @@ nothing_comes : (q : Point) → coming false q [] ≡ ended false q
 unfolding heard_lines
 nothing_comes q = ap (said q.rules q.talk) (none q.line) ∙ said-none q.rules q.talk
   where
-    none : (line : List ℕ) → last_line false line ≡ []
+    none : (line : List ℕ) → lines_of_pieces false (line ∷ []) ≡ []
     none [] = refl
     none (byte ∷ line) = refl
 
@@ -227,33 +228,44 @@ stop-then a b c xs rest p q u (n, wrote) = (
       (appends-then a b c u.written (coming false q (take n rest)).text u.wrote wrote),
 )
 
--- the same for what a reader gives
+-- what holds of each text that begins with what a reader gave
+from_given : (K : List ℕ → Type 0) (a b : Option (List ℕ)) (given : List ℕ) → Consumes a b given
+    → ((rest : List ℕ) → K (given ++ rest)) → IfSome a K
+from_given K None b given took k = tt
+from_given K (Some text) None given took k = absurd took
+from_given K (Some text) (Some rest) given took k = subst K (sym took) (k rest)
+
+-- and by what holds of the rest
+before_rest : (K Rest : List ℕ → Type 0) (a b : Option (List ℕ)) (given : List ℕ)
+    → Consumes a b given → ((rest : List ℕ) → Rest rest → K (given ++ rest)) → IfSome b Rest
+    → IfSome a K
+before_rest K Rest None b given took k h = tt
+before_rest K Rest (Some text) None given took k h = absurd took
+before_rest K Rest (Some text) (Some rest) given took k h = subst K (sym took) (k rest h)
+
+-- what was given, cut in two
+cut_of : (given bytes left rest : List ℕ) → given ≡ bytes ++ left
+    → given ++ rest ≡ bytes ++ (left ++ rest)
+cut_of given bytes left rest cut =
+    ap (λ (t : List ℕ). t ++ rest) cut ∙ append_assoc bytes left rest
+
 pub given_cut : (a b c d : Option (List ℕ)) (p : Point) (given bytes left : List ℕ)
     → given ≡ bytes ++ left → Consumes a b given
     → ((rest : List ℕ) → Cuts c d p (bytes ++ rest)) → IfSome a (Cuts c d p)
-given_cut None b c d p given bytes left cut took k = tt
-given_cut (Some text) None c d p given bytes left cut took k = absurd took
-given_cut (Some text) (Some rest) c d p given bytes left cut took k =
-    subst (Cuts c d p) (sym (took ∙ ap (λ (t : List ℕ). t ++ rest) cut
-    ∙ append_assoc bytes left rest)) (k (left ++ rest))
+given_cut a b c d p given bytes left cut took k = from_given (Cuts c d p) a b given took (λ rest.
+    subst (Cuts c d p) (sym (cut_of given bytes left rest cut)) (k (left ++ rest)))
 
 pub given_stop : (a b c d : Option (List ℕ)) (p : Point) (given bytes left : List ℕ)
     → given ≡ bytes ++ left → Consumes a b given
     → ((rest : List ℕ) → Stops c d p (bytes ++ rest)) → IfSome a (Stops c d p)
-given_stop None b c d p given bytes left cut took k = tt
-given_stop (Some text) None c d p given bytes left cut took k = absurd took
-given_stop (Some text) (Some rest) c d p given bytes left cut took k =
-    subst (Stops c d p) (sym (took ∙ ap (λ (t : List ℕ). t ++ rest) cut
-    ∙ append_assoc bytes left rest)) (k (left ++ rest))
+given_stop a b c d p given bytes left cut took k = from_given (Stops c d p) a b given took (λ rest.
+    subst (Stops c d p) (sym (cut_of given bytes left rest cut)) (k (left ++ rest)))
 
 pub any_stop : (a c : Option (List ℕ)) (p : Point) → IfSome a (Stops c c p)
 any_stop None c p = tt
 any_stop (Some text) c p = stop-none c p text
 
 -- ---- a reader and a writer
-
-not_some : {n : ℕ} → None ≡ Some n → ⊥
-not_some e = cc
 
 -- a first part of a list is one of a longer first part
 pub take_front : (m n : ℕ) (xs : List ℕ) → m ≤ n → take n xs ≡ take m xs ++ drop m (take n xs)
@@ -271,7 +283,7 @@ talked_quit a b c d p q given bytes left cut took u = record {
   written = u.written;
   wrote = u.wrote;
   rules = u.rules;
-  goes = λ n none. absurd (not_some none);
+  goes = λ n none. absurd (cc none);
   ends = λ none. by b;
 }
   where
@@ -280,8 +292,7 @@ talked_quit a b c d p q given bytes left cut took u = record {
     by None = tt
     by (Some rest) = (
       true,
-      ap (λ (t : List ℕ). coming true p (t ++ rest)) cut
-          ∙ ap (coming true p) (append_assoc bytes left rest) ∙ u.goes true (left ++ rest),
+      ap (coming true p) (cut_of given bytes left rest cut) ∙ u.goes true (left ++ rest),
     )
 
 -- `most` bytes were answered, and the reader gave more
@@ -289,14 +300,12 @@ pub talked_long : (a b c d : Option (List ℕ)) (p q : Point) (most : ℕ) (give
     → given ≡ bytes ++ left
     → length bytes ≡ most → 0 < length left
     → Consumes a b given → Went c d bytes p q false → IfSome a (λ text. IsTooLong c d p most text)
-talked_long None b c d p q most given bytes left cut full more took u = tt
-talked_long (Some text) None c d p q most given bytes left cut full more took u = absurd took
-talked_long (Some text) (Some rest) c d p q most given bytes left cut full more took u =
-    let split : text ≡ bytes ++ (left ++ rest) = took ∙ ap (λ (t : List ℕ). t ++ rest) cut
-    ∙ append_assoc bytes left rest in
-    let front : take most text ≡ bytes = rw (split, sym full)
+talked_long a b c d p q most given bytes left cut full more took u =
+    from_given (IsTooLong c d p most) a b given took (λ rest.
+    let split = cut_of given bytes left rest cut in
+    let front : take most (given ++ rest) ≡ bytes = rw (split, sym full)
     (take-append_seam bytes (left ++ rest)) in
-    let said_is : coming false p (take most text) ≡ ahead u.written (ended false q) =
+    let said_is : coming false p (take most (given ++ rest)) ≡ ahead u.written (ended false q) =
     ap (coming false p) (front ∙ sym (append-nil bytes)) ∙ u.goes false []
     ∙ ap (ahead u.written) (nothing_comes q)
     in
@@ -311,25 +320,23 @@ talked_long (Some text) (Some rest) c d p q most given bytes left cut full more 
       quit = ap (λ (s : Said). s.quit) said_is;
       wrote = subst (Appends c d) (sym (ap (λ (s : Said). s.text) said_is ∙ append-nil u.written))
           u.wrote;
-    }
+    })
 
 -- a QUIT was in the bytes that were answered, of which there are at most `most`
 pub within_quit : (a b c d : Option (List ℕ)) (p q : Point) (most : ℕ) (given bytes left : List ℕ)
     → given ≡ bytes ++ left
     → length bytes ≤ most → Consumes a b given → Went c d bytes p q true
     → IfSome a (IsWithin p most)
-within_quit None b c d p q most given bytes left cut few took u = tt
-within_quit (Some text) None c d p q most given bytes left cut few took u = absurd took
-within_quit (Some text) (Some rest) c d p q most given bytes left cut few took u =
-    let split : text ≡ bytes ++ (left ++ rest) = took ∙ ap (λ (t : List ℕ). t ++ rest) cut
-    ∙ append_assoc bytes left rest in
+within_quit a b c d p q most given bytes left cut few took u =
+    from_given (IsWithin p most) a b given took (λ rest.
+    let split = cut_of given bytes left rest cut in
     let sum : length bytes + (most - length bytes) ≡ most = omega (arith, few) in
-    let front : take most text ≡ bytes ++ take (most - length bytes) (left ++ rest) =
+    let front : take most (given ++ rest) ≡ bytes ++ take (most - length bytes) (left ++ rest) =
     rw split (ap (λ (n : ℕ). take n (bytes ++ (left ++ rest))) (sym sum)
     ∙ take-append-add bytes (left ++ rest) (most - length bytes))
     in
     inr (ap (λ (s : Said). s.quit) (ap (coming false p) front
-    ∙ u.goes false (take (most - length bytes) (left ++ rest))))
+    ∙ u.goes false (take (most - length bytes) (left ++ rest)))))
 
 -- one turn, and then another
 module _ (a b c d e f : Option (List ℕ)) (p q r : Point) (n : ℕ)
@@ -349,21 +356,15 @@ module _ (a b c d e f : Option (List ℕ)) (p q r : Point) (n : ℕ)
     written = u.written ++ v.written;
     wrote = appends-then d e f u.written v.written u.wrote v.wrote;
     rules = v.rules ∙ u.rules;
-    goes = λ k is. (
-      length-append u.given v.given ∙ (λ i. u_count i + (v.goes m refl).0 i) ∙ some_same is,
+    goes = λ k is. let same : n + m ≡ k = cc is in (
+      length-append u.given v.given ∙ (λ i. u_count i + (v.goes m refl).0 i) ∙ same,
       λ counts rest.
           ap (coming counts p) (append_assoc u.given v.given rest) ∙ u_goes counts (v.given ++ rest)
           ∙ ap (ahead u.written) ((v.goes m refl).1 counts rest)
           ∙ sym (ahead-ahead u.written v.written (coming counts r rest)),
     );
-    ends = λ is. absurd (some_not is);
+    ends = λ is. absurd (cc is);
   }
-    where
-      some_not : {k : ℕ} → Some k ≡ None → ⊥
-      some_not is = cc
-
-      some_same : {k l : ℕ} → Some k ≡ Some l → k ≡ l
-      some_same is = cc
 
   -- the reader gave n bytes, and then at most `most` more
   pub gave_more : (most limit : ℕ) → n + most ≤ limit → GaveAtMost most b c → GaveAtMost limit a c
@@ -387,69 +388,41 @@ module _ (a b c d e f : Option (List ℕ)) (p q r : Point) (n : ℕ)
 
   -- a write failed after it, or an allocation did
   pub cut_at : IfSome b (Cuts e f q) → IfSome a (Cuts d f p)
-  cut_at = by a b u.took
-    where
-      by : (a b : Option (List ℕ)) → Consumes a b u.given → IfSome b (Cuts e f q)
-          → IfSome a (Cuts d f p)
-      by None b h k = tt
-      by (Some text) None h k = absurd h
-      by (Some text) (Some mid) h k =
-          subst (λ (s : Said). AppendsPrefix d f s.text)
-          (sym (ap (coming true p) h ∙ u_goes true mid))
-          (prefix-behind d e f u.written _ u.wrote k)
+  cut_at = before_rest (Cuts d f p) (Cuts e f q) a b u.given u.took (λ rest k.
+      subst (λ (s : Said). AppendsPrefix d f s.text) (sym (u_goes true rest))
+      (prefix-behind d e f u.written _ u.wrote k))
 
   pub stop_at : IfSome b (Stops e f q) → IfSome a (Stops d f p)
-  stop_at = by a b u.took
-    where
-      by : (a b : Option (List ℕ)) → Consumes a b u.given → IfSome b (Stops e f q)
-          → IfSome a (Stops d f p)
-      by None b h k = tt
-      by (Some text) None h k = absurd h
-      by (Some text) (Some mid) h (m, wrote) = (
-        length u.given + m,
-        subst (Appends d f)
-            (sym (ap (λ (s : Said). s.text) (ap
-            (λ (t : List ℕ). coming false p (take (length u.given + m) t)) h
-            ∙ ap (coming false p) (take-append-add u.given mid m) ∙ u_goes false (take m mid))))
-            (appends-then d e f u.written (coming false q (take m mid)).text u.wrote wrote),
-      )
+  stop_at = before_rest (Stops d f p) (Stops e f q) a b u.given u.took (λ rest k. (
+    length u.given + k.0,
+    subst (Appends d f) (sym (ap (λ (s : Said). s.text)
+        (ap (coming false p) (take-append-add u.given rest k.0) ∙ u_goes false (take k.0 rest))))
+        (appends-then d e f u.written (coming false q (take k.0 rest)).text u.wrote k.1),
+  ))
+
+  -- the first bytes of what was given and of the rest
+  front : (most : ℕ) (rest : List ℕ) → coming false p (take (n + most) (u.given ++ rest))
+      ≡ ahead u.written (coming false q (take most rest))
+  front most rest =
+      ap (λ (m : ℕ). coming false p (take (m + most) (u.given ++ rest))) (sym u_count)
+      ∙ ap (coming false p) (take-append-add u.given rest most) ∙ u_goes false (take most rest)
 
   -- the text ends within the limit, or a QUIT does
   pub within_at : (most : ℕ) → IfSome b (IsWithin q most) → IfSome a (IsWithin p (n + most))
-  within_at most k = by a b u.took k
+  within_at most = before_rest (IsWithin p (n + most)) (IsWithin q most) a b u.given u.took by
     where
-      by : (a b : Option (List ℕ)) → Consumes a b u.given → IfSome b (IsWithin q most)
-          → IfSome a (IsWithin p (n + most))
-      by None b h k = tt
-      by (Some text) None h k = absurd h
-      by (Some text) (Some mid) h (inl few) =
-          inl (rw h (omega (arith, few, u_count, length-append u.given mid)))
-      by (Some text) (Some mid) h (inr quit) =
-          let front : take (n + most) text ≡ u.given ++ take most mid = rw (h, sym u_count)
-          (take-append-add u.given mid most) in
-          inr (ap (λ (s : Said). s.quit) (ap (coming false p) front ∙ u_goes false (take most mid))
-          ∙ quit)
+      by : (rest : List ℕ) → IsWithin q most rest → IsWithin p (n + most) (u.given ++ rest)
+      by rest (inl few) = inl (omega (arith, few, u_count, length-append u.given rest))
+      by rest (inr quit) = inr (ap (λ (s : Said). s.quit) (front most rest) ∙ quit)
 
   -- the text is too long
   pub too_long_at : (most : ℕ) → IfSome b (λ text. IsTooLong e f q most text)
       → IfSome a (λ text. IsTooLong d f p (n + most) text)
-  too_long_at most long = by a b u.took long
-    where
-      by : (a b : Option (List ℕ)) → Consumes a b u.given
-          → IfSome b (λ text. IsTooLong e f q most text)
-          → IfSome a (λ text. IsTooLong d f p (n + most) text)
-      by None b h k = tt
-      by (Some text) None h k = absurd h
-      by (Some text) (Some mid) h k =
-          let front : take (n + most) text ≡ u.given ++ take most mid = rw (h, sym u_count)
-          (take-append-add u.given mid most) in
-          let is : coming false p (take (n + most) text)
-          ≡ ahead u.written (coming false q (take most mid)) = ap (coming false p) front
-          ∙ u_goes false (take most mid) in
-          record {
-            long = rw h (let l = k.long in omega (arith, l, u_count, length-append u.given mid));
-            quit = ap (λ (s : Said). s.quit) is ∙ k.quit;
-            wrote = subst (Appends d f) (sym (ap (λ (s : Said). s.text) is))
-                (appends-then d e f u.written (coming false q (take most mid)).text u.wrote
-                k.wrote);
-          }
+  too_long_at most =
+      before_rest (IsTooLong d f p (n + most)) (IsTooLong e f q most) a b u.given u.took (λ rest k.
+      record {
+        long = let l = k.long in omega (arith, l, u_count, length-append u.given rest);
+        quit = ap (λ (s : Said). s.quit) (front most rest) ∙ k.quit;
+        wrote = subst (Appends d f) (sym (ap (λ (s : Said). s.text) (front most rest)))
+            (appends-then d e f u.written (coming false q (take most rest)).text u.wrote k.wrote);
+      })

@@ -1,5 +1,5 @@
 -- A whole run: what is written for all of the text, and for the lines that had ended at a fault.
-use Rattle.std.proofs.Common.{◌≡◌, ℕ, ◌<◌, Bool, true, false, List, [], ◌++◌, Option, Some, None}
+use Rattle.std.proofs.Common.{◌≡◌, ◌⊎◌, ℕ, ◌<◌, ◌≤◌, Bool, true, false, List, [], ◌++◌, Option, Some, None}
 use Rattle.std.proofs.Common.{IfSome, length, take, inl, inr, refl, sym, ap, ◌∙◌, subst}
 use Rattle.std.specs.Io.KnownBytes.{Appends}
 use Rattle.regatta_terms.specs.Rules.{RulesParts}
@@ -12,10 +12,17 @@ use Rattle.regatta_office.specs.declared.form.Form.{Form}
 use Rattle.regatta_office.specs.Coming.{Cuts, IsTooLong, IsWithin, Stops, Point, ReadSome, Said}
 use Rattle.regatta_office.specs.Coming.{coming, said}
 use Rattle.regatta_terms.specs.TextLines.{ended_lines, lines, lines_by}
-use Rattle.regatta_office.specs.Transcript.{EndsWithin, WroteSome, final_text, talk_at_end}
+use Rattle.regatta_office.specs.Transcript.{final_text, talk_at_end}
 use Rattle.regatta_office.specs.Transcript.{has_quit, opening, replies, run_text, up_to_quit}
 use Rattle.regatta_office.specs.Transcript.{transcript}
 use Rattle.regatta_office.proofs.Saying.{coming-whole}
+
+-- what was written for some first lines of a text: for those that end within some first part of
+-- it, or for all of them
+abbrev pub WroteSome : RulesParts → Journal → Option (List ℕ) → Option (List ℕ) → List ℕ → Type 0
+WroteSome rules start old new text =
+    ((n : ℕ) × Appends old new (transcript rules start (ended_lines (take n text))))
+    ⊎ Appends old new (transcript rules start (lines text))
 
 -- no line has ended in no text
 nothing_said : (rules : RulesParts) (start : Journal) → transcript rules start (ended_lines []) ≡ []
@@ -90,7 +97,7 @@ module _ (rules : RulesParts) (start : Journal) (board : BoardValue) (p : Point)
       )
 
   pub within_limit : (a : Option (List ℕ)) (most : ℕ) → IfSome a (IsWithin p most)
-      → IfSome a (EndsWithin most)
+      → IfSome a (λ text. (length text ≤ most) ⊎ (has_quit (ended_lines (take most text)) ≡ true))
   within_limit None most k = tt
   within_limit (Some text) most (inl few) = inl few
   within_limit (Some text) most (inr quit) = inr

@@ -8,6 +8,7 @@ pub mod Runs
 pub mod Scribes
 pub mod Starts
 pub mod Transcript
+pub mod Turns
 pub mod Words
 pub mod Worked
 pub mod WorkedWords

@@ -1,18 +1,13 @@
 -- What a replay writes: a reply to each line of a text, and then the table, CSV or journal.
-use Rattle.std.specs.Prelude.{◌≡◌, ◌⊎◌, length, take, ℕ, ◌≤◌, Bool, true, false, List, []}
-use Rattle.std.specs.Prelude.{◌∷◌, ◌++◌, Option, Result, Ok, Err, if◌then◌else◌}
-use Rattle.std.specs.Io.KnownBytes.{Appends}
+use Rattle.std.specs.Prelude.{ℕ, Bool, true, false, List, [], ◌∷◌, ◌++◌, Result, Ok, Err}
+use Rattle.std.specs.Prelude.{if◌then◌else◌}
 use Rattle.regatta_terms.specs.Lines.{line_of}
 use Rattle.regatta_terms.specs.Rules.{RulesParts}
-use Rattle.regatta_terms.specs.declared.command.Command.{Command}
 use Rattle.regatta_terms.specs.declared.command.Role.{Role}
 use Rattle.regatta_terms.specs.declared.command.Role.TheVariants.{Scorer}
 use Rattle.regatta_terms.specs.declared.line.Line.{Line}
 use Rattle.regatta_terms.specs.declared.line.Line.TheVariants.{Do, SetRole, Rank, Show, Quit}
 use Rattle.regatta_terms.specs.declared.line.LineFault.{LineFault}
-use Rattle.regatta_terms.specs.declared.reply.Refusal.{Refusal}
-use Rattle.regatta_terms.specs.declared.reply.Refusal.TheVariants.{NoMemory}
-use Rattle.regatta_terms.specs.declared.reply.Reply.{Reply}
 use Rattle.regatta_terms.specs.declared.reply.Reply.TheVariants.{RoleSet, Bye, Fault}
 use Rattle.regatta_scores.specs.Journal.{Journal}
 use Rattle.regatta_scores.specs.Standing.{standing}
@@ -26,7 +21,7 @@ use Rattle.regatta_tables.specs.SheetTexts.{sheet_text}
 use Rattle.regatta_tables.specs.TableTexts.{table_text}
 use Rattle.regatta_office.specs.declared.form.Form.{Form}
 use Rattle.regatta_office.specs.declared.form.Form.TheVariants as form
-use Rattle.regatta_terms.specs.TextLines.{lines, ended_lines}
+use Rattle.regatta_terms.specs.TextLines.{lines}
 use Rattle.regatta_talk.specs.Replies.{ranked, reply_of}
 
 -- the state of a run: the role of the next lines, and the journal so far
@@ -40,46 +35,19 @@ opening start = record { role = Scorer; journal = start }
 
 -- ---- one line
 
--- why a command is refused, from the seat of a replay and in the current role
-abbrev pub refusal_of : RulesParts → Talk → Command → Option Refusal
-refusal_of rules talk command =
-    refusal limits rules talk.journal (sent talk.journal talk.role command)
-
--- running out of memory ends a run: it has no reply
-abbrev pub is_want_of_memory : Refusal → Bool
-is_want_of_memory NoMemory = true
-is_want_of_memory _ = false
-
--- the reply to a command
-abbrev pub reply_to : RulesParts → Talk → Command → Reply
-reply_to rules talk command =
-    reply_of
-    (reply_by rules talk.journal (sent talk.journal talk.role command)
-    (refusal_of rules talk command))
-
--- the journal after a command
-abbrev pub journal_after : RulesParts → Talk → Command → Journal
-journal_after rules talk command =
-    journal_by talk.journal (sent talk.journal talk.role command) (refusal_of rules talk command)
-
--- the text to write for a line, or for its fault
-abbrev pub text_after : RulesParts → Talk → Result Line LineFault → List ℕ
-text_after rules talk (Ok (Do command)) = reply_text (reply_to rules talk command)
-text_after rules talk (Ok (SetRole role)) = reply_text (RoleSet role)
-text_after rules talk (Ok (Rank sail)) = reply_text (ranked (rank_of rules talk.journal sail))
-text_after rules talk (Ok Show) = sheet_text talk.journal (standing rules talk.journal)
-text_after rules talk (Ok Quit) = reply_text Bye
-text_after rules talk (Err fault) = reply_text (Fault fault)
-
--- the state of the run after it
-abbrev pub talk_after : RulesParts → Talk → Result Line LineFault → Talk
-talk_after rules talk (Ok (Do command)) =
-    record talk { journal = journal_after rules talk command }
-talk_after rules talk (Ok (SetRole role)) = record talk { role = role }
-talk_after rules talk (Ok (Rank sail)) = talk
-talk_after rules talk (Ok Show) = talk
-talk_after rules talk (Ok Quit) = talk
-talk_after rules talk (Err fault) = talk
+-- the text to write for a line, or for its fault, and the state of the run after it
+abbrev pub turn : RulesParts → Talk → Result Line LineFault → List ℕ × Talk
+turn rules talk (Ok (Do command)) =
+    let entry = sent talk.journal talk.role command in
+    let why = refusal limits rules talk.journal entry in (
+      reply_text (reply_of (reply_by rules talk.journal entry why)),
+      record talk { journal = journal_by talk.journal entry why },
+    )
+turn rules talk (Ok (SetRole role)) = (reply_text (RoleSet role), record talk { role = role })
+turn rules talk (Ok (Rank sail)) = (reply_text (ranked (rank_of rules talk.journal sail)), talk)
+turn rules talk (Ok Show) = (sheet_text talk.journal (standing rules talk.journal), talk)
+turn rules talk (Ok Quit) = (reply_text Bye, talk)
+turn rules talk (Err fault) = (reply_text (Fault fault), talk)
 
 -- whether a line ends the run
 abbrev pub is_quit : Result Line LineFault → Bool
@@ -102,14 +70,12 @@ has_quit (line ∷ rest) = if is_quit (line_of line) then true else has_quit res
 unfoldable pub replies : RulesParts → Talk → List (List ℕ) → List ℕ
 replies rules talk [] = []
 replies rules talk (line ∷ rest) =
-    text_after rules talk (line_of line) ++ replies rules
-    (talk_after rules talk (line_of line)) rest
+    let this = turn rules talk (line_of line) in this.0 ++ replies rules this.1 rest
 
 -- the state of the run after them
 unfoldable pub talk_at_end : RulesParts → Talk → List (List ℕ) → Talk
 talk_at_end rules talk [] = talk
-talk_at_end rules talk (line ∷ rest) =
-    talk_at_end rules (talk_after rules talk (line_of line)) rest
+talk_at_end rules talk (line ∷ rest) = talk_at_end rules (turn rules talk (line_of line)).1 rest
 
 -- ---- a whole text, from a journal on
 
@@ -126,17 +92,5 @@ final_text rules form.Journal journal = journal_text journal
 -- all that a run writes: the transcript, and then the final journal in the form asked for
 abbrev pub run_text : RulesParts → Journal → Form → List ℕ → List ℕ
 run_text rules start form text =
-    transcript rules start (lines text)
-    ++ final_text rules form
-    (talk_at_end rules (opening start) (up_to_quit (lines text))).journal
-
--- a text is no longer than `most` bytes, or a QUIT is among the lines that end within them
-abbrev pub EndsWithin : ℕ → List ℕ → Type 0
-EndsWithin most text = (length text ≤ most) ⊎ (has_quit (ended_lines (take most text)) ≡ true)
-
--- what was written for some first lines of a text: for those that end within some first part of
--- it, or for all of them
-abbrev pub WroteSome : RulesParts → Journal → Option (List ℕ) → Option (List ℕ) → List ℕ → Type 0
-WroteSome rules start old new text =
-    ((n : ℕ) × Appends old new (transcript rules start (ended_lines (take n text))))
-    ⊎ Appends old new (transcript rules start (lines text))
+    let end = talk_at_end rules (opening start) (up_to_quit (lines text)) in
+    transcript rules start (lines text) ++ final_text rules form end.journal

@@ -1,9 +1,10 @@
 -- Worked examples, by computation: the default rules, no start, and the table at the end.
 use Rattle.std.specs.Prelude.{◌≡◌, ℕ, List, [], ◌∷◌, ◌++◌, None, refl, codes, false, true}
 use Rattle.std.specs.Fmt.{digits}
-use Rattle.regatta_terms.specs.Lines.{line_of, line_of_words, command_of_words, command_after}
+use Rattle.regatta_terms.specs.Lines.{line_of, line_of_words, command_of_words}
 use Rattle.regatta_terms.specs.Rules.{RulesParts}
 use Rattle.regatta_terms.specs.declared.rules.Absent.TheVariants.{A52}
+use Rattle.regatta_tables.specs.Examples.{Gives}
 use Rattle.regatta_office.specs.declared.start_files.TheConstants.{FILE_LIMIT}
 use Rattle.regatta_office.specs.declared.form.Form.TheVariants.{Table, Journal}
 use Rattle.regatta_office.specs.declared.run.TheConstants.{INPUT_LIMIT}
@@ -29,34 +30,38 @@ run text = run_text default_rules [] Table text
 pub bytes_at_most : (INPUT_LIMIT ≡ 1048576) × (FILE_LIMIT ≡ 1048576)
 bytes_at_most = (refl, refl)
 
--- nobody is entered
-pub empty_sheet : run (codes "SHOW") ≡ codes "JOURNAL 0\nTABLE 0 RACES\nEND\nTABLE 0 RACES\n"
-unfolding digits replies talk_at_end up_to_quit line_of line_of_words command_of_words command_after
-empty_sheet = refl
-
--- three boats entered, and no race scored
-pub entered_boats : run (codes "ENTER C\nENTER A\nENTER B\n")
-    ≡ codes "OK 1 1 0.0\nOK 2 1= 0.0\nOK 3 1= 0.0\nTABLE 3 RACES\n1= A 0.0\n1= B 0.0\n1= C 0.0\n"
-unfolding digits replies talk_at_end up_to_quit line_of line_of_words command_of_words command_after
-entered_boats = refl
-
--- two boats finish a race that counts
-pub one_race : run (codes "ENTER A\nENTER B\nFINISH 1 B\nFINISH 1 A\nSCORE 1\n")
-    ≡ codes "OK 1 1 0.0\nOK 2 1= 0.0\nOK 3 1= 0.0\nOK 4 1= 0.0\nOK 5\nTABLE 2 RACES 1\n"
-    ++ codes "1 B 1.0 1.0\n2 A 2.0 2.0\n"
-unfolding digits replies talk_at_end up_to_quit line_of line_of_words command_of_words command_after
-one_race = refl
-
--- a boat of a tie is disqualified, and the current role decides who may do so (A6.1, A7, A5.1)
-pub a_tie_and_a_disqualification : run
-    (codes "ENTER A\nENTER B\nENTER C\nFINISH 1 A\nTIE 1 B A\nFINISH 1 C\nSCORE 1\n"
-    ++ codes "ROLE JURY\nMARK 1 A DSQ\nROLE FINISH\nMARK 1 B DSQ\nROLE SCORER\n"
-    ++ codes "MARK 1 A RET\n")
-    ≡ codes "OK 1 1 0.0\nOK 2 1= 0.0\nOK 3 1= 0.0\nOK 4 1= 0.0\nOK 5 1= 0.0\nOK 6 1= 0.0\n"
-    ++ codes "OK 7\nROLE JURY\nOK 8 3 4.0\nROLE FINISH\nNO 4\nROLE SCORER\nNO 10\n"
-    ++ codes "TABLE 3 RACES 1\n1 B 1.0 1.0\n2 C 2.0 2.0\n3 A 4.0 4.0/DSQ\n"
-unfolding digits replies talk_at_end up_to_quit line_of line_of_words command_of_words command_after
-a_tie_and_a_disqualification = refl
+pub runs : Gives run
+    -- nobody is entered
+    ((codes "SHOW", codes "JOURNAL 0\nTABLE 0 RACES\nEND\nTABLE 0 RACES\n")
+    -- three boats entered, and no race scored
+    ∷ (
+      codes "ENTER C\nENTER A\nENTER B\n",
+      codes "OK 1 1 0.0\nOK 2 1= 0.0\nOK 3 1= 0.0\nTABLE 3 RACES\n1= A 0.0\n1= B 0.0\n1= C 0.0\n",
+    )
+    -- two boats finish a race that counts
+    ∷ (
+      codes "ENTER A\nENTER B\nFINISH 1 B\nFINISH 1 A\nSCORE 1\n",
+      codes "OK 1 1 0.0\nOK 2 1= 0.0\nOK 3 1= 0.0\nOK 4 1= 0.0\nOK 5\nTABLE 2 RACES 1\n"
+          ++ codes "1 B 1.0 1.0\n2 A 2.0 2.0\n",
+    )
+    -- a boat of a tie is disqualified, and the current role decides who may do so (A6.1, A7, A5.1)
+    ∷ (
+      codes "ENTER A\nENTER B\nENTER C\nFINISH 1 A\nTIE 1 B A\nFINISH 1 C\nSCORE 1\n"
+          ++ codes "ROLE JURY\nMARK 1 A DSQ\nROLE FINISH\nMARK 1 B DSQ\nROLE SCORER\n"
+          ++ codes "MARK 1 A RET\n",
+      codes "OK 1 1 0.0\nOK 2 1= 0.0\nOK 3 1= 0.0\nOK 4 1= 0.0\nOK 5 1= 0.0\nOK 6 1= 0.0\n"
+          ++ codes "OK 7\nROLE JURY\nOK 8 3 4.0\nROLE FINISH\nNO 4\nROLE SCORER\nNO 10\n"
+          ++ codes "TABLE 3 RACES 1\n1 B 1.0 1.0\n2 C 2.0 2.0\n3 A 4.0 4.0/DSQ\n",
+    )
+    -- without corrected times a time is refused
+    ∷ (codes "ENTER A\nTIME 1 A 5\n", codes "OK 1 1 0.0\nNO 16\nTABLE 1 RACES\n1 A 0.0\n")
+    -- the last line needs no LF
+    ∷ (
+      codes "ENTER A\nENTER B",
+      codes "OK 1 1 0.0\nOK 2 1= 0.0\nTABLE 2 RACES\n1= A 0.0\n1= B 0.0\n",
+    ) ∷ [])
+unfolding digits replies talk_at_end up_to_quit line_of line_of_words command_of_words
+runs = refl
 
 -- redress as an average follows another race (A9), under other rules
 pub redress : run_text no_exclusions [] Table
@@ -65,7 +70,7 @@ pub redress : run_text no_exclusions [] Table
     ≡ codes "OK 1 1 0.0\nOK 2 1= 0.0\nOK 3 1= 0.0\nOK 4 1= 0.0\nOK 5 1= 0.0\nOK 6\nOK 7\n"
     ++ codes "ROLE JURY\nOK 8 1 2.0\nROLE SCORER\nOK 9 2 6.0\nOK 10 1 2.0\n"
     ++ codes "TABLE 2 RACES 1 2\n1 A 2.0 1.0 1.0/RDG\n2 B 3.0 2.0 1.0\n"
-unfolding digits replies talk_at_end up_to_quit line_of line_of_words command_of_words command_after
+unfolding digits replies talk_at_end up_to_quit line_of line_of_words command_of_words
 redress = refl
 
 -- equal seconds tie (A3, A7); a time is struck and given again, and a finish is refused
@@ -76,23 +81,12 @@ pub corrected_times : run_text by_times [] Table
     ≡ codes "OK 1 1 0.0\nOK 2 1= 0.0\nOK 3 1= 0.0\nOK 4 1= 0.0\nOK 5 1= 0.0\nOK 6 1= 0.0\n"
     ++ codes "OK 7\nRANK 2= 2.5\nOK 8 3 4.0\nOK 9 1 1.0\nNO 16\nNO 8\nNO 7\nNO 29\nNO 22\n"
     ++ codes "ROLE JURY\nNO 4\nTABLE 3 RACES 1\n1 A 1.0 1.0\n2 B 2.0 2.0\n3 C 3.0 3.0\n"
-unfolding digits replies talk_at_end up_to_quit line_of line_of_words command_of_words command_after
+unfolding digits replies talk_at_end up_to_quit line_of line_of_words command_of_words
 corrected_times = refl
 
--- without corrected times a time is refused
-pub no_corrected_times : run (codes "ENTER A\nTIME 1 A 5\n")
-    ≡ codes "OK 1 1 0.0\nNO 16\nTABLE 1 RACES\n1 A 0.0\n"
-unfolding digits replies talk_at_end up_to_quit line_of line_of_words command_of_words command_after
-no_corrected_times = refl
-
--- lines after QUIT aren't answered, and the last line needs no LF
+-- lines after QUIT aren't answered
 pub the_end_of_a_talk : run_text default_rules [] Journal
     (codes "ENTER A\nRANK A\nRANK B\nQUIT\nENTER C\n")
     ≡ codes "OK 1 1 0.0\nRANK 1 0.0\nNO 7\nBYE\nREGATTA 2\n1 1 SCORER ENTER A\n"
-unfolding digits replies talk_at_end up_to_quit line_of line_of_words command_of_words command_after
+unfolding digits replies talk_at_end up_to_quit line_of line_of_words command_of_words
 the_end_of_a_talk = refl
-
-pub a_last_line : run (codes "ENTER A\nENTER B")
-    ≡ codes "OK 1 1 0.0\nOK 2 1= 0.0\nTABLE 2 RACES\n1= A 0.0\n1= B 0.0\n"
-unfolding digits replies talk_at_end up_to_quit line_of line_of_words command_of_words command_after
-a_last_line = refl

@@ -5,8 +5,8 @@ ghost use Rattle.regatta_tables.specs.ReplyTexts.{reply_text};
 ghost use Rattle.regatta_talk.specs.Replies.{ranked as ranked_by};
 ghost use Rattle.regatta_board.specs.Runs.{sent};
 ghost use Rattle.regatta_office.specs.Transcript.{is_quit as is_quit_of};
-ghost use Rattle.regatta_office.specs.Transcript.{is_want_of_memory as is_want_of_memory_by};
-ghost use Rattle.regatta_office.specs.Transcript.{journal_after, reply_to, talk_after, text_after};
+ghost use Rattle.regatta_office.specs.Turns.{is_out_of_memory as is_out_of_memory_by};
+ghost use Rattle.regatta_office.specs.Turns.{journal_after, reply_to, talk_after, text_after};
 
 use crate::shown::Shown;
 use regatta_board::{REPLAY_SEAT, next_entry};
@@ -20,8 +20,8 @@ fn entry_of(board: &Shown, role: Role, command: Command) -> Entry
     next_entry(REPLAY_SEAT, board.last_of(REPLAY_SEAT), role, command)
 }
 
-fn is_want_of_memory(why: Refusal) -> bool
-    ensures { result ≡ is_want_of_memory_by why }
+fn is_out_of_memory(why: Refusal) -> bool
+    ensures { result ≡ is_out_of_memory_by why }
 {
     matches!(why, Refusal::NoMemory)
 }
@@ -39,7 +39,7 @@ fn do_command(board: &mut Shown, role: Role, command: Command) -> Result<Reply, 
     match board.apply(entry_of(board, role, command)) {
         Ok(answer) => Ok(reply_of(Ok(answer))),
         Err(why) => {
-            if is_want_of_memory(why) {
+            if is_out_of_memory(why) {
                 return Err(AllocError);
             }
             Ok(reply_of(Err(why)))

@@ -1,21 +1,19 @@
 //! A run, from an input stream to an output stream.
-ghost use Rattle.std.specs.Prelude.{◌≡◌, ◌≢◌, ◌+◌, ◌<◌, ◌≤◌, ℕ, List, length, take, None};
-ghost use Rattle.std.specs.Prelude.{OnOk, IfOk, IfErr, IfSome, IsErrOf, false, true};
-ghost use Rattle.std.specs.Io.KnownBytes.{Appends, Keeps};
+ghost use Rattle.std.specs.Prelude.{◌≡◌, ◌≢◌, ◌+◌, ◌<◌, ◌≤◌, ℕ, List, [], length, take, None};
+ghost use Rattle.std.specs.Prelude.{OnOk, IfOk, IfErr, IfSome, IsErrOf, ◌⊎◌, false, true};
+ghost use Rattle.std.specs.Io.KnownBytes.{Appends, Consumes, Keeps};
 ghost use Rattle.regatta_streams.specs.Texts.{AppendsPrefix, GaveAtMost};
-ghost use Rattle.regatta_board.specs.Refusals.{limits, is_lawful};
-ghost use Rattle.regatta_board.specs.Replays.{first_refused};
+ghost use Rattle.regatta_board.specs.Refusals.{limits, is_lawful, refused_from};
 ghost use Rattle.regatta_office.specs.declared.run.TheConstants.{INPUT_LIMIT};
 ghost use Rattle.regatta_office.specs.Coming.{Cuts, IsTooLong, IsWithin, ReadSome, Stops, Talked};
 ghost use Rattle.regatta_office.specs.Coming.{coming};
 ghost use Rattle.regatta_office.specs.Faults.{IsDeviceFault, IsRunFaultOf};
 ghost use Rattle.regatta_office.specs.Faults.{scribe_fault as scribe_fault_of};
 ghost use Rattle.regatta_office.specs.Faults.{start_fault as start_fault_of};
-ghost use Rattle.regatta_terms.specs.TextLines.{ended_lines};
+ghost use Rattle.regatta_terms.specs.TextLines.{ended_lines, lines};
 ghost use Rattle.regatta_office.specs.Scribes.{point};
 ghost use Rattle.regatta_office.specs.Starts.{IsRunFault};
-ghost use Rattle.regatta_office.specs.Transcript.{EndsWithin, WroteSome, has_quit, run_text};
-ghost use Rattle.regatta_office.specs.Transcript.{transcript};
+ghost use Rattle.regatta_office.specs.Transcript.{has_quit, run_text, transcript};
 
 use crate::final_part::print_final;
 use crate::form::Form;
@@ -192,16 +190,17 @@ pub fn replay<R: Source, W: Sink>(
         (run_text rules.now start.now form text))) }
     // A run that returns `Ok` has answered no more bytes than the limit. Every run reads at most
     // one byte more.
-    ensures within { OnOk result (IfSome (R.remaining input.old) (EndsWithin INPUT_LIMIT)) }
+    ensures within { OnOk result (IfSome (R.remaining input.old) (λ text.
+        (length text ≤ INPUT_LIMIT) ⊎ (has_quit (ended_lines (take INPUT_LIMIT text)) ≡ true))) }
     ensures taken { GaveAtMost (INPUT_LIMIT + 1) (R.remaining input.old)
         (R.remaining input.new) }
 
     // If an entry of the start is refused, the result is the first of them, or `NoMemory`. Nothing
     // is read or written then.
     ensures lawful { OnOk result (is_lawful limits rules.now start.now ≡ true) }
-    ensures start { IfErr result (IsRunFault (first_refused rules.now start.now)) }
-    ensures unread { first_refused rules.now start.now ≢ None → input.new ≡ input.old }
-    ensures silent { first_refused rules.now start.now ≢ None → output.new ≡ output.old }
+    ensures start { IfErr result (IsRunFault (refused_from limits rules.now [] start.now)) }
+    ensures unread { refused_from limits rules.now [] start.now ≢ None → input.new ≡ input.old }
+    ensures silent { refused_from limits rules.now [] start.now ≢ None → output.new ≡ output.old }
 
     // A failed device is reported as its own fault and as nothing else.
     ensures well { OnOk result ((R.failures input.new ≡ R.failures input.old)
@@ -212,9 +211,10 @@ pub fn replay<R: Source, W: Sink>(
     // A run that fails has written the replies to the lines that had ended, within the limit. After
     // a failed write it is some first part of the whole text. Out of memory, it is the replies to
     // some first lines.
-    ensures read { IsErrOf result RunFault.Read → ReadSome (R.remaining input.old)
-        (R.remaining input.new) (W.contents output.old) (W.contents output.new)
-        (λ text. transcript rules.now start.now (ended_lines text)) }
+    ensures read { IsErrOf result RunFault.Read → (given : List ℕ)
+        × Consumes (R.remaining input.old) (R.remaining input.new) given
+        × Appends (W.contents output.old) (W.contents output.new)
+        (transcript rules.now start.now (ended_lines given)) }
     ensures long { IsErrOf result RunFault.InputTooLong → IfSome (R.remaining input.old)
         (λ text. (INPUT_LIMIT < length text)
         × (has_quit (ended_lines (take INPUT_LIMIT text)) ≡ false)
@@ -224,7 +224,10 @@ pub fn replay<R: Source, W: Sink>(
         (λ text. AppendsPrefix (W.contents output.old) (W.contents output.new)
         (run_text rules.now start.now form text)) }
     ensures stopped { IsErrOf result RunFault.NoMemory → IfSome (R.remaining input.old)
-        (WroteSome rules.now start.now (W.contents output.old) (W.contents output.new)) }
+        (λ text. ((n : ℕ) × Appends (W.contents output.old) (W.contents output.new)
+        (transcript rules.now start.now (ended_lines (take n text))))
+        ⊎ Appends (W.contents output.old) (W.contents output.new)
+        (transcript rules.now start.now (lines text))) }
 {
     let board = match replayed(alloc, rules, start) {
         Ok(board) => board,

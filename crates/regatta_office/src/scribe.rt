@@ -8,7 +8,8 @@ ghost use Rattle.regatta_terms.specs.Lines.{line_of};
 ghost use Rattle.regatta_terms.specs.TextLines.{is_line_end};
 ghost use Rattle.regatta_office.specs.Coming.{Broke, Cuts, Finished, Stops, Took, Went};
 ghost use Rattle.regatta_office.specs.Scribes.{point};
-ghost use Rattle.regatta_office.specs.Transcript.{is_quit as is_quit_of, talk_after, text_after};
+ghost use Rattle.regatta_office.specs.Transcript.{is_quit as is_quit_of};
+ghost use Rattle.regatta_office.specs.Turns.{talk_after, text_after};
 ghost use Rattle.regatta_terms.specs.declared.command.Role.TheVariants.{Scorer};
 
 use crate::answers::{answer, is_quit};

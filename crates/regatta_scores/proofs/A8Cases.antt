@@ -1,7 +1,7 @@
 -- The three cases in which one boat beats another.
 use Rattle.std.proofs.Common.{◌≡◌, ℕ, zero, suc, ◌<◌, ◌≤◌, Bool, true, false, cond, List, [], ◌∷◌}
 use Rattle.std.proofs.Common.{refl, ap, ◌∙◌, sym, arith, length, take, sum_by, slice_index, nat_lt}
-use Rattle.std.proofs.Common.{nat_cmp, ◌==◌, All}
+use Rattle.std.proofs.Common.{nat_cmp, ◌==◌, reverse, All}
 use mathlib.Core.Logic.{inl, inr}
 use Rattle.std.specs.Ordering.{ordering_then, is_lt}
 use Rattle.std.specs.declared.cmp.Ordering.{Ordering}
@@ -13,10 +13,11 @@ use Rattle.std.proofs.lemmas.List.{length-reverse}
 use Rattle.std.proofs.lemmas.List.Sums.{sum_by-cons}
 use Rattle.std.proofs.lemmas.List.Sorted.{sum_by-IsPermutation, All-permutation}
 use borrow.Author.Tests.{ltb-true, lt-ltb}
+use Rattle.std.proofs.lemmas.List.Elements.{All-cons, All-tail}
 use Rattle.regatta_scores.specs.Exclusions.{counting}
-use Rattle.regatta_scores.specs.Ranking.{BoatScores, net, best_to_worst, last_to_first, beats}
+use Rattle.regatta_scores.specs.Ranking.{BoatScores, net, best_to_worst, beats}
 use Rattle.regatta_scores.specs.RankLaws.{IsLowerAtFirst, IsBetter, BeatsInThreeCases}
-use Rattle.regatta_scores.proofs.Sorting.{all_cons, all_rest, rising_permutes}
+use Rattle.regatta_scores.proofs.Sorting.{rising_permutes}
 use Rattle.regatta_scores.proofs.Ties.{Less-is}
 
 -- ---- comparisons of numbers
@@ -86,7 +87,7 @@ first_lower_by w x y xs ys Less positive sums here e rest =
 first_lower_by w x y xs ys Equal positive sums here e rest =
     let equal : x ≡ y = nat_cmp-IsAntisymmetric x y here in
     let weights = ap w equal in
-    at_next x y xs ys equal (rest (all_rest (λ z. 1 ≤ w z) y ys positive)
+    at_next x y xs ys equal (rest (All-tail (λ z. 1 ≤ w z) y ys positive)
     (omega (arith, sums, weights, sum_by-cons w x xs, sum_by-cons w y ys)) e)
 first_lower_by w x y xs ys Greater positive sums here e rest = cc
 
@@ -106,11 +107,11 @@ counting_positive : (points : List ℕ) (flags : List Bool) → All (λ p. 10 �
 counting_positive [] flags each = λ k d h. absurd (omega (arith, h))
 counting_positive (x ∷ xs) [] each = λ k d h. absurd (omega (arith, h))
 counting_positive (x ∷ xs) (true ∷ flags) each =
-    counting_positive xs flags (all_rest (λ p. 10 ≤ p) x xs each)
+    counting_positive xs flags (All-tail (λ p. 10 ≤ p) x xs each)
 counting_positive (x ∷ xs) (false ∷ flags) each =
     let here : 10 ≤ x = each zero x (omega arith) in
-    all_cons (λ p. 1 ≤ p) x (counting xs flags) (omega (arith, here))
-    (counting_positive xs flags (all_rest (λ p. 10 ≤ p) x xs each))
+    All-cons (λ p. 1 ≤ p) x (counting xs flags) (omega (arith, here))
+    (counting_positive xs flags (All-tail (λ p. 10 ≤ p) x xs each))
 
 best_sum : (a : BoatScores) → sum_by (λ p. p) (best_to_worst a) ≡ net a
 best_sum a =
@@ -132,7 +133,7 @@ better_by : (a b : BoatScores) → All (λ p. 10 ≤ p) b.points → length a.po
     (r s : Ordering) → nat_cmp (net a) (net b) ≡ r →
     slice_cmp nat_cmp (best_to_worst a) (best_to_worst b) ≡ s →
     is_lt (ordering_then r (ordering_then s
-    (slice_cmp nat_cmp (last_to_first a) (last_to_first b)))) ≡ true → IsBetter a b
+    (slice_cmp nat_cmp (reverse a.points) (reverse b.points)))) ≡ true → IsBetter a b
 better_by a b high long Less s e f h = inl (less_is (net a) (net b) e)
 better_by a b high long Equal Less e f h =
     let equal = nat_cmp-IsAntisymmetric (net a) (net b) e in
@@ -145,16 +146,16 @@ better_by a b high long Equal Equal e f h =
     let equal = nat_cmp-IsAntisymmetric (net a) (net b) e in
     let same =
     slice_cmp-IsAntisymmetric nat_cmp-IsAntisymmetric (best_to_worst a) (best_to_worst b) f in
-    let lengths : sum_by (λ (p : ℕ). 1) (last_to_first a)
-    ≡ sum_by (λ (p : ℕ). 1) (last_to_first b) =
-    ones (last_to_first a) ∙ length-reverse a.points ∙ long ∙ sym (length-reverse b.points)
-    ∙ sym (ones (last_to_first b)) in
+    let lengths : sum_by (λ (p : ℕ). 1) (reverse a.points)
+    ≡ sum_by (λ (p : ℕ). 1) (reverse b.points) =
+    ones (reverse a.points) ∙ length-reverse a.points ∙ long ∙ sym (length-reverse b.points)
+    ∙ sym (ones (reverse b.points)) in
     inr (inr (
       equal,
       same,
-      first_lower (λ p. 1) (last_to_first a) (last_to_first b)
+      first_lower (λ p. 1) (reverse a.points) (reverse b.points)
           (λ k d within. omega arith) lengths
-          (Less-is (slice_cmp nat_cmp (last_to_first a) (last_to_first b)) h),
+          (Less-is (slice_cmp nat_cmp (reverse a.points) (reverse b.points)) h),
     ))
 better_by a b high long Equal Greater e f h = cc
 better_by a b high long Greater s e f h = cc
@@ -163,21 +164,20 @@ beats_by : (a b : BoatScores) → IsBetter a b → beats a b ≡ true
 beats_by a b (inl lower) =
     ap (λ r. is_lt (ordering_then r
     (ordering_then (slice_cmp nat_cmp (best_to_worst a) (best_to_worst b))
-    (slice_cmp nat_cmp (last_to_first a) (last_to_first b))))) (is_less (net a) (net b) lower)
+    (slice_cmp nat_cmp (reverse a.points) (reverse b.points))))) (is_less (net a) (net b) lower)
 beats_by a b (inr (inl case)) =
     let first = ap (nat_cmp (net a)) (sym case.0) ∙ tied_itself nat_cmp_total (net a) in
     let second =
     lower_at (best_to_worst a) (best_to_worst b) case.1.at case.1.in_first case.1.in_second
     case.1.same case.1.lower in
     λ i. is_lt (ordering_then (first i)
-    (ordering_then (second i) (slice_cmp nat_cmp (last_to_first a) (last_to_first b))))
+    (ordering_then (second i) (slice_cmp nat_cmp (reverse a.points) (reverse b.points))))
 beats_by a b (inr (inr case)) =
     let first = ap (nat_cmp (net a)) (sym case.0) ∙ tied_itself nat_cmp_total (net a) in
-    let second =
-    ap (slice_cmp nat_cmp (best_to_worst a)) (sym case.1)
+    let second = ap (slice_cmp nat_cmp (best_to_worst a)) (sym case.1)
     ∙ tied_itself nat_list_cmp_total (best_to_worst a) in
     let third =
-    lower_at (last_to_first a) (last_to_first b) case.2.at case.2.in_first case.2.in_second
+    lower_at (reverse a.points) (reverse b.points) case.2.at case.2.in_first case.2.in_second
     case.2.same case.2.lower in
     λ i. is_lt (ordering_then (first i) (ordering_then (second i) (third i)))
 

@@ -1,15 +1,18 @@
 -- A line depends on no abbreviation.
-use Rattle.std.proofs.Common.{◌≡◌, ℕ, suc, Bool, true, false, cond, List, [], ◌∷◌, refl, ap}
-use Rattle.std.proofs.Common.{◌∙◌, sym, ◌+◌, ◌++◌, length, map, take, drop, None}
-use Rattle.std.specs.List.{enumerate_from, fold, remove}
+use Rattle.std.proofs.Common.{◌≡◌, ℕ, suc, cond, List, [], ◌∷◌, refl, ap}
+use Rattle.std.proofs.Common.{◌∙◌, sym, ◌+◌, ◌++◌, length, map, take, drop, nat_eq, None}
+use Rattle.std.specs.List.{enumerate_from, remove}
 use Rattle.std.proofs.lemmas.List.{length-map, take-map, drop-map, map-append}
+use Rattle.regatta_scores.proofs.Counts.{sum_by-map}
+use Rattle.regatta_scores.proofs.TiedTimes.{map_filter}
 use Rattle.regatta_terms.specs.Rules.{RulesParts, exclusions_of}
 use Rattle.regatta_scores.specs.declared.boats.Averaged.{Averaged}
 use Rattle.regatta_scores.specs.declared.boats.Averaged.TheVariants.{OverNone, OverAll, OverBefore}
 use Rattle.regatta_scores.specs.declared.boats.RaceScore.{RaceScore}
 use Rattle.regatta_scores.specs.declared.boats.Scored.{Scored}
-use Rattle.regatta_scores.specs.Averages.{average_or, average_over, counted, is_own, points}
-use Rattle.regatta_scores.specs.Averages.{redressed, total}
+use Rattle.regatta_scores.specs.Averages.{average_over, is_own, points, redressed}
+use Rattle.regatta_scores.specs.RedressLaws.{counted}
+use Rattle.regatta_scores.proofs.AverageBounds.{average, total}
 use Rattle.regatta_scores.specs.Exclusions.{excluded}
 use Rattle.regatta_scores.specs.Lines.{line_by, scored_by}
 use Rattle.regatta_scores.specs.RaceScores.{ScoresAs}
@@ -35,23 +38,10 @@ remove_unmarked scores k =
 
 counted_unmarked : (scores : List RaceScore)
     → counted (map unmarked scores) ≡ map unmarked (counted scores)
-counted_unmarked [] = refl
-counted_unmarked (s ∷ scores) = by (is_own s.averaged) (counted_unmarked scores)
-  where
-    by : (own : Bool) → counted (map unmarked scores) ≡ map unmarked (counted scores)
-        → cond own (unmarked s ∷ counted (map unmarked scores)) (counted (map unmarked scores))
-        ≡ map unmarked (cond own (s ∷ counted scores) (counted scores))
-    by true rest = ap (λ xs. unmarked s ∷ xs) rest
-    by false rest = rest
+counted_unmarked scores = map_filter unmarked (λ score. is_own score.averaged) scores
 
 total_unmarked : (scores : List RaceScore) → total (map unmarked scores) ≡ total scores
-total_unmarked scores = from 0 scores
-  where
-    from : (n : ℕ) (rest : List RaceScore)
-        → fold (λ sum score. sum + score.points) n (map unmarked rest)
-        ≡ fold (λ sum score. sum + score.points) n rest
-    from n [] = refl
-    from n (s ∷ rest) = from (n + s.points) rest
+total_unmarked scores = sum_by-map (λ score. score.points) unmarked scores
 
 average_unmarked : (scores : List RaceScore) (plain : ℕ)
     → average_over (map unmarked scores) plain ≡ average_over scores plain
@@ -61,7 +51,7 @@ average_unmarked scores plain =
     ap length own ∙ length-map (counted scores) unmarked in
     let sum : total (counted (map unmarked scores)) ≡ total (counted scores) =
     ap total own ∙ total_unmarked (counted scores) in
-    λ i. average_or plain (many i) (sum i)
+    λ i. cond (nat_eq (many i) 0) plain (average (many i) (sum i))
 
 redressed_unmarked : (scores : List RaceScore) (k own : ℕ) (averaged : Averaged)
     → redressed (map unmarked scores) k own averaged ≡ redressed scores k own averaged

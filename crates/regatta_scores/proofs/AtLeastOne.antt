@@ -1,13 +1,14 @@
 -- No score is below 1.0 point.
-use Rattle.std.proofs.Common.{◌≡◌, ℕ, zero, suc, ◌+◌, ◌*◌, ◌<◌, ◌≤◌, Bool, true, false, cond}
+use Rattle.std.proofs.Common.{◌≡◌, ℕ, suc, ◌+◌, ◌*◌, ◌≤◌, Bool, true, false, cond}
 use Rattle.std.proofs.Common.{List, [], ◌∷◌, refl, ◌∙◌, sym, arith, length, get_or}
 use Rattle.std.proofs.Common.{fold, take, drop, All, Option, Some, None, nat_eq}
-use Rattle.std.specs.Prelude.{min, sum_by, remove}
+use Rattle.std.specs.Prelude.{min, count_by, remove}
 use Rattle.std.specs.List.{AllByRecursion, cons_option, enumerate_from}
 use Rattle.std.proofs.Math.Path.{subst}
 use Rattle.std.proofs.Math.Nat.{le-max_left}
 use Rattle.std.proofs.lemmas.List.Elements.{All-map, All-filter, All-take, All-drop, All-append}
 use Rattle.std.proofs.lemmas.List.Elements.{All-from_recursion, recursion_from_All}
+use borrow.Author.Tests.{eqb-false}
 use Rattle.regatta_terms.specs.Effects.{Decision, Marks, Penalises, Redresses, Clears, Act, Decides}
 use Rattle.regatta_terms.specs.Effects.{Effect, Enters, InRace, effect}
 use Rattle.regatta_terms.specs.Entries.{IsCommand, IsEntry, IsRedress}
@@ -31,19 +32,18 @@ use Rattle.regatta_scores.specs.Changes.{with_decision}
 use Rattle.regatta_scores.specs.Journal.{Journal, same_sail, act_in, acts, held, scored}
 use Rattle.regatta_scores.proofs.OneMore.{is_fold, held_from, held_after, held_step}
 use Rattle.regatta_scores.specs.Sheet.{nothing_held}
-use Rattle.regatta_scores.specs.RacePoints.{Race, Status, Finished, Coded, shared_points, penalised}
-use Rattle.regatta_scores.specs.RacePoints.{finishers, dnf_by, base_by, status, groups_ahead}
-use Rattle.regatta_scores.specs.RacePoints.{sharing, place_points, number_came, dnf, base, plain}
-use Rattle.regatta_scores.specs.RacePoints.{penalty_points, journal_race}
+use Rattle.regatta_scores.specs.RacePoints.{Race, Status, Finished, Coded, came, dnf_by, base_by}
+use Rattle.regatta_scores.specs.RacePoints.{status, place_points, dnf, plain, penalty_points}
+use Rattle.regatta_scores.specs.RacePoints.{journal_race}
 use Rattle.regatta_scores.specs.Averages as averages
-use Rattle.regatta_scores.specs.Averages.{is_own, average, average_over, counted, total, redressed}
-use Rattle.regatta_scores.specs.Outcomes.{outcome, redress_by, score_of, scores}
-use Rattle.regatta_scores.specs.RankLaws.{cell_points}
+use Rattle.regatta_scores.specs.Averages.{is_own, average_over, redressed}
+use Rattle.regatta_scores.specs.RedressLaws.{counted}
+use Rattle.regatta_scores.specs.Outcomes.{redress_by, scores}
+use Rattle.regatta_scores.specs.RankLaws.{cell_points, HasNoScoreBelowOne, NoScoreIsBelowOne}
 use Rattle.regatta_scores.specs.Standing.{line, standing}
-use Rattle.regatta_scores.specs.ScoreLaws.{HasNoScoreBelowOne, NoScoreIsBelowOne}
-use Rattle.regatta_scores.specs.ScoreLaws.{BoatsBeatInThreeCases, EntriesBeatInThreeCases}
+use Rattle.regatta_scores.specs.RankLaws.{BoatsBeatInThreeCases, EntriesBeatInThreeCases}
 use Rattle.regatta_scores.proofs.A8Cases.{boats_are_beaten_in_three_cases}
-use Rattle.regatta_scores.proofs.AverageBounds.{total_least, average_least}
+use Rattle.regatta_scores.proofs.AverageBounds.{average, total, total_least, average_least}
 use Rattle.regatta_scores.proofs.StandingRows.{cells_of, points_long, her_cells}
 use Rattle.regatta_scores.proofs.StandingRows.{standing_has_the_entered}
 
@@ -53,33 +53,28 @@ dnf_is_some : (absent : Absent) (entered came : ℕ) → 1 ≤ dnf_by absent ent
 dnf_is_some A52 entered came = omega arith
 dnf_is_some A53 entered came = omega arith
 
-shared_is_high : (ahead tied : ℕ) → 10 ≤ shared_points (1 + ahead) tied
-shared_is_high ahead tied = omega arith
-
 base_is_high : (s : Status) (place entered dnf : ℕ) → 10 ≤ place → 1 ≤ dnf →
     10 ≤ base_by s place entered dnf
 base_is_high Finished place entered dnf high some = high
 base_is_high (Coded code.Dnc) place entered dnf high some = omega arith
 base_is_high (Coded other) place entered dnf high some = omega arith
 
-penalised_up : (base penalty dnf : ℕ) → base ≤ penalised base penalty dnf
-penalised_up base penalty dnf = le-max_left base (min (base + 10 * penalty) (10 * dnf))
-
 plain_is_high : (rules : RulesParts) (race : Race Sail) (boat : Sail) →
     10 ≤ plain same_sail rules race boat
 plain_is_high rules race boat =
     let score = dnf same_sail rules race in
-    let some : 1 ≤ dnf same_sail rules race =
-    dnf_is_some rules.absent (length race.entered) (number_came same_sail race) in
-    let placed : 10 ≤ place_points same_sail race boat =
-    shared_is_high (sum_by (finishers race) (groups_ahead same_sail race boat))
-    (sharing same_sail race boat) in
-    let high : 10 ≤ base same_sail rules race boat =
+    let some : 1 ≤ score =
+    dnf_is_some rules.absent (length race.entered)
+    (count_by (λ other. came (status same_sail race other)) race.entered) in
+    let placed : 10 ≤ place_points same_sail race boat = omega arith in
+    let base =
+    base_by (status same_sail race boat) (place_points same_sail race boat) (length race.entered)
+    score in
+    let high : 10 ≤ base =
     base_is_high (status same_sail race boat) (place_points same_sail race boat)
     (length race.entered) score placed some in
-    let up : base same_sail rules race boat ≤ plain same_sail rules race boat =
-    penalised_up (base same_sail rules race boat)
-    (penalty_points rules score (race.held boat)) score in
+    let up : base ≤ plain same_sail rules race boat =
+    le-max_left base (min (base + 10 * penalty_points rules score (race.held boat)) (10 * score)) in
     omega (arith, high, up)
 
 -- ---- a score with redress
@@ -98,10 +93,6 @@ own_is_high plain (Some (Points award)) high range = range.0
 own_is_high plain (Some AllRaces) high range = high
 own_is_high plain (Some RacesBefore) high range = high
 
-some_number : (n : ℕ) → nat_eq n 0 ≡ false → 0 < n
-some_number zero e = cc
-some_number (suc n) e = omega arith
-
 average_is_high : (races : List RaceScore) (plain : ℕ) → 10 ≤ plain → All IsHigh races →
     10 ≤ average_over races plain
 average_is_high races plain high each =
@@ -111,7 +102,7 @@ average_is_high races plain high each =
   where
     by : (n s : ℕ) (b : Bool) → nat_eq n 0 ≡ b → 10 * n ≤ s → 10 ≤ cond b plain (average n s)
     by n s true e least = high
-    by n s false e least = average_least n s 10 (some_number n e) least
+    by n s false e least = average_least n s 10 (omega (arith, eqb-false n 0 e)) least
 
 redressed_is_high : (scores : List RaceScore) (i own : ℕ) (over : Averaged) → All IsHigh scores →
     10 ≤ own → 10 ≤ redressed scores i own over
@@ -211,12 +202,11 @@ redress_in_range journal race boat each =
 module _ (rules : RulesParts) (journal : Journal) (each : All IsEntry journal) where
   races_are_high : (boat : Sail) → All IsHigh (scores rules journal boat)
   races_are_high boat =
-      All-map IsHigh (λ (race : ℕ).
-      score_of (outcome same_sail rules (journal_race rules journal race) boat)) (scored journal)
-      (λ k d h. at (get_or (scored journal) k d))
+      All-map IsHigh _ (scored journal) (λ k d h. at (get_or (scored journal) k d))
     where
       at : (race : ℕ)
-          → IsHigh (score_of (outcome same_sail rules (journal_race rules journal race) boat))
+          → 10 ≤ (redress_by (plain same_sail rules (journal_race rules journal race) boat)
+          (held journal race boat).redress).0
       at race =
           own_is_high (plain same_sail rules (journal_race rules journal race) boat)
           (held journal race boat).redress
@@ -260,9 +250,7 @@ module _ (rules : RulesParts) (journal : Journal) (each : All IsEntry journal) w
 -- ---- journals of entries
 
 pub no_score_is_below_one : NoScoreIsBelowOne
-no_score_is_below_one rules journal each =
-    no_score_below_one rules journal each
+no_score_is_below_one rules journal each = no_score_below_one rules journal each
 
 pub entries_beat_in_three_cases : EntriesBeatInThreeCases
-entries_beat_in_three_cases rules journal each =
-    boats_beat_in_three_cases rules journal each
+entries_beat_in_three_cases rules journal each = boats_beat_in_three_cases rules journal each

@@ -1,13 +1,20 @@
 -- The bounds of an average.
 use Rattle.std.proofs.Common.{◌≡◌, ℕ, zero, suc, Bool, true, false, ◌+◌, ◌*◌, ◌/◌, ◌<◌, ◌≤◌, List}
-use Rattle.std.proofs.Common.{[], ◌∷◌, refl, arith, length, All, cond, nat_eq}
+use Rattle.std.proofs.Common.{[], ◌∷◌, refl, sym, subst, arith, length, All, cond, nat_eq, sum_by}
 use Rattle.std.proofs.lemmas.List.Sums.{sum_by-cons}
 use Rattle.std.proofs.Math.Nat.{le-div_iff_mul-le, div-lt_iff_lt-mul, mul_left_comm, mul-suc}
 use Rattle.std.proofs.Math.Nat.{mul-div-le, lt-mul-div-succ}
 use borrow.Author.Tests.{eqb-true}
 use Rattle.regatta_scores.specs.declared.boats.RaceScore.{RaceScore}
-use Rattle.regatta_scores.specs.Averages.{average, average_or, counted, total}
-use Rattle.regatta_scores.specs.RedressLaws.{AveragesLieBetween, AveragesAreNearest}
+use Rattle.regatta_scores.specs.RedressLaws.{counted, AveragesLieBetween, AveragesAreNearest}
+
+-- the average of n points with sum s, to the nearest tenth, 0.05 upward (A9)
+abbrev pub average : ℕ → ℕ → ℕ
+average n s = (2 * s + n) / (2 * n)
+
+-- the sum of her points in these races
+abbrev pub total : List RaceScore → ℕ
+total races = sum_by (λ score. score.points) races
 
 -- if each of n points is at least `low`, their sum is at least n times `low`
 pub total_least : (xs : List RaceScore) (low : ℕ) →
@@ -49,24 +56,33 @@ average_by plain n s true some e = let zero_races = eqb-true n 0 e in
     absurd (omega (arith, zero_races))
 average_by plain n s false some e = refl
 
-average_is : (plain n s : ℕ) → 0 < n → average_or plain n s ≡ average n s
-average_is plain n s some = average_by plain n s (nat_eq n 0) some refl
+-- an average is at most the highest of its points
+pub average_small : (n s : ℕ) → 0 < n → s ≤ 65535 * n → (2 * s + n) / (2 * n) < 65536
+average_small n s some small = (div-lt_iff_lt-mul (omega arith)).1 (omega arith)
 
 pub averages_lie_between : AveragesLieBetween
 averages_lie_between races plain low high some each =
     let n = length (counted races) in
     let least = total_least (counted races) low (λ k d h. (each k d h).0) in
     let greatest = total_most (counted races) high (λ k d h. (each k d h).1) in
-    let same = average_is plain n (total (counted races)) some in
+    let same = average_by plain n (total (counted races)) (nat_eq n 0) some refl in
     let above = average_least n (total (counted races)) low some least in
     let below = average_most n (total (counted races)) high some greatest in
     (omega (arith, same, above), omega (arith, same, below))
 
-pub averages_are_nearest : AveragesAreNearest
-averages_are_nearest n s some =
+nearest : (n s : ℕ) → 0 < n
+    → (2 * n * average n s ≤ 2 * s + n) × (2 * s < 2 * n * average n s + n)
+nearest n s some =
     let below = mul-div-le (2 * s + n) (2 * n) in
     let above : 2 * s + n < 2 * n * ((2 * s + n) / (2 * n) + 1) =
     lt-mul-div-succ (2 * s + n) (omega arith) in
     let more : 2 * n * ((2 * s + n) / (2 * n) + 1) ≡ 2 * n * ((2 * s + n) / (2 * n)) + 2 * n =
     omega arith in
     (omega (arith, below), omega (arith, above, more))
+
+pub averages_are_nearest : AveragesAreNearest
+averages_are_nearest races plain some =
+    let n = length (counted races) in
+    let s = total (counted races) in
+    subst (λ (a : ℕ). (2 * n * a ≤ 2 * s + n) × (2 * s < 2 * n * a + n))
+    (sym (average_by plain n s (nat_eq n 0) some refl)) (nearest n s some)

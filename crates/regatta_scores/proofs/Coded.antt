@@ -1,7 +1,6 @@
 -- A boat that is given a code leaves the finishing order.
-use Rattle.std.proofs.Common.{◌≡◌, ℕ, ◌+◌, ◌≤◌, Bool, true, false, cond, List, [], ◌∷◌}
-use Rattle.std.proofs.Common.{◌++◌, refl, ap, ◌∙◌, arith}
-use Rattle.std.proofs.Common.{count_by, sum_by, Option, Some, None, is_none, find}
+use Rattle.std.proofs.Common.{◌≡◌, ℕ, ◌+◌, ◌≤◌, Bool, true, false, cond, List, [], ◌∷◌, ◌++◌, refl}
+use Rattle.std.proofs.Common.{ap, ◌∙◌, arith, count_by, sum_by, Option, Some, None, is_none, find}
 use Rattle.std.proofs.Common.{unwrap_or}
 use Rattle.std.specs.List.{before_first, position_or_len}
 use Rattle.std.proofs.lemmas.List.Sums.{sum_by-take-le}
@@ -16,7 +15,7 @@ use Rattle.regatta_scores.specs.declared.sheet.Held.{Held}
 use Rattle.regatta_scores.specs.Order.{in_group, stands_in}
 use Rattle.regatta_scores.specs.Journal.{Journal, same_sail, acts, order, held}
 use Rattle.regatta_scores.specs.RacePoints.{Finished, Coded, journal_race, status}
-use Rattle.regatta_scores.specs.RacePoints.{status_by, finishers, groups_ahead, her_group}
+use Rattle.regatta_scores.specs.RacePoints.{status_by, finishers}
 use Rattle.regatta_scores.specs.RaceLaws.{CodedBoatsLeaveTheOrder}
 use Rattle.regatta_scores.proofs.Apart.{one_act, order_stays, held_stays}
 use Rattle.regatta_scores.proofs.OneMore.{held_from, held_step}
@@ -42,8 +41,7 @@ module _ (rules : RulesParts) (journal : Journal) (entry : EntryParts) (race : �
       ap (λ (h : Held). h.code)
       (ap (λ done. held_from done boat)
       (one_act journal entry race (Decides coded (Marks code)) does)
-      ∙ held_step boat (acts journal race) (Decides coded (Marks code)))
-      ∙ rw e refl
+      ∙ held_step boat (acts journal race) (Decides coded (Marks code))) ∙ rw e refl
 
   status_after : (boat : Sail) (b : Bool) → same_sail boat coded ≡ b →
       status same_sail (journal_race rules (journal ++ entry ∷ []) race) boat
@@ -76,8 +74,7 @@ module _ (rules : RulesParts) (journal : Journal) (entry : EntryParts) (race : �
       ap (λ (h : Held). h.code) (held_is rules journal entry race coded code is_mark boat e) in
       rw same (omega arith)
 
-  group_split : (group : List Sail) →
-      finishers (journal_race rules journal race) group
+  group_split : (group : List Sail) → finishers (journal_race rules journal race) group
       ≡ finishers (journal_race rules (journal ++ entry ∷ []) race) group
       + count_by (λ other. same_sail other coded) group
   group_split group =
@@ -91,11 +88,11 @@ coded_boats_leave rules journal entry race coded code is_mark once was_finished 
     let new = journal_race rules (journal ++ entry ∷ []) race in
     let p : Sail → Bool = λ other. same_sail other coded in
     let stays = order_is rules journal entry race coded code is_mark in
-    let ahead = groups_ahead same_sail old boat in
-    let hers = her_group same_sail old boat in
-    let same_ahead : groups_ahead same_sail new boat ≡ ahead =
+    let ahead = before_first (in_group same_sail boat) old.order in
+    let hers = unwrap_or (find (in_group same_sail boat) old.order) [] in
+    let same_ahead : before_first (in_group same_sail boat) new.order ≡ ahead =
     ap (before_first (in_group same_sail boat)) stays in
-    let same_hers : her_group same_sail new boat ≡ hers =
+    let same_hers : unwrap_or (find (in_group same_sail boat) new.order) [] ≡ hers =
     ap (λ gs. unwrap_or (find (in_group same_sail boat) gs) []) stays in
     let split =
     sum_split (finishers old) (finishers new) (count_by p)

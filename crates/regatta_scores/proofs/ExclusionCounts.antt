@@ -9,12 +9,18 @@ use Rattle.std.proofs.lemmas.List.{length-map}
 use Rattle.std.proofs.lemmas.List.FromFn.{length-enumerate_from}
 use Rattle.std.proofs.lemmas.Option.{slice_get-map}
 use Rattle.std.specs.Cmp.{first_so, second_so}
-use borrow.Author.Tests.{ltb-true, ltb-false, leb-true, leb-false, lt-ltb, le-leb}
+use borrow.Author.Tests.{ltb-true, ltb-false, leb-true, leb-false, lt-ltb, le-leb, le-ltb, not-true}
+use borrow.Author.Tests.{lt-leb}
+use Rattle.std.proofs.lemmas.Bool.{not_from_false}
 use Rattle.regatta_scores.specs.declared.boats.Scored.{Scored}
-use Rattle.regatta_scores.specs.Exclusions.{excluded_ahead, is_excluded, excluded}
-use Rattle.regatta_scores.specs.ExclusionLaws.{WorstAreExcluded}
+use Rattle.regatta_scores.specs.Exclusions.{excluded_ahead, excluded}
+use Rattle.regatta_scores.specs.RankLaws.{WorstAreExcluded}
 use Rattle.regatta_scores.proofs.Counts.{count_cons, count_by-map}
-use Rattle.regatta_scores.proofs.Members.{lt_false, lt_same, le_by, count_le}
+use Rattle.regatta_scores.proofs.Members.{lt_same, le_by, count_le, and_same, upto_one, second_not}
+
+-- a score is excluded if it isn't a DNE (90.3(b)) and fewer than d are excluded before it
+abbrev is_excluded : ℕ → List Scored → ℕ → Scored → Bool
+is_excluded d scores i score = not score.dne && nat_lt (excluded_ahead scores i score.points) d
 
 -- whether an excludable score is worse than some points, or at least as bad
 abbrev worse : ℕ → Scored → Bool
@@ -25,14 +31,14 @@ as_bad mine s = not s.dne && nat_le mine s.points
 
 -- ---- one more score at the front
 
-ahead_first : (x : Scored) (ys : List Scored) (mine : ℕ) →
+pub ahead_first : (x : Scored) (ys : List Scored) (mine : ℕ) →
     excluded_ahead (x ∷ ys) 0 mine ≡ count_by (worse mine) ys
 ahead_first x ys mine =
     let back : count_by (worse mine) (drop (0 + 1) (x ∷ ys)) ≡ count_by (worse mine) ys = refl in
     let front : count_by (as_bad mine) (take 0 (x ∷ ys)) ≡ 0 = refl in
     omega (arith, front, back)
 
-ahead_later : (x : Scored) (ys : List Scored) (k mine : ℕ) →
+pub ahead_later : (x : Scored) (ys : List Scored) (k mine : ℕ) →
     excluded_ahead (x ∷ ys) (suc k) mine ≡ cond (as_bad mine x) 1 0 + excluded_ahead ys k mine
 ahead_later x ys k mine =
     let front : count_by (as_bad mine) (take (suc k) (x ∷ ys))
@@ -68,7 +74,7 @@ worse_from_worse low high upto s =
 
 -- ---- how many are excluded ahead of a score
 
-read : {X : Type 0} (x y d : X) → Some x ≡ Some y → x ≡ y
+pub read : {X : Type 0} (x y d : X) → Some x ≡ Some y → x ≡ y
 read x y d e = ap (λ o. unwrap_or o d) e
 
 -- fewer scores are excluded before one that is worse than some points than there are scores worse
@@ -93,20 +99,20 @@ few_ahead (y ∷ ys) (suc k) s mine at excludable apart =
       few_ahead ys k s mine at excludable apart,
     )
 
+never : (dne : Bool) → ◌≡◌ {A = ℕ} (cond (not dne && false) 1 0) 0
+never true = refl
+never false = refl
+
 -- all scores worse than some points are excluded before a score that is no worse than those
 many_ahead : (ys : List Scored) (k : ℕ) (s : Scored) (top mine : ℕ) → slice_get ys k ≡ Some s →
     s.points ≤ top → mine ≤ top → count_by (worse top) ys ≤ excluded_ahead ys k mine
 many_ahead [] k s top mine at upto least = cc
 many_ahead (y ∷ ys) zero s top mine at upto least =
     let one : y ≡ s = read y s s at in
-    let not_worse : nat_lt top s.points ≡ false = lt_false top s.points upto in
+    let not_worse : nat_lt top s.points ≡ false = le-ltb top s.points upto in
     let uncounted : ◌≡◌ {A = ℕ} (cond (worse top y) 1 0) 0 = rw one (rw not_worse (never s.dne)) in
     let fewer = count_le (worse top) (worse mine) (worse_from_worse mine top least) ys in
     omega (arith, ahead_first y ys mine, count_cons (worse top) y ys, uncounted, fewer)
-  where
-    never : (dne : Bool) → ◌≡◌ {A = ℕ} (cond (not dne && false) 1 0) 0
-    never true = refl
-    never false = refl
 many_ahead (y ∷ ys) (suc k) s top mine at upto least =
     let here = le_by (worse top y) (as_bad mine y) (as_bad_from_worse mine top least y) in
     omega (
@@ -175,10 +181,6 @@ at_index ys k j y index at = let same : j ≡ k = omega (arith, index) in ap (sl
 flagged : ℕ → List Scored → ℕ
 flagged d scores = count_by (λ race. is_excluded d scores race.0 race.1) (enumerate_from 0 scores)
 
-same_unless : (dne p q : Bool) → (dne ≡ false → p ≡ q) → (not dne && p) ≡ (not dne && q)
-same_unless true p q same = refl
-same_unless false p q same = same refl
-
 flagged_cons : (d : ℕ) (x : Scored) (ys : List Scored) →
     flagged d (x ∷ ys) ≡ cond (is_excluded d (x ∷ ys) 0 x) 1 0
     + count_by (λ race. is_excluded d (x ∷ ys) (race.0 + 1) race.1) (enumerate_from 0 ys)
@@ -188,20 +190,11 @@ flagged_cons d x ys =
     omega (arith, count_cons p (0, x) (enumerate_from (0 + 1) ys), count_later p 0 ys)
 
 as_bad_no : (mine : ℕ) (s : Scored) → s.points < mine → ◌≡◌ {A = ℕ} (cond (as_bad mine s) 1 0) 0
-as_bad_no mine s below = by s.dne (nat_le mine s.points) refl
-  where
-    by : (dne b : Bool) → nat_le mine s.points ≡ b → ◌≡◌ {A = ℕ} (cond (not dne && b) 1 0) 0
-    by true b e = refl
-    by false true e = let least = leb-true mine s.points e in absurd (omega (arith, least))
-    by false false e = refl
+as_bad_no mine s below = rw (lt-leb mine s.points below) (never s.dne)
 
 as_bad_yes : (mine : ℕ) (s : Scored) → s.dne ≡ false → mine ≤ s.points →
     ◌≡◌ {A = ℕ} (cond (as_bad mine s) 1 0) 1
 as_bad_yes mine s excludable upto = rw (excludable, le-leb mine s.points upto) refl
-
-one_at_most : (b : Bool) → cond b 1 0 ≤ 1
-one_at_most true = omega arith
-one_at_most false = omega arith
 
 -- the number excluded before a score, after a score is added at the front
 ahead_behind : (x : Scored) (ys : List Scored) (j mine : ℕ) →
@@ -263,13 +256,12 @@ behind_excluded : (e : ℕ) (x : Scored) (ys : List Scored) → x.dne ≡ false 
     is_excluded (suc e) (x ∷ ys) (j + 1) y ≡ is_excluded e ys j y
 behind_excluded e x ys front few j y at =
     let ahead = ahead_behind x ys j y.points in
-    same_unless y.dne (nat_lt (excluded_ahead (x ∷ ys) (j + 1) y.points) (suc e))
+    and_same (not y.dne) (nat_lt (excluded_ahead (x ∷ ys) (j + 1) y.points) (suc e))
     (nat_lt (excluded_ahead ys j y.points) e)
-    (λ excludable. lt_same (excluded_ahead (x ∷ ys) (j + 1) y.points) (suc e)
+    (λ free. let excludable = not-true y.dne free in lt_same (excluded_ahead (x ∷ ys) (j + 1) y.points) (suc e)
     (excluded_ahead ys j y.points) e
     (λ h. excluded_by e x ys j y (nat_le y.points x.points) refl front excludable few at
-    (omega (arith, h, ahead)))
-    (λ h. omega (arith, h, ahead, one_at_most (as_bad y.points x))))
+    (omega (arith, h, ahead))) (λ h. omega (arith, h, ahead, upto_one (as_bad y.points x))))
 
 worse_are_excludable : (mine : ℕ) (ys : List Scored) →
     count_by (worse mine) ys ≤ count_by (λ s. not s.dne) ys
@@ -357,10 +349,6 @@ flag_at d scores i s at =
     slice_get-map flag (enumerate_from 0 scores) i
     ∙ ap (option_map flag) (enumerate_at 0 scores i i s (omega arith) at)
 
-counting_flag : (dne b : Bool) → dne ≡ false → (not dne && b) ≡ false → b ≡ false
-counting_flag true b e h = cc
-counting_flag false b e h = h
-
 worst_by : (scores : List Scored) (i j : ℕ) (s t : Scored) → slice_get scores i ≡ Some s →
     slice_get scores j ≡ Some t → t.dne ≡ false →
     excluded_ahead scores i s.points < excluded_ahead scores j t.points →
@@ -405,17 +393,16 @@ worst_are_excluded d scores =
           flag_at d scores i s at ∙ ap Some off;
       worst = λ i j s t at_i at_j flag_i flag_j free.
           let on : is_excluded d scores i s ≡ true =
-          read (is_excluded d scores i s) true true
-          (sym (flag_at d scores i s at_i) ∙ flag_i) in
+          read (is_excluded d scores i s) true true (sym (flag_at d scores i s at_i) ∙ flag_i) in
           let off : is_excluded d scores j t ≡ false =
-          read (is_excluded d scores j t) false true
-          (sym (flag_at d scores j t at_j) ∙ flag_j) in
+          read (is_excluded d scores j t) false true (sym (flag_at d scores j t at_j) ∙ flag_j) in
           let below =
           ltb-true (excluded_ahead scores i s.points) d
           (second_so (not s.dne) (nat_lt (excluded_ahead scores i s.points) d) on) in
           let above =
           ltb-false (excluded_ahead scores j t.points) d
-          (counting_flag t.dne (nat_lt (excluded_ahead scores j t.points) d) free off) in
+          (second_not (not t.dne) (nat_lt (excluded_ahead scores j t.points) d)
+          (not_from_false t.dne free) off) in
           worst_by scores i j s t at_i at_j free (omega (arith, below, above))
           (nat_lt t.points s.points) (nat_lt i j) refl refl;
     }

@@ -55,13 +55,11 @@ from_the_last_step xs ys k h w =
     (from (k + 1) (reverse xs) (reverse ys)))
 
 pub from_the_last_end : (xs ys : List ℕ) (k : ℕ) → k ≡ min (length xs) (length ys) →
-    slice_cmp nat_cmp (drop k (reverse xs)) (drop k (reverse ys))
-    ≡ nat_cmp (length xs) (length ys)
+    slice_cmp nat_cmp (drop k (reverse xs)) (drop k (reverse ys)) ≡ nat_cmp (length xs) (length ys)
 unfolding from
 from_the_last_end xs ys k end =
     let a = length-reverse xs in
     let b = length-reverse ys in
-    from_end (reverse xs) (reverse ys) k (omega (arith, a, b))
-    ∙ (λ i. nat_cmp (a i) (b i))
+    from_end (reverse xs) (reverse ys) k (omega (arith, a, b)) ∙ (λ i. nat_cmp (a i) (b i))
 
 pub ruleset from_the_last = (from_the_last_step, from_the_last_end)

@@ -7,15 +7,17 @@ use Rattle.std.proofs.lemmas.List.Elements.{filter-append, recursion_from_All}
 use Rattle.std.proofs.lemmas.List.Folds.{list_any-append}
 use Rattle.std.proofs.lemmas.List.Sums.{fold_push}
 use Rattle.std.specs.Cmp.Lexicographic.{bytes_decides}
+use borrow.Author.Tests.{not-true}
+use Rattle.std.proofs.lemmas.Bool.{false_from_ne_true}
 use Rattle.regatta_terms.specs.Effects.{Act, Places, Strikes, Decides, Counts, AtEnd, TiedWith}
 use Rattle.regatta_terms.specs.Effects.{AheadOf, ByTime}
 use Rattle.regatta_terms.specs.Rules.{RulesParts}
 use Rattle.regatta_terms.specs.declared.sail.Sail.{Sail}
 use Rattle.regatta_scores.specs.Order.{is_empty, stands_in, HasNoEmptyGroup, without}
 use Rattle.regatta_scores.specs.CorrectedTimes.{CorrectedTime, order_of_times, time_in, with_time}
-use Rattle.regatta_scores.specs.Journal.{same_sail, order_after, order_by, ends_time, time_left}
+use Rattle.regatta_scores.specs.Journal.{same_sail, order_after, ends_time, time_left}
 use Rattle.regatta_scores.specs.Journal.{lasting_times}
-use Rattle.regatta_scores.proofs.Members.{all_passed}
+use Rattle.regatta_scores.proofs.Members.{all_passed, those_passed}
 use Rattle.regatta_scores.proofs.OneMore.{is_fold}
 use Rattle.regatta_scores.proofs.TimedOrders.{order_with_time, order_without, stays_by}
 
@@ -30,18 +32,12 @@ is_same : (x : Sail) → same_sail x x ≡ true
 is_same x = (bytes_decides x x).1 refl
 
 pub apart_back : (x y : Sail) → same_sail x y ≡ false → same_sail y x ≡ false
-apart_back x y h = by (same_sail y x) refl
-  where
-    by : (b : Bool) → same_sail y x ≡ b → b ≡ false
-    by true e =
-        let no_way : true ≡ false =
-        sym (is_same x) ∙ ap (same_sail x) (sym (same_is y x e)) ∙ h in cc
-    by false e = refl
+apart_back x y h = false_from_ne_true _ (λ e. (let no_way : true ≡ false =
+    sym (is_same x) ∙ ap (same_sail x) (sym (same_is y x e)) ∙ h in cc))
 
 -- ---- the times after one more act
 
-left_more : (given : Act) (acts : List Act) (act : Act) →
-    time_left given (acts ++ act ∷ [])
+left_more : (given : Act) (acts : List Act) (act : Act) → time_left given (acts ++ act ∷ [])
     ≡ filter (λ t. not (ends_time t.boat act)) (time_left given acts)
 left_more (Places sail (ByTime seconds)) acts act =
     ap (λ b. cond b [] (record { boat = sail; seconds = seconds } ∷ []))
@@ -57,8 +53,7 @@ left_more (Places sail (ByTime seconds)) acts act =
     by false false e = rw e refl
 left_more _ acts act = refl
 
-times_push : (acts : List Act) (act : Act) →
-    lasting_times (acts ++ act ∷ [])
+times_push : (acts : List Act) (act : Act) → lasting_times (acts ++ act ∷ [])
     ≡ filter (λ t. not (ends_time t.boat act)) (lasting_times acts) ++ time_left act []
 times_push [] act = append-nil (time_left act [])
 times_push (given ∷ acts) act =
@@ -103,16 +98,6 @@ Distinct : List (CorrectedTime Sail) → Type 0
 Distinct [] = Unit {0}
 Distinct (t ∷ ts) = AllByRecursion (λ o. same_sail t.boat o.boat ≡ false) ts × Distinct ts
 
-all_filtered : {X : Type 0} (P : X → Type 0) (p : X → Bool) (xs : List X) → AllByRecursion P xs →
-    AllByRecursion P (filter p xs)
-all_filtered P p [] all = tt
-all_filtered P p (x ∷ xs) all = by (p x) (all_filtered P p xs all.1)
-  where
-    by : (b : Bool) → AllByRecursion P (filter p xs) →
-        AllByRecursion P (cond b (x ∷ filter p xs) (filter p xs))
-    by true rest = (all.0, rest)
-    by false rest = rest
-
 all_pushed : {X : Type 0} (P : X → Type 0) (xs : List X) (x : X) → AllByRecursion P xs → P x →
     AllByRecursion P (xs ++ x ∷ [])
 all_pushed P [] x all last = (last, tt)
@@ -121,29 +106,21 @@ all_pushed P (y ∷ ys) x all last = (all.0, all_pushed P ys x all.1 last)
 -- the times without that of a boat are those of others
 left_are_others : (ts : List (CorrectedTime Sail)) (boat : Sail) →
     AllByRecursion (λ t. same_sail t.boat boat ≡ false) (without_time ts boat)
-left_are_others [] boat = tt
-left_are_others (t ∷ ts) boat = by (same_sail t.boat boat) refl (left_are_others ts boat)
-  where
-    by : (b : Bool) → same_sail t.boat boat ≡ b →
-        AllByRecursion (λ (o : CorrectedTime Sail). same_sail o.boat boat ≡ false)
-        (without_time ts boat) →
-        AllByRecursion (λ (o : CorrectedTime Sail). same_sail o.boat boat ≡ false)
-        (cond (not b) (t ∷ without_time ts boat) (without_time ts boat))
-    by true e rest = rest
-    by false e rest = (e, rest)
+left_are_others ts boat =
+    those_passed (λ (o : CorrectedTime Sail). same_sail o.boat boat ≡ false)
+    (λ o. not (same_sail o.boat boat)) (λ o h. not-true (same_sail o.boat boat) h) ts
 
 distinct_left : (ts : List (CorrectedTime Sail)) (boat : Sail) → Distinct ts →
     Distinct (without_time ts boat)
 unfolding Distinct
 distinct_left [] boat apart = tt
-distinct_left (t ∷ ts) boat apart =
-    by (same_sail t.boat boat) (distinct_left ts boat apart.1)
+distinct_left (t ∷ ts) boat apart = by (same_sail t.boat boat) (distinct_left ts boat apart.1)
   where
     by : (b : Bool) → Distinct (without_time ts boat) →
         Distinct (cond (not b) (t ∷ without_time ts boat) (without_time ts boat))
     by true rest = rest
     by false rest = (
-      all_filtered (λ o. same_sail t.boat o.boat ≡ false) (λ o. not (same_sail o.boat boat)) ts apart.0,
+      all_passed (λ o. same_sail t.boat o.boat ≡ false) (λ o. not (same_sail o.boat boat)) ts apart.0,
       rest,
     )
 
@@ -245,8 +222,7 @@ time_pushed (o ∷ ts) t x h = by (same_sail o.boat x) refl h (time_pushed ts t 
     by false e k rest = rest k
 
 time_kept : (ts : List (CorrectedTime Sail)) (t : CorrectedTime Sail) (x : Sail) →
-    same_sail t.boat x ≡ false →
-    time_in same_sail (ts ++ t ∷ []) x ≡ time_in same_sail ts x
+    same_sail t.boat x ≡ false → time_in same_sail (ts ++ t ∷ []) x ≡ time_in same_sail ts x
 time_kept [] t x h = rw h refl
 time_kept (o ∷ ts) t x h =
     ap (λ time. cond (same_sail o.boat x) (Some o.seconds) time) (time_kept ts t x h)
@@ -258,8 +234,7 @@ module _ (acts : List Act) (boat : Sail) where
       ap (λ ts. time_in same_sail ts boat) (times_more acts (Places boat (ByTime seconds)))
       ∙ time_pushed (without_time (lasting_times acts) boat)
       (record { boat = boat; seconds = seconds }) boat
-      (time_struck (lasting_times acts) boat boat ∙ rw (is_same boat) refl)
-      ∙ rw (is_same boat) refl
+      (time_struck (lasting_times acts) boat boat ∙ rw (is_same boat) refl) ∙ rw (is_same boat) refl
 
   pub struck_now : time_by (acts ++ Strikes boat ∷ []) boat ≡ None
   struck_now =
@@ -278,8 +253,7 @@ time_stays : (ts : List (CorrectedTime Sail)) (act : Act) (boat : Sail) → IsOf
     time_in same_sail (times_after ts act) boat ≡ time_in same_sail ts boat
 time_stays ts (Places sail (ByTime seconds)) boat h =
     time_kept (without_time ts sail) (record { boat = sail; seconds = seconds }) boat
-    (apart_back boat sail h)
-    ∙ time_struck ts sail boat ∙ rw (apart_back boat sail h) refl
+    (apart_back boat sail h) ∙ time_struck ts sail boat ∙ rw (apart_back boat sail h) refl
 time_stays ts (Strikes sail) boat h = time_struck ts sail boat ∙ rw (apart_back boat sail h) refl
 time_stays ts _ boat h = refl
 
@@ -290,6 +264,11 @@ time_of_others acts act boat h =
     ∙ time_stays (lasting_times acts) act boat h
 
 -- ---- the order after one more act
+
+-- the finishing order after these acts, under the rules of the series
+abbrev pub order_by : RulesParts → List Act → List (List Sail)
+order_by rules acts =
+    cond rules.handicap (order_of_times (lasting_times acts)) (fold order_after [] acts)
 
 -- the order after one more act, given the times in force
 abbrev pub order_with : (Sail → Option ℕ) → List (List Sail) → Act → List (List Sail)

@@ -1,7 +1,7 @@
 -- Counts and searches over the members of a list.
 use Rattle.std.proofs.Common.{◌≡◌, ℕ, zero, suc, ◌<◌, ◌≤◌, Bool, true, false, cond, ◌&&◌, ◌⊎◌, List}
 use Rattle.std.proofs.Common.{[], ◌∷◌, refl, ap, ◌∙◌, sym, arith, length, get_or, map, count_by}
-use Rattle.std.proofs.Common.{nat_lt, All, Contains, ◌||◌, filter}
+use Rattle.std.proofs.Common.{nat_lt, All, Contains, filter}
 use Rattle.std.specs.List.{AllByRecursion}
 use mathlib.Core.Logic.{inl, inr}
 use Rattle.std.specs.Cmp.{both_ways}
@@ -12,31 +12,22 @@ use Rattle.regatta_scores.proofs.Counts.{count_cons}
 
 -- ---- tests
 
-pub or_left : (a b : Bool) → a ≡ true → (a || b) ≡ true
-or_left true b h = refl
-or_left false b h = absurd (cc)
+pub upto_one : (b : Bool) → ◌≤◌ (cond b 1 0) 1
+upto_one true = omega arith
+upto_one false = omega arith
 
-pub or_right : (a b : Bool) → b ≡ true → (a || b) ≡ true
-or_right true b h = refl
-or_right false b h = h
+pub and_same : (a p q : Bool) → (a ≡ true → p ≡ q) → (a && p) ≡ (a && q)
+and_same true p q same = same refl
+and_same false p q same = refl
 
--- ---- tests of numbers
-
-pub lt_false : (a b : ℕ) → b ≤ a → nat_lt a b ≡ false
-lt_false a b h = by (nat_lt a b) refl
-  where
-    by : (t : Bool) → nat_lt a b ≡ t → t ≡ false
-    by true e = let below = ltb-true a b e in absurd (omega (arith, below))
-    by false e = refl
+pub second_not : (a b : Bool) → a ≡ true → (a && b) ≡ false → b ≡ false
+second_not true b e h = h
+second_not false b e h = cc
 
 pub lt_same : (a b c d : ℕ) → (a < b → c < d) → (c < d → a < b) → nat_lt a b ≡ nat_lt c d
 lt_same a b c d there back =
     both_ways (nat_lt a b) (nat_lt c d) (λ e. lt-ltb c d (there (ltb-true a b e)))
     (λ e. lt-ltb a b (back (ltb-true c d e)))
-
-pub and_true : (a b : Bool) → a ≡ true → b ≡ true → (a && b) ≡ true
-and_true true b e f = f
-and_true false b e f = cc
 
 -- ---- members
 
@@ -104,8 +95,7 @@ some_or_none p [] = inr (λ x has. absurd (omega (arith, has.1)))
 some_or_none {X} p (x ∷ xs) = by (p x) refl (some_or_none p xs)
   where
     by : (b : Bool) → p x ≡ b → ((y : X) × Contains xs y × (p y ≡ true))
-        ⊎ ((y : X) → Contains xs y → p y ≡ false) →
-        ((y : X) × Contains (x ∷ xs) y × (p y ≡ true))
+        ⊎ ((y : X) → Contains xs y → p y ≡ false) → ((y : X) × Contains (x ∷ xs) y × (p y ≡ true))
         ⊎ ((y : X) → Contains (x ∷ xs) y → p y ≡ false)
     by true e rest = inl (x, (zero, omega arith, refl), e)
     by false e (inl found) = inl (found.0, member_cons x xs found.0 found.1, found.2)

@@ -10,10 +10,10 @@ use Rattle.regatta_terms.specs.Rules.{RulesParts}
 use Rattle.regatta_terms.specs.declared.sail.Sail.{Sail}
 use Rattle.regatta_scores.specs.Order.{is_empty, in_group, stands_in, with_last, joined, with_ahead}
 use Rattle.regatta_scores.specs.Order.{without, HasNoEmptyGroup}
-use Rattle.regatta_scores.specs.CorrectedTimes.{CorrectedTime, times_behind, tied_times}
+use Rattle.regatta_scores.specs.CorrectedTimes.{CorrectedTime, times_behind}
 use Rattle.regatta_scores.specs.CorrectedTimes.{order_of_times, is_lower, is_later, group_time}
 use Rattle.regatta_scores.specs.CorrectedTimes.{lower_groups, equal_boats, later_groups, with_time}
-use Rattle.regatta_scores.specs.Journal.{same_sail, order_after, order_by, acts, lasting_times}
+use Rattle.regatta_scores.specs.Journal.{same_sail, order_after, acts, lasting_times}
 use Rattle.regatta_scores.specs.RaceLaws.{OrdersHaveNoEmptyGroup}
 use Rattle.regatta_scores.proofs.Members.{all_passed}
 
@@ -131,14 +131,15 @@ named name ((first ∷ group) ∷ groups) each = (refl, named name groups each.1
 
 times_have_none : (times : List (CorrectedTime Sail)) → HasNoEmptyGroup (order_of_times times)
 times_have_none times =
+    let groups = map (times_behind times) (range_with_len 0 (length times)) in
     All-from_recursion HasBoats (order_of_times times)
-    (named (λ (time : CorrectedTime Sail). time.boat) (tied_times times)
-    (with_boats {B = CorrectedTime Sail} (λ a b. true)
-    (map (times_behind times) (range_with_len 0 (length times)))))
+    (named (λ (time : CorrectedTime Sail). time.boat) (filter (λ group. not (is_empty group)) groups)
+    (with_boats {B = CorrectedTime Sail} (λ a b. true) groups))
 
 -- no order after the acts in a race has an empty group
 pub order_has_none : (rules : RulesParts) (acts : List Act) →
-    HasNoEmptyGroup (order_by rules acts)
+    HasNoEmptyGroup
+    (cond rules.handicap (order_of_times (lasting_times acts)) (fold order_after [] acts))
 order_has_none rules acts = by rules.handicap
   where
     by : (b : Bool) → HasNoEmptyGroup

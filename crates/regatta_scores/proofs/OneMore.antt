@@ -14,7 +14,7 @@ use Rattle.regatta_terms.specs.declared.command.PenaltyKind.TheVariants.{Zfp, Sc
 use Rattle.regatta_scores.specs.declared.sheet.Held.{Held}
 use Rattle.regatta_scores.specs.Changes.{with_decision}
 use Rattle.regatta_scores.specs.Journal.{same_sail, decision_on, is_clear, code_marked, redress_given}
-use Rattle.regatta_scores.specs.Journal.{is_penalty, held_by, counting}
+use Rattle.regatta_scores.specs.Journal.{is_penalty, counting}
 
 -- what is told of acts, if each act moves it one step further
 pub is_fold : {X : Type 0} (told : List Act → X) (after : X → Act → X) →
@@ -79,6 +79,15 @@ count_more p xs x = sum_by_push (λ y. cond (p y) 1 0) xs x ∙ by (p x)
     by false = omega arith
 
 -- ---- what a boat holds
+
+-- what she holds by the decisions in force
+abbrev held_by : List Decision → Held
+held_by decisions = record {
+  code = last_or None (filter_map code_marked decisions);
+  zfp = count_by (is_penalty Zfp) decisions;
+  scp = count_by (is_penalty Scp) decisions;
+  redress = last_or None (filter_map redress_given decisions);
+}
 
 abbrev held_more : Held → Decision → Held
 held_more held decision = record {

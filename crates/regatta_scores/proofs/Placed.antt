@@ -2,7 +2,7 @@
 -- definitions.
 use Rattle.std.proofs.Common.{◌≡◌, ℕ, Bool, true, false, cond, List, refl, ap, ◌∙◌, sym, length}
 use Rattle.std.proofs.Common.{count_by, Option, Some, None, is_some, unwrap_or}
-use Rattle.std.proofs.Common.{nat_eq, get_or}
+use Rattle.std.proofs.Common.{nat_eq, get_or, min, max, ◌+◌, ◌*◌}
 use Rattle.std.specs.List.{range_with_len}
 use Rattle.std.proofs.lemmas.List.FromFn.{length-range_with_len}
 use Rattle.regatta_terms.specs.Rules.{RulesParts}
@@ -12,8 +12,7 @@ use Rattle.regatta_scores.specs.declared.sheet.Held.{Held}
 use Rattle.regatta_scores.specs.Order.{stands_in}
 use Rattle.regatta_scores.specs.Sheet.{nothing_held}
 use Rattle.regatta_scores.specs.RacePoints.{race_of, status, status_by, came, place_points}
-use Rattle.regatta_scores.specs.RacePoints.{number_came, dnf_by, base_by, plain, penalised}
-use Rattle.regatta_scores.specs.RacePoints.{penalty_points}
+use Rattle.regatta_scores.specs.RacePoints.{dnf_by, base_by, plain, penalty_points}
 use Rattle.regatta_scores.specs.Outcomes.{score_of}
 use Rattle.regatta_scores.specs.RaceScores.{race_score}
 use Rattle.regatta_scores.specs.PlacedPoints.{HasPlacedPoints, placed_points, came_with}
@@ -41,11 +40,16 @@ module _ (order : List (List ℕ)) (held : List Held) (placed : List (Option ℕ
       ∙ ap (λ b. came (status_by (get_or held boat nothing_held).code b))
       (is_some_by (stands_in nat_eq boat order) (place_points nat_eq (race_of order held) boat))
 
-  pub number_came_is : number_came_with held placed ≡ number_came nat_eq (race_of order held)
+  -- how many of the boats entered came to the starting area (A5.3)
+  abbrev number_came : ℕ
+  number_came =
+      count_by (λ boat. came (status nat_eq (race_of order held) boat))
+      (range_with_len 0 (length held))
+
+  number_came_is : number_came_with held placed ≡ number_came
   number_came_is i = count_by (λ boat. came_is boat i) (range_with_len 0 (length held))
 
-  pub plain_is : (rules : RulesParts) (boat : ℕ) →
-      plain nat_eq rules (race_of order held) boat
+  pub plain_is : (rules : RulesParts) (boat : ℕ) → plain nat_eq rules (race_of order held) boat
       ≡ plain_with rules (get_or held boat nothing_held) (get_or placed boat None) (length held)
       (dnf_by rules.absent (length held) (number_came_with held placed))
   plain_is rules boat =
@@ -54,11 +58,11 @@ module _ (order : List (List ℕ)) (held : List Held) (placed : List (Option ℕ
       let points = place_points nat_eq (race_of order held) boat in
       let by_place : plain nat_eq rules (race_of order held) boat
       ≡ plain_with rules hers (placed_points (race_of order held) boat) (length held)
-      (dnf_by rules.absent (length held) (number_came nat_eq (race_of order held)))
+      (dnf_by rules.absent (length held) number_came)
       = (λ i. (let entered = length-range_with_len 0 (length held) i in let dnf =
-      dnf_by rules.absent entered (number_came nat_eq (race_of order held)) in
-      penalised (base_by_placed hers.code stands points entered dnf i)
-      (penalty_points rules dnf hers) dnf)) in
+      dnf_by rules.absent entered number_came in
+      let base = base_by_placed hers.code stands points entered dnf i in
+      max base (min (base + 10 * penalty_points rules dnf hers) (10 * dnf)))) in
       by_place ∙ sym (λ i. plain_with rules hers (is.by_number boat i) (length held)
       (dnf_by rules.absent (length held) (number_came_is i)))
 
@@ -72,8 +76,5 @@ module _ (order : List (List ℕ)) (held : List Held) (placed : List (Option ℕ
       race_score rules (record { order = order; held = held; seconds = seconds }) boat
       ≡ score_with rules (get_or held boat nothing_held) (get_or placed boat None) (length held)
       (dnf_by rules.absent (length held) (number_came_with held placed))
-  score_is rules seconds boat i = score_of (record {
-    plain = plain_is rules boat i;
-    held = get_or held boat nothing_held;
-    placed = stands_is boat i;
-  })
+  score_is rules seconds boat i =
+      score_of (plain_is rules boat i) (get_or held boat nothing_held) (stands_is boat i)

@@ -1,41 +1,28 @@
 -- Scores do not depend on the names of the boats.
-use Rattle.std.proofs.Common.{◌≡◌, ℕ, zero, suc, ◌+◌, Bool, true, false, cond, not, ◌||◌, List, []}
+use Rattle.std.proofs.Common.{◌≡◌, ◌+◌, Bool, true, false, cond, not, List, []}
 use Rattle.std.proofs.Common.{◌∷◌, refl, ap, ◌∙◌, sym, map, take, length, count_by, sum_by, find}
-use Rattle.std.proofs.Common.{unwrap_or, Some, is_none}
+use Rattle.std.proofs.Common.{unwrap_or, Some, is_none, ◌-◌, ◌*◌, min, max}
 use Rattle.std.specs.List.{list_any, before_first, prefix_len, position_or_len, AllByRecursion}
-use Rattle.std.proofs.lemmas.List.{length-map}
-use Rattle.std.proofs.lemmas.List.Sums.{sum_by-cons}
+use Rattle.std.proofs.lemmas.List.{length-map, take-map}
 use Rattle.regatta_terms.specs.Rules.{RulesParts}
-use Rattle.regatta_scores.specs.declared.sheet.Held.{Held}
 use Rattle.regatta_scores.specs.Order.{in_group, stands_in}
-use Rattle.regatta_scores.specs.RacePoints.{Race, status, status_by, came, finishers, groups_ahead}
-use Rattle.regatta_scores.specs.RacePoints.{her_group, finishing_place, sharing, number_came, dnf}
-use Rattle.regatta_scores.specs.RacePoints.{dnf_by, base, base_by, plain, penalised, penalty_points}
-use Rattle.regatta_scores.specs.RacePoints.{shared_points}
-use Rattle.regatta_scores.specs.Outcomes.{outcome}
-use Rattle.regatta_scores.specs.Renaming.{IsRenamed}
-use Rattle.regatta_scores.proofs.Counts.{count_cons}
-
-list_any_map : {X Y : Type 0} (f : X → Y) (p : Y → Bool) (q : X → Bool) →
-    ((x : X) → p (f x) ≡ q x) → (xs : List X) → list_any p (map f xs) ≡ list_any q xs
-list_any_map f p q same [] = refl
-list_any_map f p q same (x ∷ xs) = λ i. same x i || list_any_map f p q same xs i
+use Rattle.regatta_scores.specs.RacePoints.{Race, status, status_by, came, finishers, dnf}
+use Rattle.regatta_scores.specs.RacePoints.{dnf_by, base_by, plain, penalty_points}
+use Rattle.regatta_scores.specs.RaceLaws.{finishing_place, sharing}
+use Rattle.regatta_scores.specs.Outcomes.{score_of}
+use Rattle.regatta_scores.proofs.Counts.{count_cons, count_by-map, sum_by-map}
+use Rattle.regatta_scores.proofs.TiedTimes.{any_map}
 
 prefix_map : {X Y : Type 0} (f : X → Y) (p : Y → Bool) (q : X → Bool) → ((x : X) → p (f x) ≡ q x) →
     (xs : List X) → prefix_len p (map f xs) ≡ prefix_len q xs
 prefix_map f p q same [] = refl
 prefix_map f p q same (x ∷ xs) = λ i. cond (same x i) (1 + prefix_map f p q same xs i) 0
 
-take_map : {X Y : Type 0} (f : X → Y) (n : ℕ) (xs : List X) → take n (map f xs) ≡ map f (take n xs)
-take_map f zero xs = refl
-take_map f (suc n) [] = refl
-take_map f (suc n) (x ∷ xs) = ap (λ ys. f x ∷ ys) (take_map f n xs)
-
 before_map : {X Y : Type 0} (f : X → Y) (p : Y → Bool) (q : X → Bool) → ((x : X) → p (f x) ≡ q x) →
     (xs : List X) → before_first p (map f xs) ≡ map f (before_first q xs)
 before_map f p q same xs =
     ap (λ n. take n (map f xs)) (prefix_map f (λ y. not (p y)) (λ x. not (q x))
-    (λ x. ap not (same x)) xs) ∙ take_map f (position_or_len q xs) xs
+    (λ x. ap not (same x)) xs) ∙ take-map f (position_or_len q xs) xs
 
 found_map : {X Y : Type 0} (f : X → Y) (p : List Y → Bool) (q : List X → Bool) →
     ((g : List X) → p (map f g) ≡ q g) → (gs : List (List X)) →
@@ -50,13 +37,6 @@ found_map f p q same (g ∷ gs) = by (q g) (same g) (found_map f p q same gs)
     by true e rest = rw e refl
     by false e rest = rw e rest
 
-count_map : {X Y : Type 0} (f : X → Y) (p : Y → Bool) (q : X → Bool) → ((x : X) → p (f x) ≡ q x) →
-    (xs : List X) → count_by p (map f xs) ≡ count_by q xs
-count_map f p q same [] = refl
-count_map f p q same (x ∷ xs) =
-    count_cons p (f x) (map f xs) ∙ (λ i. cond (same x i) 1 0 + count_map f p q same xs i)
-    ∙ sym (count_cons q x xs)
-
 count_map_known : {X Y : Type 0} (Known : X → Type 0) (f : X → Y) (p : Y → Bool) (q : X → Bool) →
     ((x : X) → Known x → p (f x) ≡ q x) → (xs : List X) → AllByRecursion Known xs →
     count_by p (map f xs) ≡ count_by q xs
@@ -65,12 +45,16 @@ count_map_known Known f p q same (x ∷ xs) all =
     count_cons p (f x) (map f xs) ∙ (λ i. cond (same x all.0 i) 1 0
     + count_map_known Known f p q same xs all.1 i) ∙ sym (count_cons q x xs)
 
-sum_map : {X Y : Type 0} (f : X → Y) (g : Y → ℕ) (h : X → ℕ) → ((x : X) → g (f x) ≡ h x) →
-    (xs : List X) → sum_by g (map f xs) ≡ sum_by h xs
-sum_map f g h same [] = refl
-sum_map f g h same (x ∷ xs) =
-    sum_by-cons g (f x) (map f xs) ∙ (λ i. same x i + sum_map f g h same xs i)
-    ∙ sym (sum_by-cons h x xs)
+-- the second race is the first with each boat x called name x. A known boat, as each entered one
+-- is, shares her name with no other. So a sheet can be scored instead of the journal.
+pub record IsRenamed
+    {B C : Type 0} (same_b : B → B → Bool) (same_c : C → C → Bool)
+    (Known : B → Type 0) (name : B → C) (race : Race B) (renamed : Race C) : Type 0 where
+  pub tells : (x y : B) → Known y → same_c (name x) (name y) ≡ same_b x y
+  pub all_known : AllByRecursion Known race.entered
+  pub entry_list : renamed.entered ≡ map name race.entered
+  pub finish : renamed.order ≡ map (map name) race.order
+  pub holds : (x : B) → renamed.held (name x) ≡ race.held x
 
 module _ {B C : Type 0} (same_b : B → B → Bool) (same_c : C → C → Bool) (Known : B → Type 0)
     (name : B → C) (race : Race B) (renamed : Race C)
@@ -78,15 +62,14 @@ module _ {B C : Type 0} (same_b : B → B → Bool) (same_c : C → C → Bool) 
   group_same : (boat : B) → Known boat → (group : List B) →
       in_group same_c (name boat) (map name group) ≡ in_group same_b boat group
   group_same boat known group =
-      list_any_map name (λ o. same_c o (name boat)) (λ o. same_b o boat) (λ x. r.tells x boat known)
-      group
+      any_map name (λ o. same_c o (name boat)) group ∙ λ i. list_any (λ x. r.tells x boat known i) group
 
   order_same : (boat : B) → Known boat →
       stands_in same_c (name boat) renamed.order ≡ stands_in same_b boat race.order
   order_same boat known =
       ap (stands_in same_c (name boat)) r.finish
-      ∙ list_any_map (map name) (in_group same_c (name boat)) (in_group same_b boat)
-      (group_same boat known) race.order
+      ∙ any_map (map name) (in_group same_c (name boat)) race.order
+      ∙ λ i. list_any (λ g. group_same boat known g i) race.order
 
   status_same : (boat : B) → Known boat →
       status same_c renamed (name boat) ≡ status same_b race boat
@@ -94,34 +77,36 @@ module _ {B C : Type 0} (same_b : B → B → Bool) (same_c : C → C → Bool) 
 
   finishers_same : (group : List B) → finishers renamed (map name group) ≡ finishers race group
   finishers_same group =
-      count_map name (λ c. is_none (renamed.held c).code) (λ b. is_none (race.held b).code)
-      (λ x. ap (λ (h : Held). is_none h.code) (r.holds x)) group
+      count_by-map (λ c. is_none (renamed.held c).code) name group
+      ∙ λ i. count_by (λ b. is_none (r.holds b i).code) group
 
   place_same : (boat : B) → Known boat →
       finishing_place same_c renamed (name boat) ≡ finishing_place same_b race boat
   place_same boat known =
-      let ahead : groups_ahead same_c renamed (name boat)
-      ≡ map (map name) (groups_ahead same_b race boat) =
-      ap (before_first (in_group same_c (name boat))) r.finish
+      let before = before_first (in_group same_b boat) race.order in
+      let ahead : before_first (in_group same_c (name boat)) renamed.order
+      ≡ map (map name) before = ap (before_first (in_group same_c (name boat))) r.finish
       ∙ before_map (map name) (in_group same_c (name boat)) (in_group same_b boat)
       (group_same boat known) race.order in
       ap (λ n. 1 + n) (ap (sum_by (finishers renamed)) ahead
-      ∙ sum_map (map name) (finishers renamed) (finishers race) finishers_same
-      (groups_ahead same_b race boat))
+      ∙ sum_by-map (finishers renamed) (map name) before
+      ∙ λ i. sum_by (λ g. finishers_same g i) before)
 
   sharing_same : (boat : B) → Known boat →
       sharing same_c renamed (name boat) ≡ sharing same_b race boat
   sharing_same boat known =
-      let hers : her_group same_c renamed (name boat) ≡ map name (her_group same_b race boat) =
+      let group = unwrap_or (find (in_group same_b boat) race.order) [] in
+      let hers : unwrap_or (find (in_group same_c (name boat)) renamed.order) [] ≡ map name group =
       ap (λ gs. unwrap_or (find (in_group same_c (name boat)) gs) []) r.finish
       ∙ found_map name (in_group same_c (name boat)) (in_group same_b boat)
       (group_same boat known) race.order in
-      ap (finishers renamed) hers ∙ finishers_same (her_group same_b race boat)
+      ap (finishers renamed) hers ∙ finishers_same group
 
   entered_same : length renamed.entered ≡ length race.entered
   entered_same = ap length r.entry_list ∙ length-map race.entered name
 
-  came_same : number_came same_c renamed ≡ number_came same_b race
+  came_same : count_by (λ c. came (status same_c renamed c)) renamed.entered
+      ≡ count_by (λ b. came (status same_b race b)) race.entered
   came_same =
       ap (count_by (λ c. came (status same_c renamed c))) r.entry_list
       ∙ count_map_known Known name (λ c. came (status same_c renamed c))
@@ -131,24 +116,18 @@ module _ {B C : Type 0} (same_b : B → B → Bool) (same_c : C → C → Bool) 
   dnf_same : (rules : RulesParts) → dnf same_c rules renamed ≡ dnf same_b rules race
   dnf_same rules i = dnf_by rules.absent (entered_same i) (came_same i)
 
-  base_same : (rules : RulesParts) (boat : B) → Known boat →
-      base same_c rules renamed (name boat) ≡ base same_b rules race boat
-  base_same rules boat known i =
-      base_by (status_same boat known i)
-      (shared_points (place_same boat known i) (sharing_same boat known i)) (entered_same i)
-      (dnf_same rules i)
-
   plain_same : (rules : RulesParts) (boat : B) → Known boat →
       plain same_c rules renamed (name boat) ≡ plain same_b rules race boat
   plain_same rules boat known i =
-      penalised (base_same rules boat known i)
-      (penalty_points rules (dnf_same rules i) (r.holds boat i)) (dnf_same rules i)
+      let dnf = dnf_same rules i in
+      let points = 10 * place_same boat known i + 5 * (sharing_same boat known i - 1) in
+      let base = base_by (status_same boat known i) points (entered_same i) dnf in
+      max base (min (base + 10 * penalty_points rules dnf (r.holds boat i)) (10 * dnf))
 
-  -- a boat's outcome is the same
-  pub outcome_same : (rules : RulesParts) (boat : B) → Known boat →
-      outcome same_c rules renamed (name boat) ≡ outcome same_b rules race boat
-  outcome_same rules boat known i = record {
-    plain = plain_same rules boat known i;
-    held = r.holds boat i;
-    placed = order_same boat known i;
-  }
+  -- a boat's score is the same
+  pub score_same : (rules : RulesParts) (boat : B) → Known boat →
+      score_of (plain same_c rules renamed (name boat)) (renamed.held (name boat))
+      (stands_in same_c (name boat) renamed.order)
+      ≡ score_of (plain same_b rules race boat) (race.held boat) (stands_in same_b boat race.order)
+  score_same rules boat known i =
+      score_of (plain_same rules boat known i) (r.holds boat i) (order_same boat known i)

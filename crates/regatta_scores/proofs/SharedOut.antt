@@ -1,32 +1,148 @@
 -- The points for finishing places are those of places 1 to n.
 use Rattle.std.proofs.Common.{◌≡◌, ℕ, zero, suc, ◌+◌, ◌-◌, ◌*◌, Bool, true, false, cond, ◌||◌, List}
 use Rattle.std.proofs.Common.{[], ◌∷◌, ◌++◌, refl, ap, ◌∙◌, sym, arith, append_assoc, count_by}
-use Rattle.std.proofs.Common.{sum_by, Option, Some, None, is_none}
-use Rattle.std.specs.List.{AllByRecursion, range_with_len}
+use Rattle.std.proofs.Common.{sum_by, Option, Some, None, is_none, ◌<◌, ◌≤◌, take, drop, get_or}
+use Rattle.std.proofs.Common.{length, nat_eq, find, unwrap_or, drop-cons}
+use Rattle.std.specs.List.{AllByRecursion, range_with_len, before_first, position_or_len}
 use Rattle.std.proofs.Math.Nat.{add-mul}
-use Rattle.std.proofs.lemmas.List.Sums.{sum_by-cons, sum_by_push}
+use Rattle.std.proofs.lemmas.List.Sums.{sum_by-cons, sum_by_push, sum_by-append}
 use Rattle.std.specs.Cmp.Lexicographic.{bytes_decides}
+use Rattle.std.proofs.lemmas.Bool.{or_right, false_from_ne_true}
+use Rattle.std.proofs.lemmas.List.{take-append-drop}
+use Rattle.std.proofs.lemmas.List.Folds.{list_any_more}
+use Rattle.std.proofs.Math.Seq.{take-append_seam}
 use Rattle.regatta_terms.specs.declared.sail.Sail.{Sail}
 use Rattle.regatta_terms.specs.declared.command.Code.{Code}
-use Rattle.regatta_scores.specs.Order.{in_group, stands_in}
+use Rattle.regatta_scores.specs.Order.{in_group, stands_in, times_placed}
 use Rattle.regatta_scores.specs.Journal.{same_sail}
-use Rattle.regatta_scores.specs.RacePoints.{Race, status, status_by, finishers, shared_points}
+use Rattle.regatta_scores.specs.RacePoints.{Race, status, status_by, finishers, race_of}
+use Rattle.regatta_scores.specs.RacePoints.{place_points}
 use Rattle.regatta_scores.specs.RaceLaws.{NobodyTwice, TiesShareEqually, PlacesAreSharedOut}
 use Rattle.regatta_scores.specs.RaceLaws.{is_finished, finish_points, points_of_places}
-use Rattle.regatta_scores.proofs.Counts.{count_cons}
-use Rattle.regatta_scores.proofs.PlacePoints.{place_points_at}
+use Rattle.regatta_scores.specs.RaceLaws.{finishing_place, sharing}
+use Rattle.regatta_scores.specs.PlacedPoints.{most_place_points}
+use Rattle.regatta_scores.specs.declared.sheet.Held.{Held}
+use Rattle.regatta_scores.proofs.Counts.{count_cons, any_counts}
+
+-- points for place p shared by k boats, in tenths (A4, A7)
+abbrev pub shared_points : ℕ → ℕ → ℕ
+shared_points p k = 10 * p + 5 * (k - 1)
+
+-- the groups ahead of hers are those ahead of the one that she is in
+group_of : {B : Type 0} (same : B → B → Bool) (boat : B) (ahead : List (List B))
+    (group : List B) (behind : List (List B)) →
+    times_placed same (ahead ++ group ∷ behind) boat ≤ 1 → in_group same boat group ≡ true
+    → (before_first (in_group same boat) (ahead ++ group ∷ behind) ≡ ahead)
+    × (find (in_group same boat) (ahead ++ group ∷ behind) ≡ Some group)
+    × (stands_in same boat (ahead ++ group ∷ behind) ≡ true)
+group_of same boat [] group behind once here = (rw here refl, rw here refl, rw here refl)
+group_of same boat (first ∷ ahead) group behind once here =
+    let order = ahead ++ group ∷ behind in
+    let counted = count_by (λ other. same other boat) in
+    let split = sum_by-cons counted first order in
+    let parts = sum_by-append counted ahead (group ∷ behind) in
+    let hers = sum_by-cons counted group behind in
+    let one : 1 ≤ counted group = any_counts (λ other. same other boat) group here in
+    let rest : times_placed same order boat ≤ 1 = omega (arith, split) in
+    let not_first : in_group same boat first ≡ false =
+    false_from_ne_true _ (λ e. (let has = any_counts (λ other. same other boat) first e in
+    omega (arith, has, parts, hers, one, split, once))) in
+    let found = group_of same boat ahead group behind rest here in
+    let longer : ◌≡◌ {A = List (List _)}
+    (take (1 + position_or_len (in_group same boat) order) (first ∷ order))
+    (first ∷ before_first (in_group same boat) order) =
+    (let e : 1 + position_or_len (in_group same boat) order
+    ≡ suc (position_or_len (in_group same boat) order) = omega arith in rw e refl) in (
+      rw not_first (longer ∙ ap (λ groups. first ∷ groups) found.0),
+      rw not_first found.1,
+      rw not_first found.2,
+    )
+
+-- the points for her place depend on the groups ahead of hers, and on her group
+pub place_points_at : {B : Type 0} (same : B → B → Bool) (race : Race B) (ahead : List (List B))
+    (group : List B) (behind : List (List B)) (boat : B) → race.order ≡ ahead ++ group ∷ behind →
+    times_placed same race.order boat ≤ 1 → in_group same boat group ≡ true
+    → (place_points same race boat
+    ≡ shared_points (1 + sum_by (finishers race) ahead) (finishers race group))
+    × (stands_in same boat race.order ≡ true)
+place_points_at same race ahead group behind boat split once here =
+    let found = group_of same boat ahead group behind (rw split at once) here in
+    let before : before_first (in_group same boat) race.order ≡ ahead =
+    ap (before_first (in_group same boat)) split ∙ found.0 in
+    let hers : unwrap_or (find (in_group same boat) race.order) [] ≡ group =
+    ap (λ groups. unwrap_or (find (in_group same boat) groups) []) split
+    ∙ ap (λ o. unwrap_or o []) found.1 in (
+      λ i. shared_points (1 + sum_by (finishers race) (before i)) (finishers race (hers i)),
+      ap (stands_in same boat) split ∙ found.2,
+    )
+
+-- a list split at a position
+split_at : {A : Type 0} (xs : List A) (i : ℕ) (d : A) → i < length xs →
+    xs ≡ take i xs ++ get_or xs i d ∷ drop (suc i) xs
+split_at xs i d h = sym (take-append-drop i xs) ∙ ap (λ ys. take i xs ++ ys) (drop-cons xs i d h)
+
+place_points_in : (order : List (List ℕ)) (held : List Held) (i : ℕ) (d : List ℕ) (boat : ℕ) →
+    i < length order → times_placed nat_eq order boat ≤ 1 →
+    in_group nat_eq boat (get_or order i d) ≡ true → place_points nat_eq (race_of order held) boat
+    ≡ shared_points (1 + sum_by (finishers (race_of order held)) (take i order))
+    (finishers (race_of order held) (get_or order i d))
+place_points_in order held i d boat h once here =
+    (place_points_at nat_eq (race_of order held) (take i order) (get_or order i d)
+    (drop (suc i) order) boat (split_at order i d h) once here).0
+
+-- ---- one more group is given its points
+
+module _ (order : List (List ℕ)) (held : List Held) (i : ℕ) (d : List ℕ) (within : i < length order)
+    (once : (boat : ℕ) → times_placed nat_eq order boat ≤ 1) where
+  pub given_more : (boat points : ℕ) (old new : Option ℕ) →
+      points ≡ shared_points (1 + sum_by (finishers (race_of order held)) (take i order))
+      (finishers (race_of order held) (get_or order i d))
+      → old ≡ cond (stands_in nat_eq boat (take i order))
+      (Some (place_points nat_eq (race_of order held) boat)) None
+      → new ≡ cond (in_group nat_eq boat (get_or order i d)) (Some points) old
+      → new ≡ cond (stands_in nat_eq boat (take (i + 1) order))
+      (Some (place_points nat_eq (race_of order held) boat)) None
+  given_more boat points old new shared before now =
+      by (in_group nat_eq boat (get_or order i d)) refl (stands_in nat_eq boat (take i order))
+      before now (list_any_more (in_group nat_eq boat) order i d within)
+    where
+      hers : Option ℕ
+      hers = Some (place_points nat_eq (race_of order held) boat)
+
+      by : (t : Bool) → in_group nat_eq boat (get_or order i d) ≡ t → (s : Bool) →
+          old ≡ cond s hers None → new ≡ cond t (Some points) old →
+          stands_in nat_eq boat (take (i + 1) order) ≡ (s || t) →
+          new ≡ cond (stands_in nat_eq boat (take (i + 1) order)) hers None
+      by true here true e f more =
+          f ∙ rw more (ap Some (shared ∙ sym
+          (place_points_in order held i d boat within (once boat) here)))
+      by true here false e f more =
+          f ∙ rw more (ap Some (shared ∙ sym
+          (place_points_in order held i d boat within (once boat) here)))
+      by false here true e f more = f ∙ e ∙ rw more refl
+      by false here false e f more = f ∙ e ∙ rw more refl
+
+pub few_more : (t : Bool) (points : ℕ) (old new : Option ℕ) → new ≡ cond t (Some points) old →
+    points ≤ most_place_points → unwrap_or old 0 ≤ most_place_points →
+    unwrap_or new 0 ≤ most_place_points
+few_more true points old new e few before = rw e few
+few_more false points old new e few before = rw e before
+
+-- overwriting a whole slice leaves what was written
+pub written_whole : {X : Type 0} (new items : List X) (len : ℕ) → length new ≡ len →
+    take len (new ++ drop (length new) items) ≡ new
+written_whole new items len e = rw (← e) (take-append_seam new (drop (length new) items))
 
 -- ---- the points of places
 
-one_more_tied : (place tied : ℕ) →
-    (tied + 2) * (10 * place + 5 * (tied + 1))
+one_more_tied : (place tied : ℕ) → (tied + 2) * (10 * place + 5 * (tied + 1))
     ≡ 10 * place + (tied + 1) * (10 * (place + 1) + 5 * tied)
 one_more_tied place tied = omega arith
 
-pub ties_share_equally : TiesShareEqually
-ties_share_equally place zero = omega arith
-ties_share_equally place (suc zero) = omega arith
-ties_share_equally place (suc (suc tied)) =
+tied_points : (place tied : ℕ) → tied * shared_points place tied ≡ points_of_places place tied
+tied_points place zero = omega arith
+tied_points place (suc zero) = omega arith
+tied_points place (suc (suc tied)) =
     let number : suc (suc tied) ≡ tied + 2 = omega arith in
     let others : suc (suc tied) - 1 ≡ tied + 1 = omega arith in
     let fewer : suc tied ≡ tied + 1 = omega arith in
@@ -34,10 +150,14 @@ ties_share_equally place (suc (suc tied)) =
     let rest : (tied + 1) * (10 * (place + 1) + 5 * tied)
     ≡ points_of_places (place + 1) (suc tied) =
     sym (λ i. fewer i * (10 * (place + 1) + 5 * fewer_others i))
-    ∙ ties_share_equally (place + 1) (suc tied) in
+    ∙ tied_points (place + 1) (suc tied) in
     (λ i. number i * (10 * place + 5 * others i)) ∙ one_more_tied place tied
     ∙ ap (λ n. 10 * place + n) rest
     ∙ sym (sum_by-cons (λ p. 10 * p) place (range_with_len (place + 1) (suc tied)))
+
+pub ties_share_equally : TiesShareEqually
+ties_share_equally race boat =
+    tied_points (finishing_place same_sail race boat) (sharing same_sail race boat)
 
 points_more : (place a b : ℕ) →
     points_of_places place (a + b) ≡ points_of_places place a + points_of_places (place + a) b
@@ -51,8 +171,7 @@ points_more place (suc a) b =
     let next : place + 1 + a ≡ place + suc a = omega arith in
     let later : points_of_places (place + 1 + a) b ≡ points_of_places (place + suc a) b =
     ap (λ n. points_of_places n b) next in
-    let all =
-    ap (points_of_places place) longer
+    let all = ap (points_of_places place) longer
     ∙ sum_by-cons (λ p. 10 * p) place (range_with_len (place + 1) (a + b)) in
     let first = sum_by-cons (λ p. 10 * p) place (range_with_len (place + 1) a) in
     omega (arith, all, first, later, points_more (place + 1) a b)
@@ -87,17 +206,13 @@ all_by P Q f (x ∷ xs) all = (f x all.0, all_by P Q f xs all.1)
 same_itself : (boat : Sail) → same_sail boat boat ≡ true
 same_itself boat = (bytes_decides boat boat).1 refl
 
-or_true : (a b : Bool) → b ≡ true → (a || b) ≡ true
-or_true true b h = refl
-or_true false b h = h
-
 members : (group : List Sail) → AllByRecursion (λ boat. in_group same_sail boat group ≡ true) group
 members [] = tt
 members (first ∷ group) = (
   rw (same_itself first) refl,
   all_by (λ boat. in_group same_sail boat group ≡ true)
       (λ boat. in_group same_sail boat (first ∷ group) ≡ true)
-      (λ boat here. or_true (same_sail first boat) (in_group same_sail boat group) here) group
+      (λ boat here. or_right (same_sail first boat) (in_group same_sail boat group) here) group
       (members group),
 )
 
@@ -142,8 +257,7 @@ module _ (race : Race Sail) (once : NobodyTwice race) where
       let tied = finishers race group in
       let each : AllByRecursion (λ boat. finish_points race boat
       ≡ cond (is_none (race.held boat).code) (shared_points place tied) 0) group
-      = all_by (λ boat. in_group same_sail boat group ≡ true)
-      (λ boat. finish_points race boat
+      = all_by (λ boat. in_group same_sail boat group ≡ true) (λ boat. finish_points race boat
       ≡ cond (is_none (race.held boat).code) (shared_points place tied) 0)
       (λ boat here. (let at =
       place_points_at same_sail race ahead group groups boat split (once boat) here in
@@ -153,7 +267,7 @@ module _ (race : Race Sail) (once : NobodyTwice race) where
       sum_same (finish_points race) (λ boat.
       cond (is_none (race.held boat).code) (shared_points place tied) 0) group each
       ∙ sum_constant (λ boat. is_none (race.held boat).code) (shared_points place tied) group
-      ∙ ties_share_equally place tied in
+      ∙ tied_points place tied in
       let counted = sum_by_push (finishers race) ahead group in
       let next : 1 + sum_by (finishers race) (ahead ++ group ∷ []) ≡ place + tied =
       omega (arith, counted) in

@@ -5,36 +5,17 @@ use Rattle.std.proofs.Common.{nat_eq, nat_lt}
 use borrow.Author.Tests.{ltb-true, ltb-false}
 use Rattle.std.specs.List.{AllByRecursion}
 use Rattle.std.proofs.lemmas.List.Elements.{recursion_from_All}
+use Rattle.std.proofs.lemmas.Bool.{false_from_ne_true}
+use Rattle.regatta_scores.proofs.TimedOrders.{group_stays}
 use Rattle.regatta_scores.specs.Order.{is_empty, in_group, stands_in, times_placed, HasNoEmptyGroup}
-use Rattle.regatta_scores.specs.Order.{joined_group, joined, group_with_ahead, with_ahead, others}
-use Rattle.regatta_scores.specs.Order.{without}
-use Rattle.regatta_scores.proofs.Pigeonhole.{times}
+use Rattle.regatta_scores.specs.Order.{joined, with_ahead, without}
+use Rattle.regatta_scores.proofs.Pigeonhole.{times, others}
 use Rattle.regatta_scores.proofs.Ranked.{apart_eq_back}
 use Rattle.regatta_scores.proofs.Sheets.{placed_cons, in_group_counts}
 
-abbrev IsIn : ℕ → List ℕ → Bool
-IsIn boat group = in_group nat_eq boat group
-
 -- a boat that doesn't occur in a group isn't in it
 not_in : (g : List ℕ) (b : ℕ) → times g b ≡ 0 → in_group nat_eq b g ≡ false
-not_in g b none = by (in_group nat_eq b g) refl
-  where
-    by : (t : Bool) → in_group nat_eq b g ≡ t → t ≡ false
-    by true e = absurd (omega (arith, in_group_counts g b e, none))
-    by false e = refl
-
-others_all : (g : List ℕ) (b : ℕ) → in_group nat_eq b g ≡ false → others nat_eq b g ≡ g
-others_all [] b out = refl
-others_all (x ∷ xs) b out = by (nat_eq x b) refl out (others_all xs b)
-  where
-    by : (t : Bool) → nat_eq x b ≡ t → in_group nat_eq b (x ∷ xs) ≡ false →
-        (in_group nat_eq b xs ≡ false → others nat_eq b xs ≡ xs) →
-        others nat_eq b (x ∷ xs) ≡ x ∷ xs
-    by true e out rest = (let wrong : true ≡ false = rw e at out in cc)
-    by false e out rest =
-        let left : in_group nat_eq b xs ≡ false = rw e at out in
-        let here : others nat_eq b (x ∷ xs) ≡ x ∷ others nat_eq b xs = rw e refl in
-        here ∙ ap (λ ys. x ∷ ys) (rest left)
+not_in g b none = false_from_ne_true _ (λ e. omega (arith, in_group_counts g b e, none))
 
 -- ---- groups without the boat stay
 
@@ -45,9 +26,7 @@ joined_out (g ∷ gs) boat other none =
     let sum = placed_cons g gs other in
     let out = not_in g other (omega (arith, sum, none)) in
     let rest = joined_out gs boat other (omega (arith, sum, none)) in
-    let here : joined_group nat_eq g boat other ≡ g =
-    ap (λ t. cond t (g ++ boat ∷ []) g) out in
-    λ i. here i ∷ rest i
+    λ i. cond (out i) (g ++ boat ∷ []) g ∷ rest i
 
 ahead_out : (order : List (List ℕ)) (boat other : ℕ) → times_placed nat_eq order other ≡ 0 →
     with_ahead nat_eq order boat other ≡ order
@@ -56,27 +35,22 @@ ahead_out (g ∷ gs) boat other none =
     let sum = placed_cons g gs other in
     let out = not_in g other (omega (arith, sum, none)) in
     let rest = ahead_out gs boat other (omega (arith, sum, none)) in
-    let here : group_with_ahead nat_eq g boat other ≡ g ∷ [] =
-    ap (λ t. cond t ((boat ∷ []) ∷ g ∷ []) (g ∷ [])) out in
-    λ i. here i ++ rest i
+    λ i. cond (out i) ((boat ∷ []) ∷ g ∷ []) (g ∷ []) ++ rest i
 
 -- the groups of one boat fewer, from the first on
-without_cons : (g : List ℕ) (gs : List (List ℕ)) (boat : ℕ) →
-    without nat_eq (g ∷ gs) boat
-    ≡ cond (not (is_empty (others nat_eq boat g))) (others nat_eq boat g ∷ []) []
-    ++ without nat_eq gs boat
-without_cons g gs boat = by (not (is_empty (others nat_eq boat g)))
+without_cons : (g : List ℕ) (gs : List (List ℕ)) (boat : ℕ) → without nat_eq (g ∷ gs) boat
+    ≡ cond (not (is_empty (others boat g))) (others boat g ∷ []) [] ++ without nat_eq gs boat
+without_cons g gs boat = by (not (is_empty (others boat g)))
   where
-    by : (t : Bool) → cond t (others nat_eq boat g ∷ without nat_eq gs boat) (without nat_eq gs boat)
-        ≡ cond t (others nat_eq boat g ∷ []) [] ++ without nat_eq gs boat
+    by : (t : Bool) → cond t (others boat g ∷ without nat_eq gs boat) (without nat_eq gs boat)
+        ≡ cond t (others boat g ∷ []) [] ++ without nat_eq gs boat
     by true = refl
     by false = refl
 
 stays_whole : (g : List ℕ) (gs : List (List ℕ)) (boat : ℕ) → is_empty g ≡ false →
-    in_group nat_eq boat g ≡ false →
-    without nat_eq (g ∷ gs) boat ≡ g ∷ without nat_eq gs boat
+    in_group nat_eq boat g ≡ false → without nat_eq (g ∷ gs) boat ≡ g ∷ without nat_eq gs boat
 stays_whole g gs boat some out =
-    let same = others_all g boat out in
+    let same = group_stays nat_eq boat g out in
     without_cons g gs boat
     ∙ (λ i. cond (not (is_empty (same i))) (same i ∷ []) [] ++ without nat_eq gs boat)
     ∙ ap (λ t. cond (not t) (g ∷ []) [] ++ without nat_eq gs boat) some
@@ -122,54 +96,46 @@ ahead_at : (order : List (List ℕ)) (boat other at : ℕ) → IsFirst order oth
     with_ahead nat_eq order boat other ≡ (take at order ++ (boat ∷ []) ∷ []) ++ drop at order
 ahead_at [] boat other at is once = (let inside = is.within in absurd (omega (arith, inside)))
 ahead_at (g ∷ gs) boat other zero is once =
-    let grown : group_with_ahead nat_eq g boat other ≡ (boat ∷ []) ∷ g ∷ [] =
-    ap (λ t. cond t ((boat ∷ []) ∷ g ∷ []) (g ∷ [])) is.here in
     let rest = ahead_out gs boat other (none_after g gs other is.here once) in
-    λ i. grown i ++ rest i
+    λ i. cond (is.here i) ((boat ∷ []) ∷ g ∷ []) (g ∷ []) ++ rest i
 ahead_at (g ∷ gs) boat other (suc at) is once =
-    let same : group_with_ahead nat_eq g boat other ≡ g ∷ [] =
-    ap (λ t. cond t ((boat ∷ []) ∷ g ∷ []) (g ∷ [])) (is.before 0 (omega arith)) in
+    let apart = is.before 0 (omega arith) in
     let rest = ahead_at gs boat other at (next_first g gs other at is)
     (once_after g gs other once) in
-    λ i. same i ++ rest i
+    λ i. cond (apart i) ((boat ∷ []) ∷ g ∷ []) (g ∷ []) ++ rest i
 
 joined_at : (order : List (List ℕ)) (boat other at : ℕ) → IsFirst order other at →
-    times_placed nat_eq order other ≤ 1 →
-    joined nat_eq order boat other
+    times_placed nat_eq order other ≤ 1 → joined nat_eq order boat other
     ≡ (take at order ++ (get_or order at [] ++ boat ∷ []) ∷ []) ++ drop (at + 1) order
 joined_at [] boat other at is once = (let inside = is.within in absurd (omega (arith, inside)))
 joined_at (g ∷ gs) boat other zero is once =
-    let grown : joined_group nat_eq g boat other ≡ g ++ boat ∷ [] =
-    ap (λ t. cond t (g ++ boat ∷ []) g) is.here in
     let rest = joined_out gs boat other (none_after g gs other is.here once) in
-    λ i. grown i ∷ rest i
+    λ i. cond (is.here i) (g ++ boat ∷ []) g ∷ rest i
 joined_at (g ∷ gs) boat other (suc at) is once =
-    let same : joined_group nat_eq g boat other ≡ g =
-    ap (λ t. cond t (g ++ boat ∷ []) g) (is.before 0 (omega arith)) in
+    let apart = is.before 0 (omega arith) in
     let rest = joined_at gs boat other at (next_first g gs other at is)
     (once_after g gs other once) in
     let next : suc (at + 1) ≡ suc at + 1 = omega arith in
-    (λ i. same i ∷ rest i)
+    (λ i. cond (apart i) (g ++ boat ∷ []) g ∷ rest i)
     ∙ ap (λ n. (take (suc at) (g ∷ gs) ++ (get_or gs at [] ++ boat ∷ []) ∷ []) ++ drop n (g ∷ gs))
     next
 
 without_at : (order : List (List ℕ)) (boat at : ℕ) → IsFirst order boat at →
     times_placed nat_eq order boat ≤ 1 → AllByRecursion (λ g. is_empty g ≡ false) order →
     without nat_eq order boat
-    ≡ (take at order ++ cond (not (is_empty (others nat_eq boat (get_or order at []))))
-    (others nat_eq boat (get_or order at []) ∷ []) []) ++ drop (at + 1) order
+    ≡ (take at order ++ cond (not (is_empty (others boat (get_or order at []))))
+    (others boat (get_or order at []) ∷ []) []) ++ drop (at + 1) order
 without_at [] boat at is once each = (let inside = is.within in absurd (omega (arith, inside)))
 without_at (g ∷ gs) boat zero is once each =
     without_cons g gs boat
-    ∙ ap (λ hs. cond (not (is_empty (others nat_eq boat g))) (others nat_eq boat g ∷ []) [] ++ hs)
+    ∙ ap (λ hs. cond (not (is_empty (others boat g))) (others boat g ∷ []) [] ++ hs)
     (without_out gs boat each.1 (none_after g gs boat is.here once))
 without_at (g ∷ gs) boat (suc at) is once each =
     let rest = without_at gs boat at (next_first g gs boat at is) (once_after g gs boat once)
     each.1 in
     let next : suc (at + 1) ≡ suc at + 1 = omega arith in
-    let hers = others nat_eq boat (get_or gs at []) in
-    stays_whole g gs boat each.0 (is.before 0 (omega arith))
-    ∙ ap (λ hs. g ∷ hs) rest
+    let hers = others boat (get_or gs at []) in
+    stays_whole g gs boat each.0 (is.before 0 (omega arith)) ∙ ap (λ hs. g ∷ hs) rest
     ∙ ap (λ n. (take (suc at) (g ∷ gs) ++ cond (not (is_empty hers)) (hers ∷ []) [])
     ++ drop n (g ∷ gs)) next
 
@@ -199,12 +165,15 @@ stands_first order boat at stands bound before here = by (nat_lt at (length orde
         let past = ltb-false at (length order) e in
         let wrong = some_group order boat stands (λ k h. before k (omega (arith, h, past))) in cc
 
-module _ (order : List (List ℕ)) (boat other at : ℕ) (within : at < length order)
-    (once : times_placed nat_eq order other ≤ 1)
+module _ (order : List (List ℕ)) (boat other at : ℕ)
+    (placed : stands_in nat_eq other order ≡ true) (once : times_placed nat_eq order other ≤ 1)
+    (bound : at ≤ length order)
     (before : (k : ℕ) → k < at → in_group nat_eq other (get_or order k []) ≡ false)
     (here : at < length order → in_group nat_eq other (get_or order at []) ≡ true) where
   first_is : IsFirst order other at
-  first_is = record { before = before; here = here within; within = within }
+  first_is =
+      let within = stands_first order other at placed bound before here in
+      record { before = before; here = here within; within = within }
 
   pub ahead_is : with_ahead nat_eq order boat other
       ≡ (take at order ++ (boat ∷ []) ∷ []) ++ drop at order
@@ -215,8 +184,8 @@ module _ (order : List (List ℕ)) (boat other at : ℕ) (within : at < length o
   joined_is = joined_at order boat other at first_is once
 
   pub without_is : HasNoEmptyGroup order → without nat_eq order other
-      ≡ (take at order ++ cond (not (is_empty (others nat_eq other (get_or order at []))))
-      (others nat_eq other (get_or order at []) ∷ []) []) ++ drop (at + 1) order
+      ≡ (take at order ++ cond (not (is_empty (others other (get_or order at []))))
+      (others other (get_or order at []) ∷ []) []) ++ drop (at + 1) order
   without_is no_empty =
       without_at order other at first_is once
       (recursion_from_All (λ g. is_empty g ≡ false) order no_empty)

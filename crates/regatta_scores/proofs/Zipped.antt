@@ -1,26 +1,20 @@
 -- Lists that are walked in parallel.
-use Rattle.std.proofs.Common.{◌≡◌, ℕ, zero, suc, ◌+◌, ◌<◌, Bool, false, List, [], ◌∷◌, ◌++◌, refl, ap}
+use Rattle.std.proofs.Common.{◌≡◌, ℕ, ◌+◌, ◌<◌, Bool, false, List, [], ◌∷◌, ◌++◌, refl, ap}
 use Rattle.std.proofs.Common.{◌∙◌, sym, arith, length, map, zip, take, get_or}
 use Rattle.std.proofs.lemmas.List.{get_or-map, length-map, take_more}
+use Rattle.std.proofs.lemmas.Slice.Zip.{get_or-zip, seconds-zip}
 use Rattle.regatta_scores.specs.declared.boats.RaceScore.{RaceScore}
 use Rattle.regatta_scores.specs.declared.boats.Scored.{Scored}
 use Rattle.regatta_scores.specs.declared.table.Cell.{Cell}
-use Rattle.regatta_scores.specs.Lines.{scored_by}
+use Rattle.regatta_scores.specs.Lines.{scored_by, cells}
 use Rattle.regatta_scores.specs.RaceScores.{no_score, scores_in}
-use Rattle.regatta_scores.specs.Rows.{cells}
-use Rattle.regatta_scores.proofs.Lengths.{long_scored, long_zip}
-
-get_zip : {X Y : Type 0} (xs : List X) (ys : List Y) (i : ℕ) (x : X) (y : Y) → i < length xs
-    → length ys ≡ length xs → get_or (zip xs ys) i (x, y) ≡ (get_or xs i x, get_or ys i y)
-get_zip [] ys i x y h e = absurd (omega (arith, h))
-get_zip (a ∷ xs) [] i x y h e = absurd (omega (arith, e))
-get_zip (a ∷ xs) (b ∷ ys) zero x y h e = refl
-get_zip (a ∷ xs) (b ∷ ys) (suc i) x y h e =
-    get_zip xs ys i x y (omega (arith, h)) (omega (arith, e))
+use Rattle.regatta_scores.specs.Redressing.{scored_with}
+use Rattle.regatta_scores.proofs.Lengths.{long_zip}
+use Rattle.regatta_scores.proofs.TiedTimes.{map_twice}
 
 -- one score for these points, and one cell
-abbrev scored : RaceScore → ℕ → Scored
-scored score points = record { points = points; dne = score.dne }
+abbrev scored : ℕ → Bool → Scored
+scored points dne = record { points = points; dne = dne }
 
 abbrev cell : RaceScore → ℕ → Bool → Cell
 cell score points dropped = record { points = points; mark = score.mark; dropped = dropped }
@@ -37,26 +31,20 @@ pub long_in : (columns : List (List RaceScore)) (boat : ℕ)
     → length (scores_in columns boat) ≡ length columns
 long_in columns boat = length-map columns (λ (c : List RaceScore). get_or c boat no_score)
 
--- a boat's scores for her points, with that of one more race
-pub scored_more : (ss : List RaceScore) (ps : List ℕ) (i : ℕ) (s : RaceScore) (p : ℕ) (x : Scored)
-    → i < length ss → length ps ≡ length ss → s ≡ get_or ss i s → p ≡ get_or ps i p
-    → x ≡ scored s p → take i (scored_by ss ps) ++ x ∷ [] ≡ take (i + 1) (scored_by ss ps)
-scored_more ss ps i s p x h long at points is =
-    let f = λ (race : RaceScore × ℕ). scored race.0 race.1 in
-    let within : i < length (zip ss ps) = omega (arith, h, long_zip ss ps long) in
-    let hers : get_or (scored_by ss ps) i x ≡ x =
-    get_or-map f (zip ss ps) i (s, p) x within ∙ ap f (get_zip ss ps i s p h long)
-    ∙ (λ j. scored (sym at j) (sym points j)) ∙ sym is in
-    ap (λ y. take i (scored_by ss ps) ++ y ∷ []) (sym hers)
-    ∙ sym (take_more (scored_by ss ps) i x (omega (arith, h, long_scored ss ps long)))
+-- a boat's scores for these points, with a list of which of them are DNEs
+pub with_dnes : (ss : List RaceScore) (ps : List ℕ)
+    → scored_with ps (map (λ (s : RaceScore). s.dne) ss) ≡ scored_by ss ps
+with_dnes [] [] = refl
+with_dnes [] (p ∷ ps) = refl
+with_dnes (s ∷ ss) [] = refl
+with_dnes (s ∷ ss) (p ∷ ps) = ap (λ xs. scored p s.dne ∷ xs) (with_dnes ss ps)
 
--- they are for these points
+-- they are for the points
 pub scored_points : (ss : List RaceScore) (ps : List ℕ) → length ps ≡ length ss
     → map (λ (s : Scored). s.points) (scored_by ss ps) ≡ ps
-scored_points [] [] long = refl
-scored_points [] (p ∷ ps) long = absurd (omega (arith, long))
-scored_points (s ∷ ss) [] long = absurd (omega (arith, long))
-scored_points (s ∷ ss) (p ∷ ps) long = ap (λ xs. p ∷ xs) (scored_points ss ps (omega (arith, long)))
+scored_points ss ps long =
+    map_twice (λ (s : Scored). s.points) (λ (race : RaceScore × ℕ). scored race.1 race.0.dne) (zip ss ps)
+    ∙ seconds-zip ss ps long
 
 -- one more cell is appended
 pub cell_more : (ss : List RaceScore) (ps : List ℕ) (fs : List Bool) (i : ℕ) (s : RaceScore) (p : ℕ)
@@ -73,8 +61,8 @@ cell_more ss ps fs i s p hers old new h k l at points is so_far more =
     let in_points : i < length ps = omega (arith, h, k) in
     let one : get_or (cells ss ps fs) i hers ≡ hers =
     get_or-map f (zip ss pairs) i (s, (p, false)) hers within
-    ∙ ap f (get_zip ss pairs i s (p, false) h long
-    ∙ (λ j. (sym at j, get_zip ps fs i p false in_points even j)))
+    ∙ ap f (get_or-zip ss pairs i (s, (p, false)) h (omega (arith, h, long))
+    ∙ (λ j. (sym at j, get_or-zip ps fs i (p, false) in_points (omega (arith, in_points, even)) j)))
     ∙ (λ j. cell s (sym points j) (get_or fs i false)) ∙ sym is in
     more ∙ (λ j. so_far j ++ sym one j ∷ [])
     ∙ sym (take_more (cells ss ps fs) i hers

@@ -1,7 +1,6 @@
 -- The lines of all boats, after new ones replace some of them.
 use Rattle.std.specs.Prelude.{◌≡◌, ℕ, ◌+◌, ◌<◌, ◌||◌, Bool, false, List, [], ◌∷◌, length, map}
-use Rattle.std.specs.Prelude.{nat_eq, nat_lt}
-use Rattle.std.specs.Prelude.{slice_index_or, slice_set, All, if◌then◌else◌}
+use Rattle.std.specs.Prelude.{nat_eq, nat_lt, slice_index_or, slice_set, All, if◌then◌else◌}
 use Rattle.regatta_scores.specs.Ranking.{BoatScores}
 use Rattle.regatta_scores.specs.Entrants.{no_line}
 use Rattle.regatta_scores.specs.KeptRanking.{is_new, line_of}

@@ -1,18 +1,17 @@
 -- The points for finishing places, for each boat of a sheet by her number.
 use Rattle.std.specs.Prelude.{◌≡◌, ℕ, ◌+◌, ◌*◌, ◌≤◌, Bool, List, length, count_by}
 use Rattle.std.specs.Prelude.{Option, Some, None, is_none, is_some, unwrap_or, nat_eq}
-use Rattle.std.specs.Prelude.{slice_index_or, if◌then◌else◌}
+use Rattle.std.specs.Prelude.{slice_index_or, min, max, if◌then◌else◌}
 use Rattle.std.specs.List.{range_with_len}
 use Rattle.regatta_terms.specs.declared.limits.TheConstants.{MAX_BOATS}
 use Rattle.regatta_terms.specs.Rules.{RulesParts}
-use Rattle.regatta_terms.specs.declared.command.Code.{Code}
 use Rattle.regatta_scores.specs.declared.boats.RaceScore.{RaceScore}
 use Rattle.regatta_scores.specs.declared.sheet.Held.{Held}
 use Rattle.regatta_scores.specs.Order.{in_group, stands_in}
 use Rattle.regatta_scores.specs.Outcomes.{score_of}
 use Rattle.regatta_scores.specs.Sheet.{nothing_held}
 use Rattle.regatta_scores.specs.RacePoints.{Race, race_of, status_by, came, place_points, dnf_by}
-use Rattle.regatta_scores.specs.RacePoints.{base_by, penalised, penalty_points}
+use Rattle.regatta_scores.specs.RacePoints.{base_by, penalty_points}
 
 -- the most points for a place, in tenths: those of the place after all boats, shared by all
 abbrev pub most_place_points : ℕ
@@ -34,8 +33,7 @@ pub record HasPlacedPoints
 -- each boat of the group has these points now, and every other boat has her old ones (A7)
 pub record GivesPoints (old new : List (Option ℕ)) (group : List ℕ) (points : ℕ) : Type 0 where
   pub one_each : length new ≡ length old
-  pub given : (boat : ℕ) →
-      slice_index_or new boat None
+  pub given : (boat : ℕ) → slice_index_or new boat None
       ≡ (if in_group nat_eq boat group then Some points else slice_index_or old boat None)
 
 -- the number of boats of the group that finished; boats with a code don't count (A6.1)
@@ -58,21 +56,14 @@ number_came_with held placed =
 abbrev pub dnf_with : RulesParts → List Held → List (Option ℕ) → ℕ
 dnf_with rules held placed = dnf_by rules.absent (length held) (number_came_with held placed)
 
--- the score for her place or her code (A4, A5, A7)
-abbrev pub base_with : Option Code → Option ℕ → ℕ → ℕ → ℕ
-base_with code placed entered dnf =
-    base_by (status_by code (is_some placed)) (unwrap_or placed 0) entered dnf
-
--- the score before redress of a boat that holds this and has these points for a place: her base
--- made worse by penalties (30.2, 44.3(c))
+-- the score before redress of a boat that holds this and has these points for a place: for her
+-- place or her code (A4, A5, A7), made worse by penalties (30.2, 44.3(c))
 abbrev pub plain_with : RulesParts → Held → Option ℕ → ℕ → ℕ → ℕ
 plain_with rules held placed entered dnf =
-    penalised (base_with held.code placed entered dnf) (penalty_points rules dnf held) dnf
+    let base = base_by (status_by held.code (is_some placed)) (unwrap_or placed 0) entered dnf in
+    max base (min (base + 10 * penalty_points rules dnf held) (10 * dnf))
 
 -- her score in the race
 abbrev pub score_with : RulesParts → Held → Option ℕ → ℕ → ℕ → RaceScore
-score_with rules held placed entered dnf = score_of (record {
-  plain = plain_with rules held placed entered dnf;
-  held = held;
-  placed = is_some placed;
-})
+score_with rules held placed entered dnf =
+    score_of (plain_with rules held placed entered dnf) held (is_some placed)

@@ -1,7 +1,7 @@
 -- Laws of single races.
-use Rattle.std.specs.Prelude.{◌≡◌, ◌≢◌, ℕ, ◌+◌, ◌*◌, ◌≤◌, Bool, true, false, [], ◌∷◌, ◌++◌}
-use Rattle.std.specs.Prelude.{count_by, sum_by, if◌then◌else◌}
-use Rattle.std.specs.List.{range_with_len}
+use Rattle.std.specs.Prelude.{◌≡◌, ◌≢◌, ℕ, ◌+◌, ◌-◌, ◌*◌, ◌≤◌, Bool, true, false, [], ◌∷◌}
+use Rattle.std.specs.Prelude.{◌++◌, count_by, sum_by, find, unwrap_or, if◌then◌else◌}
+use Rattle.std.specs.List.{range_with_len, before_first}
 use Rattle.regatta_terms.specs.Effects.{Act, InRace, effect}
 use Rattle.regatta_terms.specs.Entries.{EntryParts}
 use Rattle.regatta_terms.specs.Rules.{RulesParts}
@@ -11,21 +11,17 @@ use Rattle.regatta_terms.specs.declared.command.Command.TheVariants.{Enter, Mark
 use Rattle.regatta_scores.specs.Order.{HasNoEmptyGroup, in_group, stands_in, times_placed}
 use Rattle.regatta_scores.specs.Journal.{Journal, same_sail, order, held}
 use Rattle.regatta_scores.specs.RacePoints.{Race, Status, Finished, Coded, journal_race, status}
-use Rattle.regatta_scores.specs.RacePoints.{shared_points, groups_ahead, her_group, finishing_place}
-use Rattle.regatta_scores.specs.RacePoints.{sharing, dnf, plain}
+use Rattle.regatta_scores.specs.RacePoints.{finishers, place_points, dnf, plain}
 
 -- two journals say the same about a race, under the rules of the series
 pub record SaysTheSame (rules : RulesParts) (old new : Journal) (race : ℕ) : Type 0 where
   pub same_order : order rules new race ≡ order rules old race
   pub same_held : (boat : Sail) → held new race boat ≡ held old race boat
-  pub same_status : (boat : Sail) →
-      status same_sail (journal_race rules new race) boat
+  pub same_status : (boat : Sail) → status same_sail (journal_race rules new race) boat
       ≡ status same_sail (journal_race rules old race) boat
-  pub same_dnf :
-      dnf same_sail rules (journal_race rules new race)
+  pub same_dnf : dnf same_sail rules (journal_race rules new race)
       ≡ dnf same_sail rules (journal_race rules old race)
-  pub same_plain : (boat : Sail) →
-      plain same_sail rules (journal_race rules new race) boat
+  pub same_plain : (boat : Sail) → plain same_sail rules (journal_race rules new race) boat
       ≡ plain same_sail rules (journal_race rules old race) boat
 
 -- Under any rules, a command of one race changes no other race.
@@ -50,14 +46,27 @@ OrdersHaveNoEmptyGroup = (rules : RulesParts) (journal : Journal) (race : ℕ) �
 abbrev pub NobodyTwice : Race Sail → Type 0
 NobodyTwice race = (boat : Sail) → times_placed same_sail race.order boat ≤ 1
 
+module _ {B : Type 0} (same : B → B → Bool) where
+  -- her finishing place: one more than the number of boats that finished in the groups ahead of
+  -- hers (A4, A6.1)
+  abbrev pub finishing_place : Race B → B → ℕ
+  finishing_place race boat =
+      1 + sum_by (finishers race) (before_first (in_group same boat) race.order)
+
+  -- the number of boats that finished in her group, which share her place (A7)
+  abbrev pub sharing : Race B → B → ℕ
+  sharing race boat = finishers race (unwrap_or (find (in_group same boat) race.order) [])
+
 -- A boat leaves the order (A6.1): she is scored by her code, and every other boat's status stays.
 -- Each boat in a later group moves up one place, each in her group shares with one fewer, and every
 -- other place and number of sharers stays.
 abbrev pub LeavesTheOrder : Race Sail → Race Sail → Sail → Code → Type 0
 LeavesTheOrder old new coded code =
     (boat : Sail) →
-    let is_behind = stands_in same_sail coded (groups_ahead same_sail old boat) in
-    let is_tied = in_group same_sail coded (her_group same_sail old boat) in
+    let ahead = before_first (in_group same_sail boat) old.order in
+    let hers = unwrap_or (find (in_group same_sail boat) old.order) [] in
+    let is_behind = stands_in same_sail coded ahead in
+    let is_tied = in_group same_sail coded hers in
     (status same_sail new boat
     ≡ (if same_sail boat coded then Coded code else status same_sail old boat))
     × (finishing_place same_sail old boat
@@ -68,8 +77,7 @@ LeavesTheOrder old new coded code =
 abbrev pub CodedBoatsLeaveTheOrder : Type 0
 CodedBoatsLeaveTheOrder =
     (rules : RulesParts) (journal : Journal) (entry : EntryParts) (race : ℕ) (coded : Sail)
-    (code : Code) →
-    entry.command ≡ Mark race coded code →
+    (code : Code) → entry.command ≡ Mark race coded code →
     NobodyTwice (journal_race rules journal race) →
     status same_sail (journal_race rules journal race) coded ≡ Finished →
     LeavesTheOrder (journal_race rules journal race)
@@ -82,7 +90,9 @@ points_of_places first number = sum_by (λ place. 10 * place) (range_with_len fi
 -- Boats tied for a place share equally the points for that place and for the places immediately
 -- below (A7).
 abbrev pub TiesShareEqually : Type 0
-TiesShareEqually = (place tied : ℕ) → tied * shared_points place tied ≡ points_of_places place tied
+TiesShareEqually = (race : Race Sail) (boat : Sail) →
+    sharing same_sail race boat * place_points same_sail race boat
+    ≡ points_of_places (finishing_place same_sail race boat) (sharing same_sail race boat)
 
 abbrev pub is_finished : Status → Bool
 is_finished Finished = true
@@ -91,9 +101,7 @@ is_finished _ = false
 -- the points for her place if she finished, else 0 (A4, A7)
 abbrev pub finish_points : Race Sail → Sail → ℕ
 finish_points race boat =
-    if is_finished (status same_sail race boat)
-    then shared_points (finishing_place same_sail race boat) (sharing same_sail race boat)
-    else 0
+    if is_finished (status same_sail race boat) then place_points same_sail race boat else 0
 
 -- if n boats finished, their points for places, ties shared, add up to those of places 1 to n (A4,
 -- A7)

@@ -37,23 +37,12 @@ abbrev pub came : Status → Bool
 came (Coded Dnc) = false
 came _ = true
 
--- points for place p shared by k boats, in tenths (A4, A7)
-abbrev pub shared_points : ℕ → ℕ → ℕ
-shared_points p k = 10 * p + 5 * (k - 1)
-
--- 20% of the race's DNF score, to the nearest whole point, 0.5 upward (44.3(c)); whole points
-abbrev pub twenty_percent : ℕ → ℕ
-twenty_percent dnf = (2 * dnf + 5) / 10
-
--- what the penalties of a boat add, in whole points (30.2, 44.3(c))
+-- what the penalties of a boat add, in whole points (30.2, 44.3(c)); 20% of the race's DNF score
+-- are rounded to the nearest whole point, 0.5 upward
 abbrev pub penalty_points : RulesParts → ℕ → Held → ℕ
 penalty_points rules dnf held =
-    held.zfp * twenty_percent dnf + held.scp * unwrap_or rules.scp (twenty_percent dnf)
-
--- a score made worse by penalties, up to the DNF score; a score that is no better than that stays
--- (44.3(c))
-abbrev pub penalised : ℕ → ℕ → ℕ → ℕ
-penalised base penalty dnf = max base (min (base + 10 * penalty) (10 * dnf))
+    let twenty_percent = (2 * dnf + 5) / 10 in
+    held.zfp * twenty_percent + held.scp * unwrap_or rules.scp twenty_percent
 
 -- the number of boats of a group that finished; boats with a code don't count (A6.1)
 abbrev pub finishers : {B : Type 0} → Race B → List B → ℕ
@@ -78,45 +67,27 @@ module _ {B : Type 0} (same : B → B → Bool) where
   abbrev pub status : Race B → B → Status
   status race boat = status_by (race.held boat).code (stands_in same boat race.order)
 
-  -- the groups of boats ahead of hers (A3)
-  abbrev pub groups_ahead : Race B → B → List (List B)
-  groups_ahead race boat = before_first (in_group same boat) race.order
-
-  -- her group: her and the boats tied with her (A7)
-  abbrev pub her_group : Race B → B → List B
-  her_group race boat = unwrap_or (find (in_group same boat) race.order) []
-
-  -- her finishing place: one more than the number of boats that finished in the groups ahead of
-  -- hers (A4, A6.1)
-  abbrev pub finishing_place : Race B → B → ℕ
-  finishing_place race boat = 1 + sum_by (finishers race) (groups_ahead race boat)
-
-  -- the number of boats that finished in her group, which share her place (A7)
-  abbrev pub sharing : Race B → B → ℕ
-  sharing race boat = finishers race (her_group race boat)
-
-  -- the points for her finishing place, shared with the boats tied with her (A4, A7)
+  -- the points for her finishing place, which is one more than the number of boats that finished in
+  -- the groups ahead of hers (A4, A6.1), shared by the boats that finished in her group (A7)
   abbrev pub place_points : Race B → B → ℕ
-  place_points race boat = shared_points (finishing_place race boat) (sharing race boat)
+  place_points race boat =
+      let place = 1 + sum_by (finishers race) (before_first (in_group same boat) race.order) in
+      let sharing = finishers race (unwrap_or (find (in_group same boat) race.order) []) in
+      10 * place + 5 * (sharing - 1)
 
-  -- how many of the boats entered came to the starting area (A5.3)
-  abbrev pub number_came : Race B → ℕ
-  number_came race = count_by (λ boat. came (status race boat)) race.entered
-
-  -- the race's DNF score in whole points (A5.2, A5.3)
+  -- the race's DNF score in whole points, by how many came to the starting area (A5.2, A5.3)
   abbrev pub dnf : RulesParts → Race B → ℕ
-  dnf rules race = dnf_by rules.absent (length race.entered) (number_came race)
+  dnf rules race =
+      dnf_by rules.absent (length race.entered)
+      (count_by (λ boat. came (status race boat)) race.entered)
 
-  -- the score for her place or her code (A4, A5, A7)
-  abbrev pub base : RulesParts → Race B → B → ℕ
-  base rules race boat =
-      base_by (status race boat) (place_points race boat) (length race.entered) (dnf rules race)
-
-  -- her score before redress: for her place or her code, made worse by penalties (30.2, 44.3(c))
+  -- her score before redress: for her place or her code (A4, A5, A7), made worse by penalties, up
+  -- to the DNF score; a score that is no better than that stays (30.2, 44.3(c))
   abbrev pub plain : RulesParts → Race B → B → ℕ
   plain rules race boat =
       let dnf = dnf rules race in
-      penalised (base rules race boat) (penalty_points rules dnf (race.held boat)) dnf
+      let base = base_by (status race boat) (place_points race boat) (length race.entered) dnf in
+      max base (min (base + 10 * penalty_points rules dnf (race.held boat)) (10 * dnf))
 
 -- ---- the race on a sheet, and in the journal
 

@@ -1,13 +1,17 @@
 -- The scores of the boats on a sheet, by their numbers.
-use Rattle.std.specs.Prelude.{◌≡◌, ℕ, Bool, false, ◌&&◌, List, map, nat_eq, None, is_none, slice_index_or}
+use Rattle.std.specs.Prelude.{◌≡◌, ℕ, Bool, false, ◌&&◌, List, map, nat_eq, None, is_none}
+use Rattle.std.specs.Prelude.{slice_index_or, true}
 use Rattle.std.specs.List.{range_with_len}
 use Rattle.regatta_terms.specs.Rules.{RulesParts}
 use Rattle.regatta_scores.specs.declared.boats.Averaged.TheVariants.{OverNone}
 use Rattle.regatta_scores.specs.declared.boats.RaceScore.{RaceScore}
 use Rattle.regatta_scores.specs.declared.sheet.Held.{Held}
-use Rattle.regatta_scores.specs.Outcomes.{outcome, score_of}
-use Rattle.regatta_scores.specs.RacePoints.{race_of}
-use Rattle.regatta_scores.specs.Sheet.{Sheet, boats}
+use Rattle.regatta_scores.specs.Order.{stands_in}
+use Rattle.regatta_scores.specs.Outcomes.{score_of}
+use Rattle.regatta_scores.specs.RacePoints.{race_of, plain}
+use Rattle.regatta_scores.specs.Sheet.{Sheet, boats, nothing_held}
+use Rattle.regatta_scores.specs.declared.boats.RowItem.{RowItem}
+use Rattle.regatta_scores.specs.Averages as averages
 
 -- whether she has no code, no penalty and no redress
 abbrev pub holds_nothing : Held → Bool
@@ -16,7 +20,9 @@ holds_nothing held =
 
 -- her score on the sheet
 abbrev pub race_score : RulesParts → Sheet → ℕ → RaceScore
-race_score rules sheet boat = score_of (outcome nat_eq rules (race_of sheet.order sheet.held) boat)
+race_score rules sheet boat =
+    let race = race_of sheet.order sheet.held in
+    score_of (plain nat_eq rules race boat) (race.held boat) (stands_in nat_eq boat race.order)
 
 -- the score of each boat on the sheet, in the order of the boats' numbers
 abbrev pub race_scores : RulesParts → Sheet → List RaceScore
@@ -36,3 +42,11 @@ pub record ScoresAs (one other : RaceScore) : Type 0 where
   pub points : one.points ≡ other.points
   pub averaged : one.averaged ≡ other.averaged
   pub dne : one.dne ≡ other.dne
+
+-- the score of a boat that finished, and holds nothing but this redress
+abbrev pub item_score : RowItem → RaceScore
+item_score item = score_of item.plain (record nothing_held { redress = item.redress }) true
+
+-- one boat's points in each race, with redress (A9)
+abbrev pub points : List RowItem → List ℕ
+points row = averages.points (map item_score row)

@@ -1,19 +1,23 @@
--- Laws of ranks and of the standing (RRS A2.1, A8).
+-- Laws of exclusions, ranks and the standing (RRS A2.1, A8, 90.3(b)).
 use Rattle.std.specs.Prelude.{◌≡◌, ◌↔◌, ◌⊎◌, ℕ, ◌+◌, ◌<◌, ◌≤◌, true, false, not, nat_eq, nat_lt}
-use Rattle.std.specs.Prelude.{List, length, map, filter, take, slice_index, count_by, All, Any}
-use Rattle.std.specs.Prelude.{AllPairs, Contains, IsPermutation}
+use Rattle.std.specs.Prelude.{List, length, map, filter, take, reverse, slice_index, count_by, All}
+use Rattle.std.specs.Prelude.{Bool, Any, AllPairs, Contains, IsPermutation, min, slice_get, Some}
+use Rattle.std.specs.Ordering.{nat_cmp, ordering_then, is_le}
+use Rattle.std.specs.Cmp.Lexicographic.{slice_cmp}
 use Rattle.std.specs.List.Sorted.{IsNonDecreasing}
 use Rattle.std.specs.Cmp.{IsTotalOrder}
 use Rattle.std.specs.declared.cmp.Ordering.TheVariants.{Equal}
 use Rattle.regatta_terms.specs.Rules.{RulesParts}
 use Rattle.regatta_terms.specs.declared.sail.Sail.{Sail}
+use Rattle.regatta_terms.specs.Entries.{IsEntry}
 use Rattle.regatta_scores.specs.declared.table.Cell.{Cell}
 use Rattle.regatta_scores.specs.declared.table.Row.{Row}
-use Rattle.regatta_scores.specs.Exclusions.{counting}
+use Rattle.regatta_scores.specs.Exclusions.{counting, excluded}
 use Rattle.regatta_scores.specs.Journal.{Journal, entered}
-use Rattle.regatta_scores.specs.Ranking.{BoatScores, net, rising, best_to_worst, last_to_first}
-use Rattle.regatta_scores.specs.Ranking.{comparison, beats, rank}
-use Rattle.regatta_scores.specs.Standing.{line, lines, row, comes_first, standing}
+use Rattle.regatta_scores.specs.Ranking.{BoatScores, net, rising, best_to_worst, comparison, beats}
+use Rattle.regatta_scores.specs.Ranking.{rank}
+use Rattle.regatta_scores.specs.Standing.{line, row, standing}
+use Rattle.regatta_scores.specs.declared.boats.Scored.{Scored}
 
 -- ---- the comparison of boats
 
@@ -40,6 +44,10 @@ CountingScoresRise = (line : BoatScores) →
 
 -- ---- ties
 
+-- the lines of all boats entered in the series, in the order of the entry list (A2.2, A8)
+abbrev pub lines : RulesParts → Journal → List BoatScores
+lines rules journal = map (line rules journal) (entered journal)
+
 -- Two boats share a rank if and only if their series scores, their scores that count from best to
 -- worst and their points in each race are equal (A8).
 abbrev pub TiesAreComplete : Type 0
@@ -63,12 +71,15 @@ counting_points cells = cell_points (filter (λ cell. not cell.dropped) cells)
 abbrev pub RowsTieCompletely : Type 0
 RowsTieCompletely = (rules : RulesParts) (journal : Journal) (a b : Row) →
     Contains (standing rules journal).rows a → Contains (standing rules journal).rows b →
-    (a.rank ≡ b.rank)
-    ↔ ((a.net ≡ b.net)
+    (a.rank ≡ b.rank) ↔ ((a.net ≡ b.net)
     × (rising (counting_points a.cells) ≡ rising (counting_points b.cells))
     × (cell_points a.cells ≡ cell_points b.cells))
 
 -- ---- the rows of the standing
+
+-- whether the first row comes no later than the second, by rank and then by sail (A8)
+abbrev pub comes_first : Row → Row → Bool
+comes_first a b = is_le (ordering_then (nat_cmp a.rank b.rank) (slice_cmp nat_cmp a.sail b.sail))
 
 -- each boat entered has one row, which is hers, and the rows are in order of rank and then sail
 -- (A2.2)
@@ -119,10 +130,9 @@ pub record IsLowerAtFirst (xs ys : List ℕ) : Type 0 where
 -- last race back does, excluded scores included (A8.2)
 abbrev pub IsBetter : BoatScores → BoatScores → Type 0
 IsBetter a b =
-    (net a < net b)
-    ⊎ ((net a ≡ net b) × IsLowerAtFirst (best_to_worst a) (best_to_worst b))
+    (net a < net b) ⊎ ((net a ≡ net b) × IsLowerAtFirst (best_to_worst a) (best_to_worst b))
     ⊎ ((net a ≡ net b) × (best_to_worst a ≡ best_to_worst b)
-    × IsLowerAtFirst (last_to_first a) (last_to_first b))
+    × IsLowerAtFirst (reverse a.points) (reverse b.points))
 
 -- If boats have equally many races and no score below 1.0, they beat each other in these three
 -- cases and no other (A2.1, A8.1, A8.2).
@@ -130,3 +140,47 @@ abbrev pub BeatsInThreeCases : Type 0
 BeatsInThreeCases = (a b : BoatScores) →
     All (λ p. 10 ≤ p) a.points → All (λ p. 10 ≤ p) b.points → length a.points ≡ length b.points →
     (beats a b ≡ true) ↔ IsBetter a b
+
+-- ---- all scores of a series
+
+-- under these rules no score of a boat by the journal is below 1.0, and none in a cell of the
+-- standing
+pub record HasNoScoreBelowOne (rules : RulesParts) (journal : Journal) : Type 0 where
+  pub of_boats : (boat : Sail) → All (λ points. 10 ≤ points) (line rules journal boat).points
+  pub in_cells :
+      All (λ (row : Row). All (λ (cell : Cell). 10 ≤ cell.points) row.cells)
+      (standing rules journal).rows
+
+-- Under any rules, no score of a journal is below 1.0 if the parts of its entries are in range.
+abbrev pub NoScoreIsBelowOne : Type 0
+NoScoreIsBelowOne = (rules : RulesParts) (journal : Journal) → All IsEntry journal →
+    HasNoScoreBelowOne rules journal
+
+-- by the journal, one boat beats another in the three cases and in no other (A2.1, A8.1, A8.2)
+abbrev pub BoatsBeatInThreeCases : RulesParts → Journal → Type 0
+BoatsBeatInThreeCases rules journal = (a b : Sail) →
+    (beats (line rules journal a) (line rules journal b) ≡ true)
+    ↔ IsBetter (line rules journal a) (line rules journal b)
+
+-- Under any rules, this holds for a journal if the parts of its entries are in range.
+abbrev pub EntriesBeatInThreeCases : Type 0
+EntriesBeatInThreeCases = (rules : RulesParts) (journal : Journal) → All IsEntry journal →
+    BoatsBeatInThreeCases rules journal
+
+-- ---- exclusions
+
+-- with d exclusions: as many scores are excluded as may be, and no DNE is. An excluded score is
+-- worse than each excludable one that counts, or equal and of a race sailed earlier (A2.1, 90.3(b))
+pub record ExcludesTheWorst (d : ℕ) (scores : List Scored) : Type 0 where
+  pub one_for_each : length (excluded d scores) ≡ length scores
+  pub as_many :
+      count_by (λ flag. flag) (excluded d scores) ≡ min d (count_by (λ s. not s.dne) scores)
+  pub no_dne : (i : ℕ) (s : Scored) → slice_get scores i ≡ Some s → s.dne ≡ true →
+      slice_get (excluded d scores) i ≡ Some false
+  pub worst : (i j : ℕ) (s t : Scored) → slice_get scores i ≡ Some s → slice_get scores j ≡ Some t →
+      slice_get (excluded d scores) i ≡ Some true → slice_get (excluded d scores) j ≡ Some false →
+      t.dne ≡ false → (t.points < s.points) ⊎ ((t.points ≡ s.points) × (i < j))
+
+-- Whatever the scores and the number of exclusions, the worst scores are excluded (A2.1, 90.3(b)).
+abbrev pub WorstAreExcluded : Type 0
+WorstAreExcluded = (d : ℕ) (scores : List Scored) → ExcludesTheWorst d scores

@@ -1,5 +1,6 @@
 -- Laws of redress (RRS A6.2, A9).
-use Rattle.std.specs.Prelude.{◌≡◌, ◌≢◌, ℕ, ◌+◌, ◌*◌, ◌<◌, ◌≤◌, List, [], ◌∷◌, ◌++◌, length, All}
+use Rattle.std.specs.Prelude.{◌≡◌, ◌≢◌, ℕ, ◌+◌, ◌*◌, ◌<◌, ◌≤◌, List, [], ◌∷◌, ◌++◌, filter, sum_by}
+use Rattle.std.specs.Prelude.{length, All}
 use Rattle.regatta_terms.specs.Entries.{EntryParts}
 use Rattle.regatta_terms.specs.Rules.{RulesParts}
 use Rattle.regatta_terms.specs.declared.sail.Sail.{Sail}
@@ -7,7 +8,7 @@ use Rattle.regatta_terms.specs.declared.command.Redress as redress_type
 use Rattle.regatta_terms.specs.declared.command.Command.TheVariants.{Redress}
 use Rattle.regatta_scores.specs.declared.boats.RaceScore.{RaceScore}
 use Rattle.regatta_scores.specs.Journal.{Journal}
-use Rattle.regatta_scores.specs.Averages.{average, counted, average_over}
+use Rattle.regatta_scores.specs.Averages.{is_own, average_over}
 use Rattle.regatta_scores.specs.Standing.{line}
 
 -- Redress of one boat changes no other boat's points in any race (A6.2), nor which of them are
@@ -17,6 +18,10 @@ RedressLeavesOthers = (rules : RulesParts) (journal : Journal) (entry : EntryPar
     (race : ℕ) (boat other : Sail) (redress : redress_type.Redress) →
     entry.command ≡ Redress race boat redress → other ≢ boat →
     line rules (journal ++ entry ∷ []) other ≡ line rules journal other
+
+-- the races that an average counts: those in which no average replaces her points (A9)
+abbrev pub counted : List RaceScore → List RaceScore
+counted races = filter (λ score. is_own score.averaged) races
 
 -- if an average counts the race, her points in it are from low to high (A9)
 abbrev pub IsWithin : ℕ → ℕ → RaceScore → Type 0
@@ -31,5 +36,7 @@ AveragesLieBetween = (races : List RaceScore) (plain low high : ℕ) →
 -- An average is rounded to the nearest tenth: it is at most half a tenth above the true average,
 -- and less than half a tenth below (A9).
 abbrev pub AveragesAreNearest : Type 0
-AveragesAreNearest = (n s : ℕ) → 0 < n →
-    (2 * n * average n s ≤ 2 * s + n) × (2 * s < 2 * n * average n s + n)
+AveragesAreNearest = (races : List RaceScore) (plain : ℕ) → 0 < length (counted races) →
+    let n = length (counted races) in
+    let s = sum_by (λ score. score.points) (counted races) in
+    (2 * n * average_over races plain ≤ 2 * s + n) × (2 * s < 2 * n * average_over races plain + n)

@@ -6,7 +6,7 @@ use Rattle.regatta_terms.specs.Rules.{exclusions_of}
 use Rattle.regatta_terms.specs.declared.command.Redress.TheVariants.{Points, AllRaces, RacesBefore}
 use Rattle.regatta_scores.specs.declared.boats.RowItem.{RowItem}
 use Rattle.regatta_scores.specs.declared.boats.Scored.{Scored}
-use Rattle.regatta_scores.specs.RowItems.{points}
+use Rattle.regatta_scores.specs.RaceScores.{points}
 use Rattle.regatta_scores.specs.Exclusions as exclusion
 use Rattle.regatta_scores.specs.Ranking.{BoatScores, better, places}
 use Rattle.regatta_scores.specs.declared.ranking.TheConstants.{MAX_RANKED}
@@ -25,34 +25,22 @@ dne points = record { points = points; dne = true }
 abbrev pub flags : ℕ → List Scored → List Bool
 flags threshold scores = exclusion.excluded (exclusions_of (threshold ∷ []) (length scores)) scores
 
--- the series score under these exclusions
-abbrev pub series_score : ℕ → List Scored → ℕ
-series_score threshold scores = exclusion.net (map (λ s. s.points) scores) (flags threshold scores)
+-- these, and the series score
+abbrev pub scored : ℕ → List Scored → List Bool × ℕ
+scored threshold scores =
+    let excluded = flags threshold scores in
+    (excluded, exclusion.net (map (λ s. s.points) scores) excluded)
 
-pub earliest_of_equal_worst_scores :
-    flags 3 (score 40 ∷ score 20 ∷ score 40 ∷ [])
-    ≡ true ∷ false ∷ false ∷ []
+pub earliest_of_equal_worst_scores : scored 3 (score 40 ∷ score 20 ∷ score 40 ∷ [])
+    ≡ (true ∷ false ∷ false ∷ [], 60)
 earliest_of_equal_worst_scores = refl
 
-pub earliest_of_equal_worst_scores_net : series_score 3 (score 40 ∷ score 20 ∷ score 40 ∷ []) ≡ 60
-earliest_of_equal_worst_scores_net = refl
-
-pub next_worst_in_place_of_dne :
-    flags 3 (dne 40 ∷ score 30 ∷ score 20 ∷ [])
-    ≡ false ∷ true ∷ false ∷ []
+pub next_worst_in_place_of_dne : scored 3 (dne 40 ∷ score 30 ∷ score 20 ∷ [])
+    ≡ (false ∷ true ∷ false ∷ [], 60)
 next_worst_in_place_of_dne = refl
 
-pub next_worst_in_place_of_dne_net : series_score 3 (dne 40 ∷ score 30 ∷ score 20 ∷ []) ≡ 60
-next_worst_in_place_of_dne_net = refl
-
-pub nothing_where_all_are_dne : flags 2 (dne 40 ∷ dne 50 ∷ []) ≡ false ∷ false ∷ []
+pub nothing_where_all_are_dne : scored 2 (dne 40 ∷ dne 50 ∷ []) ≡ (false ∷ false ∷ [], 90)
 nothing_where_all_are_dne = refl
-
-pub nothing_where_all_are_dne_net : series_score 2 (dne 40 ∷ dne 50 ∷ []) ≡ 90
-nothing_where_all_are_dne_net = refl
-
-pub nothing_of_no_race : flags 2 [] ≡ []
-nothing_of_no_race = refl
 
 -- ---- ties (A8)
 
@@ -71,13 +59,11 @@ pub last_race_decides : better (all_counting (20 ∷ 10 ∷ [])) (all_counting (
 last_race_decides = refl
 
 pub excluded_last_race_decides :
-    better (one_excluded (20 ∷ 10 ∷ 50 ∷ [])) (one_excluded (10 ∷ 20 ∷ 40 ∷ []))
-    ≡ Greater
+    better (one_excluded (20 ∷ 10 ∷ 50 ∷ [])) (one_excluded (10 ∷ 20 ∷ 40 ∷ [])) ≡ Greater
 excluded_last_race_decides = refl
 
 pub no_excluded_score_is_listed :
-    better (one_excluded (50 ∷ 20 ∷ 10 ∷ [])) (one_excluded (40 ∷ 10 ∷ 20 ∷ []))
-    ≡ Less
+    better (one_excluded (50 ∷ 20 ∷ 10 ∷ [])) (one_excluded (40 ∷ 10 ∷ 20 ∷ [])) ≡ Less
 no_excluded_score_is_listed = refl
 
 pub complete_tie_shares_a_rank :
@@ -90,11 +76,7 @@ complete_tie_shares_a_rank = refl
 pub lines_ranked_at_most : MAX_RANKED ≡ 1000
 lines_ranked_at_most = refl
 
-pub nobody_has_no_rank : places [] ≡ []
-nobody_has_no_rank = refl
-
-pub first_rank_is_shared_without_a_race :
-    places (all_counting [] ∷ all_counting [] ∷ [])
+pub first_rank_is_shared_without_a_race : places (all_counting [] ∷ all_counting [] ∷ [])
     ≡ record { rank = 1; tied = true } ∷ record { rank = 1; tied = true } ∷ []
 first_rank_is_shared_without_a_race = refl
 
@@ -117,27 +99,22 @@ abbrev pub average_of_before : ℕ → RowItem
 average_of_before plain = record { plain = plain; redress = Some RacesBefore }
 
 pub points_handed_in_are_averaged_elsewhere :
-    points (handed_in 50 75 ∷ item 20 ∷ average_of_all 50 ∷ [])
-    ≡ 75 ∷ 20 ∷ 48 ∷ []
+    points (handed_in 50 75 ∷ item 20 ∷ average_of_all 50 ∷ []) ≡ 75 ∷ 20 ∷ 48 ∷ []
 points_handed_in_are_averaged_elsewhere = refl
 
-pub half_a_tenth_goes_upward :
-    points (item 10 ∷ item 15 ∷ average_of_all 40 ∷ [])
+pub half_a_tenth_goes_upward : points (item 10 ∷ item 15 ∷ average_of_all 40 ∷ [])
     ≡ 10 ∷ 15 ∷ 13 ∷ []
 half_a_tenth_goes_upward = refl
 
-pub average_of_three_races :
-    points (item 10 ∷ item 20 ∷ item 20 ∷ average_of_all 50 ∷ [])
+pub average_of_three_races : points (item 10 ∷ item 20 ∷ item 20 ∷ average_of_all 50 ∷ [])
     ≡ 10 ∷ 20 ∷ 20 ∷ 17 ∷ []
 average_of_three_races = refl
 
-pub average_of_races_before :
-    points (item 10 ∷ average_of_before 50 ∷ item 30 ∷ [])
+pub average_of_races_before : points (item 10 ∷ average_of_before 50 ∷ item 30 ∷ [])
     ≡ 10 ∷ 10 ∷ 30 ∷ []
 average_of_races_before = refl
 
-pub averages_are_left_out :
-    points (item 30 ∷ average_of_all 50 ∷ average_of_all 60 ∷ [])
+pub averages_are_left_out : points (item 30 ∷ average_of_all 50 ∷ average_of_all 60 ∷ [])
     ≡ 30 ∷ 30 ∷ 30 ∷ []
 averages_are_left_out = refl
 

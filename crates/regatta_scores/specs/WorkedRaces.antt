@@ -69,13 +69,11 @@ ties_share_their_places = refl
 abbrev pub disqualified_sheet : Sheet
 disqualified_sheet = after tied_sheet (Hold 0 (coded code.Dsq))
 
-pub disqualified_boats_leave_their_place :
-    race_points (by_entries None) disqualified_sheet
+pub disqualified_boats_leave_their_place : race_points (by_entries None) disqualified_sheet
     ≡ 50 ∷ 20 ∷ 10 ∷ 30 ∷ []
 disqualified_boats_leave_their_place = refl
 
 -- when boat 2 is taken out of the order, she counts as DNC
-pub struck_boats_count_as_absent :
-    race_points (by_entries None) (after disqualified_sheet (Out 2))
+pub struck_boats_count_as_absent : race_points (by_entries None) (after disqualified_sheet (Out 2))
     ≡ 50 ∷ 10 ∷ 50 ∷ 20 ∷ []
 struck_boats_count_as_absent = refl

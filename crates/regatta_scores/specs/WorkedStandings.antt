@@ -1,6 +1,5 @@
 -- Worked examples of standings, each computed from its journal.
-use Rattle.std.specs.Prelude.{◌≡◌, refl, ℕ, ◌+◌, Bool, true, false, List, [], ◌∷◌, ◌++◌}
-use Rattle.std.specs.Prelude.{Some, None}
+use Rattle.std.specs.Prelude.{◌≡◌, refl, ℕ, ◌+◌, Bool, true, false, List, [], ◌∷◌, ◌++◌, Some, None}
 use Rattle.regatta_terms.specs.Rules.{RulesParts}
 use Rattle.regatta_terms.specs.declared.rules.Absent.TheVariants.{A52}
 use Rattle.regatta_terms.specs.declared.sail.Sail.{Sail}
@@ -128,15 +127,9 @@ two_races =
 -- A has her average in race 2; in race 1 she is taken out of the order and put back ahead of B
 abbrev pub average_in_the_second : List (Role × Command)
 average_in_the_second =
-    two_races
-    ++ jury (Redress 2 a AllRaces) ∷ scorer (Strike 1 a) ∷ scorer (Before 1 a b) ∷ []
+    two_races ++ jury (Redress 2 a AllRaces) ∷ scorer (Strike 1 a) ∷ scorer (Before 1 a b) ∷ []
 
-pub averages_follow_the_other_race : standing no_exclusions (journal average_in_the_second)
-    ≡ table (1 ∷ 2 ∷ []) (row a 1 false 20 (plain 10 ∷ marked 10 abbreviation.Rdg ∷ [])
-    ∷ row b 2 false 30 (plain 20 ∷ plain 10 ∷ []) ∷ [])
-averages_follow_the_other_race = refl
-
--- the same with one exclusion: the earlier of A's equal scores is excluded (A2.1)
+-- her average is her score in race 1, which is the earlier of equal ones, so it is excluded (A2.1)
 pub earlier_of_equal_scores_excluded : standing default_rules (journal average_in_the_second)
     ≡ table (1 ∷ 2 ∷ []) (row a 1 false 10 (excluded 10 ∷ marked 10 abbreviation.Rdg ∷ [])
     ∷ row b 2 false 10 (excluded 20 ∷ plain 10 ∷ []) ∷ [])

@@ -30,10 +30,6 @@ three_timed =
 
 -- ---- equal times
 
-pub lower_times_come_first : order by_times (journal three_timed) 1
-    ≡ (b ∷ []) ∷ (a ∷ c ∷ []) ∷ []
-lower_times_come_first = refl
-
 pub equal_times_share_their_places : standing by_times (journal three_timed)
     ≡ table (1 ∷ []) (row b 1 false 10 (plain 10 ∷ []) ∷ row a 2 true 25 (plain 25 ∷ [])
     ∷ row c 2 true 25 (plain 25 ∷ []) ∷ [])
@@ -44,11 +40,7 @@ equal_times_share_their_places = refl
 abbrev pub struck : List (Role × Command)
 struck = three_timed ++ scorer (Strike 1 a) ∷ []
 
--- a boat that is struck has no time
-pub struck_boats_have_no_time : time (journal struck) 1 a ≡ None
-struck_boats_have_no_time = refl
-
--- and is scored DNC
+-- a boat that is struck has no time, and is scored DNC
 pub struck_boats_leave_the_order : standing by_times (journal struck)
     ≡ table (1 ∷ []) (row b 1 false 10 (plain 10 ∷ []) ∷ row c 2 false 20 (plain 20 ∷ [])
     ∷ row a 3 false 40 (marked 40 abbreviation.Dnc ∷ []) ∷ [])
@@ -77,8 +69,7 @@ equal_times_are_in_the_order_of_hand_in = refl
 
 -- of two times of a boat after a strike the last is in force; no board would accept the second
 pub last_time_stands :
-    order by_times
-    (journal (struck ++ scorer (Time 1 a 3500) ∷ scorer (Time 1 a 3602) ∷ [])) 1
+    order by_times (journal (struck ++ scorer (Time 1 a 3500) ∷ scorer (Time 1 a 3602) ∷ [])) 1
     ≡ (b ∷ []) ∷ (a ∷ []) ∷ (c ∷ []) ∷ []
 last_time_stands = refl
 
@@ -86,8 +77,7 @@ last_time_stands = refl
 pub strike_takes_the_first_time :
     order by_times
     (journal (struck ++ scorer (Time 1 a 3500) ∷ scorer (Strike 1 a) ∷ scorer (Time 1 a 3700) ∷ []))
-    1
-    ≡ (b ∷ []) ∷ (c ∷ []) ∷ (a ∷ []) ∷ []
+    1 ≡ (b ∷ []) ∷ (c ∷ []) ∷ (a ∷ []) ∷ []
 strike_takes_the_first_time = refl
 
 -- ---- a boat with a code
@@ -122,13 +112,8 @@ timed_sheet =
     after (after (after (after (empty_sheet 4) (Timed 0 3605)) (Timed 1 3600)) (Timed 2 3605))
     (Timed 3 3601)
 
-pub sheets_are_in_order_of_times :
-    timed_sheet.order ≡ (1 ∷ []) ∷ (3 ∷ []) ∷ (0 ∷ 2 ∷ []) ∷ []
+pub sheets_are_in_order_of_times : timed_sheet.order ≡ (1 ∷ []) ∷ (3 ∷ []) ∷ (0 ∷ 2 ∷ []) ∷ []
 sheets_are_in_order_of_times = refl
-
-pub sheets_keep_times :
-    timed_sheet.seconds ≡ Some 3605 ∷ Some 3600 ∷ Some 3605 ∷ Some 3601 ∷ []
-sheets_keep_times = refl
 
 -- a boat that goes out has no time, and another time places her again
 pub out_takes_the_time : (after timed_sheet (Out 0)).seconds

@@ -11,7 +11,8 @@ pub(crate) fn with_one_more<T: Copy>(
 ) -> Result<Vec<T>, AllocError>
     ensures { IfOk result (λ new. new.items ≡ items.now ++ item ∷ []) }
 {
-    let mut new = Vec::from_slice(alloc, items)?;
+    let mut new = Vec::with_capacity(alloc, items.len().saturating_add(1))?;
+    new.extend_from_slice(items)?;
     new.push(item)?;
     Ok(new)
 }

@@ -119,7 +119,7 @@ impl Groups {
     }
 
     /// Copies the first groups, with room for the others, one more and one more boat.
-    #[tactic(auto, using(crate::proofs::Cut::many_groups, crate::proofs::Parts::begin_within))]
+    #[tactic(auto, using(crate::proofs::Cut::many_groups, crate::proofs::Cut::begin_within))]
     pub(crate) fn first(&self, alloc: Global, many: usize) -> Result<Groups, AllocError>
         requires { many ≤ length self.now }
         ensures { IfOk result (λ new. new ≡ take many self.now) }
@@ -132,7 +132,7 @@ impl Groups {
     }
 
     /// Appends the groups of an order from one position on.
-    #[tactic(auto, using(crate::proofs::Cut::many_groups, crate::proofs::Parts::begin_within))]
+    #[tactic(auto, using(crate::proofs::Cut::many_groups, crate::proofs::Cut::begin_within))]
     pub(crate) fn followed_by(self, order: &Groups, from: usize) -> Result<Groups, AllocError>
         requires { from ≤ length order.now }
         ensures { IfOk result (λ new. new ≡ self ++ drop from order.now) }

@@ -1,15 +1,16 @@
 //! A boat's line, computed from the scores of all boats in the races that count.
-ghost use Rattle.std.specs.Prelude.{◌≡◌, ◌<◌, ◌≤◌, [], length, All, slice_index_or};
+ghost use Rattle.std.specs.Prelude.{◌≡◌, ◌<◌, ◌≤◌, [], length, map, All, slice_index_or};
 ghost use Rattle.regatta_terms.specs.declared.limits.TheConstants.{MAX_RACES};
 ghost use Rattle.regatta_scores.specs.Drafts.{IsWhole};
-ghost use Rattle.regatta_scores.specs.Lines.{line_by, scored_by};
+ghost use Rattle.regatta_scores.specs.Lines.{line_by};
 ghost use Rattle.regatta_scores.specs.RaceScores.{no_score, scores_in};
+ghost use Rattle.regatta_scores.specs.Redressing.{IsRead, scored_with};
 
 use crate::boats::{RaceScore, RaceScores, Scored};
 use crate::exclusions::Draft;
 use crate::items::PerRace;
 use crate::ranking::BoatLine;
-use crate::redressed::push_points;
+use crate::redressed::{Counted, NO_RACES, push_points, put_averages};
 use regatta_terms::{Rules, Tenths};
 use std::marker::Model;
 
@@ -47,6 +48,14 @@ impl<'a> RaceColumn<'a> {
     }
 }
 
+impl<'a> Default for RaceColumn<'a> {
+    ghost is_default = { λ c. c ≡ [] };
+
+    fn default() -> Self {
+        RaceColumn { scores: &[] }
+    }
+}
+
 fn score_of(scores: &[RaceScore], boat: usize) -> &RaceScore
     requires { boat < length scores.now }
     ensures { result.now ≡ slice_index_or scores.now boat no_score }
@@ -54,37 +63,49 @@ fn score_of(scores: &[RaceScore], boat: usize) -> &RaceScore
     &scores[boat]
 }
 
-fn scored(score: &RaceScore, points: Tenths) -> Scored
-    ensures { result ≡ record { points = points; dne = score.now.dne } }
+fn scored(points: Tenths, dne: bool) -> Scored
+    ensures { result ≡ record { points = points; dne = dne } }
 {
-    Scored {
-        points,
-        dne: score.dne,
-    }
+    Scored { points, dne }
 }
 
-/// Appends one boat's score in each of these races.
-// The caller's list is filled, since a list that is returned is copied.
-fn push_scores(scores: &mut PerRace<RaceScore>, columns: &[RaceColumn<'_>], boat: usize)
+/// Appends one boat's points in each of these races, and whether the score is a DNE. Returns what an
+/// average over all of them counts.
+// The caller's lists are filled, since a list that is returned is copied.
+fn push_scores(
+    points: &mut PerRace<Tenths>,
+    over_all: &mut PerRace<u8>,
+    dnes: &mut PerRace<bool>,
+    columns: &[RaceColumn<'_>],
+    boat: usize,
+) -> Counted
     requires within { All (λ column. boat < length column) columns.now }
     requires few { length columns.now ≤ MAX_RACES }
-    requires none { scores.old.items ≡ [] }
-    ensures { scores.new.items ≡ scores_in columns.now boat }
+    requires points { points.old.items ≡ [] }
+    requires over_all { over_all.old.items ≡ [] }
+    requires dnes { dnes.old.items ≡ [] }
+    ensures read { IsRead (scores_in columns.now boat) (length (scores_in columns.now boat))
+        points.new.items over_all.new.items result }
+    ensures dnes { dnes.new.items ≡ map (λ score. score.dne) (scores_in columns.now boat) }
 {
+    let mut so_far = NO_RACES;
     for column in columns {
-        scores.push(*column.score(boat));
+        let score = column.score(boat);
+        so_far = push_points(points, over_all, so_far, score);
+        dnes.push(score.dne);
     }
+    so_far
 }
 
 /// Appends a boat's scores for these points to a draft.
-fn push_scored(draft: &mut Draft, scores: &[RaceScore], points: &[Tenths])
-    requires few { length scores.now ≤ MAX_RACES }
-    requires equal { length points.now ≡ length scores.now }
+fn push_scored(draft: &mut Draft, points: &[Tenths], dnes: &[bool])
+    requires few { length dnes.now ≤ MAX_RACES }
+    requires equal { length points.now ≡ length dnes.now }
     requires none { IsWhole [] draft.old }
-    ensures { IsWhole (scored_by scores.now points.now) draft.new }
+    ensures { IsWhole (scored_with points.now dnes.now) draft.new }
 {
-    for i in 0..scores.len() {
-        draft.push(&scored(&scores[i], points[i]));
+    for i in 0..points.len() {
+        draft.push(&scored(points[i], dnes[i]));
     }
 }
 
@@ -98,21 +119,16 @@ pub fn boat_line(columns: &[RaceColumn<'_>], boat: usize, rules: &Rules) -> Boat
     ensures value { result ≡ line_by rules.now (scores_in columns.now boat) }
     ensures long { length result.points ≡ length columns.now }
 {
-    // A boat has such a line until a race counts.
-    if columns.is_empty() {
-        return BoatLine::empty();
-    }
-    let mut scores = PerRace::new();
-    push_scores(&mut scores, columns, boat);
-    let mut points = PerRace::new();
-    push_points(&mut points, &scores);
+    // The line is filled in place, since its lists would be copied into it.
+    let mut line = BoatLine::empty();
+    let mut over_all = PerRace::new();
+    let mut dnes = PerRace::new();
+    let all = push_scores(&mut line.points, &mut over_all, &mut dnes, columns, boat);
+    put_averages(line.points.as_mut_slice(), &over_all, all);
     let mut draft = Draft::new();
-    push_scored(&mut draft, &scores, &points);
+    push_scored(&mut draft, &line.points, &dnes);
     draft.exclude_worst(rules);
-    // Made here, since a line that is returned is copied.
-    BoatLine {
-        points,
-        excluded: draft.excluded,
-        total: draft.total,
-    }
+    line.excluded = draft.excluded;
+    line.total = draft.total;
+    line
 }

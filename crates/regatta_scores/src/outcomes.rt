@@ -40,7 +40,7 @@ pub(crate) fn holds_nothing(held: &Held) -> bool
 
 /// The score of a boat that holds nothing.
 pub(crate) fn bare_score(plain: Tenths, placed: bool) -> RaceScore
-    ensures { result ≡ score_of (record { plain = plain; held = nothing_held; placed = placed }) }
+    ensures { result ≡ score_of plain nothing_held placed }
 {
     RaceScore {
         points: plain,
@@ -52,7 +52,7 @@ pub(crate) fn bare_score(plain: Tenths, placed: bool) -> RaceScore
 
 /// Her score in a race, given her points before redress and whether she is in the finishing order.
 pub(crate) fn score_of(plain: Tenths, held: &Held, placed: bool) -> RaceScore
-    ensures { result ≡ score_of (record { plain = plain; held = held.now; placed = placed }) }
+    ensures { result ≡ score_of plain held.now placed }
 {
     RaceScore {
         points: award_or(plain, held),

@@ -1,10 +1,11 @@
 //! Points with redress (RRS A9).
-ghost use Rattle.std.specs.Prelude.{◌≡◌, ◌+◌, ◌*◌, ◌<◌, ◌≤◌, ◌^◌, [], length, map, IfOk};
-ghost use Rattle.std.specs.Prelude.{if◌then◌else◌, slice_index_or};
+ghost use Rattle.std.specs.Prelude.{◌≡◌, ℕ, ◌+◌, ◌*◌, ◌/◌, ◌<◌, ◌≤◌, List, [], length, map, All};
+ghost use Rattle.std.specs.Prelude.{IfOk, false, slice_index_or};
 ghost use Rattle.regatta_terms.specs.declared.limits.TheConstants.{MAX_RACES};
-ghost use Rattle.regatta_scores.specs.Averages.{average, average_or, counted, is_own, redressed};
-ghost use Rattle.regatta_scores.specs.Averages.{total, points as points_of};
-ghost use Rattle.regatta_scores.specs.RowItems.{item_score, points};
+ghost use Rattle.regatta_scores.specs.Averages.{is_own};
+ghost use Rattle.regatta_scores.specs.RaceScores.{item_score, points};
+ghost use Rattle.regatta_scores.specs.Redressing.{IsRead, average_or, averaged_at, is_over_all};
+ghost use Rattle.regatta_scores.specs.declared.boats.RaceScore.{RaceScore};
 
 use crate::boats::{Averaged, RaceScore, RowItem};
 use crate::items::{Items, PerRace, Points};
@@ -20,60 +21,29 @@ fn is_own(score: &RaceScore) -> bool
     matches!(score.averaged, Averaged::OverNone)
 }
 
+fn is_over_all(score: &RaceScore) -> bool
+    ensures { result ≡ is_over_all score.now.averaged }
+{
+    matches!(score.averaged, Averaged::OverAll)
+}
+
 /// The races that an average counts: how many, and the sum of her points in them.
 #[derive(Clone, Copy)]
-struct Counted {
+pub(crate) struct Counted {
     number: u32,
     sum: u32,
 }
 
-/// What the race adds to the sum.
-fn own_points(score: &RaceScore) -> u32
-    ensures value { result ≡ (if is_own score.now.averaged then score.now.points else 0) }
-    ensures bound { result ≤ 65535 }
-{
-    u32::from(is_own(score)) * score.points.get()
-}
-
-/// The same with one more race.
-// Without a branch, the loop over all races takes several of them at a time.
-fn with_race(so_far: Counted, score: &RaceScore) -> Counted
-    requires number { so_far.number + 1 < 2 ^ 32 }
-    requires sum { so_far.sum + 65535 < 2 ^ 32 }
-    ensures number { result.number
-        ≡ so_far.number + (if is_own score.now.averaged then 1 else 0) }
-    ensures sum { result.sum
-        ≡ so_far.sum + (if is_own score.now.averaged then score.now.points else 0) }
-    ensures small { so_far.sum ≤ 65535 * so_far.number → result.sum ≤ 65535 * result.number }
-{
-    Counted {
-        number: so_far.number + u32::from(is_own(score)),
-        sum: so_far.sum + own_points(score),
-    }
-}
-
-/// What an average over these races counts.
-fn counted_in(scores: &[RaceScore]) -> Counted
-    requires few { length scores.now ≤ MAX_RACES }
-    ensures number { result.number ≡ length (counted scores.now) }
-    ensures sum { result.sum ≡ total (counted scores.now) }
-    ensures few { result.number ≤ MAX_RACES }
-    ensures small { result.sum ≤ 65535 * result.number }
-{
-    let mut found = Counted { number: 0, sum: 0 };
-    for score in scores {
-        found = with_race(found, score);
-    }
-    found
-}
+/// No races.
+pub(crate) const NO_RACES: Counted = Counted { number: 0, sum: 0 };
 
 /// The average of some points, rounded to the nearest tenth.
-#[tactic(auto, using(crate::proofs::Counted::average_small))]
+#[tactic(auto, using(crate::proofs::AverageBounds::average_small))]
 fn average(number: u32, sum: u32) -> Tenths
     requires some { 0 < number }
     requires few { number ≤ MAX_RACES }
     requires small { sum ≤ 65535 * number }
-    ensures { result ≡ average number sum }
+    ensures { result ≡ (2 * sum + number) / (2 * number) }
 {
     tenths((2 * sum + number) / (2 * number))
 }
@@ -91,64 +61,70 @@ fn average_or(plain: Tenths, over: Counted) -> Tenths
     }
 }
 
-/// Her points in race `i`, in which she has this score. `all` is what an average over all races
-/// counts.
-fn redressed(scores: &[RaceScore], i: usize, score: &RaceScore, all: Counted) -> Tenths
-    requires races { length scores.now ≤ MAX_RACES }
-    requires i { i < length scores.now }
-    requires score { score.now ≡ slice_index_or scores.now i score.now }
-    requires number { all.number ≡ length (counted scores.now) }
-    requires sum { all.sum ≡ total (counted scores.now) }
-    requires few { all.number ≤ MAX_RACES }
-    requires small { all.sum ≤ 65535 * all.number }
-    ensures { result ≡ redressed scores.now i score.now.points score.now.averaged }
+/// Appends her points in one more race, and returns what an average over the races so far counts.
+///
+/// An average over all other races isn't known yet. The race is appended to `over_all`, and her
+/// points without redress stand in for it.
+pub(crate) fn push_points(
+    points: &mut PerRace<Tenths>,
+    over_all: &mut PerRace<u8>,
+    so_far: Counted,
+    score: &RaceScore,
+) -> Counted
+    requires few { length points.old.items < MAX_RACES }
+    requires waiting { length over_all.old.items < MAX_RACES }
+    requires number { so_far.number ≤ MAX_RACES }
+    requires small { so_far.sum ≤ 65535 * so_far.number }
+    ensures { (scores : List RaceScore) → (n : ℕ)
+        → IsRead scores n points.old.items over_all.old.items so_far
+        → n < length scores → score.now ≡ slice_index_or scores n score.now
+        → IsRead scores (n + 1) points.new.items over_all.new.items result }
 {
-    match score.averaged {
-        Averaged::OverNone => score.points,
-        // This race isn't one of those that are counted.
-        Averaged::OverAll => average_or(score.points, all),
-        Averaged::OverBefore => average_or(score.points, counted_in(&scores[..i])),
-    }
-}
-
-/// Appends one boat's points, if no average replaces any of them.
-fn push_own(points: &mut PerRace<Tenths>, scores: &[RaceScore])
-    requires few { length scores.now ≤ MAX_RACES }
-    requires none { points.old.items ≡ [] }
-    ensures { points.new.items ≡ map (λ score. score.points) scores.now }
-{
-    for score in scores {
+    if is_own(score) {
         points.push(score.points);
+        return Counted {
+            number: so_far.number + 1,
+            sum: so_far.sum + score.points.get(),
+        };
     }
+    push_average(points, over_all, so_far, score);
+    so_far
 }
 
-/// Appends one boat's points with redress. `all` is what an average over all races counts.
-fn push_redressed(points: &mut PerRace<Tenths>, scores: &[RaceScore], all: Counted)
-    requires few { length scores.now ≤ MAX_RACES }
-    requires none { points.old.items ≡ [] }
-    requires number { all.number ≡ length (counted scores.now) }
-    requires sum { all.sum ≡ total (counted scores.now) }
-    requires most { all.number ≤ MAX_RACES }
-    requires small { all.sum ≤ 65535 * all.number }
-    ensures { points.new.items ≡ points_of scores.now }
+/// Appends her points in one more race, in which an average replaces them.
+fn push_average(
+    points: &mut PerRace<Tenths>,
+    over_all: &mut PerRace<u8>,
+    so_far: Counted,
+    score: &RaceScore,
+)
+    requires few { length points.old.items < MAX_RACES }
+    requires waiting { length over_all.old.items < MAX_RACES }
+    requires number { so_far.number ≤ MAX_RACES }
+    requires small { so_far.sum ≤ 65535 * so_far.number }
+    ensures { (scores : List RaceScore) → (n : ℕ)
+        → IsRead scores n points.old.items over_all.old.items so_far
+        → n < length scores → score.now ≡ slice_index_or scores n score.now
+        → is_own score.now.averaged ≡ false
+        → IsRead scores (n + 1) points.new.items over_all.new.items so_far }
 {
-    for (i, score) in scores.iter().enumerate() {
-        points.push(redressed(scores, i, score, all));
-    }
-}
-
-/// Appends one boat's points with redress, over the scored races in order.
-// The caller's list is filled, since a list that is returned is copied.
-pub(crate) fn push_points(points: &mut PerRace<Tenths>, scores: &[RaceScore])
-    requires few { length scores.now ≤ MAX_RACES }
-    requires none { points.old.items ≡ [] }
-    ensures { points.new.items ≡ points_of scores.now }
-{
-    let all = counted_in(scores);
-    if all.number as usize == scores.len() {
-        push_own(points, scores);
+    if is_over_all(score) {
+        over_all.push(points.len() as u8);
+        points.push(score.points);
     } else {
-        push_redressed(points, scores, all);
+        points.push(average_or(score.points, so_far));
+    }
+}
+
+/// Puts an average over what is counted into the points of these races.
+pub(crate) fn put_averages(points: &mut [Tenths], races: &[u8], over: Counted)
+    requires races { All (λ race. race < length points.old) races.now }
+    requires few { over.number ≤ MAX_RACES }
+    requires small { over.sum ≤ 65535 * over.number }
+    ensures { points.new ≡ averaged_at over.number over.sum points.old races.now }
+{
+    for &race in races {
+        points[race as usize] = average_or(points[race as usize], over);
     }
 }
 
@@ -174,6 +150,24 @@ fn item_scores(row: &[RowItem]) -> PerRace<RaceScore>
     scores
 }
 
+/// Appends one boat's points, and returns what an average over all races counts.
+fn push_all(
+    points: &mut PerRace<Tenths>,
+    over_all: &mut PerRace<u8>,
+    scores: &[RaceScore],
+) -> Counted
+    requires few { length scores.now ≤ MAX_RACES }
+    requires points { points.old.items ≡ [] }
+    requires over_all { over_all.old.items ≡ [] }
+    ensures { IsRead scores.now (length scores.now) points.new.items over_all.new.items result }
+{
+    let mut so_far = NO_RACES;
+    for score in scores {
+        so_far = push_points(points, over_all, so_far, score);
+    }
+    so_far
+}
+
 /// Returns one boat's points with redress, over the scored races in order (RRS A9), in a list that
 /// it allocates.
 ///
@@ -186,8 +180,10 @@ pub fn averages(alloc: Global, row: &[RowItem]) -> Result<Points, AllocError>
     ensures { IfOk result (λ found. found ≡ points row.now) }
 {
     let scores = item_scores(row);
-    let mut found = PerRace::new();
-    push_points(&mut found, &scores);
-    let found = Vec::from_slice(alloc, &found)?;
+    let mut points = PerRace::new();
+    let mut over_all = PerRace::new();
+    let all = push_all(&mut points, &mut over_all, &scores);
+    put_averages(points.as_mut_slice(), &over_all, all);
+    let found = Vec::from_slice(alloc, &points)?;
     Ok(Items::new(found))
 }

@@ -1,7 +1,7 @@
 //! A boat's row of the table.
 ghost use Rattle.std.specs.Prelude.{◌≡◌, ◌<◌, length, All, IfOk};
 ghost use Rattle.regatta_scores.specs.RaceScores.{scores_in};
-ghost use Rattle.regatta_scores.specs.Rows.{cells as cells_of, row_by};
+ghost use Rattle.regatta_scores.specs.Lines.{cells as cells_of, row_by};
 
 use crate::boats::{Place, RaceScore};
 use crate::items::Items;

@@ -7,7 +7,7 @@ use Rattle.std.proofs.lemmas.List.{take-append-drop, take_more}
 use Rattle.std.proofs.lemmas.List.Elements.{All-append, All-nil, All-push}
 use Rattle.regatta_terms.specs.Lines.{line_of}
 use Rattle.regatta_terms.specs.Rules.{RulesParts}
-use Rattle.regatta_terms.specs.TextLines.{ended_lines, is_line_end, last_line}
+use Rattle.regatta_terms.specs.TextLines.{ended_lines, is_line_end, lines_of_pieces}
 use Rattle.regatta_talk.specs.HeardLines.{heard, heard_lines, heard_with}
 use Rattle.regatta_talk.proofs.HeardLines.{heard_byte, heard_end, heard_of_text, heard_reads}
 use Rattle.regatta_service.specs.LinesTaken.{AllReplied, AreReplied, Asked, EndedAt, GoesOn}
@@ -26,7 +26,7 @@ asked_end : (line : List ℕ) (byte : ℕ) (text : List ℕ) → is_line_end byt
     → asked_from line (byte ∷ text) ≡ line_of line ∷ asked_from [] text
 asked_end line byte text is = ap (map line_of) (heard_end false line byte text is)
 
-no_last : (line : List ℕ) → last_line false line ≡ []
+no_last : (line : List ℕ) → lines_of_pieces false (line ∷ []) ≡ []
 no_last [] = refl
 no_last (byte ∷ line) = refl
 
@@ -119,15 +119,33 @@ line_taken rules line piece before later between i byte now left within at is go
     rw (none) (rw (front_more piece i byte within at)
     (line_more rules line (take i piece) before later between byte left is goes replied w))
 
--- a line has ended at which the session ends, and others may follow it
-line_ended : (Did : Asked → Point → Point → Type 0) (rules : RulesParts) (line piece : List ℕ)
-    (before : Point) (later : List ℕ) (between : Point) (i byte : ℕ) (after : Point)
-    → i < length piece → get_or piece i 0 ≡ byte → is_line_end byte ≡ true
-    → Did (line_of later) between after → WentOn rules line (take i piece) before later between
-    → EndedAt Did rules (asked_from line piece) before after
-line_ended Did rules line piece before later between i byte after within at is did w =
-    let rest : List ℕ = drop (i + 1) piece in
-    record {
+-- what was done with the last line, if the session ended so after it
+pub record Last (rules : RulesParts) (ended : Option End) (asked : Asked) (before after : Point)
+    : Type 0 where
+  pub quit : ended ≡ Some End.Quit → IsQuit rules asked before after
+  pub cut_off : ended ≡ Some End.WriteFault → IsCutOff rules asked before after
+  pub stopped : ended ≡ Some End.Stopped → Stays before after
+  pub unsaid : ended ≡ Some End.NotKept → IsUnsaid rules asked before after
+  pub room : ended ≡ Some End.NoMemory → ⊥
+  pub closed : ended ≡ Some End.Closed → ⊥
+  pub read : ended ≡ Some End.ReadFault → ⊥
+
+-- a line has ended at which the session may end, and others may follow it
+pub last_taken : (rules : RulesParts) (line piece : List ℕ) (before : Point) (later : List ℕ)
+    (between : Point) (i byte : ℕ) (after : Point) (ended : Option End) → i < length piece
+    → get_or piece i 0 ≡ byte → is_line_end byte ≡ true
+    → Last rules ended (line_of later) between after
+    → WentOn rules line (take i piece) before later between
+    → IfSome ended (λ end. Took rules end (asked_from line piece) before after)
+last_taken rules line piece before later between i byte after ended within at is last w =
+    by ended last
+  where
+    rest : List ℕ
+    rest = drop (i + 1) piece
+
+    at_it : (Did : Asked → Point → Point → Type 0) → Did (line_of later) between after
+        → EndedAt Did rules (asked_from line piece) before after
+    at_it Did did = record {
       lines = w.lines;
       going = w.going;
       last = line_of later;
@@ -141,45 +159,16 @@ line_ended Did rules line piece before later between i byte after within at is d
       did = did;
     }
 
--- what was done with the last line, if the session ended so after it
-pub record Last (rules : RulesParts) (ended : Option End) (asked : Asked) (before after : Point)
-    : Type 0 where
-  pub quit : ended ≡ Some End.Quit → IsQuit rules asked before after
-  pub cut_off : ended ≡ Some End.WriteFault → IsCutOff rules asked before after
-  pub stopped : ended ≡ Some End.Stopped → Stays before after
-  pub unsaid : ended ≡ Some End.NotKept → IsUnsaid rules asked before after
-  pub room : ended ≡ Some End.NoMemory → ⊥
-  pub closed : ended ≡ Some End.Closed → ⊥
-  pub read : ended ≡ Some End.ReadFault → ⊥
-
-pub last_taken : (rules : RulesParts) (line piece : List ℕ) (before : Point) (later : List ℕ)
-    (between : Point) (i byte : ℕ) (after : Point) (ended : Option End) → i < length piece
-    → get_or piece i 0 ≡ byte → is_line_end byte ≡ true
-    → Last rules ended (line_of later) between after
-    → WentOn rules line (take i piece) before later between
-    → IfSome ended (λ end. Took rules end (asked_from line piece) before after)
-last_taken rules line piece before later between i byte after None within at is last w = tt
-last_taken rules line piece before later between i byte after (Some End.Quit) within at is last w =
-    line_ended (IsQuit rules) rules line piece before later between i byte after within at is
-    (last.quit refl) w
-last_taken rules line piece before later between i byte after (Some End.WriteFault) within at is
-    last w =
-    line_ended (IsCutOff rules) rules line piece before later between i byte after within at is
-    (last.cut_off refl) w
-last_taken rules line piece before later between i byte after (Some End.Stopped) within at is
-    last w =
-    line_ended IsPassedOver rules line piece before later between i byte after within at is
-    (last.stopped refl) w
-last_taken rules line piece before later between i byte after (Some End.NotKept) within at is
-    last w =
-    line_ended (IsUnsaid rules) rules line piece before later between i byte after within at is
-    (last.unsaid refl) w
-last_taken rules line piece before later between i byte after (Some End.NoMemory) within at is
-    last w = absurd (last.room refl)
-last_taken rules line piece before later between i byte after (Some End.Closed) within at is
-    last w = absurd (last.closed refl)
-last_taken rules line piece before later between i byte after (Some End.ReadFault) within at is
-    last w = absurd (last.read refl)
+    by : (ended : Option End) → Last rules ended (line_of later) between after
+        → IfSome ended (λ end. Took rules end (asked_from line piece) before after)
+    by None last = tt
+    by (Some End.Quit) last = at_it (IsQuit rules) (last.quit refl)
+    by (Some End.WriteFault) last = at_it (IsCutOff rules) (last.cut_off refl)
+    by (Some End.Stopped) last = at_it IsPassedOver (last.stopped refl)
+    by (Some End.NotKept) last = at_it (IsUnsaid rules) (last.unsaid refl)
+    by (Some End.NoMemory) last = absurd (last.room refl)
+    by (Some End.Closed) last = absurd (last.closed refl)
+    by (Some End.ReadFault) last = absurd (last.read refl)
 
 -- ---- one piece after another
 

@@ -54,7 +54,7 @@ blank_fields fields = list_all-map (list_all is_space) (λ field. field.now) fie
 -- ---- faults in turn
 
 -- the record of a row, and those after it
-rows_from : (rows : List Row) (i : ℕ) (row : Row) → i < length rows → row ≡ get_or rows i row
+pub rows_from : (rows : List Row) (i : ℕ) (row : Row) → i < length rows → row ≡ get_or rows i row
     → drop i (map fields_of rows) ≡ fields_of row ∷ drop (i + 1) (map fields_of rows)
 rows_from rows i row below here =
     let first : get_or (map fields_of rows) i (fields_of row)

@@ -1,5 +1,6 @@
 pub mod CsvTexts
 pub mod EntryLists
+pub mod Examples
 pub mod JournalFiles
 pub mod JournalTexts
 pub mod Laws

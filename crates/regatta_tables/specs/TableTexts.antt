@@ -1,6 +1,6 @@
 -- The text of a table: the standing of a series.
-use Rattle.std.specs.Prelude.{ℕ, Bool, true, false, List, [], ◌∷◌, ◌++◌, length, map, flat_map}
-use Rattle.std.specs.Prelude.{Option, Some, None, codes, decimal}
+use Rattle.std.specs.Prelude.{ℕ, Bool, List, [], ◌∷◌, ◌++◌, length, map, flat_map}
+use Rattle.std.specs.Prelude.{Option, Some, None, codes, decimal, if◌then◌else◌}
 use Rattle.regatta_terms.specs.Entries.{points_text}
 use Rattle.regatta_scores.specs.declared.table.Abbrev.{Abbrev}
 use Rattle.regatta_scores.specs.Abbreviations.{abbrev_text}
@@ -9,28 +9,20 @@ use Rattle.regatta_scores.specs.declared.table.Row.{Row}
 use Rattle.regatta_scores.specs.declared.table.Standing.{Standing}
 use Rattle.regatta_tables.specs.Lines.{line}
 
--- ranks of boats that A8 leaves tied have a sign of equality
-abbrev pub tie_sign : Bool → List ℕ
-tie_sign true = codes "="
-tie_sign false = []
-
--- a rank, and whether it is shared
+-- a rank, with a sign of equality if A8 leaves boats tied for it
 abbrev pub rank_text : ℕ → Bool → List ℕ
-rank_text rank tied = decimal rank ++ tie_sign tied
+rank_text rank tied = decimal rank ++ (if tied then codes "=" else [])
 
 -- an abbreviation after a slash
 abbrev pub mark_text : Option Abbrev → List ℕ
 mark_text None = []
 mark_text (Some mark) = codes "/" ++ abbrev_text mark
 
--- an excluded score (A2.1) is in parentheses
-abbrev pub shown : Bool → List ℕ → List ℕ
-shown true score = codes "(" ++ score ++ codes ")"
-shown false score = score
-
--- a score in one race: points, abbreviation (A10), and whether it counts
+-- a score in one race: points and abbreviation (A10), in parentheses if it is excluded (A2.1)
 abbrev pub cell_text : Cell → List ℕ
-cell_text cell = shown cell.dropped (points_text cell.points ++ mark_text cell.mark)
+cell_text cell =
+    let score = points_text cell.points ++ mark_text cell.mark in
+    if cell.dropped then codes "(" ++ score ++ codes ")" else score
 
 -- a boat's rank, sail, net and score in each race that counts
 abbrev pub row_words : Row → List (List ℕ)

@@ -17,6 +17,7 @@ mod tables;
 
 pub use entries::{EntriesFault, Sails, read_entries};
 pub use journals::{Journal, JournalFault, read_journal, write_entries, write_journal};
+pub use records::{fields_in, records_of, without_spaces};
 pub use replies::{REPLY_ROOM, write_reply};
 pub use results::write_csv;
 pub use sheets::{write_sheet, write_sheet_of};

@@ -22,7 +22,7 @@ fn set_up(settings: &mut ReaderBuilder) -> &mut ReaderBuilder
 /// Every record of a text, of any length and with no header set apart. A byte order mark at the
 /// very start is dropped. An error is the device's or a failed allocation. Records of different
 /// lengths and bytes that aren't text are no error.
-pub(crate) fn records_of(alloc: Global, text: &[u8]) -> Result<Vec<ByteRecord>, ErrorKind>
+pub fn records_of(alloc: Global, text: &[u8]) -> Result<Vec<ByteRecord>, ErrorKind>
     ensures ok { IfOk result (λ rows.
         map fields_of rows.items ≡ records default_config (strip_bom text.now)) }
     ensures error { IfErr result (λ kind. stops_reader kind ≡ true) }
@@ -43,7 +43,7 @@ pub(crate) fn records_of(alloc: Global, text: &[u8]) -> Result<Vec<ByteRecord>, 
 
 /// The fields of a record, in order.
 #[tactic(auto, using(crate::proofs::ListFacts::field_more, crate::proofs::ListFacts::field_none))]
-pub(crate) fn fields_in(alloc: Global, row: &ByteRecord) -> Result<Vec<&[u8]>, AllocError>
+pub fn fields_in(alloc: Global, row: &ByteRecord) -> Result<Vec<&[u8]>, AllocError>
     ensures { IfOk result (λ fields.
         map (λ field. field.now) fields.items ≡ fields_of row.now) }
 {
@@ -55,7 +55,7 @@ pub(crate) fn fields_in(alloc: Global, row: &ByteRecord) -> Result<Vec<&[u8]>, A
 }
 
 /// A field without its spaces, wherever they are.
-pub(crate) fn without_spaces(alloc: Global, field: &[u8]) -> Result<Vec<u8>, AllocError>
+pub fn without_spaces(alloc: Global, field: &[u8]) -> Result<Vec<u8>, AllocError>
     ensures { IfOk result (λ rest. rest.items ≡ without_spaces field.now) }
 {
     let mut rest = Vec::from_slice(alloc, field)?;

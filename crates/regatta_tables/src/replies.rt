@@ -1,14 +1,13 @@
 //! Replies as text.
 
 ghost use Rattle.std.specs.Prelude.{◌≡◌, ◌≤◌, ◌++◌, ◌+◌, ◌∷◌, decimal, length, take, vec_len};
-ghost use Rattle.std.specs.Prelude.{vec_capacity};
+ghost use Rattle.std.specs.Prelude.{vec_capacity, codes, []};
 ghost use Rattle.regatta_terms.specs.Entries.{points_text};
 ghost use Rattle.regatta_terms.specs.Words.{spaced};
 ghost use Rattle.regatta_tables.specs.TableTexts.{rank_text};
 ghost use Rattle.std.specs.Prelude.{OnOk, OnErr, IsOk};
 ghost use Rattle.regatta_tables.specs.Lines.{line};
-ghost use Rattle.regatta_tables.specs.ReplyTexts.{reply_text, answer_words, ranked_words};
-ghost use Rattle.regatta_tables.specs.ReplyTexts.{refused_words, role_words, named_words};
+ghost use Rattle.regatta_tables.specs.ReplyTexts.{reply_text, named_words};
 
 use crate::page::{put, put_number, put_piece};
 use crate::pieces::{make_room, push_piece};
@@ -60,7 +59,7 @@ fn write_text(text: &[u8], out: &mut Vec<u8>) -> Result<(), AllocError>
 
 /// The line that says which role was set.
 fn role_line(role: Role) -> &'static [u8]
-    ensures text { result.now ≡ line (role_words role) }
+    ensures text { result.now ≡ reply_text (Reply.RoleSet role) }
     ensures short { length result.now ≤ REPLY_ROOM }
 {
     match role {
@@ -116,7 +115,7 @@ fn put_place(page: &mut [u8], at: usize, place: u32) -> usize
 /// Puts the answer to an accepted command.
 fn put_answer(page: &mut [u8], answer: &Answer) -> usize
     requires room { REPLY_ROOM ≤ length page.old }
-    ensures text { take result page.new ≡ line (answer_words answer.now) }
+    ensures text { take result page.new ≡ reply_text (Reply.Done answer.now) }
     ensures most { result ≤ REPLY_ROOM }
     ensures same { length page.new ≡ length page.old }
 {
@@ -128,7 +127,7 @@ fn put_answer(page: &mut [u8], answer: &Answer) -> usize
 
 /// Appends the answer to an accepted command.
 fn write_answer(answer: &Answer, out: &mut Vec<u8>) -> Result<(), AllocError>
-    ensures ok { OnOk result (out.new.items ≡ out.old.items ++ line (answer_words answer.now)) }
+    ensures ok { OnOk result (out.new.items ≡ out.old.items ++ reply_text (Reply.Done answer.now)) }
     ensures err { OnErr result (out.new.items ≡ out.old.items) }
     ensures room { vec_capacity out.old ≤ vec_capacity out.new }
     ensures fits { vec_len out.old + REPLY_ROOM ≤ vec_capacity out.old → IsOk result }
@@ -143,7 +142,7 @@ fn write_answer(answer: &Answer, out: &mut Vec<u8>) -> Result<(), AllocError>
 /// Puts the rank and net of a boat, in a line.
 fn put_ranked(page: &mut [u8], touched: &Touched) -> usize
     requires room { REPLY_ROOM ≤ length page.old }
-    ensures text { take result page.new ≡ line (ranked_words touched.now) }
+    ensures text { take result page.new ≡ reply_text (Reply.Ranked touched.now) }
     ensures most { result ≤ REPLY_ROOM }
     ensures same { length page.new ≡ length page.old }
 {
@@ -154,7 +153,7 @@ fn put_ranked(page: &mut [u8], touched: &Touched) -> usize
 
 /// Appends the rank and net of a boat.
 fn write_ranked(touched: &Touched, out: &mut Vec<u8>) -> Result<(), AllocError>
-    ensures ok { OnOk result (out.new.items ≡ out.old.items ++ line (ranked_words touched.now)) }
+    ensures ok { OnOk result (out.new.items ≡ out.old.items ++ reply_text (Reply.Ranked touched.now)) }
     ensures err { OnErr result (out.new.items ≡ out.old.items) }
     ensures room { vec_capacity out.old ≤ vec_capacity out.new }
     ensures fits { vec_len out.old + REPLY_ROOM ≤ vec_capacity out.old → IsOk result }
@@ -192,7 +191,8 @@ fn push_number(out: &mut Vec<u8>, number: u8)
 
 /// Appends the number of a refusal or a fault.
 fn write_number(number: u8, out: &mut Vec<u8>) -> Result<(), AllocError>
-    ensures ok { OnOk result (out.new.items ≡ out.old.items ++ line (refused_words number)) }
+    ensures ok { OnOk result (out.new.items
+        ≡ out.old.items ++ line (codes "NO" ∷ decimal number ∷ [])) }
     ensures err { OnErr result (out.new.items ≡ out.old.items) }
     ensures room { vec_capacity out.old ≤ vec_capacity out.new }
     ensures fits { vec_len out.old + REPLY_ROOM ≤ vec_capacity out.old → IsOk result }

@@ -1,11 +1,11 @@
 //! The standing as CSV.
 
 ghost use Rattle.std.specs.Prelude.{◌≡◌, ◌≢◌, ◌≤◌, ◌++◌, Some, true, false, IfOk, OnOk, OnErr, map};
-ghost use Rattle.std.specs.Prelude.{flat_map, vec_capacity};
+ghost use Rattle.std.specs.Prelude.{flat_map, vec_capacity, codes, decimal};
 ghost use Rattle.std.specs.Io.KnownBytes.{Appends};
 ghost use Rattle.csv.specs.Writing as written;
 ghost use Rattle.csv.specs.Writing.{row_text};
-ghost use Rattle.regatta_tables.specs.CsvTexts.{any_lengths, csv_text, header_fields, race_name};
+ghost use Rattle.regatta_tables.specs.CsvTexts.{any_lengths, csv_text, header_fields};
 ghost use Rattle.regatta_tables.specs.TableTexts.{row_words, cell_text};
 
 use crate::cells::{CELL_ROOM, put_cell};
@@ -148,7 +148,8 @@ fn push_race_fields(
     fields: &mut Vec<Vec<u8>>,
 ) -> Result<(), AllocError>
     ensures { OnOk result (map (λ field. field.items) fields.new.items
-        ≡ map (λ field. field.items) fields.old.items ++ map race_name races.now) }
+        ≡ map (λ field. field.items) fields.old.items
+        ++ map (λ race. codes "R" ++ decimal race) races.now) }
 {
     for race in races {
         fields.push(race_field(alloc, *race)?)?;
@@ -158,7 +159,7 @@ fn push_race_fields(
 
 /// The name of a race's column.
 fn race_field(alloc: Global, race: RaceNo) -> Result<Vec<u8>, AllocError>
-    ensures { IfOk result (λ field. field.items ≡ race_name race) }
+    ensures { IfOk result (λ field. field.items ≡ codes "R" ++ decimal race) }
 {
     let mut number = Buffer::new();
     let mut field = Vec::from_slice(alloc, b"R")?;

@@ -17,7 +17,7 @@ use Rattle.regatta_terms.specs.Words.{words}
 use Rattle.regatta_terms.specs.declared.line.LineFault.TheVariants.{TooLong}
 use Rattle.regatta_terms.specs.declared.limits.TheConstants.{MAX_LINE}
 use Rattle.regatta_talk.specs.declared.cutter.TheConstants.{MAX_HEARD}
-use Rattle.regatta_terms.specs.TextLines.{is_line_end, last_line, lines_of_pieces, lines_by}
+use Rattle.regatta_terms.specs.TextLines.{is_line_end, lines_of_pieces, lines_by}
 use Rattle.regatta_talk.specs.HeardLines.{heard_with, heard_lines}
 
 -- ---- a line longer than the limit and a CR is too long, and so is its buffered part
@@ -94,14 +94,16 @@ lines-cons : (counts : Bool) (piece : List ℕ) (pieces : List (List ℕ)) → 0
 lines-cons counts piece [] some = absurd (omega (arith, some))
 lines-cons counts piece (next ∷ pieces) some = refl
 
-heard_last : (counts : Bool) (line : List ℕ) → last_line counts (take MAX_HEARD line)
-    ≡ map (take MAX_HEARD) (last_line counts line)
+heard_last : (counts : Bool) (line : List ℕ)
+    → lines_of_pieces counts (take MAX_HEARD line ∷ [])
+    ≡ map (take MAX_HEARD) (lines_of_pieces counts (line ∷ []))
 heard_last true [] = refl
 heard_last true (byte ∷ line) = refl
 heard_last false [] = refl
 heard_last false (byte ∷ line) = refl
 
-heard_none : (counts : Bool) (line : List ℕ) → heard_lines counts line [] ≡ last_line counts line
+heard_none : (counts : Bool) (line : List ℕ)
+    → heard_lines counts line [] ≡ lines_of_pieces counts (line ∷ [])
 unfolding heard_lines
 heard_none counts line = refl
 
@@ -123,7 +125,8 @@ heard_from : (counts : Bool) (line text : List ℕ)
     (lines_of_pieces counts (onto line (slice_split is_line_end text)))
 heard_from counts line [] =
     heard_none counts (take MAX_HEARD line) ∙ heard_last counts line
-    ∙ ap (λ (l : List ℕ). map (take MAX_HEARD) (last_line counts l)) (sym (append-nil line))
+    ∙ ap (λ (l : List ℕ). map (take MAX_HEARD) (lines_of_pieces counts (l ∷ [])))
+    (sym (append-nil line))
 heard_from counts line (byte ∷ text) = by (is_line_end byte) refl (heard_from counts [] text)
     (heard_from counts (line ++ byte ∷ []) text)
   where

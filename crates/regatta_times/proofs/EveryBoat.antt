@@ -9,10 +9,12 @@ use Rattle.std.proofs.lemmas.List.{length-map, map-append}
 use Rattle.std.proofs.lemmas.Option.{slice_get-map}
 use lib.Dec.{ltb}
 use Rattle.csv.specs.Reading.{default_config, records, strip_bom}
+use Rattle.regatta_terms.proofs.Both.{both}
 use Rattle.regatta_terms.specs.Lines.{◌>>=◌}
 use Rattle.regatta_terms.specs.Sails.{sail_of}
 use Rattle.regatta_terms.specs.Words.{is_space}
 use Rattle.regatta_terms.specs.declared.sail.Sail.{Sail}
+use Rattle.regatta_tables.proofs.ListFacts.{sails-append}
 use Rattle.regatta_tables.specs.declared.entries.EntriesFault.{EntriesFault}
 use Rattle.regatta_tables.specs.EntryLists.{Field, Record, entries_of, entries_of_text}
 use Rattle.regatta_tables.specs.EntryLists.{entries_under, first_fault, is_blank, is_sail_heading}
@@ -59,10 +61,6 @@ boat_sail ratings overnight columns row boats fields sail boat h =
     ap (λ (b : Boat). b.sail) (sym (same_ok _ _ h6))))))))
 
 -- ---- a record
-
-both : (a b : Bool) → (a && b) ≡ true → (a ≡ true) × (b ≡ true)
-both true b h = (refl, h)
-both false b h = cc
 
 no_bytes : (field : Field) → list_all is_space field ≡ true → without_spaces field ≡ []
 no_bytes [] blank = refl
@@ -136,22 +134,6 @@ record_sails ratings overnight columns row column boats more fields is added =
 
 -- ---- all records
 
-sails_first : (column : ℕ) (fields : Record) (records : List Record)
-    → sails_in column (fields ∷ []) ++ sails_in column records ≡ sails_in column (fields ∷ records)
-sails_first column fields records = by (is_blank fields)
-  where
-    one : (o : Option Sail) → cons_option o [] ++ sails_in column records
-        ≡ cons_option o (sails_in column records)
-    one None = refl
-    one (Some sail) = refl
-
-    by : (blank : Bool) → filter_map (sail_in column) (cond (not blank) (fields ∷ []) [])
-        ++ sails_in column records
-        ≡ filter_map (sail_in column) (cond (not blank) (fields ∷ filter (λ fields.
-        not (is_blank fields)) records) (filter (λ fields. not (is_blank fields)) records))
-    by true = refl
-    by false = one (sail_in column fields)
-
 turn_sails : (ratings : List Rated) (overnight : Bool) (columns : Columns) (column i : ℕ)
     (boats all : List Boat) (records : List Record) → columns.sail ≡ Some column
     → in_turn (boat_added ratings overnight columns) i boats records ≡ Ok all
@@ -167,7 +149,7 @@ turn_sails ratings overnight columns column i boats all (fields ∷ records) is 
     ∙ ap (λ (s : List Sail). s ++ sails_in column records)
     (record_sails ratings overnight columns (i + 2) column boats more fields is added)
     ∙ append_assoc (sails_of boats) (sails_in column (fields ∷ [])) (sails_in column records)
-    ∙ ap (λ (s : List Sail). sails_of boats ++ s) (sails_first column fields records))
+    ∙ ap (λ (s : List Sail). sails_of boats ++ s) (sym (sails-append column (fields ∷ []) records)))
 
 -- ---- the column of sails
 

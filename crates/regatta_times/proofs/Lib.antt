@@ -2,7 +2,6 @@ pub mod EveryBoat
 pub mod FaultFacts
 pub mod LapFacts
 pub mod OrderFacts
-pub mod PrintFacts
 pub mod RoundingFacts
 pub mod SheetFacts
 pub mod TextFacts

@@ -11,6 +11,7 @@ use Rattle.csv.specs.Records.{Row, fields_of}
 use Rattle.regatta_terms.specs.Lines.{◌>>=◌}
 use Rattle.regatta_terms.specs.declared.sail.Sail.{Sail}
 use Rattle.regatta_scores.specs.Journal.{same_sail}
+use Rattle.regatta_tables.proofs.ListFacts.{rows_from}
 use Rattle.regatta_tables.specs.EntryLists.{Record}
 use Rattle.regatta_times.specs.declared.fault.SheetFault.{SheetFault}
 use Rattle.regatta_times.specs.declared.fault.SheetFault.TheVariants.{NoMemory}
@@ -37,17 +38,6 @@ texts_of f items fields same =
     sym (map-map f (λ (field : Bor (List ℕ)). field.now) items) ∙ ap (map f) same
 
 -- ---- records in turn
-
--- the record of a row, and those after it
-rows_from : (rows : List Row) (i : ℕ) (row : Row) → i < length rows → row ≡ get_or rows i row
-    → drop i (map fields_of rows) ≡ fields_of row ∷ drop (i + 1) (map fields_of rows)
-rows_from rows i row below here =
-    let first : get_or (map fields_of rows) i (fields_of row)
-    ≡ fields_of row = get_or-map fields_of rows i row (fields_of row) below
-    ∙ sym (ap fields_of here) in
-    let next : suc i ≡ i + 1 = omega arith in
-    drop-cons (map fields_of rows) i (fields_of row) (omega (arith, length-map rows fields_of))
-    ∙ (λ j. first j ∷ drop (next j) (map fields_of rows))
 
 -- the current row, and those after it
 row_first : {X : Type 0} (add : ℕ → List X → Record → Result (List X) SheetFault)
@@ -118,42 +108,3 @@ most_from most boats i boat below here = ap (most_laps most) (from_here boats i 
 pub most_end : (most : ℕ) (boats : List Boat) (i : ℕ) → length boats ≤ i
     → most_laps most (drop i boats) ≡ most
 most_end most boats i end = ap (most_laps most) (drop_all i boats end)
-
-timed_first : (rounding : Rounding) (most : ℕ) (boats : List Boat) (i : ℕ) (boat : Boat)
-    (times : List Timed) → i < length boats → boat ≡ get_or boats i boat
-    → timed_after rounding most times (drop i boats)
-    ≡ (timed_of rounding most boat
-    >>= (λ timed. timed_after rounding most (times ++ timed ∷ []) (drop (i + 1) boats)))
-timed_first rounding most boats i boat times below here =
-    ap (timed_after rounding most times) (from_here boats i boat below here)
-
--- a boat with a time
-pub timed_more : (rounding : Rounding) (most : ℕ) (boats : List Boat) (i : ℕ) (boat : Boat)
-    (times new : List Timed) (timed : Timed) → i < length boats → boat ≡ get_or boats i boat
-    → timed_after rounding most times (drop i boats) ≡ timed_after rounding most [] boats
-    → timed_of rounding most boat ≡ Ok timed → new ≡ times ++ timed ∷ []
-    → timed_after rounding most new (drop (i + 1) boats) ≡ timed_after rounding most [] boats
-timed_more rounding most boats i boat times new timed below here so_far is added =
-    ap (λ (ts : List Timed). timed_after rounding most ts (drop (i + 1) boats)) added
-    ∙ sym (timed_first rounding most boats i boat times below here
-    ∙ ap (λ (r : Result Timed SheetFault). r
-    >>= (λ timed. timed_after rounding most (times ++ timed ∷ []) (drop (i + 1) boats))) is)
-    ∙ so_far
-
--- a boat with a fault
-pub timed_fault : (rounding : Rounding) (most : ℕ) (boats : List Boat) (i : ℕ) (boat : Boat)
-    (times : List Timed) (fault : SheetFault) → i < length boats → boat ≡ get_or boats i boat
-    → timed_after rounding most times (drop i boats) ≡ timed_after rounding most [] boats
-    → timed_of rounding most boat ≡ Err fault → timed_after rounding most [] boats ≡ Err fault
-timed_fault rounding most boats i boat times fault below here so_far is =
-    sym so_far ∙ timed_first rounding most boats i boat times below here
-    ∙ ap (λ (r : Result Timed SheetFault). r
-    >>= (λ timed. timed_after rounding most (times ++ timed ∷ []) (drop (i + 1) boats))) is
-
--- all boats
-pub timed_end : (rounding : Rounding) (most : ℕ) (boats : List Boat) (i : ℕ)
-    (times : List Timed) → length boats ≤ i
-    → timed_after rounding most times (drop i boats) ≡ timed_after rounding most [] boats
-    → timed_after rounding most [] boats ≡ Ok times
-timed_end rounding most boats i times end so_far =
-    sym so_far ∙ ap (timed_after rounding most times) (drop_all i boats end)

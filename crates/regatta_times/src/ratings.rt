@@ -11,10 +11,10 @@ ghost use Rattle.regatta_times.specs.Ratings.{ratings_of_text, ratings_under, si
 use crate::columns::{column_of, sail_column};
 use crate::fault::{SheetFault, fault_of_sails};
 use crate::reading::{read_allowance, read_factor, read_portsmouth};
-use crate::records::{Field, cell, plain_fields, records_of, title_of, titles_of};
+use crate::records::{Field, cell, plain_fields, title_of, titles_of};
 use crate::system::{Handicap, System};
 use csv::ByteRecord;
-use regatta_tables::{Sails, read_entries};
+use regatta_tables::{Sails, read_entries, records_of};
 use regatta_terms::Sail;
 use std::alloc::Global;
 

@@ -15,8 +15,9 @@ use crate::fault::SheetFault;
 use crate::numbers::{Distance, Elapsed};
 use crate::rating::Rating;
 use crate::ratings::{Rated, check_sails};
-use crate::records::{Field, cell, plain_fields, records_of, titles_of};
+use crate::records::{Field, cell, plain_fields, titles_of};
 use csv::ByteRecord;
+use regatta_tables::records_of;
 use regatta_terms::Sail;
 use std::alloc::{AllocError, Global};
 

@@ -1,6 +1,7 @@
 //! Which commands are refused, and why.
-ghost use Rattle.std.specs.Prelude.{◌≡◌, length, nat_le, true};
-ghost use Rattle.regatta_terms.specs.Effects.{effect};
+ghost use Rattle.std.specs.Prelude.{◌≡◌, ◌&&◌, length, nat_eq, nat_le, true, false, not, is_none};
+ghost use Rattle.std.specs.Prelude.{is_some, Some, None, IfSome, if◌then◌else◌};
+ghost use Rattle.regatta_terms.specs.Effects.{AtEnd, Clears, Decides, InRace, effect};
 ghost use Rattle.regatta_scores.specs.Journal.{entered, order, is_of_other_system};
 ghost use Rattle.regatta_scores.specs.Journal.{is_scored as is_scored_in, held as held_in};
 ghost use Rattle.regatta_scores.specs.Order.{is_empty};
@@ -31,7 +32,8 @@ fn penalties(kind: PenaltyKind, held: &Held) -> u8
 }
 
 fn holds_nothing(held: &Held) -> bool
-    ensures { result ≡ refusals.holds_nothing held.now }
+    ensures { result ≡ (is_none held.now.code && nat_eq held.now.zfp 0 && nat_eq held.now.scp 0
+        && is_none held.now.redress) }
 {
     held.code.is_none() && held.zfp == 0 && held.scp == 0 && held.redress.is_none()
 }
@@ -49,20 +51,21 @@ impl Ledger {
         self.kept.boats() >= MAX_BOATS
     }
 
-    /// Whether an entered boat is in the race's finishing order.
-    fn is_placed(&self, race: RaceNo, boat: Sail) -> bool
-        requires { refusals.is_entered self.now.entries boat ≡ true }
-        ensures { result ≡ refusals.is_placed self.now.rules self.now.entries race boat }
+    /// Whether the boat is in the race's finishing order, if she is entered.
+    fn placed(&self, race: RaceNo, boat: Sail) -> Option<bool>
+        ensures entered { is_some result ≡ refusals.is_entered self.now.entries boat }
+        ensures value { IfSome result (λ placed.
+            placed ≡ refusals.is_placed self.now.rules self.now.entries race boat) }
     {
-        self.kept.is_placed(race, boat)
+        self.kept.placed(race, boat)
     }
 
-    /// The code, penalties and redress of an entered boat in the race.
-    fn held(&self, race: RaceNo, boat: Sail) -> Held
-        requires { refusals.is_entered self.now.entries boat ≡ true }
-        ensures { result ≡ held_in self.now.entries race boat }
+    /// The code, penalties and redress of the boat in the race, if she is entered.
+    fn held(&self, race: RaceNo, boat: Sail) -> Option<Held>
+        ensures entered { is_some result ≡ refusals.is_entered self.now.entries boat }
+        ensures value { IfSome result (λ held. held ≡ held_in self.now.entries race boat) }
     {
-        self.kept.held(race, boat)
+        self.kept.held_if_entered(race, boat)
     }
 
     fn is_scored(&self, race: RaceNo) -> bool
@@ -79,7 +82,10 @@ impl Ledger {
     }
 
     fn enter_refusal(&self, boat: Sail) -> Option<Refusal>
-        ensures { result ≡ refusals.enter_refusal limits self.now.entries boat }
+        ensures { result ≡
+            (if refusals.is_entered self.now.entries boat then Some Refusal.AlreadyEntered
+            else if nat_le limits.boats (length (entered self.now.entries))
+            then Some Refusal.EntryFull else None) }
     {
         if self.is_entered(boat) {
             Some(Refusal::AlreadyEntered)
@@ -92,14 +98,13 @@ impl Ledger {
 
     /// Why Finish or Time is refused, apart from the system of the series.
     fn place_refusal(&self, race: RaceNo, boat: Sail) -> Option<Refusal>
-        ensures { result ≡ refusals.place_refusal self.now.rules self.now.entries race boat }
+        ensures { result
+            ≡ refusals.place_refusal self.now.rules self.now.entries race boat AtEnd }
     {
-        if !self.is_entered(boat) {
-            Some(Refusal::NotEntered)
-        } else if self.is_placed(race, boat) {
-            Some(Refusal::AlreadyPlaced)
-        } else {
-            None
+        match self.placed(race, boat) {
+            None => Some(Refusal::NotEntered),
+            Some(true) => Some(Refusal::AlreadyPlaced),
+            Some(false) => None,
         }
     }
 
@@ -108,36 +113,38 @@ impl Ledger {
         ensures { result
             ≡ refusals.place_by_refusal self.now.rules self.now.entries race boat other }
     {
-        if !(self.is_entered(boat) && self.is_entered(other)) {
-            Some(Refusal::NotEntered)
-        } else if self.is_placed(race, boat) {
-            Some(Refusal::AlreadyPlaced)
-        } else if !self.is_placed(race, other) {
-            Some(Refusal::NotPlaced)
-        } else {
-            None
+        match (self.placed(race, boat), self.placed(race, other)) {
+            (None, _) | (_, None) => Some(Refusal::NotEntered),
+            (Some(true), _) => Some(Refusal::AlreadyPlaced),
+            (_, Some(false)) => Some(Refusal::NotPlaced),
+            (Some(false), Some(true)) => None,
         }
     }
 
     fn strike_refusal(&self, race: RaceNo, boat: Sail) -> Option<Refusal>
-        ensures { result ≡ refusals.strike_refusal self.now.rules self.now.entries race boat }
+        ensures { result ≡
+            (if not (refusals.is_entered self.now.entries boat) then Some Refusal.NotEntered
+            else if not (refusals.is_placed self.now.rules self.now.entries race boat)
+            then Some Refusal.NotPlaced else None) }
     {
-        if !self.is_entered(boat) {
-            Some(Refusal::NotEntered)
-        } else if !self.is_placed(race, boat) {
-            Some(Refusal::NotPlaced)
-        } else {
-            None
+        match self.placed(race, boat) {
+            None => Some(Refusal::NotEntered),
+            Some(false) => Some(Refusal::NotPlaced),
+            Some(true) => None,
         }
     }
 
     /// Why Mark or Redress is refused.
     fn decision_refusal(&self, race: RaceNo, boat: Sail) -> Option<Refusal>
-        ensures { result ≡ refusals.decision_refusal self.now.entries race boat }
+        ensures { result ≡
+            (if not (refusals.is_entered self.now.entries boat) then Some Refusal.NotEntered
+            else if refusals.is_decided (held_in self.now.entries race boat)
+            then Some Refusal.Decided else None) }
     {
-        if !self.is_entered(boat) {
-            Some(Refusal::NotEntered)
-        } else if is_decided(&self.held(race, boat)) {
+        let Some(held) = self.held(race, boat) else {
+            return Some(Refusal::NotEntered);
+        };
+        if is_decided(&held) {
             Some(Refusal::Decided)
         } else {
             None
@@ -145,12 +152,17 @@ impl Ledger {
     }
 
     fn penalty_refusal(&self, race: RaceNo, boat: Sail, kind: PenaltyKind) -> Option<Refusal>
-        ensures { result ≡ refusals.penalty_refusal self.now.entries race boat kind }
+        ensures { result ≡
+            (if not (refusals.is_entered self.now.entries boat) then Some Refusal.NotEntered
+            else if refusals.is_decided (held_in self.now.entries race boat)
+            then Some Refusal.Decided
+            else if nat_le MAX_PENALTIES
+            (refusals.penalties kind (held_in self.now.entries race boat))
+            then Some Refusal.PenaltyLimit else None) }
     {
-        if !self.is_entered(boat) {
+        let Some(held) = self.held(race, boat) else {
             return Some(Refusal::NotEntered);
-        }
-        let held = self.held(race, boat);
+        };
         if is_decided(&held) {
             Some(Refusal::Decided)
         } else if penalties(kind, &held) >= MAX_PENALTIES {
@@ -161,12 +173,12 @@ impl Ledger {
     }
 
     fn clear_refusal(&self, role: Role, race: RaceNo, boat: Sail) -> Option<Refusal>
-        ensures { result ≡ refusals.clear_refusal self.now.entries role race boat }
+        ensures { result ≡ refusals.command_refusal limits self.now.rules self.now.entries role
+            (InRace race (Decides boat Clears)) }
     {
-        if !self.is_entered(boat) {
+        let Some(held) = self.held(race, boat) else {
             return Some(Refusal::NotEntered);
-        }
-        let held = self.held(race, boat);
+        };
         if is_decided(&held) && role != Role::Jury {
             Some(Refusal::Decided)
         } else if holds_nothing(&held) {
@@ -177,7 +189,7 @@ impl Ledger {
     }
 
     fn score_refusal(&self, race: RaceNo) -> Option<Refusal>
-        ensures { result ≡ refusals.score_refusal self.now.rules self.now.entries race }
+        ensures { result ≡ refusals.count_refusal self.now.rules self.now.entries race true }
     {
         if self.is_scored(race) {
             Some(Refusal::AlreadyScored)
@@ -189,7 +201,7 @@ impl Ledger {
     }
 
     fn unscore_refusal(&self, race: RaceNo) -> Option<Refusal>
-        ensures { result ≡ refusals.unscore_refusal self.now.entries race }
+        ensures { result ≡ refusals.count_refusal self.now.rules self.now.entries race false }
     {
         if self.is_scored(race) {
             None

@@ -1,5 +1,5 @@
 //! Laws of exclusions, of the comparison of boats, and of ranks.
-ghost use Rattle.regatta_scores.specs.ExclusionLaws.{WorstAreExcluded};
+ghost use Rattle.regatta_scores.specs.RankLaws.{WorstAreExcluded};
 ghost use Rattle.regatta_scores.specs.RankLaws.{ComparisonIsTotal, BeatingIsAnOrder};
 ghost use Rattle.regatta_scores.specs.RankLaws.{CountingScoresRise, TiesAreComplete};
 ghost use Rattle.regatta_scores.specs.RankLaws.{RowsTieCompletely};

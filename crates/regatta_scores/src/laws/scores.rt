@@ -2,8 +2,8 @@
 ghost use Rattle.std.specs.Prelude.{All};
 ghost use Rattle.regatta_terms.specs.Entries.{IsEntry};
 ghost use Rattle.regatta_terms.specs.Rules.{RulesParts};
-ghost use Rattle.regatta_scores.specs.ScoreLaws.{HasNoScoreBelowOne, NoScoreIsBelowOne};
-ghost use Rattle.regatta_scores.specs.ScoreLaws.{BoatsBeatInThreeCases, EntriesBeatInThreeCases};
+ghost use Rattle.regatta_scores.specs.RankLaws.{HasNoScoreBelowOne, NoScoreIsBelowOne};
+ghost use Rattle.regatta_scores.specs.RankLaws.{BoatsBeatInThreeCases, EntriesBeatInThreeCases};
 
 use regatta_terms::Entry;
 use regatta_terms::laws::parts_are_in_range;

@@ -1,5 +1,4 @@
-use Rattle.std.proofs.Common.{◌≡◌, ◌+◌, ◌<◌, ◌++◌, ◌∙◌, ap, arith, sym, subst, drop, length}
-use Rattle.std.proofs.Common.{get_or}
+use Rattle.std.proofs.Common.{◌≡◌, ◌+◌, ◌<◌, ◌++◌, ◌∙◌, ap, arith, sym, subst, drop, length, get_or}
 use Rattle.std.specs.Option.{unwrap_or}
 use Rattle.regatta_scores.specs.Current.{with_changed, AreOfBoats}
 use Rattle.regatta_scores.specs.Lines.{line_by}
@@ -7,8 +6,7 @@ use Rattle.regatta_scores.specs.RaceScores.{scores_in}
 use Rattle.regatta_board.specs.Table.{no_line, lines}
 use Rattle.regatta_board.proofs.Lines.{lines_more, lines_long}
 use Rattle.regatta_board.proofs.NewLines.{changed_more, changed_all, new_or_old, of_boats_more}
-use Rattle.regatta_board.proofs.NewLines.{of_more_boats}
-use Rattle.regatta_board.proofs.NewLines.{new_few}
+use Rattle.regatta_board.proofs.NewLines.{of_more_boats, new_few}
 use Rattle.regatta_board.proofs.scoring.changed_lines.Goals as goal
 
 pub loop-boat-preserved : goal.loop-boat-preserved

@@ -10,7 +10,7 @@ whole_lines-requires-clause-even c =
     found_even c.args.rules.now c.args.draft.now c.requires.kept
     (with_columns c.args.old.now c.args.new.now) c.requires.columns c.args.races.now
     c.requires.races c.deref.result.now
-    (c.deref.ensures.value ∙ c.in_ok-found.ensures) c.len.result
+    (c.deref.ensures.0 ∙ c.push_columns.ensures) c.len.result
     (cc (c.len.ensures, c.boats.ensures))
 
 pub returns-clause-value : goal.returns-clause-value
@@ -20,15 +20,18 @@ returns-clause-value c =
     found_columns c.args.rules.now c.args.draft.now c.requires.kept
     (with_columns c.args.old.now c.args.new.now) c.requires.columns c.args.races.now
     c.requires.races c.deref.result.now
-    (c.deref.ensures.value ∙ c.in_ok-found.ensures) in
+    (c.deref.ensures.0 ∙ c.push_columns.ensures) in
     let n : c.len.result ≡ length c.args.draft.now.sails = cc (c.len.ensures, c.boats.ensures) in
     c.in_ok-lines.ensures.value ∙ (λ i. lines c.args.rules.now (found i) (n i))
 
 pub whole_lines-requires-clause-few : goal.whole_lines-requires-clause-few
 whole_lines-requires-clause-few c =
-    columns_few _ c.args.races.now c.deref.result.now (c.deref.ensures.value ∙ c.in_ok-found.ensures)
+    columns_few _ c.args.races.now c.deref.result.now (c.deref.ensures.0 ∙ c.push_columns.ensures)
     (rw c.requires.races (races_few c.args.draft.now.counts))
 
 pub whole_lines-requires-clause-most : goal.whole_lines-requires-clause-most
 whole_lines-requires-clause-most c =
     omega (arith, c.len.ensures, ap length c.boats.ensures, c.requires.kept.few)
+
+pub push_columns-requires-clause-few : goal.push_columns-requires-clause-few
+push_columns-requires-clause-few c = rw c.requires.races (races_few c.args.draft.now.counts)

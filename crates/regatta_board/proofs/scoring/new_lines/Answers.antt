@@ -44,7 +44,6 @@ returns-in-Enter-clause-value c =
     ∙ none_there a.races.now (sym c.is_empty.ensures ∙ c.if-is_empty.true) in
     boat_added a.rules.now a.kept.now a.scoring.now c.requires.scoring c.in-Enter.boats
     c.in-Enter.sheets (subst (λ r. AddsBoat a.kept.now r) c.in-Enter.is c.requires.adds) none
-    c.boat_line.result c.boat_line.ensures.value
     ∙ ap (λ r. lines_by a.rules.now (revised a.kept.now r)) (sym c.in-Enter.is)
 
 pub returns-in_ok-lines-in-Enter-2-clause-each : goal.returns-in_ok-lines-in-Enter-2-clause-each

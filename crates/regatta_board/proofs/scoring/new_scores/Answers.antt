@@ -1,7 +1,8 @@
 use Rattle.std.proofs.Common.{◌≡◌, ◌∙◌, ap, arith, length, sym, subst}
+use Rattle.std.specs.Option.{unwrap_or}
 use Rattle.regatta_scores.specs.KeptRanking.{IsRanking}
 use Rattle.regatta_board.specs.Revisions.{revised}
-use Rattle.regatta_board.specs.Scoring.{Scoring, FitBoats, races_after, with_lines}
+use Rattle.regatta_board.specs.Scoring.{Scoring, FitBoats, with_lines}
 use Rattle.regatta_board.proofs.ScoringFacts.{untouched_scores, unchanged_lines}
 use Rattle.regatta_board.proofs.ScoringFacts.{are_ranked, lines_by_long}
 use Rattle.regatta_board.proofs.scoring.new_scores.Goals as goal
@@ -14,7 +15,7 @@ returns-then-not-may_change_standing-clause-value c =
 pub new_lines-requires-clause-races : goal.new_lines-requires-clause-races
 new_lines-requires-clause-races c =
     c.current_races-current.ensures
-    ∙ ap (λ rs. races_after rs c.in_ok-races.races)
+    ∙ ap (unwrap_or c.in_ok-races.races)
     (ap (λ (s : Scoring). s.races) c.scoring.view_is ∙ c.requires.scoring.races)
     ∙ c.in_ok-races.ensures
 

@@ -1,95 +1,69 @@
-use Rattle.std.proofs.Common.{◌≡◌, ◌-◌, ◌∙◌, [], ap, arith, sym, subst, map, length}
-use Rattle.std.proofs.Common.{get_or}
+use Rattle.std.proofs.Common.{◌≡◌, ◌-◌, ◌∙◌, [], ap, arith, sym, subst, map, length, get_or}
 use Rattle.std.proofs.lemmas.Grind.{common_steps}
 use Rattle.regatta_scores.specs.Current.{with_changed, AreOfBoats}
-use Rattle.regatta_board.specs.Revisions.{revised}
 use Rattle.regatta_board.specs.Scoring.{Scoring, with_columns}
 use Rattle.regatta_board.specs.Table.{races}
 use Rattle.regatta_board.proofs.Columns.{columns_few, races_few}
-use Rattle.regatta_board.proofs.ScoringFacts.{old_long, new_long, turned_even, turned_stays}
-use Rattle.regatta_board.proofs.ScoringFacts.{turned_all, lines_by_long}
+use Rattle.regatta_board.proofs.ScoringFacts.{AreTurned, turned_lines, turned_all, lines_by_long}
 use Rattle.regatta_board.proofs.scoring.remade_lines.Goals as goal
 
--- the race's old column
-was : (c : goal.After-deref-4)
-    → c.index-old.result.now ≡ get_or c.args.scoring.now.columns (c.args.race - 1) []
-was c =
-    let cols : c.deref.result.now ≡ c.args.scoring.now.columns =
+-- the lines before
+ls : (c : goal.After-deref-4) → c.deref-3.result.now ≡ c.args.scoring.now.lines
+ls c = c.deref-3.ensures.value ∙ ap (λ (s : Scoring). s.lines) c.scoring.view_is
+
+-- the races that count
+rs : (c : goal.After-deref-4) → c.as_slice.result.now ≡ races c.args.kept.now.counts
+rs c = c.as_slice.ensures ∙ ap (λ (s : Scoring). s.races) c.scoring.view_is
+    ∙ c.requires.scoring.races
+
+turned : (c : goal.After-deref-4)
+    → AreTurned c.args.rules.now c.deref-3.result.now c.index-old.result.now c.current-new.result
+    c.deref-4.result.now
+turned c =
+    let a = c.args in
+    let cols : c.deref.result.now ≡ a.scoring.now.columns =
     c.deref.ensures.value ∙ ap (λ (s : Scoring). s.columns) c.scoring.view_is in
-    grind (arith, common_steps)
+    let cols-2 : c.deref-2.result.now ≡ a.scoring.now.columns =
+    c.deref-2.ensures.value ∙ ap (λ (s : Scoring). s.columns) c.scoring.view_is in
+    let was : c.index-old.result.now ≡ get_or a.scoring.now.columns (a.race - 1) [] =
+    grind (arith, common_steps) in
+    turned_lines a.rules.now a.kept.now a.revision.now c.requires.next a.scoring.now
+    c.requires.scoring a.columns.now c.requires.new a.race c.requires.turned c.deref-3.result.now
+    (ls c) c.as_slice.result.now (rs c) c.deref-4.result.now
+    (c.deref-4.ensures.0 ∙ c.push_columns.ensures
+    ∙ (λ i. map (λ race. get_or (with_columns (cols i) a.columns.now) (race - 1) [])
+    c.as_slice.result.now)) c.requires.kept c.get.ensures.range c.requires.counts
+    c.index-old.result.now c.current-new.result was
+    (c.current-new.ensures
+    ∙ (λ i. get_or (with_columns (cols-2 i) a.columns.now) (a.race - 1) []))
 
 pub changed_lines-requires-clause-even : goal.changed_lines-requires-clause-even
-changed_lines-requires-clause-even c =
-    let a = c.args in
-    let cols : c.deref.result.now ≡ a.scoring.now.columns =
-    c.deref.ensures.value ∙ ap (λ (s : Scoring). s.columns) c.scoring.view_is in
-    let ls : c.deref-3.result.now ≡ a.scoring.now.lines =
-    c.deref-3.ensures.value ∙ ap (λ (s : Scoring). s.lines) c.scoring.view_is in
-    let rs : c.as_slice.result.now ≡ races (revised a.kept.now a.revision.now).counts =
-    c.as_slice.ensures ∙ ap (λ (s : Scoring). s.races) c.scoring.view_is
-    ∙ c.requires.scoring.races ∙ ap races (sym c.requires.turned.counts) in
-    let found : c.deref-4.result.now
-    ≡ map (λ race. get_or (with_columns a.scoring.now.columns a.columns.now) (race - 1) [])
-    c.as_slice.result.now = c.deref-4.ensures.value ∙ c.in_ok-found.ensures
-    ∙ (λ i. map (λ race. get_or (with_columns (cols i) a.columns.now) (race - 1) [])
-    c.as_slice.result.now) in
-    turned_even a.rules.now a.kept.now c.requires.kept a.revision.now c.requires.next
-    a.scoring.now c.requires.scoring a.columns.now c.requires.new a.race c.get.ensures.range
-    c.requires.counts c.requires.turned c.deref-3.result.now ls
-    c.as_slice.result.now rs c.deref-4.result.now found
+changed_lines-requires-clause-even c = (turned c).even
 
 pub changed_lines-requires-clause-old : goal.changed_lines-requires-clause-old
-changed_lines-requires-clause-old c =
-    let a = c.args in
-    let ls : c.deref-3.result.now ≡ a.scoring.now.lines =
-    c.deref-3.ensures.value ∙ ap (λ (s : Scoring). s.lines) c.scoring.view_is in
-    old_long a.rules.now a.kept.now c.requires.kept a.revision.now c.requires.next
-    a.scoring.now c.requires.scoring a.columns.now c.requires.new a.race c.get.ensures.range
-    c.requires.counts c.requires.turned c.deref-3.result.now ls c.index-old.result.now (was c)
+changed_lines-requires-clause-old c = (turned c).old
 
 pub changed_lines-requires-clause-new : goal.changed_lines-requires-clause-new
-changed_lines-requires-clause-new c =
-    let a = c.args in
-    let cols : c.deref.result.now ≡ a.scoring.now.columns =
-    c.deref.ensures.value ∙ ap (λ (s : Scoring). s.columns) c.scoring.view_is in
-    let ls : c.deref-3.result.now ≡ a.scoring.now.lines =
-    c.deref-3.ensures.value ∙ ap (λ (s : Scoring). s.lines) c.scoring.view_is in
-    let cols-2 : c.deref-2.result.now ≡ a.scoring.now.columns =
-    c.deref-2.ensures.value ∙ ap (λ (s : Scoring). s.columns) c.scoring.view_is in
-    let hers : c.current-new.result
-    ≡ get_or (with_columns a.scoring.now.columns a.columns.now) (a.race - 1) [] =
-    c.current-new.ensures
-    ∙ (λ i. get_or (with_columns (cols-2 i) a.columns.now) (a.race - 1) []) in
-    new_long a.rules.now a.kept.now c.requires.kept a.revision.now c.requires.next
-    a.scoring.now c.requires.scoring a.columns.now c.requires.new a.race c.get.ensures.range
-    c.requires.counts c.requires.turned c.deref-3.result.now ls c.current-new.result hers
+changed_lines-requires-clause-new c = (turned c).new
 
 pub changed_lines-requires-clause-stays : goal.changed_lines-requires-clause-stays
-changed_lines-requires-clause-stays c =
-    let a = c.args in
-    let cols : c.deref.result.now ≡ a.scoring.now.columns =
-    c.deref.ensures.value ∙ ap (λ (s : Scoring). s.columns) c.scoring.view_is in
-    let ls : c.deref-3.result.now ≡ a.scoring.now.lines =
-    c.deref-3.ensures.value ∙ ap (λ (s : Scoring). s.lines) c.scoring.view_is in
-    let rs : c.as_slice.result.now ≡ races (revised a.kept.now a.revision.now).counts =
-    c.as_slice.ensures ∙ ap (λ (s : Scoring). s.races) c.scoring.view_is
-    ∙ c.requires.scoring.races ∙ ap races (sym c.requires.turned.counts) in
-    let found : c.deref-4.result.now
-    ≡ map (λ race. get_or (with_columns a.scoring.now.columns a.columns.now) (race - 1) [])
-    c.as_slice.result.now = c.deref-4.ensures.value ∙ c.in_ok-found.ensures
-    ∙ (λ i. map (λ race. get_or (with_columns (cols i) a.columns.now) (race - 1) [])
-    c.as_slice.result.now) in
-    let cols-2 : c.deref-2.result.now ≡ a.scoring.now.columns =
-    c.deref-2.ensures.value ∙ ap (λ (s : Scoring). s.columns) c.scoring.view_is in
-    let hers : c.current-new.result
-    ≡ get_or (with_columns a.scoring.now.columns a.columns.now) (a.race - 1) [] =
-    c.current-new.ensures
-    ∙ (λ i. get_or (with_columns (cols-2 i) a.columns.now) (a.race - 1) []) in
-    turned_stays a.rules.now a.kept.now c.requires.kept a.revision.now c.requires.next
-    a.scoring.now c.requires.scoring a.columns.now c.requires.new a.race c.get.ensures.range
-    c.requires.counts c.requires.turned c.deref-3.result.now ls
-    c.as_slice.result.now rs c.deref-4.result.now found c.current-new.result
-    c.index-old.result.now hers (was c)
+changed_lines-requires-clause-stays c = (turned c).stays
+
+pub changed_lines-requires-clause-few : goal.changed_lines-requires-clause-few
+changed_lines-requires-clause-few c =
+    columns_few _ c.as_slice.result.now c.deref-4.result.now
+    (c.deref-4.ensures.0 ∙ c.push_columns.ensures)
+    (rw (rs c) (races_few c.args.kept.now.counts))
+
+pub changed_lines-requires-clause-most : goal.changed_lines-requires-clause-most
+changed_lines-requires-clause-most c =
+    omega (
+      arith,
+      ap length (ls c),
+      ap length c.requires.scoring.lines,
+      lines_by_long c.args.rules.now c.args.kept.now,
+      c.requires.kept.few,
+    )
 
 pub returns-clause-each : goal.returns-clause-each
 returns-clause-each c =
@@ -106,36 +80,20 @@ returns-clause-value c =
     c.deref.ensures.value ∙ ap (λ (s : Scoring). s.columns) c.scoring.view_is in
     let ls : c.deref-3.result.now ≡ a.scoring.now.lines =
     c.deref-3.ensures.value ∙ ap (λ (s : Scoring). s.lines) c.scoring.view_is in
-    let rs : c.as_slice.result.now ≡ races (revised a.kept.now a.revision.now).counts =
-    c.as_slice.ensures ∙ ap (λ (s : Scoring). s.races) c.scoring.view_is
-    ∙ c.requires.scoring.races ∙ ap races (sym c.requires.turned.counts) in
-    let found : c.deref-4.result.now
-    ≡ map (λ race. get_or (with_columns a.scoring.now.columns a.columns.now) (race - 1) [])
-    c.as_slice.result.now = c.deref-4.ensures.value ∙ c.in_ok-found.ensures
-    ∙ (λ i. map (λ race. get_or (with_columns (cols i) a.columns.now) (race - 1) [])
-    c.as_slice.result.now) in
     ap (λ xs. with_changed xs c.in_ok-lines.lines.items) (sym ls)
-    ∙ turned_all a.rules.now a.kept.now c.requires.kept a.revision.now c.requires.next
-    a.scoring.now c.requires.scoring a.columns.now c.requires.new a.race c.get.ensures.range
-    c.requires.counts c.requires.turned c.deref-3.result.now ls
-    c.as_slice.result.now rs c.deref-4.result.now found
-    (with_changed c.deref-3.result.now c.in_ok-lines.lines.items) c.in_ok-lines.ensures.value
+    ∙ c.in_ok-lines.ensures.value
+    ∙ turned_all a.rules.now a.kept.now a.revision.now c.requires.next a.scoring.now
+    c.requires.scoring a.columns.now c.requires.new a.race c.requires.turned c.deref-3.result.now
+    ls c.as_slice.result.now
+    (c.as_slice.ensures ∙ ap (λ (s : Scoring). s.races) c.scoring.view_is
+    ∙ c.requires.scoring.races) c.deref-4.result.now
+    (c.deref-4.ensures.0 ∙ c.push_columns.ensures
+    ∙ (λ i. map (λ race. get_or (with_columns (cols i) a.columns.now) (race - 1) [])
+    c.as_slice.result.now))
 
-pub changed_lines-requires-clause-few : goal.changed_lines-requires-clause-few
-changed_lines-requires-clause-few c =
+pub push_columns-requires-clause-few : goal.push_columns-requires-clause-few
+push_columns-requires-clause-few c =
     let rs : c.as_slice.result.now ≡ races c.args.kept.now.counts =
     c.as_slice.ensures ∙ ap (λ (s : Scoring). s.races) c.scoring.view_is
     ∙ c.requires.scoring.races in
-    columns_few _ c.as_slice.result.now c.deref-4.result.now
-    (c.deref-4.ensures.value ∙ c.in_ok-found.ensures) (rw rs (races_few c.args.kept.now.counts))
-
-pub changed_lines-requires-clause-most : goal.changed_lines-requires-clause-most
-changed_lines-requires-clause-most c =
-    let ls = ap length (c.deref-3.ensures.value ∙ ap (λ (s : Scoring). s.lines) c.scoring.view_is) in
-    omega (
-      arith,
-      ls,
-      ap length c.requires.scoring.lines,
-      lines_by_long c.args.rules.now c.args.kept.now,
-      c.requires.kept.few,
-    )
+    rw rs (races_few c.args.kept.now.counts)

@@ -6,23 +6,23 @@ use Rattle.regatta_office.specs.Transcript.{Talk}
 use Rattle.regatta_office.proofs.Refused.{due_is}
 use Rattle.regatta_office.proofs.answers.do_command.Goals as goal
 
-pub returns-else-is_want_of_memory-clause-reply : goal.returns-else-is_want_of_memory-clause-reply
-returns-else-is_want_of_memory-clause-reply c =
+pub returns-else-is_out_of_memory-clause-reply : goal.returns-else-is_out_of_memory-clause-reply
+returns-else-is_out_of_memory-clause-reply c =
     let board = c.args.board.now in
     let talk : Talk = record { role = c.args.role; journal = board.entries } in
     c.reply_of-in-Err.ensures
     ∙ ap (λ (why : Option Refusal). reply_of (reply_by board.rules board.entries
     (sent talk.journal talk.role c.args.command) why)) (sym (due_is board.rules talk c.args.command _ _
     c.entry_of.ensures c.in-Err.ensures.refused
-    (sym c.is_want_of_memory.ensures ∙ c.if-is_want_of_memory.false)))
+    (sym c.is_out_of_memory.ensures ∙ c.if-is_out_of_memory.false)))
 
-pub returns-else-is_want_of_memory-clause-journal :
-    goal.returns-else-is_want_of_memory-clause-journal
-returns-else-is_want_of_memory-clause-journal c =
+pub returns-else-is_out_of_memory-clause-journal :
+    goal.returns-else-is_out_of_memory-clause-journal
+returns-else-is_out_of_memory-clause-journal c =
     let board = c.args.board.now in
     let talk : Talk = record { role = c.args.role; journal = board.entries } in
     let due = due_is board.rules talk c.args.command _ _ c.entry_of.ensures
-    c.in-Err.ensures.refused (sym c.is_want_of_memory.ensures ∙ c.if-is_want_of_memory.false) in
+    c.in-Err.ensures.refused (sym c.is_out_of_memory.ensures ∙ c.if-is_out_of_memory.false) in
     c.in-Err.ensures.err
     ∙ (λ i. record {
       rules = board.rules;

@@ -2,9 +2,9 @@ use Rattle.std.proofs.Common.{◌≡◌, ◌∙◌, true, subst, inl, inr}
 use Rattle.regatta_terms.specs.Rules.{RulesParts}
 use Rattle.regatta_scores.specs.Journal.{Journal}
 use Rattle.regatta_board.specs.Refusals.{limits, is_lawful}
-use Rattle.regatta_office.specs.Asked.{AtMostFrom, Begins, PrintsAtMostTable, PrintsTable, ServesFrom}
+use Rattle.regatta_office.specs.Asked.{AtMostFrom, Begins, PrintsTable, ServesFrom}
 use Rattle.regatta_office.specs.Asked.{ServingAsked}
-use Rattle.regatta_office.proofs.Printing.{keeps_same}
+use Rattle.regatta_office.proofs.Printing.{at_most_from, keeps_same}
 use Rattle.regatta_office.proofs.clients.serve_unkept_series.Goals as goal
 
 pub returns-clause-done : goal.returns-clause-done
@@ -32,10 +32,8 @@ returns-clause-at_most g c =
       c.in_ok-begin.begin.rules,
       c.in_ok-begin.begin.start,
       c.in_ok-begin.ensures,
-      subst (λ (start : Journal). PrintsAtMostTable c.in_ok-begin.begin.rules start old new)
-          (c.in_ok-opened.ensures.journal ∙ c.as_slice-start.ensures)
-          (subst (λ (rules : RulesParts). PrintsAtMostTable rules c.in_ok-opened.opened.entries old
-          new) c.in_ok-opened.ensures.rules c.serve_office.ensures.at_most),
+      at_most_from _ _ _ _ old new c.in_ok-opened.ensures.rules
+          (c.in_ok-opened.ensures.journal ∙ c.as_slice-start.ensures) c.serve_office.ensures.at_most,
     ))
 
 pub returns-in_err-serve_office-clause-at_most : goal.returns-in_err-serve_office-clause-at_most
@@ -46,10 +44,8 @@ returns-in_err-serve_office-clause-at_most g c =
       c.in_ok-begin.begin.rules,
       c.in_ok-begin.begin.start,
       c.in_ok-begin.ensures,
-      subst (λ (start : Journal). PrintsAtMostTable c.in_ok-begin.begin.rules start old new)
-          (c.in_ok-opened.ensures.journal ∙ c.as_slice-start.ensures)
-          (subst (λ (rules : RulesParts). PrintsAtMostTable rules c.in_ok-opened.opened.entries old
-          new) c.in_ok-opened.ensures.rules c.serve_office.ensures.at_most),
+      at_most_from _ _ _ _ old new c.in_ok-opened.ensures.rules
+          (c.in_ok-opened.ensures.journal ∙ c.as_slice-start.ensures) c.serve_office.ensures.at_most,
     ))
 
 -- nothing was written yet

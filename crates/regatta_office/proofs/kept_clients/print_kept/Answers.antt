@@ -1,14 +1,13 @@
 use Rattle.std.proofs.Common.{◌≡◌, ap, subst, sym, ◌∙◌}
 use Rattle.std.specs.Io.KnownBytes.{Appends}
 use mathlib.Core.List.{IsPrefix}
-use Rattle.regatta_streams.specs.Texts.{AppendsPrefix}
 use Rattle.regatta_terms.specs.Rules.{RulesParts}
 use Rattle.regatta_scores.specs.Journal.{Journal}
 use Rattle.regatta_board.specs.BoardFacts.{BoardValue}
 use Rattle.regatta_desk.specs.Desks.{DeskValue}
 use Rattle.regatta_office.specs.Transcript.{final_text}
 use Rattle.regatta_office.specs.declared.form.Form.TheVariants.{Table}
-use Rattle.regatta_office.proofs.Printing.{at_most, on_ok}
+use Rattle.regatta_office.proofs.Printing.{at_most_printed}
 use Rattle.regatta_office.proofs.kept_clients.print_kept.Goals as goal
 
 -- the desk's board is lawful under the rules of its office, begins with the start, and is a beginning
@@ -34,62 +33,28 @@ returns-in-Ok-print_table-clause-printed g c =
 
 pub returns-in-Ok-print_table-clause-at_most : goal.returns-in-Ok-print_table-clause-at_most
 returns-in-Ok-print_table-clause-at_most g c =
-    let same : c.board.result.now.rules ≡ g.N.OfficeName.rules =
-    ap (λ (board : BoardValue). board.rules) c.board.ensures.board ∙ c.board.ensures.rules in
     let shown : c.cover_note.new.self.entries ≡ c.board.result.now.entries =
     ap (λ (d : DeskValue). d.entries) (sym c.in-Some.ensures.same)
     ∙ sym (ap (λ (board : BoardValue). board.entries) c.board.ensures.board) in
-    let begins : IsPrefix c.args.start.journal c.board.result.now.entries =
-    subst (IsPrefix c.args.start.journal)
+    at_most_printed g.W.Device.contents g.N.OfficeName.rules c.args.start.journal
+    c.args.output.now c.print_table.new.self c.board.result.now
+    (ap (λ (board : BoardValue). board.rules) c.board.ensures.board ∙ c.board.ensures.rules)
+    (subst (IsPrefix c.args.start.journal)
     (ap (λ (d : DeskValue). d.entries) (sym c.cover_note.ensures.same) ∙ shown)
-    c.cover_note.ensures.front in
-    at_most g.W.Device.contents g.N.OfficeName.rules c.args.start.journal c.args.output.now
-    c.print_table.new.self c.print_table.result
-    (on_ok c.print_table.result (λ wrote. record {
-      journal = c.board.result.now.entries;
-      begins = begins;
-      lawful = rw (c.board.ensures.board) c.board.ensures.lawful;
-      wrote = subst (λ (rules : RulesParts). Appends (g.W.Device.contents c.args.output.now)
-          (g.W.Device.contents c.print_table.new.self)
-          (final_text rules Table c.board.result.now.entries)) same wrote;
-    }) c.print_table.ensures.wrote)
-    (λ write. record {
-      journal = c.board.result.now.entries;
-      begins = begins;
-      lawful = rw (c.board.ensures.board) c.board.ensures.lawful;
-      wrote = subst (λ (rules : RulesParts). AppendsPrefix (g.W.Device.contents c.args.output.now)
-          (g.W.Device.contents c.print_table.new.self)
-          (final_text rules Table c.board.result.now.entries)) same
-          (c.print_table.ensures.cut write);
-    }) c.print_table.ensures.silent
+    c.cover_note.ensures.front) (rw (c.board.ensures.board) c.board.ensures.lawful)
+    c.print_table.result c.print_table.ensures.wrote c.print_table.ensures.cut
+    c.print_table.ensures.silent
 
 pub returns-clause-at_most : goal.returns-clause-at_most
 returns-clause-at_most g c =
-    let same : c.board.result.now.rules ≡ g.N.OfficeName.rules =
-    ap (λ (board : BoardValue). board.rules) c.board.ensures.board ∙ c.board.ensures.rules in
     let shown : c.cover_note.new.self.entries ≡ c.board.result.now.entries =
     ap (λ (d : DeskValue). d.entries) (sym c.in-Some.ensures.same)
     ∙ sym (ap (λ (board : BoardValue). board.entries) c.board.ensures.board) in
-    let begins : IsPrefix c.args.start.journal c.board.result.now.entries =
-    subst (IsPrefix c.args.start.journal)
+    at_most_printed g.W.Device.contents g.N.OfficeName.rules c.args.start.journal
+    c.args.output.now c.print_table.new.self c.board.result.now
+    (ap (λ (board : BoardValue). board.rules) c.board.ensures.board ∙ c.board.ensures.rules)
+    (subst (IsPrefix c.args.start.journal)
     (ap (λ (d : DeskValue). d.entries) (sym c.cover_note.ensures.same) ∙ shown)
-    c.cover_note.ensures.front in
-    at_most g.W.Device.contents g.N.OfficeName.rules c.args.start.journal c.args.output.now
-    c.print_table.new.self c.print_table.result
-    (on_ok c.print_table.result (λ wrote. record {
-      journal = c.board.result.now.entries;
-      begins = begins;
-      lawful = rw (c.board.ensures.board) c.board.ensures.lawful;
-      wrote = subst (λ (rules : RulesParts). Appends (g.W.Device.contents c.args.output.now)
-          (g.W.Device.contents c.print_table.new.self)
-          (final_text rules Table c.board.result.now.entries)) same wrote;
-    }) c.print_table.ensures.wrote)
-    (λ write. record {
-      journal = c.board.result.now.entries;
-      begins = begins;
-      lawful = rw (c.board.ensures.board) c.board.ensures.lawful;
-      wrote = subst (λ (rules : RulesParts). AppendsPrefix (g.W.Device.contents c.args.output.now)
-          (g.W.Device.contents c.print_table.new.self)
-          (final_text rules Table c.board.result.now.entries)) same
-          (c.print_table.ensures.cut write);
-    }) c.print_table.ensures.silent
+    c.cover_note.ensures.front) (rw (c.board.ensures.board) c.board.ensures.lawful)
+    c.print_table.result c.print_table.ensures.wrote c.print_table.ensures.cut
+    c.print_table.ensures.silent

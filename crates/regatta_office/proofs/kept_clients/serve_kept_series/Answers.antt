@@ -2,8 +2,8 @@ use Rattle.std.proofs.Common.{◌≡◌, ◌∙◌, true, subst, inl, inr}
 use Rattle.regatta_terms.specs.Rules.{RulesParts}
 use Rattle.regatta_scores.specs.Journal.{Journal}
 use Rattle.regatta_board.specs.Refusals.{limits, is_lawful}
-use Rattle.regatta_office.specs.Asked.{PrintsAtMostTable, PrintsTable}
-use Rattle.regatta_office.proofs.Printing.{keeps_same}
+use Rattle.regatta_office.specs.Asked.{PrintsTable}
+use Rattle.regatta_office.proofs.Printing.{at_most_from, keeps_same}
 use Rattle.regatta_office.proofs.kept_clients.serve_kept_series.Goals as goal
 
 pub returns-clause-done : goal.returns-clause-done
@@ -33,10 +33,9 @@ returns-clause-at_most g c =
       begin.rules,
       begin.start,
       c.in_ok-series.ensures.begins,
-      subst (λ (start : Journal). PrintsAtMostTable begin.rules start old new)
+      at_most_from _ _ _ _ old new c.in_ok-opened.ensures.rules
           (c.in_ok-opened.ensures.journal ∙ c.as_slice-start.ensures)
-          (subst (λ (rules : RulesParts). PrintsAtMostTable rules c.in_ok-opened.opened.entries old
-          new) c.in_ok-opened.ensures.rules c.serve_kept_office.ensures.at_most),
+          c.serve_kept_office.ensures.at_most,
     )
 
 pub returns-in_err-serve_kept_office-clause-at_most :
@@ -49,10 +48,9 @@ returns-in_err-serve_kept_office-clause-at_most g c =
       begin.rules,
       begin.start,
       c.in_ok-series.ensures.begins,
-      subst (λ (start : Journal). PrintsAtMostTable begin.rules start old new)
+      at_most_from _ _ _ _ old new c.in_ok-opened.ensures.rules
           (c.in_ok-opened.ensures.journal ∙ c.as_slice-start.ensures)
-          (subst (λ (rules : RulesParts). PrintsAtMostTable rules c.in_ok-opened.opened.entries old
-          new) c.in_ok-opened.ensures.rules c.serve_kept_office.ensures.at_most),
+          c.serve_kept_office.ensures.at_most,
     )
 
 -- nothing was written yet

@@ -1,6 +1,6 @@
 use Rattle.std.proofs.Common.{IfSome, Err, sym, ap, ◌∙◌, subst}
 use Rattle.std.specs.Io.KnownBytes.{Appends}
-use Rattle.regatta_office.specs.Transcript.{WroteSome}
+use Rattle.regatta_office.proofs.Whole.{WroteSome}
 use Rattle.regatta_office.specs.declared.run.TheConstants.{INPUT_LIMIT}
 use Rattle.regatta_office.specs.Scribes.{point}
 use Rattle.regatta_office.proofs.Results.{long_is_no_write, memory_is, read_is_no_write}

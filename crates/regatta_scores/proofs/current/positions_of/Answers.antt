@@ -10,5 +10,4 @@ loop-k-preserved c = record {
 }
 
 pub returns : goal.returns
-returns c =
-    sym (positions_all _ c.args.new.now c.loop-k.k (omega arith)) ∙ c.loop-k.invariant.rest
+returns c = sym (positions_all _ c.args.new.now c.loop-k.k (omega arith)) ∙ c.loop-k.invariant.rest

@@ -1,5 +1,5 @@
 use Rattle.std.proofs.Common.{◌∙◌, ◌++◌, ◌∷◌, [], drop, sym}
-use Rattle.regatta_scores.proofs.Splices.{stands_first, ahead_is}
+use Rattle.regatta_scores.proofs.Splices.{ahead_is}
 use Rattle.regatta_scores.proofs.orders.with_ahead.Goals as goal
 
 pub returns : goal.returns
@@ -7,10 +7,8 @@ returns c =
     let order = c.args.order.now in
     let found = c.group_with-at.ensures in
     let at = c.group_with-at.result in
-    let within = stands_first order c.args.other at c.requires.placed found.bound found.before
-    found.here in
     c.in_ok-new-2.ensures
     ∙ (λ i. (c.in_ok-push.ensures ∙ (λ j. c.in_ok-new.ensures j ++ (c.args.boat ∷ []) ∷ [])) i
     ++ drop at order)
-    ∙ sym (ahead_is order c.args.boat c.args.other at within c.requires.once found.before
-    found.here)
+    ∙ sym (ahead_is order c.args.boat c.args.other at c.requires.placed c.requires.once
+    found.bound found.before found.here)

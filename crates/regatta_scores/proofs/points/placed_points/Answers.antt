@@ -2,8 +2,8 @@ use Rattle.std.proofs.Common.{◌≡◌, ℕ, ◌+◌, length, nat_eq, sum_by, a
 use Rattle.std.proofs.Common.{◌∙◌, Some, None, []}
 use Rattle.std.proofs.lemmas.List.Sums.{sum_by_more}
 use Rattle.regatta_scores.specs.Order.{in_group}
-use Rattle.regatta_scores.specs.RacePoints.{race_of, finishers, shared_points}
-use Rattle.regatta_scores.proofs.PlacePoints.{given_more, few_more, written_whole}
+use Rattle.regatta_scores.specs.RacePoints.{race_of, finishers}
+use Rattle.regatta_scores.proofs.SharedOut.{shared_points, given_more, few_more, written_whole}
 use Rattle.regatta_scores.proofs.points.placed_points.Goals as goal
 
 -- the boats of one more group have their points
@@ -28,8 +28,7 @@ loop-i-preserved c =
     shared_points (c.loop-i.invariant.next_place j) (sharing j)) in
     let given : (boat : ℕ) → get_or new boat None
     ≡ cond (in_group nat_eq boat group) (Some c.shared_points.result)
-    (get_or c.loop-i.placed.items boat None) =
-    λ boat. c.give.ensures.given boat
+    (get_or c.loop-i.placed.items boat None) = λ boat. c.give.ensures.given boat
     ∙ (λ j. cond (in_group nat_eq boat group) (Some c.shared_points.result)
     (get_or (c.deref_mut.ensures.value j) boat None)) in
     record {

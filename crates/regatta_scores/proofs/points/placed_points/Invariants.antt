@@ -9,8 +9,7 @@ use Rattle.regatta_scores.proofs.points.placed_points.Given as goal
 abbrev pub invariant-loop-i : goal.invariant-loop-i
 invariant-loop-i l = record {
   one_each : length l.placed.items ≡ length l.held;
-  next_place : l.place ≡ 1 + sum_by (finishers (race_of l.order l.held))
-      (take l.i l.order);
+  next_place : l.place ≡ 1 + sum_by (finishers (race_of l.order l.held)) (take l.i l.order);
   bound : l.place ≤ 1 + sum_by length (take l.i l.order);
   given : (boat : ℕ) → get_or l.placed.items boat None
       ≡ cond (stands_in nat_eq boat (take l.i l.order))

@@ -29,14 +29,12 @@ loop-boat-preserved c =
     get_or_read_under placed boat (length held) c.index.result.now None c.index.ensures
     (omega arith) (sym is.one_each) in
     let all = plain nat_eq rules (race_of order c.args.sheet.now.held) in
-    let hers : c.plain.result ≡ all boat =
-    c.plain.ensures
+    let hers : c.plain.result ≡ all boat = c.plain.ensures
     ∙ (λ i. plain_with rules (held_is i) (placed_is i) (length held) (dnf_is i))
     ∙ sym (plain_is order held placed is rules boat)
     ∙ (λ i. plain nat_eq rules (race_of order (c.all_held-held.ensures i)) boat) in
     record {
-      made = c.push_reserved.ensures.items
-          ∙ (λ i. c.loop-boat.invariant.made i ++ hers i ∷ [])
+      made = c.push_reserved.ensures.items ∙ (λ i. c.loop-boat.invariant.made i ++ hers i ∷ [])
           ∙ sym (map_range_more all boat);
       long = omega (arith, c.push_reserved.ensures.len);
       room = c.push_reserved.ensures.capacity ∙ c.loop-boat.invariant.room;

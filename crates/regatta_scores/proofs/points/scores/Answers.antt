@@ -1,5 +1,4 @@
-use Rattle.std.proofs.Common.{◌≡◌, ◌++◌, ◌∷◌, [], ap, ◌∙◌, sym, length, refl, None, arith}
-use Rattle.std.proofs.Common.{map}
+use Rattle.std.proofs.Common.{◌≡◌, ◌++◌, ◌∷◌, [], ap, ◌∙◌, sym, length, refl, None, arith, map}
 use Rattle.std.specs.List.{range_with_len}
 use Rattle.std.proofs.lemmas.List.{get_or_read_under}
 use Rattle.regatta_scores.specs.Sheet.{nothing_held}
@@ -29,8 +28,7 @@ loop-boat-preserved c =
     let placed_is =
     get_or_read_under placed boat (length held) c.index.result.now None c.index.ensures
     (omega arith) (sym is.one_each) in
-    let scored : c.race_score.result ≡ race_score rules c.args.sheet.now boat =
-    c.race_score.ensures
+    let scored : c.race_score.result ≡ race_score rules c.args.sheet.now boat = c.race_score.ensures
     ∙ (λ i. score_with rules (held_is i) (placed_is i) (length held) (dnf_is i))
     ∙ sym (score_is order held placed is rules c.args.sheet.now.seconds boat)
     ∙ (λ i. race_score rules (record {

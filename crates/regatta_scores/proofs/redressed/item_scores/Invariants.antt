@@ -1,5 +1,5 @@
 use Rattle.std.proofs.Common.{◌≡◌, map, take, length}
-use Rattle.regatta_scores.specs.RowItems.{item_score}
+use Rattle.regatta_scores.specs.RaceScores.{item_score}
 use Rattle.regatta_scores.proofs.redressed.item_scores.Given as goal
 
 -- the races so far

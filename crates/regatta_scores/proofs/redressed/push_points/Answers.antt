@@ -1,8 +1,9 @@
-use Rattle.std.proofs.Common.{◌∙◌, sym}
-use Rattle.regatta_scores.proofs.OwnPoints.{own_points_are}
+use Rattle.std.proofs.Common.{◌∙◌, arith, refl, sym}
+use Rattle.regatta_scores.proofs.Reading.{own_more}
 use Rattle.regatta_scores.proofs.redressed.push_points.Goals as goal
 
-pub returns-then-all-scores : goal.returns-then-all-scores
-returns-then-all-scores c =
-    c.push_own.ensures
-    ∙ own_points_are c.args.scores.now (sym c.counted_in-all.ensures.number ∙ c.if-all-scores.true)
+pub returns-then-is_own : goal.returns-then-is_own
+returns-then-is_own c = λ scores n is low at.
+    own_more scores n c.args.score.now low at is (omega (arith, c.get.ensures))
+    (sym c.is_own.ensures ∙ c.if-is_own.true) c.push.ensures.items refl
+    (omega (arith, c.get.ensures))

@@ -1,7 +1,7 @@
 use Rattle.std.proofs.Common.{◌∙◌, arith, sym}
 use Rattle.std.proofs.lemmas.List.{take_all}
 use Rattle.regatta_scores.specs.RaceScores.{scores_in}
-use Rattle.regatta_scores.specs.Rows.{cells}
+use Rattle.regatta_scores.specs.Lines.{cells}
 use Rattle.regatta_scores.proofs.Zipped.{cell_more, long_cells, long_in, score_at}
 use Rattle.regatta_scores.proofs.row.cells.Goals as goal
 

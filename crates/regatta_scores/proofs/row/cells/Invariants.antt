@@ -1,6 +1,6 @@
 use Rattle.std.proofs.Common.{◌≡◌, length, take, vec_len, vec_capacity}
 use Rattle.regatta_scores.specs.RaceScores.{scores_in}
-use Rattle.regatta_scores.specs.Rows.{cells}
+use Rattle.regatta_scores.specs.Lines.{cells}
 use Rattle.regatta_scores.proofs.row.cells.Given as goal
 
 -- the races so far, and room for the others

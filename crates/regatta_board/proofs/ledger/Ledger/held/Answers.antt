@@ -1,28 +1,26 @@
-use Rattle.std.proofs.Common.{◌≡◌, ◌∙◌, true}
-use Rattle.regatta_board.specs.Refusals.{is_entered}
-use Rattle.regatta_board.proofs.KeptFacts.{known_is, held_is}
+use Rattle.std.proofs.Common.{◌∙◌}
+use Rattle.regatta_board.proofs.Found.{known_test, held_found}
 use Rattle.regatta_board.proofs.LedgerLemmas.{ledger_kept, ledger_orderly}
 use Rattle.regatta_board.proofs.ledger.Ledger.held.Goals as goal
 
-pub held-requires-clause-kept : goal.held-requires-clause-kept
-held-requires-clause-kept c =
+pub held_if_entered-requires : goal.held_if_entered-requires
+held_if_entered-requires c =
     let b = c.self.inside in
     ledger_kept b.rules b.entries.items b.kept b.last c.self.invariant.0
 
-pub held-requires-clause-known : goal.held-requires-clause-known
-held-requires-clause-known c =
+pub returns-clause-entered : goal.returns-clause-entered
+returns-clause-entered c =
     let b = c.self.inside in
     let is = c.self.invariant.0 in
-    let known : is_entered b.entries.items c.args.boat ≡ true =
-    rw (← c.self.view_is) at c.requires in
-    known_is b.rules b.entries.items
-    (ledger_orderly b.rules b.entries.items b.kept b.last is) b.kept is.keeps c.args.boat known
+    rw (← c.self.view_is) (c.held_if_entered.ensures.known
+    ∙ known_test b.rules b.entries.items
+    (ledger_orderly b.rules b.entries.items b.kept b.last is) b.kept is.keeps c.args.boat)
 
-pub returns : goal.returns
-returns c =
+pub returns-clause-value : goal.returns-clause-value
+returns-clause-value c =
     let b = c.self.inside in
     let is = c.self.invariant.0 in
-    rw (← c.self.view_is) (c.held.ensures.value
-    ∙ held_is b.rules b.entries.items
-    (ledger_orderly b.rules b.entries.items b.kept b.last is) b.kept is.keeps c.args.race
-    c.held.ensures.range c.args.boat)
+    rw (← c.self.view_is) (held_found b.rules b.entries.items
+    (ledger_orderly b.rules b.entries.items b.kept b.last is) b.kept is.keeps c.args.boat
+    c.args.race c.held_if_entered.ensures.range c.held_if_entered.result
+    c.held_if_entered.ensures.value)

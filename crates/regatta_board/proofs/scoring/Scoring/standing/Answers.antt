@@ -20,115 +20,77 @@ places-requires-clause-few c =
       c.requires.kept.few,
     )
 
+-- ---- what the rows are made of
+
+boats : (c : goal.After-as_slice-2) → c.boats.result.now ≡ c.args.kept.now.sails
+boats c = c.boats.ensures ∙ ap (λ (k : Kept). k.sails) c.of-draft.ensures
+
+ls : (c : goal.After-as_slice-2) → c.deref-5.result.now ≡ c.args.self.now.lines
+ls c = c.deref-5.ensures.value ∙ ap (λ (s : Scoring). s.lines) c.self.view_is
+
+-- there is a line for each boat
+many : (c : goal.After-as_slice-2) → length c.args.self.now.lines ≡ length c.boats.result.now
+many c = ap length c.requires.scoring.1.lines
+    ∙ lines_by_long c.requires.scoring.0 c.args.kept.now ∙ ap length (sym (boats c))
+
+rs : (c : goal.After-as_slice-2) → c.deref-2.result.now ≡ races c.args.kept.now.counts
+rs c = c.deref-2.ensures.value ∙ c.in_ok-races.ensures.items ∙ c.as_slice.ensures
+    ∙ ap (λ (s : Scoring). s.races) c.self.view_is ∙ c.requires.scoring.1.races
+
+each : (c : goal.After-as_slice-2) → c.deref-4.result.now
+    ≡ map (λ race. get_or c.args.self.now.columns (race - 1) []) c.deref-2.result.now
+each c =
+    let cols : c.deref.result.now ≡ c.args.self.now.columns =
+    c.deref.ensures.value ∙ ap (λ (s : Scoring). s.columns) c.self.view_is in
+    c.deref-4.ensures.0 ∙ c.push_columns.ensures
+    ∙ (λ i. map (λ race. get_or (cols i) (race - 1) []) c.deref-2.result.now)
+
+found : (c : goal.After-as_slice-2) → c.deref-4.result.now
+    ≡ columns c.requires.scoring.0 c.args.kept.now.sheets (races c.args.kept.now.counts)
+found c =
+    found_columns c.requires.scoring.0 c.args.kept.now c.requires.kept c.args.self.now.columns
+    c.requires.scoring.1.columns c.deref-2.result.now (rs c) c.deref-4.result.now (each c)
+
+ps : (c : goal.After-as_slice-2) → c.as_slice-2.result.now ≡ places c.args.self.now.lines
+ps c = c.as_slice-2.ensures ∙ c.in_ok-places.ensures
+    ∙ ap places (c.deref-3.ensures.value ∙ ap (λ (s : Scoring). s.lines) c.self.view_is)
+
 pub sorted_rows-requires-clause-ranking : goal.sorted_rows-requires-clause-ranking
 sorted_rows-requires-clause-ranking c =
-    let is = c.requires.scoring.1 in
-    let boats : c.boats.result.now ≡ c.args.kept.now.sails =
-    c.boats.ensures ∙ ap (λ (k : Kept). k.sails) c.of-draft.ensures in
-    let many = ap length is.lines ∙ lines_by_long c.requires.scoring.0 c.args.kept.now
-    ∙ ap length (sym boats) in
     let order : c.order.result.now ≡ c.args.self.now.ranking =
     c.order.ensures ∙ ap (λ (s : Scoring). s.ranking) c.self.view_is in
-    subst (λ n. IsPermutation (range_with_len 0 n) c.order.result.now) many
+    subst (λ n. IsPermutation (range_with_len 0 n) c.order.result.now) (many c)
     (subst (IsPermutation (range_with_len 0 (length c.args.self.now.lines))) (sym order)
-    is.ranking.each)
+    c.requires.scoring.1.ranking.each)
 
 pub sorted_rows-requires-clause-even : goal.sorted_rows-requires-clause-even
 sorted_rows-requires-clause-even c =
-    let rules = c.requires.scoring.0 in
-    let is = c.requires.scoring.1 in
-    let cols : c.deref.result.now ≡ c.args.self.now.columns =
-    c.deref.ensures.value ∙ ap (λ (s : Scoring). s.columns) c.self.view_is in
-    let ls : c.deref-5.result.now ≡ c.args.self.now.lines =
-    c.deref-5.ensures.value ∙ ap (λ (s : Scoring). s.lines) c.self.view_is in
-    let boats : c.boats.result.now ≡ c.args.kept.now.sails =
-    c.boats.ensures ∙ ap (λ (k : Kept). k.sails) c.of-draft.ensures in
-    let rs : c.deref-2.result.now ≡ races c.args.kept.now.counts =
-    c.deref-2.ensures.value ∙ c.in_ok-races.ensures.items ∙ c.as_slice.ensures
-    ∙ ap (λ (s : Scoring). s.races) c.self.view_is ∙ is.races in
-    let each : c.deref-4.result.now
-    ≡ map (λ race. get_or c.args.self.now.columns (race - 1) []) c.deref-2.result.now =
-    c.deref-4.ensures.value ∙ c.in_ok-found.ensures
-    ∙ (λ i. map (λ race. get_or (cols i) (race - 1) []) c.deref-2.result.now) in
-    let found = found_columns rules c.args.kept.now c.requires.kept c.args.self.now.columns
-    is.columns c.deref-2.result.now rs c.deref-4.result.now each in
-    found_even rules c.args.kept.now c.requires.kept c.args.self.now.columns is.columns
-    c.deref-2.result.now rs c.deref-4.result.now each (length c.boats.result.now)
-    (ap length boats)
+    found_even c.requires.scoring.0 c.args.kept.now c.requires.kept c.args.self.now.columns
+    c.requires.scoring.1.columns c.deref-2.result.now (rs c) c.deref-4.result.now (each c)
+    (length c.boats.result.now) (ap length (boats c))
 
 pub sorted_rows-requires-clause-lines : goal.sorted_rows-requires-clause-lines
-sorted_rows-requires-clause-lines c =
-    let rules = c.requires.scoring.0 in
-    let is = c.requires.scoring.1 in
-    let cols : c.deref.result.now ≡ c.args.self.now.columns =
-    c.deref.ensures.value ∙ ap (λ (s : Scoring). s.columns) c.self.view_is in
-    let ls : c.deref-5.result.now ≡ c.args.self.now.lines =
-    c.deref-5.ensures.value ∙ ap (λ (s : Scoring). s.lines) c.self.view_is in
-    let boats : c.boats.result.now ≡ c.args.kept.now.sails =
-    c.boats.ensures ∙ ap (λ (k : Kept). k.sails) c.of-draft.ensures in
-    let rs : c.deref-2.result.now ≡ races c.args.kept.now.counts =
-    c.deref-2.ensures.value ∙ c.in_ok-races.ensures.items ∙ c.as_slice.ensures
-    ∙ ap (λ (s : Scoring). s.races) c.self.view_is ∙ is.races in
-    let each : c.deref-4.result.now
-    ≡ map (λ race. get_or c.args.self.now.columns (race - 1) []) c.deref-2.result.now =
-    c.deref-4.ensures.value ∙ c.in_ok-found.ensures
-    ∙ (λ i. map (λ race. get_or (cols i) (race - 1) []) c.deref-2.result.now) in
-    let found = found_columns rules c.args.kept.now c.requires.kept c.args.self.now.columns
-    is.columns c.deref-2.result.now rs c.deref-4.result.now each in
-    ap length ls ∙ ap length is.lines ∙ lines_by_long rules c.args.kept.now
-    ∙ ap length (sym boats)
+sorted_rows-requires-clause-lines c = ap length (ls c) ∙ many c
 
 pub sorted_rows-requires-clause-long : goal.sorted_rows-requires-clause-long
 sorted_rows-requires-clause-long c =
     let rules = c.requires.scoring.0 in
-    let is = c.requires.scoring.1 in
-    let cols : c.deref.result.now ≡ c.args.self.now.columns =
-    c.deref.ensures.value ∙ ap (λ (s : Scoring). s.columns) c.self.view_is in
-    let ls : c.deref-5.result.now ≡ c.args.self.now.lines =
-    c.deref-5.ensures.value ∙ ap (λ (s : Scoring). s.lines) c.self.view_is in
-    let boats : c.boats.result.now ≡ c.args.kept.now.sails =
-    c.boats.ensures ∙ ap (λ (k : Kept). k.sails) c.of-draft.ensures in
-    let rs : c.deref-2.result.now ≡ races c.args.kept.now.counts =
-    c.deref-2.ensures.value ∙ c.in_ok-races.ensures.items ∙ c.as_slice.ensures
-    ∙ ap (λ (s : Scoring). s.races) c.self.view_is ∙ is.races in
-    let each : c.deref-4.result.now
-    ≡ map (λ race. get_or c.args.self.now.columns (race - 1) []) c.deref-2.result.now =
-    c.deref-4.ensures.value ∙ c.in_ok-found.ensures
-    ∙ (λ i. map (λ race. get_or (cols i) (race - 1) []) c.deref-2.result.now) in
-    let found = found_columns rules c.args.kept.now c.requires.kept c.args.self.now.columns
-    is.columns c.deref-2.result.now rs c.deref-4.result.now each in
     subst (λ xs. All (λ (l : BoatScores). length l.points ≡ length c.deref-4.result.now) xs)
-    (sym (ls ∙ is.lines))
+    (sym (ls c ∙ c.requires.scoring.1.lines))
     (subst (λ cs. All (λ (l : BoatScores). length l.points ≡ length cs)
-    (lines_by rules c.args.kept.now)) (sym found)
+    (lines_by rules c.args.kept.now)) (sym (found c))
     (all_long rules (columns rules c.args.kept.now.sheets (races c.args.kept.now.counts))
     (length c.args.kept.now.sails)))
 
 pub sorted_rows-requires-clause-ranks : goal.sorted_rows-requires-clause-ranks
 sorted_rows-requires-clause-ranks c =
-    let rules = c.requires.scoring.0 in
-    let is = c.requires.scoring.1 in
-    let cols : c.deref.result.now ≡ c.args.self.now.columns =
-    c.deref.ensures.value ∙ ap (λ (s : Scoring). s.columns) c.self.view_is in
-    let ls : c.deref-5.result.now ≡ c.args.self.now.lines =
-    c.deref-5.ensures.value ∙ ap (λ (s : Scoring). s.lines) c.self.view_is in
-    let boats : c.boats.result.now ≡ c.args.kept.now.sails =
-    c.boats.ensures ∙ ap (λ (k : Kept). k.sails) c.of-draft.ensures in
-    let rs : c.deref-2.result.now ≡ races c.args.kept.now.counts =
-    c.deref-2.ensures.value ∙ c.in_ok-races.ensures.items ∙ c.as_slice.ensures
-    ∙ ap (λ (s : Scoring). s.races) c.self.view_is ∙ is.races in
-    let each : c.deref-4.result.now
-    ≡ map (λ race. get_or c.args.self.now.columns (race - 1) []) c.deref-2.result.now =
-    c.deref-4.ensures.value ∙ c.in_ok-found.ensures
-    ∙ (λ i. map (λ race. get_or (cols i) (race - 1) []) c.deref-2.result.now) in
-    let found = found_columns rules c.args.kept.now c.requires.kept c.args.self.now.columns
-    is.columns c.deref-2.result.now rs c.deref-4.result.now each in
-    let ps : c.as_slice-2.result.now ≡ places c.args.self.now.lines =
-    c.as_slice-2.ensures ∙ c.in_ok-places.ensures
-    ∙ ap places (c.deref-3.ensures.value ∙ ap (λ (s : Scoring). s.lines) c.self.view_is) in
-    ap length ps
-    ∙ length-map c.args.self.now.lines (place c.args.self.now.lines) ∙ ap length is.lines
-    ∙ lines_by_long rules c.args.kept.now ∙ ap length (sym boats)
+    ap length (ps c) ∙ length-map c.args.self.now.lines (place c.args.self.now.lines) ∙ many c
+
+pub sorted_rows-requires-clause-few : goal.sorted_rows-requires-clause-few
+sorted_rows-requires-clause-few c =
+    columns_few _ c.deref-2.result.now c.deref-4.result.now
+    (c.deref-4.ensures.0 ∙ c.push_columns.ensures)
+    (rw (rs c) (races_few c.args.kept.now.counts))
 
 pub returns : goal.returns
 returns c rules is =
@@ -148,7 +110,7 @@ returns c rules is =
     c.deref-2.ensures.value ∙ counted in
     let each : c.deref-4.result.now
     ≡ map (λ race. get_or c.args.self.now.columns (race - 1) []) c.deref-2.result.now =
-    c.deref-4.ensures.value ∙ c.in_ok-found.ensures
+    c.deref-4.ensures.0 ∙ c.push_columns.ensures
     ∙ (λ i. map (λ race. get_or (cols i) (race - 1) []) c.deref-2.result.now) in
     let found = found_columns rules c.args.kept.now c.requires.kept c.args.self.now.columns
     is.columns c.deref-2.result.now rs c.deref-4.result.now each in
@@ -160,11 +122,9 @@ returns c rules is =
     is.lines refl in
     λ i. record { races = races_are i; rows = rows_made i }
 
-pub sorted_rows-requires-clause-few : goal.sorted_rows-requires-clause-few
-sorted_rows-requires-clause-few c =
-    let is = c.requires.scoring.1 in
+pub push_columns-requires-clause-few : goal.push_columns-requires-clause-few
+push_columns-requires-clause-few c =
     let rs : c.deref-2.result.now ≡ races c.args.kept.now.counts =
     c.deref-2.ensures.value ∙ c.in_ok-races.ensures.items ∙ c.as_slice.ensures
-    ∙ ap (λ (s : Scoring). s.races) c.self.view_is ∙ is.races in
-    columns_few _ c.deref-2.result.now c.deref-4.result.now
-    (c.deref-4.ensures.value ∙ c.in_ok-found.ensures) (rw rs (races_few c.args.kept.now.counts))
+    ∙ ap (λ (s : Scoring). s.races) c.self.view_is ∙ c.requires.scoring.1.races in
+    rw rs (races_few c.args.kept.now.counts)

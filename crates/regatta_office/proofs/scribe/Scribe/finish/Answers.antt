@@ -3,7 +3,7 @@ use Rattle.std.specs.Io.KnownBytes.{Appends}
 use Rattle.regatta_streams.specs.Texts.{AppendsPrefix}
 use Rattle.regatta_terms.specs.Lines.{line_of}
 use Rattle.regatta_office.specs.Scribes.{point}
-use Rattle.regatta_office.specs.Transcript.{text_after}
+use Rattle.regatta_office.specs.Turns.{text_after}
 use Rattle.regatta_office.proofs.Streams.{finished_line, finished_none, last_cut}
 use Rattle.regatta_office.proofs.scribe.Scribe.finish.Goals as goal
 

@@ -1,4 +1,4 @@
-use Rattle.regatta_scores.proofs.RankSteps.{ranks_follow_each_other}
+use Rattle.regatta_scores.proofs.Ranked.{ranks_follow_each_other}
 use Rattle.regatta_scores.proofs.laws.ranks.ranks_follow_each_other.Goals as goal
 
 pub returns : goal.returns

@@ -1,9 +1,0 @@
-use Rattle.std.proofs.Common.{◌≡◌, ◌-◌, [], map, take, get_or}
-use Rattle.regatta_board.specs.Scoring.{with_columns}
-use Rattle.regatta_board.proofs.column.current_columns.Given as goal
-
--- the races so far
-abbrev pub invariant-loop-race : goal.invariant-loop-race
-invariant-loop-race l =
-    l.found.items
-    ≡ map (λ race. get_or (with_columns l.old l.new) (race - 1) []) (take l.race-index l.races)
