@@ -12,11 +12,13 @@ import argparse
 from season import instructions, text
 
 RACES, FLEETS = 15, (25, 200, 450)
-# Another boat and another race than these are written into the lines below.
+# Each boat whose number is a multiple of this one doesn't finish.
 ABSENT = 10
+# The race that the lines below change.
+CHANGED = 10
 
-# What is counted, and its lines: all but the last are part of what is subtracted. `first` and `middle`
-# are boats that finished in each race, `absent` is one that finished in none.
+# What is counted, and its lines: all but the last are part of what is subtracted. `first` won the race
+# that is changed, `middle` is in the middle of its finishers, `absent` finished in no race.
 LINES = (
     ("a line that is no command", ["NOTHING"]),
     ("RANK", ["RANK {middle}"]),
@@ -44,13 +46,17 @@ def entered(boats):
     return [f"ENTER GBR{boat + 1}" for boat in range(boats)]
 
 
+def finishers(boats, race):
+    """The boats that finish in a race, the best first: in another order in each race."""
+    order = sorted(range(boats), key=lambda boat: (boat * 7919 + race * 104729) % 10007)
+    return [f"GBR{boat + 1}" for boat in order if boat % ABSENT != ABSENT - 1]
+
+
 def sailed(boats):
-    """The lines of the races. Boats finish in another order in each."""
+    """The lines of the races."""
     lines = []
     for race in range(1, RACES + 1):
-        order = sorted(range(boats), key=lambda boat: (boat * 7919 + race * 104729) % 10007)
-        lines += [f"FINISH {race} GBR{boat + 1}" for boat in order if boat % ABSENT != ABSENT - 1]
-        lines.append(f"SCORE {race}")
+        lines += [f"FINISH {race} {boat}" for boat in finishers(boats, race)] + [f"SCORE {race}"]
     return lines
 
 
@@ -59,7 +65,8 @@ def counted(program, boats, lines):
     if lines is None:
         before, last = entered(boats - 1), entered(boats)[-1]
     else:
-        names = {"first": "GBR1", "middle": f"GBR{boats // 2 + 1}", "absent": f"GBR{ABSENT}"}
+        order = finishers(boats, CHANGED)
+        names = {"first": order[0], "middle": order[len(order) // 2], "absent": f"GBR{ABSENT}"}
         *more, last = [line.format(**names) for line in lines]
         before = entered(boats) + sailed(boats) + more
     return instructions(program, [], text(before + [last])) - instructions(program, [], text(before))
