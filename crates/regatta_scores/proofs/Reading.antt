@@ -1,7 +1,7 @@
 -- A boat's points with redress, after one more score is read, and after all are.
-use Rattle.std.proofs.Common.{◌≡◌, ℕ, zero, suc, ◌+◌, ◌*◌, ◌<◌, ◌≤◌, true, false, cond, List, [], ◌∷◌}
+use Rattle.std.proofs.Common.{◌≡◌, ℕ, zero, suc, ◌+◌, ◌<◌, ◌≤◌, true, false, cond, List, [], ◌∷◌}
 use Rattle.std.proofs.Common.{◌++◌, refl, ap, ◌∙◌, sym, arith, length, All, append-nil, drop, get_or}
-use Rattle.std.proofs.Common.{set, take, remove, nat_eq}
+use Rattle.std.proofs.Common.{set, take, remove}
 use Rattle.std.proofs.Math.Path.{subst}
 use Rattle.std.specs.List.{enumerate_from}
 use Rattle.std.proofs.lemmas.List.{length-set, length-take-le, length_push, take_more, take_all}
@@ -16,7 +16,7 @@ use Rattle.regatta_scores.specs.declared.redressed.Counted.{Counted}
 use Rattle.regatta_scores.specs.Averages.{average_over, is_own, points, redressed}
 use Rattle.regatta_scores.specs.RedressLaws.{counted}
 use Rattle.regatta_scores.specs.Redressing.{IsRead, average_or, averaged_at, is_over_all}
-use Rattle.regatta_scores.proofs.AverageBounds.{average, total}
+use Rattle.regatta_scores.proofs.AverageBounds.{total}
 use Rattle.regatta_scores.proofs.Lengths.{long_points}
 use Rattle.regatta_scores.proofs.SharedOut.{written_whole}
 

@@ -1,5 +1,5 @@
 -- Laws of single races.
-use Rattle.std.specs.Prelude.{◌≡◌, ◌≢◌, ℕ, ◌+◌, ◌-◌, ◌*◌, ◌≤◌, Bool, true, false, [], ◌∷◌}
+use Rattle.std.specs.Prelude.{◌≡◌, ◌≢◌, ℕ, ◌+◌, ◌*◌, ◌≤◌, Bool, true, false, [], ◌∷◌}
 use Rattle.std.specs.Prelude.{◌++◌, count_by, sum_by, find, unwrap_or, if◌then◌else◌}
 use Rattle.std.specs.List.{range_with_len, before_first}
 use Rattle.regatta_terms.specs.Effects.{Act, InRace, effect}

@@ -1,13 +1,12 @@
 //! A boat's line, computed from the scores of all boats in the races that count.
 ghost use Rattle.std.specs.Prelude.{◌≡◌, ◌<◌, ◌≤◌, [], length, map, All, slice_index_or};
 ghost use Rattle.regatta_terms.specs.declared.limits.TheConstants.{MAX_RACES};
-ghost use Rattle.regatta_scores.specs.Drafts.{IsWhole};
 ghost use Rattle.regatta_scores.specs.Lines.{line_by};
 ghost use Rattle.regatta_scores.specs.RaceScores.{no_score, scores_in};
-ghost use Rattle.regatta_scores.specs.Redressing.{IsRead, scored_with};
+ghost use Rattle.regatta_scores.specs.Redressing.{IsRead};
 
-use crate::boats::{RaceScore, RaceScores, Scored};
-use crate::exclusions::Draft;
+use crate::boats::{RaceScore, RaceScores};
+use crate::exclusions::{exclude_worst, net, none_excluded};
 use crate::items::PerRace;
 use crate::ranking::BoatLine;
 use crate::redressed::{Counted, NO_RACES, push_points, put_averages};
@@ -63,12 +62,6 @@ fn score_of(scores: &[RaceScore], boat: usize) -> &RaceScore
     &scores[boat]
 }
 
-fn scored(points: Tenths, dne: bool) -> Scored
-    ensures { result ≡ record { points = points; dne = dne } }
-{
-    Scored { points, dne }
-}
-
 /// Appends one boat's points in each of these races, and whether the score is a DNE. Returns what an
 /// average over all of them counts.
 // The caller's lists are filled, since a list that is returned is copied.
@@ -97,18 +90,6 @@ fn push_scores(
     so_far
 }
 
-/// Appends a boat's scores for these points to a draft.
-fn push_scored(draft: &mut Draft, points: &[Tenths], dnes: &[bool])
-    requires few { length dnes.now ≤ MAX_RACES }
-    requires equal { length points.now ≡ length dnes.now }
-    requires none { IsWhole [] draft.old }
-    ensures { IsWhole (scored_with points.now dnes.now) draft.new }
-{
-    for i in 0..points.len() {
-        draft.push(&scored(points[i], dnes[i]));
-    }
-}
-
 /// Returns the line of the boat with this number: her points in these races, and which of them are
 /// excluded (RRS A2.1, A9).
 ///
@@ -125,10 +106,8 @@ pub fn boat_line(columns: &[RaceColumn<'_>], boat: usize, rules: &Rules) -> Boat
     let mut dnes = PerRace::new();
     let all = push_scores(&mut line.points, &mut over_all, &mut dnes, columns, boat);
     put_averages(line.points.as_mut_slice(), &over_all, all);
-    let mut draft = Draft::new();
-    push_scored(&mut draft, &line.points, &dnes);
-    draft.exclude_worst(rules);
-    line.excluded = draft.excluded;
-    line.total = draft.total;
+    line.excluded = none_excluded(line.points.len());
+    exclude_worst(&mut line.excluded, &line.points, &dnes, rules);
+    line.total = net(&line.points, &line.excluded);
     line
 }
