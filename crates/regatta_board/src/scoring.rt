@@ -189,7 +189,8 @@ fn changed_lines(
     ensures value { IfOk result (λ made. with_changed lines.now made.items
         ≡ lines_of rules.now columns.now (length lines.now)) }
 {
-    let mut made = Vec::with_capacity(alloc, lines.len())?;
+    // Mostly few lines change, so the list grows as they come.
+    let mut made = Vec::new(alloc);
     for boat in 0..lines.len() {
         push_if_changed(
             &mut made,
