@@ -7,6 +7,7 @@ ghost use Rattle.regatta_scores.specs.Order.{stands_in};
 ghost use Rattle.regatta_scores.specs.SheetFacts.{IsSheet, Allows};
 ghost use Rattle.regatta_scores.specs.Changes.{after};
 
+use crate::boat_times::BoatTimes;
 use crate::copies::{with_changed, with_one_more};
 use crate::groups::Groups;
 use crate::{orders, timed};
@@ -44,7 +45,7 @@ pub const NOTHING_HELD: Held = Held {
 pub struct RaceSheet {
     order: Groups,
     held: Vec<Held>,
-    seconds: Vec<Option<Seconds>>,
+    seconds: BoatTimes,
 }
 
 impl Model for RaceSheet {
@@ -55,12 +56,12 @@ impl Model for RaceSheet {
     ghost view = { λ s. record {
       order = s.order;
       held = s.held.items;
-      seconds = s.seconds.items;
+      seconds = s.seconds;
     } };
 
     ghost use Rattle.regatta_scores.specs.SheetFacts.{IsWhole};
 
-    ghost invariant = { λ s. IsWhole s.order s.held.items s.seconds.items };
+    ghost invariant = { λ s. IsWhole s.order s.held.items s.seconds };
 }
 
 impl RaceSheet {
@@ -76,7 +77,7 @@ impl RaceSheet {
         Ok(RaceSheet {
             order: Groups::new(alloc),
             held: vec![in alloc; NOTHING_HELD; boats as usize]?,
-            seconds: vec![in alloc; None; boats as usize]?,
+            seconds: BoatTimes::none(alloc, boats),
         })
     }
 
@@ -102,7 +103,7 @@ impl RaceSheet {
         requires { boat < boats self.now }
         ensures { result ≡ time_of self.now.seconds boat }
     {
-        self.seconds[boat as usize]
+        self.seconds.of(boat)
     }
 
     /// Whether the finishing order is empty.
@@ -166,21 +167,15 @@ impl RaceSheet {
         }
     }
 
-    fn seconds_after(
-        &self,
-        alloc: Global,
-        change: &Change,
-    ) -> Result<Vec<Option<Seconds>>, AllocError>
+    fn seconds_after(&self, alloc: Global, change: &Change) -> Result<BoatTimes, AllocError>
         requires { Allows self.now change.now }
-        ensures { IfOk result (λ seconds. seconds.items ≡ (after self.now change.now).seconds) }
+        ensures { IfOk result (λ seconds. seconds ≡ (after self.now change.now).seconds) }
     {
         match *change {
-            Change::AddBoat => with_one_more(alloc, &self.seconds, None),
-            Change::Timed { boat, seconds } => {
-                with_changed(alloc, &self.seconds, boat, Some(seconds))
-            }
-            Change::Out { boat } => with_changed(alloc, &self.seconds, boat, None),
-            _ => Vec::from_slice(alloc, &self.seconds),
+            Change::AddBoat => self.seconds.with_boat(alloc),
+            Change::Timed { boat, seconds } => self.seconds.with_time(alloc, boat, Some(seconds)),
+            Change::Out { boat } => self.seconds.without(alloc, boat),
+            _ => self.seconds.copy(alloc),
         }
     }
 
