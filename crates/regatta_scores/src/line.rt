@@ -1,12 +1,13 @@
 //! A boat's line, computed from the scores of all boats in the races that count.
-ghost use Rattle.std.specs.Prelude.{◌≡◌, ◌<◌, ◌≤◌, [], length, map, All, slice_index_or};
+ghost use Rattle.std.specs.Prelude.{◌≡◌, ◌<◌, ◌≤◌, [], length, map, All, slice_index_or, slice_set};
+ghost use Rattle.std.specs.Prelude.{replicate, false, true, if◌then◌else◌};
 ghost use Rattle.regatta_terms.specs.declared.limits.TheConstants.{MAX_RACES};
 ghost use Rattle.regatta_scores.specs.Lines.{line_by};
 ghost use Rattle.regatta_scores.specs.RaceScores.{no_score, scores_in};
 ghost use Rattle.regatta_scores.specs.Redressing.{IsRead};
 
 use crate::boats::{RaceScore, RaceScores};
-use crate::exclusions::{exclude_worst, net, none_excluded};
+use crate::exclusions::{exclude_worst, net, none_of};
 use crate::items::PerRace;
 use crate::ranking::BoatLine;
 use crate::redressed::{Counted, NO_RACES, push_points, put_averages};
@@ -62,8 +63,19 @@ fn score_of(scores: &[RaceScore], boat: usize) -> &RaceScore
     &scores[boat]
 }
 
-/// Appends one boat's points in each of these races, and whether the score is a DNE. Returns what an
-/// average over all of them counts.
+/// Sets the flag of a race if the score there is a DNE.
+fn set_if_dne(dnes: &mut PerRace<bool>, race: usize, score: &RaceScore)
+    requires { race < length dnes.old.items }
+    ensures { dnes.new.items
+        ≡ (if score.now.dne then slice_set dnes.old.items race true else dnes.old.items) }
+{
+    if score.dne {
+        dnes.as_mut_slice()[race] = true;
+    }
+}
+
+/// Appends one boat's points in each of these races, and sets the flags of those in which the score
+/// is a DNE. Returns what an average over all of them counts.
 // The caller's lists are filled, since a list that is returned is copied.
 fn push_scores(
     points: &mut PerRace<Tenths>,
@@ -76,7 +88,7 @@ fn push_scores(
     requires few { length columns.now ≤ MAX_RACES }
     requires points { points.old.items ≡ [] }
     requires over_all { over_all.old.items ≡ [] }
-    requires dnes { dnes.old.items ≡ [] }
+    requires dnes { dnes.old.items ≡ replicate (length columns.now) false }
     ensures read { IsRead (scores_in columns.now boat) (length (scores_in columns.now boat))
         points.new.items over_all.new.items result }
     ensures dnes { dnes.new.items ≡ map (λ score. score.dne) (scores_in columns.now boat) }
@@ -84,8 +96,8 @@ fn push_scores(
     let mut so_far = NO_RACES;
     for column in columns {
         let score = column.score(boat);
+        set_if_dne(dnes, points.len(), score);
         so_far = push_points(points, over_all, so_far, score);
-        dnes.push(score.dne);
     }
     so_far
 }
@@ -102,11 +114,11 @@ pub fn boat_line(columns: &[RaceColumn<'_>], boat: usize, rules: &Rules) -> Boat
 {
     // The line is filled in place, since its lists would be copied into it.
     let mut line = BoatLine::empty();
+    line.excluded = none_of(columns.len());
     let mut over_all = PerRace::new();
-    let mut dnes = PerRace::new();
+    let mut dnes = none_of(columns.len());
     let all = push_scores(&mut line.points, &mut over_all, &mut dnes, columns, boat);
     put_averages(line.points.as_mut_slice(), &over_all, all);
-    line.excluded = none_excluded(line.points.len());
     exclude_worst(&mut line.excluded, &line.points, &dnes, rules);
     line.total = net(&line.points, &line.excluded);
     line
