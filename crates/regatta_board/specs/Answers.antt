@@ -3,8 +3,8 @@ use Rattle.std.specs.Prelude.{◌≡◌, ℕ, ◌+◌, List, [], ◌∷◌, ◌+
 use Rattle.std.specs.Prelude.{IfSome, if◌then◌else◌}
 use Rattle.std.specs.List.{position}
 use Rattle.std.specs.Option.{option_map, option_and_then}
-use Rattle.regatta_terms.specs.Effects.{TiedWith, AheadOf, Places, Strikes, Decides, Counts, Effect, Enters, InRace}
-use Rattle.regatta_terms.specs.Effects.{effect}
+use Rattle.regatta_terms.specs.Effects.{TiedWith, AheadOf, Places, Strikes, Decides, Counts}
+use Rattle.regatta_terms.specs.Effects.{Effect, Enters, InRace, effect}
 use Rattle.regatta_terms.specs.Entries.{EntryParts}
 use Rattle.regatta_terms.specs.Rules.{RulesParts}
 use Rattle.regatta_terms.specs.declared.sail.Sail.{Sail}

@@ -280,7 +280,7 @@ impl Ledger {
         }
     }
 
-    /// Why the entry is refused, or `None`, by the numbers of the boats that it names.
+    /// Why the entry is refused, or `None`, by the numbers of the boats that its command names.
     pub(crate) fn refusal(&self, entry: &Entry, numbers: Numbers) -> Option<Refusal>
         requires { AreNumbers (kept_of self.now.rules self.now.entries)
             (effect entry.now.command) numbers }
