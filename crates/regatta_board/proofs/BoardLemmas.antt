@@ -1,25 +1,31 @@
 -- The scores of a board, and those after one more accepted entry.
 use Rattle.std.proofs.Common.{◌≡◌, ℕ, ◌<◌, ◌≤◌, Bool, true, false, cond, List, [], ◌∷◌, ◌++◌, refl}
-use Rattle.std.proofs.Common.{ap, ◌∙◌, sym, subst, arith, length, nat_lt, Option, Some, None}
+use Rattle.std.proofs.Common.{ap, ◌∙◌, sym, subst, arith, length, nat_lt, Option, Some, None, IfSome}
 use Rattle.std.specs.List.{position, position_or_len}
 use Rattle.std.proofs.lemmas.Bool.Decides.{nat_tests}
 use Rattle.std.specs.Option.{option_map}
+use Rattle.regatta_terms.specs.Effects.{Act, Places, Strikes, Decides, Counts, Effect, Enters}
+use Rattle.regatta_terms.specs.Effects.{InRace, effect}
 use Rattle.regatta_terms.specs.Entries.{EntryParts}
 use Rattle.regatta_terms.specs.Rules.{RulesParts}
 use Rattle.regatta_terms.specs.declared.sail.Sail.{Sail}
 use Rattle.regatta_scores.specs.Journal.{Journal, same_sail, entered}
 use Rattle.regatta_scores.specs.Standing.{standing}
 use Rattle.regatta_board.specs.Refusals.{limits, refusal, is_lawful}
-use Rattle.regatta_board.specs.Answers.{rank_of}
+use Rattle.regatta_board.specs.Answers.{boat_named, rank_of, IsNumberOf}
 use Rattle.regatta_board.specs.declared.kept.Revision.{Revision}
 use Rattle.regatta_board.specs.Revisions.{revised}
 use Rattle.regatta_board.specs.Scoring.{Scoring, IsScoring, touched_at}
 use Rattle.regatta_board.specs.Table.{Kept, IsKept, table}
-use Rattle.regatta_board.specs.KeptJournal.{kept_of}
+use Rattle.regatta_board.specs.KeptJournal.{number, kept_of}
 use Rattle.regatta_board.specs.BoardFacts.{BoardValue, StagedValue}
 use Rattle.regatta_board.specs.LedgerFacts.{IsRevision}
-use Rattle.regatta_board.proofs.Lawful.{lawful_more}
+use Rattle.regatta_scores.proofs.Apart.{entered_more, same_entered}
+use Rattle.regatta_board.proofs.Accepted.{MayAct, MayStep, may_step}
+use Rattle.regatta_board.proofs.Found.{found, found_more}
+use Rattle.regatta_board.proofs.Lawful.{lawful_more, accepted}
 use Rattle.regatta_board.proofs.LawfulJournals.{lawful_orderly, lawful_kept}
+use Rattle.regatta_board.proofs.Numbers.{is_same}
 use Rattle.regatta_board.proofs.RowFound.{rank_found}
 use Rattle.regatta_board.proofs.ScoringFacts.{lines_by_long}
 use Rattle.regatta_board.proofs.TableOf.{table_is, lines_kept}
@@ -90,3 +96,30 @@ module _ (rules : RulesParts) (entries : Journal) (lawful : is_lawful limits rul
 
   pub next_kept : IsKept (revised kept revision)
   next_kept = subst IsKept (sym next_is) (lawful_kept rules (entries ++ e ∷ []) next_lawful)
+
+-- the number of the boat that an accepted command names is hers afterwards: a boat that it enters
+-- gets the number of boats
+module _ (rules : RulesParts) (entries : Journal) (e : EntryParts)
+    (none : refusal limits rules entries e ≡ None) (n : ℕ) where
+  named_by : (f : Effect) → effect e.command ≡ f → MayStep rules entries f
+      → IfSome (boat_named f) (λ boat. n ≡ number entries boat)
+      → IsNumberOf (entered (entries ++ e ∷ [])) f n
+  named_by (Enters s) is may at =
+      rw (entered_more entries e) (rw is (found_more (same_sail s) (entered entries) s (is_same s)
+      ∙ ap Some (sym at)))
+  named_by (InRace race act) is may at = rw (same_entered entries e race act is) (by act may at)
+    where
+      by : (a : Act) → MayAct rules entries race a
+          → IfSome (boat_named (InRace race a)) (λ boat. n ≡ number entries boat)
+          → IsNumberOf (entered entries) (InRace race a) n
+      by (Places s placing) may at = found (same_sail s) (entered entries) may.0 ∙ ap Some (sym at)
+      by (Strikes s) may at = found (same_sail s) (entered entries) may ∙ ap Some (sym at)
+      by (Decides s d) may at = found (same_sail s) (entered entries) may ∙ ap Some (sym at)
+      by (Counts counts) may at = tt
+
+  pub named_after : IfSome (boat_named (effect e.command)) (λ boat. n ≡ number entries boat)
+      → IsNumberOf (entered (entries ++ e ∷ [])) (effect e.command) n
+  named_after at =
+      let free = accepted rules entries e none in
+      named_by (effect e.command) refl
+      (may_step rules entries e.role (effect e.command) free.0 free.1) at

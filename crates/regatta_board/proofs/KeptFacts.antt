@@ -49,7 +49,7 @@ module _ (rules : RulesParts) (journal : Journal) (o : IsOrderly rules journal) 
     sheet_kept : (race : ℕ) → IsRace race → sheet_in kept race ≡ sheet_of rules journal race
     sheet_kept race r = ap (λ k. sheet_in k race) e ∙ sheet_is rules journal race r
 
-    number_kept : (boat : Sail) → number_in kept boat ≡ number journal boat
+    pub number_kept : (boat : Sail) → number_in kept boat ≡ number journal boat
     number_kept boat = ap (λ k. number_in k boat) e
 
     moved : (race : ℕ) → IsRace race → (boat : Sail) (P : Sheet → ℕ → Type 0)

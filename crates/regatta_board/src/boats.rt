@@ -45,12 +45,6 @@ impl Boats {
         self.numbers.len()
     }
 
-    pub(crate) fn contains(&self, boat: Sail) -> bool
-        ensures { result ≡ list_any (same_sail boat) self.now }
-    {
-        self.numbers.contains_key(&boat)
-    }
-
     /// The number of the boat, if she is in the list.
     pub(crate) fn number(&self, boat: Sail) -> Option<u16>
         ensures { result ≡ position (same_sail boat) self.now }

@@ -1,18 +1,22 @@
 //! Which commands are refused, and why.
-ghost use Rattle.std.specs.Prelude.{◌≡◌, ◌&&◌, length, nat_eq, nat_le, true, false, not, is_none};
-ghost use Rattle.std.specs.Prelude.{is_some, Some, None, IfSome, if◌then◌else◌};
+ghost use Rattle.std.specs.Prelude.{◌≡◌, ◌<◌, ◌&&◌, length, nat_eq, nat_le, true, false, not, is_none};
+ghost use Rattle.std.specs.Prelude.{Some, None, nat_lt, if◌then◌else◌};
 ghost use Rattle.regatta_terms.specs.Effects.{AtEnd, Clears, Decides, InRace, effect};
 ghost use Rattle.regatta_scores.specs.Journal.{entered, order, is_of_other_system};
 ghost use Rattle.regatta_scores.specs.Journal.{is_scored as is_scored_in, held as held_in};
 ghost use Rattle.regatta_scores.specs.Order.{is_empty};
+ghost use Rattle.regatta_terms.specs.declared.sail.Sail.{Sail};
+ghost use Rattle.regatta_board.specs.KeptJournal.{kept_of, number as number_of};
+ghost use Rattle.regatta_board.specs.Step.{AreNumbers};
 ghost use Rattle.regatta_board.specs.Refusals as refusals;
 ghost use Rattle.regatta_board.specs.Refusals.{limits};
 
 use crate::ledger::Ledger;
+use crate::named::Numbers;
 use regatta_scores::Held;
 use regatta_terms::{
     Code, Command, Entry, MAX_BOATS, MAX_ENTRIES, MAX_PENALTIES, PenaltyKind, RaceNo, Refusal,
-    Role, Sail, may,
+    Role, may,
 };
 
 /// Whether she has a decision of the protest committee.
@@ -39,55 +43,60 @@ fn holds_nothing(held: &Held) -> bool
 }
 
 impl Ledger {
-    fn is_entered(&self, boat: Sail) -> bool
-        ensures { result ≡ refusals.is_entered self.now.entries boat }
+    /// Whether a boat has this number.
+    fn is_entered(&self, number: u16) -> bool
+        ensures known { result ≡ nat_lt number (length (entered self.now.entries)) }
+        ensures value { (boat : Sail) → number ≡ number_of self.now.entries boat
+            → result ≡ refusals.is_entered self.now.entries boat }
     {
-        self.kept.is_entered(boat)
+        (number as usize) < self.kept().boats()
     }
 
     fn is_full(&self) -> bool
         ensures { result ≡ nat_le limits.boats (length (entered self.now.entries)) }
     {
-        self.kept.boats() >= MAX_BOATS
+        self.kept().boats() >= MAX_BOATS
     }
 
-    /// Whether the boat is in the race's finishing order, if she is entered.
-    fn placed(&self, race: RaceNo, boat: Sail) -> Option<bool>
-        ensures entered { is_some result ≡ refusals.is_entered self.now.entries boat }
-        ensures value { IfSome result (λ placed.
-            placed ≡ refusals.is_placed self.now.rules self.now.entries race boat) }
+    /// Whether the boat with this number is in the race's finishing order.
+    fn is_placed(&self, race: RaceNo, number: u16) -> bool
+        requires { number < length (entered self.now.entries) }
+        ensures { (boat : Sail) → number ≡ number_of self.now.entries boat
+            → result ≡ refusals.is_placed self.now.rules self.now.entries race boat }
     {
-        self.kept.placed(race, boat)
+        self.kept().placed(race, number)
     }
 
-    /// The code, penalties and redress of the boat in the race, if she is entered.
-    fn held(&self, race: RaceNo, boat: Sail) -> Option<Held>
-        ensures entered { is_some result ≡ refusals.is_entered self.now.entries boat }
-        ensures value { IfSome result (λ held. held ≡ held_in self.now.entries race boat) }
+    /// The code, penalties and redress of the boat with this number in the race.
+    fn held(&self, race: RaceNo, number: u16) -> Held
+        requires { number < length (entered self.now.entries) }
+        ensures { (boat : Sail) → number ≡ number_of self.now.entries boat
+            → result ≡ held_in self.now.entries race boat }
     {
-        self.kept.held_if_entered(race, boat)
+        self.kept().held(race, number)
     }
 
     fn is_scored(&self, race: RaceNo) -> bool
         ensures { result ≡ is_scored_in self.now.entries race }
     {
-        self.kept.is_scored(race)
+        self.kept().is_scored(race)
     }
 
     /// Whether the race's finishing order is empty.
     fn has_no_finisher(&self, race: RaceNo) -> bool
         ensures { result ≡ is_empty (order self.now.rules self.now.entries race) }
     {
-        self.kept.has_no_finisher(race)
+        self.kept().has_no_finisher(race)
     }
 
-    fn enter_refusal(&self, boat: Sail) -> Option<Refusal>
-        ensures { result ≡
+    fn enter_refusal(&self, number: u16) -> Option<Refusal>
+        ensures { (boat : Sail) → number ≡ number_of self.now.entries boat
+            → result ≡
             (if refusals.is_entered self.now.entries boat then Some Refusal.AlreadyEntered
             else if nat_le limits.boats (length (entered self.now.entries))
             then Some Refusal.EntryFull else None) }
     {
-        if self.is_entered(boat) {
+        if self.is_entered(number) {
             Some(Refusal::AlreadyEntered)
         } else if self.is_full() {
             Some(Refusal::EntryFull)
@@ -97,53 +106,67 @@ impl Ledger {
     }
 
     /// Why Finish or Time is refused, apart from the system of the series.
-    fn place_refusal(&self, race: RaceNo, boat: Sail) -> Option<Refusal>
-        ensures { result
+    fn place_refusal(&self, race: RaceNo, number: u16) -> Option<Refusal>
+        ensures { (boat : Sail) → number ≡ number_of self.now.entries boat
+            → result
             ≡ refusals.place_refusal self.now.rules self.now.entries race boat AtEnd }
     {
-        match self.placed(race, boat) {
-            None => Some(Refusal::NotEntered),
-            Some(true) => Some(Refusal::AlreadyPlaced),
-            Some(false) => None,
+        if !self.is_entered(number) {
+            Some(Refusal::NotEntered)
+        } else if self.is_placed(race, number) {
+            Some(Refusal::AlreadyPlaced)
+        } else {
+            None
         }
     }
 
     /// Why Tie or Before is refused, apart from the system of the series.
-    fn place_by_refusal(&self, race: RaceNo, boat: Sail, other: Sail) -> Option<Refusal>
-        ensures { result
+    fn place_by_refusal(&self, race: RaceNo, numbers: Numbers) -> Option<Refusal>
+        ensures { (boat other : Sail) → numbers.boat ≡ number_of self.now.entries boat
+            → numbers.other ≡ number_of self.now.entries other
+            → result
             ≡ refusals.place_by_refusal self.now.rules self.now.entries race boat other }
     {
-        match (self.placed(race, boat), self.placed(race, other)) {
-            (None, _) | (_, None) => Some(Refusal::NotEntered),
-            (Some(true), _) => Some(Refusal::AlreadyPlaced),
-            (_, Some(false)) => Some(Refusal::NotPlaced),
-            (Some(false), Some(true)) => None,
+        let Numbers { boat, other } = numbers;
+        if !self.is_entered(boat) || !self.is_entered(other) {
+            Some(Refusal::NotEntered)
+        } else if self.is_placed(race, boat) {
+            Some(Refusal::AlreadyPlaced)
+        } else if !self.is_placed(race, other) {
+            Some(Refusal::NotPlaced)
+        } else {
+            None
         }
     }
 
-    fn strike_refusal(&self, race: RaceNo, boat: Sail) -> Option<Refusal>
-        ensures { result ≡
+    fn strike_refusal(&self, race: RaceNo, number: u16) -> Option<Refusal>
+        ensures { (boat : Sail) → number ≡ number_of self.now.entries boat
+            → result ≡
             (if not (refusals.is_entered self.now.entries boat) then Some Refusal.NotEntered
             else if not (refusals.is_placed self.now.rules self.now.entries race boat)
             then Some Refusal.NotPlaced else None) }
     {
-        match self.placed(race, boat) {
-            None => Some(Refusal::NotEntered),
-            Some(false) => Some(Refusal::NotPlaced),
-            Some(true) => None,
+        if !self.is_entered(number) {
+            Some(Refusal::NotEntered)
+        } else if !self.is_placed(race, number) {
+            Some(Refusal::NotPlaced)
+        } else {
+            None
         }
     }
 
     /// Why Mark or Redress is refused.
-    fn decision_refusal(&self, race: RaceNo, boat: Sail) -> Option<Refusal>
-        ensures { result ≡
+    fn decision_refusal(&self, race: RaceNo, number: u16) -> Option<Refusal>
+        ensures { (boat : Sail) → number ≡ number_of self.now.entries boat
+            → result ≡
             (if not (refusals.is_entered self.now.entries boat) then Some Refusal.NotEntered
             else if refusals.is_decided (held_in self.now.entries race boat)
             then Some Refusal.Decided else None) }
     {
-        let Some(held) = self.held(race, boat) else {
+        if !self.is_entered(number) {
             return Some(Refusal::NotEntered);
-        };
+        }
+        let held = self.held(race, number);
         if is_decided(&held) {
             Some(Refusal::Decided)
         } else {
@@ -151,8 +174,9 @@ impl Ledger {
         }
     }
 
-    fn penalty_refusal(&self, race: RaceNo, boat: Sail, kind: PenaltyKind) -> Option<Refusal>
-        ensures { result ≡
+    fn penalty_refusal(&self, race: RaceNo, number: u16, kind: PenaltyKind) -> Option<Refusal>
+        ensures { (boat : Sail) → number ≡ number_of self.now.entries boat
+            → result ≡
             (if not (refusals.is_entered self.now.entries boat) then Some Refusal.NotEntered
             else if refusals.is_decided (held_in self.now.entries race boat)
             then Some Refusal.Decided
@@ -160,9 +184,10 @@ impl Ledger {
             (refusals.penalties kind (held_in self.now.entries race boat))
             then Some Refusal.PenaltyLimit else None) }
     {
-        let Some(held) = self.held(race, boat) else {
+        if !self.is_entered(number) {
             return Some(Refusal::NotEntered);
-        };
+        }
+        let held = self.held(race, number);
         if is_decided(&held) {
             Some(Refusal::Decided)
         } else if penalties(kind, &held) >= MAX_PENALTIES {
@@ -172,13 +197,15 @@ impl Ledger {
         }
     }
 
-    fn clear_refusal(&self, role: Role, race: RaceNo, boat: Sail) -> Option<Refusal>
-        ensures { result ≡ refusals.command_refusal limits self.now.rules self.now.entries role
+    fn clear_refusal(&self, role: Role, race: RaceNo, number: u16) -> Option<Refusal>
+        ensures { (boat : Sail) → number ≡ number_of self.now.entries boat
+            → result ≡ refusals.command_refusal limits self.now.rules self.now.entries role
             (InRace race (Decides boat Clears)) }
     {
-        let Some(held) = self.held(race, boat) else {
+        if !self.is_entered(number) {
             return Some(Refusal::NotEntered);
-        };
+        }
+        let held = self.held(race, number);
         if is_decided(&held) && role != Role::Jury {
             Some(Refusal::Decided)
         } else if holds_nothing(&held) {
@@ -211,21 +238,23 @@ impl Ledger {
     }
 
     /// Why a command that the role may give is refused, or `None`.
-    fn command_refusal(&self, role: Role, command: Command) -> Option<Refusal>
+    fn command_refusal(&self, role: Role, command: Command, numbers: Numbers) -> Option<Refusal>
+        requires { AreNumbers (kept_of self.now.rules self.now.entries) (effect command) numbers }
         ensures { result
             ≡ refusals.command_refusal limits self.now.rules self.now.entries role (effect command) }
     {
+        let boat = numbers.boat;
         match command {
-            Command::Enter { sail } => self.enter_refusal(sail),
-            Command::Finish { race, sail } => self.place_refusal(race, sail),
-            Command::Tie { race, sail, other } => self.place_by_refusal(race, sail, other),
-            Command::Before { race, sail, other } => self.place_by_refusal(race, sail, other),
-            Command::Time { race, sail, .. } => self.place_refusal(race, sail),
-            Command::Strike { race, sail } => self.strike_refusal(race, sail),
-            Command::Mark { race, sail, .. } => self.decision_refusal(race, sail),
-            Command::Redress { race, sail, .. } => self.decision_refusal(race, sail),
-            Command::Penalise { race, sail, kind } => self.penalty_refusal(race, sail, kind),
-            Command::Clear { race, sail } => self.clear_refusal(role, race, sail),
+            Command::Enter { .. } => self.enter_refusal(boat),
+            Command::Finish { race, .. } => self.place_refusal(race, boat),
+            Command::Tie { race, .. } => self.place_by_refusal(race, numbers),
+            Command::Before { race, .. } => self.place_by_refusal(race, numbers),
+            Command::Time { race, .. } => self.place_refusal(race, boat),
+            Command::Strike { race, .. } => self.strike_refusal(race, boat),
+            Command::Mark { race, .. } => self.decision_refusal(race, boat),
+            Command::Redress { race, .. } => self.decision_refusal(race, boat),
+            Command::Penalise { race, kind, .. } => self.penalty_refusal(race, boat, kind),
+            Command::Clear { race, .. } => self.clear_refusal(role, race, boat),
             Command::Score { race } => self.score_refusal(race),
             Command::Unscore { race } => self.unscore_refusal(race),
         }
@@ -251,8 +280,10 @@ impl Ledger {
         }
     }
 
-    /// Why the entry is refused, or `None`.
-    pub(crate) fn refusal(&self, entry: &Entry) -> Option<Refusal>
+    /// Why the entry is refused, or `None`, by the numbers of the boats that its command names.
+    pub(crate) fn refusal(&self, entry: &Entry, numbers: Numbers) -> Option<Refusal>
+        requires { AreNumbers (kept_of self.now.rules self.now.entries)
+            (effect entry.now.command) numbers }
         ensures { result ≡ refusals.refusal limits self.now.rules self.now.entries entry.now }
     {
         if self.len() >= MAX_ENTRIES {
@@ -268,6 +299,6 @@ impl Ledger {
         if self.is_of_other_system(entry.command()) {
             return Some(Refusal::WrongSystem);
         }
-        self.command_refusal(entry.role(), entry.command())
+        self.command_refusal(entry.role(), entry.command(), numbers)
     }
 }

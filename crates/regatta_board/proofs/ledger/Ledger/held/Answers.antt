@@ -1,26 +1,16 @@
-use Rattle.std.proofs.Common.{◌∙◌}
-use Rattle.regatta_board.proofs.Found.{known_test, held_found}
-use Rattle.regatta_board.proofs.LedgerLemmas.{ledger_kept, ledger_orderly}
+use Rattle.std.proofs.Common.{◌∙◌, ap, sym, get_or}
+use Rattle.regatta_scores.specs.Sheet.{nothing_held}
+use Rattle.regatta_board.specs.Step.{sheet_in}
+use Rattle.regatta_board.proofs.KeptFacts.{number_kept, held_is}
+use Rattle.regatta_board.proofs.LawfulJournals.{lawful_orderly}
 use Rattle.regatta_board.proofs.ledger.Ledger.held.Goals as goal
 
-pub held_if_entered-requires : goal.held_if_entered-requires
-held_if_entered-requires c =
-    let b = c.self.inside in
-    ledger_kept b.rules b.entries.items b.kept b.last c.self.invariant.0
-
-pub returns-clause-entered : goal.returns-clause-entered
-returns-clause-entered c =
-    let b = c.self.inside in
-    let is = c.self.invariant.0 in
-    rw (← c.self.view_is) (c.held_if_entered.ensures.known
-    ∙ known_test b.rules b.entries.items
-    (ledger_orderly b.rules b.entries.items b.kept b.last is) b.kept is.keeps c.args.boat)
-
-pub returns-clause-value : goal.returns-clause-value
-returns-clause-value c =
-    let b = c.self.inside in
-    let is = c.self.invariant.0 in
-    rw (← c.self.view_is) (held_found b.rules b.entries.items
-    (ledger_orderly b.rules b.entries.items b.kept b.last is) b.kept is.keeps c.args.boat
-    c.args.race c.held_if_entered.ensures.range c.held_if_entered.result
-    c.held_if_entered.ensures.value)
+pub returns : goal.returns
+returns c boat hers =
+    let l = c.args.self.now in
+    let orderly = lawful_orderly l.rules l.entries c.kept.ensures.lawful in
+    c.held.ensures.value
+    ∙ ap (λ n. get_or (sheet_in c.kept.result.now c.args.race).held n nothing_held)
+    (hers ∙ sym (number_kept l.rules l.entries orderly c.kept.result.now c.kept.ensures.value boat))
+    ∙ held_is l.rules l.entries orderly c.kept.result.now c.kept.ensures.value c.args.race
+    c.held.ensures.range boat
