@@ -3,7 +3,7 @@
 //! each time it answers as out of memory and as nothing else.
 
 use super::*;
-use hoard::{Caller, Hoard, MOST_RUNS, Outcome, are_refused, bytes_left, is_sanitized};
+use hoard::{Caller, FINE_RUNS, Hoard, MOST_RUNS, Outcome, are_refused, bytes_left, is_sanitized};
 use regatta_scores::Standing;
 use regatta_tables::{Journal, read_journal};
 use std::alloc::AllocError;

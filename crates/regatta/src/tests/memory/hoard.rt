@@ -110,20 +110,21 @@ const DEPTH: usize = 4096;
 /// More runs than any call is made of.
 pub(crate) const MOST_RUNS: usize = 100_000;
 
-/// How many runs go through the bytes by units, before these jump to the next room: 32 KiB, more than
-/// any call asks for besides its rooms. If a call asks for more, requests are skipped, as
-/// `bench/growths.py` shows.
-const FINE_RUNS: usize = 2048;
+/// How many runs go through the bytes by units, before these jump to the next room: 16 KiB, more than
+/// any call except the program's asks for besides its rooms. A call that asks for more needs more such
+/// runs, or requests are skipped, as `bench/growths.py` shows.
+pub(crate) const FINE_RUNS: usize = 1024;
 
 /// How many bytes are left to this run of a call, counted from 0: more by a unit each time, so that no
 /// allocation that asks for more than the call has freed is skipped.
 ///
 /// Some calls ask for rooms for all entries that there may be. At any moment such a call has some of
-/// these rooms, and fewer bytes besides than `FINE_RUNS` runs go through; after them the bytes jump to
+/// these rooms, and fewer bytes besides than this many runs go through; after them the bytes jump to
 /// the next room.
-pub(crate) fn bytes_left(run: usize) -> usize {
-    let jumped = (run / FINE_RUNS).saturating_mul(MAX_ENTRIES * size_of::<Entry>() + UNIT);
-    jumped.saturating_add((run % FINE_RUNS).saturating_mul(UNIT))
+pub(crate) fn bytes_left(run: usize, fine_runs: usize) -> usize {
+    let runs = fine_runs.max(1);
+    let jumped = (run / runs).saturating_mul(MAX_ENTRIES * size_of::<Entry>() + UNIT);
+    jumped.saturating_add((run % runs).saturating_mul(UNIT))
 }
 
 impl Blocks {
@@ -295,7 +296,7 @@ impl Hoard {
     /// memory: whether it was refused before that, and answered as out of memory each time.
     fn refuses<C, M: Caller<C>>(&mut self, caller: &mut M, call: &C) -> bool {
         for run in 0..MOST_RUNS {
-            let outcome = caller.outcome(call, self, bytes_left(run));
+            let outcome = caller.outcome(call, self, bytes_left(run, FINE_RUNS));
             if let Some(passed) = self.verdict(outcome) {
                 return passed;
             }

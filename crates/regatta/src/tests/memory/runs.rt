@@ -114,6 +114,10 @@ where
     )
 }
 
+/// How many runs of the program go through the bytes by units, before these jump to the next room:
+/// 32 KiB, since reading its arguments allocates as well.
+const PROGRAM_FINE_RUNS: usize = 2048;
+
 /// Whether a run of the program is refused first. It goes by no `Caller`: of a runtime in a trait no
 /// proof knows that threads may share it.
 fn is_run_refused<R>(rt: &R, hoard: &mut Hoard, call: &Words) -> bool
@@ -128,7 +132,7 @@ where
     R::Dir: Send + Sync,
 {
     for run in 0..MOST_RUNS {
-        let outcome = program_outcome(rt, hoard, bytes_left(run), call);
+        let outcome = program_outcome(rt, hoard, bytes_left(run, PROGRAM_FINE_RUNS), call);
         if let Some(passed) = hoard.verdict(outcome) {
             return passed;
         }
@@ -264,7 +268,7 @@ fn is_serving_refused<R: Threads + Wait + Net + Clock + Sync>(
 ) -> Result<bool, Fail> {
     let (mut memory, mut threads) = (0u32, 0u32);
     for turn in 0..512 {
-        match refused_at(rt, alloc, hoard, bytes_left(turn))? {
+        match refused_at(rt, alloc, hoard, bytes_left(turn, FINE_RUNS))? {
             Some(Refused::Serving) => memory = memory.saturating_add(1),
             Some(Refused::Thread) => threads = threads.saturating_add(1),
             None => return Ok(false),
