@@ -9,7 +9,8 @@ The Nth request of a run is refused, for N = 1, 2, .. up to as many as the run m
 - replays of all commands, by finishes and by corrected times;
 - replays of the weekend of `examples/`, with and without start files, in each form;
 - help, and arguments that are refused;
-- serving one client, without a kept file and with one.
+- serving one client, without a kept file and with one;
+- serving one client and two, without a kept file, who are shown the sheet again after newer entries.
 
 Those of `times`, if that program is named too, are lines and sums of each system, with the ratings in
 the sheet or in a list; help; and arguments, settings, lists and sheets that are refused.
@@ -17,15 +18,19 @@ the sheet or in a list; help; and arguments, settings, lists and sheets that are
 A heap that refuses one request (refuse.c) is built with the machine's C compiler and preloaded.
 
 A refused run must say `regatta: no memory` or `times: no memory`, end with status 3, and print nothing
-but whole replies to some first lines. There are two exceptions. If `clap` refuses the arguments, it asks again for its own
-text, so the usual answer may be given. Serving may also succeed, if the refused request was for a
-thread or met a session: the client then reads `BUSY` alone, or whole replies to some first lines, of
-which one may be `NO 1`. If the request came after the office was opened, the table is printed although
-no memory is reported. Each other answer is reported, and the script then ends with status 1.
+but whole replies to some first lines. There are two exceptions. If `clap` refuses the arguments, it asks
+again for its own text, so the usual answer may be given. Serving may also succeed, if the refused
+request was for a thread or met a session: the client then reads `BUSY` alone, or whole replies to some
+first lines, of which one may be `NO 1`. If the request came after the office was opened, the table is
+printed although no memory is reported.
+
+Clients who wait for each answer must also be answered as in a run of the answered lines alone, and the
+table must be the one of that run. Each other answer is reported, and the script then ends with status 1.
 """
 import contextlib
 import itertools
 import os
+import re
 import subprocess
 import sys
 import tempfile
@@ -79,6 +84,19 @@ ENTER C
 RANK B
 SHOW
 QUIT
+"""
+# The lines of two clients, A and B.
+TURNS = b"""A SHOW
+B RANK GBR7
+B FINISH 1 GBR7
+B SCORE 1
+A SHOW
+A MARK 1 NED12 DNF
+B SHOW
+B FINISH 1 FRA9
+A SHOW
+A QUIT
+B QUIT
 """
 
 
@@ -166,21 +184,24 @@ class Timing(Run):
 class Serving(Run):
     """A run of `serve`, with a client that sends all of its lines at once and reads to the end."""
 
-    def asked(self, path, replies):
-        """Sends all lines at once, and reads what comes; waits for the socket until the run is over."""
+    def link(self, path):
+        """A link to the office, once it is open; None if there is none before the run is over."""
         while not self.over.is_set():
             try:
-                link = Link(path, PATIENCE)
+                return Link(path, PATIENCE)
             except Gone:
                 time.sleep(0.0005)
-                continue
             except Trouble:
-                return
+                break
+        return None
+
+    def asked(self, path, replies):
+        """Sends all lines at once, and reads what comes."""
+        if link := self.link(path):
             with contextlib.closing(link), contextlib.suppress(OSError):
                 link.socket.sendall(self.text)
                 while data := link.socket.recv(65536):
                     replies.append(data)
-            return
 
     def served(self, library, refused):
         path = os.path.join(self.folder, "socket")
@@ -195,7 +216,15 @@ class Serving(Run):
         client.join()
         if os.path.exists(path):
             os.unlink(path)
-        return run.returncode, said, printed, b"".join(replies)
+        return run.returncode, said, printed, self.told(replies)
+
+    @staticmethod
+    def told(replies):
+        return b"".join(replies)
+
+    def first_replies(self, library):
+        lines = self.whole[3].splitlines(keepends=True)
+        return {b"".join(lines[:count]) for count in range(len(lines) + 1)}
 
     def may_be(self, library, ended):
         """Whether a refused run may end in this way."""
@@ -209,7 +238,7 @@ class Serving(Run):
     def sweep(self, library):
         self.whole = self.served(library, 0)
         requests = self.requests()
-        self.replies = {b"".join(self.whole[3].splitlines(keepends=True)[:n]) for n in range(99)}
+        self.replies = self.first_replies(library)
         others, kinds = [], {}
         for refused in range(1, requests + 1):
             ended = self.served(library, refused)
@@ -237,6 +266,78 @@ class Keeping(Serving):
             self.words = words
 
 
+class Turns(Serving):
+    """A run of `serve` with clients who wait for each answer. A line begins with its client's letter.
+
+    The answers that were given, and the table, must be those of a run of the answered lines alone."""
+    # What a line gets for which there was no memory: nothing once its client's session has ended.
+    MISSED = (b"", b"BUSY\n", b"NO 1\n")
+
+    def asked(self, path, replies):
+        links = {}
+        with contextlib.ExitStack() as stack:
+            # A client without a turn comes, too, since the office waits for so many sessions.
+            for line in self.turns + self.lines:
+                client = line[:1]
+                if client not in links:
+                    links[client] = self.link(path)
+                    if links[client]:
+                        stack.callback(links[client].close)
+                if len(replies) < len(self.turns):
+                    replies.append(self.answer(links[client], line[2:]))
+
+    @staticmethod
+    def answer(link, line):
+        """The whole answer to a line, or what comes of it before the link ends."""
+        answer = b""
+        if link is None:
+            return answer
+        # A client who is turned away can't write any more, and has yet to read why.
+        with contextlib.suppress(OSError):
+            link.socket.sendall(line)
+        with contextlib.suppress(OSError):
+            while not answer.endswith(b"\nEND\n" if answer.startswith(b"JOURNAL ") else b"\n"):
+                if not (data := link.socket.recv(65536)):
+                    break
+                answer += data
+        return answer
+
+    @staticmethod
+    def told(replies):
+        return tuple(replies)
+
+    def served(self, library, refused, turns=None):
+        self.turns = self.lines if turns is None else turns
+        return super().served(library, refused)
+
+    def first_replies(self, library):
+        """The runs of some lines alone, by these lines. They are made when they are asked for."""
+        return {}
+
+    def alone(self, library, turns):
+        """What is printed in an unrefused run of these lines, and the answers."""
+        if tuple(turns) not in self.replies:
+            self.replies[tuple(turns)] = self.served(library, 0, turns)[2:]
+        return self.replies[tuple(turns)]
+
+    @staticmethod
+    def without_seats(answers):
+        """The answers without the seat and number of each entry: a client who is turned away leaves
+        another seat to the next one."""
+        return [re.sub(rb"(?m)^\d+ \d+ (?=[A-Z])", b"", answer) for answer in answers]
+
+    def may_be(self, library, ended):
+        status, said, printed, answers = ended
+        answered = [i for i, answer in enumerate(answers) if answer not in self.MISSED]
+        table, wanted = self.alone(library, [self.lines[i] for i in answered])
+        refusals = sum(answer in self.MISSED[1:] for answer in answers)
+        if self.without_seats(answers[i] for i in answered) != self.without_seats(wanted) or refusals > 1:
+            return False
+        if (status, said) in (NO_MEMORY, DEVICE_FAULT):
+            return printed in (b"", table)
+        return (status, said, printed) == (0, b"", table) and len(answered) < len(self.lines)
+
+
 def runs(folder, program):
     def run(name, words, text=b"", kind=Run, asks_again=False):
         return kind(folder, program, name, words, text, asks_again)
@@ -262,6 +363,10 @@ def runs(folder, program):
     yield run("serving", ["serve", "--sessions", "1", "--clients", "2"] + boats, lines, Serving)
     yield run("serving a kept series", ["serve", "--sessions", "1", "--clients", "2"] + boats, lines,
               Keeping)
+    yield run("a sheet after newer entries", ["serve", "--sessions", "1", "--clients", "1"] + boats,
+              b"A FINISH 1 GBR7\nA SHOW\nA SCORE 1\nA SHOW\nA RANK GBR7\nA QUIT\n", Turns)
+    yield run("a sheet after another's entries", ["serve", "--sessions", "2", "--clients", "2"] + boats,
+              TURNS, Turns)
 
 
 def runs_of_times(folder, program):

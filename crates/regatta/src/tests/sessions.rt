@@ -60,7 +60,7 @@ fn end_of<N: OfficeName, H: Wait + Drop, R: Wait, S: Source + Sink, G: Gate>(
 
 /// Whether a session on this pass over this text, in small pieces, ends so, and is sent these
 /// replies.
-fn is_answered<N: OfficeName, H: Wait + Drop, R: Wait>(
+pub(crate) fn is_answered<N: OfficeName, H: Wait + Drop, R: Wait>(
     rt: &R,
     alloc: Global,
     office: &Office<N, H>,

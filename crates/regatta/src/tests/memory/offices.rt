@@ -2,7 +2,7 @@
 ghost use Rattle.std.specs.Prelude.{◌≡◌};
 
 use super::super::offices::{enter, is_shown, one_seat, opened_office, two_seats};
-use super::super::sessions::{has_journal, place_of};
+use super::super::sessions::{has_journal, is_answered, place_of};
 use super::runs::replay_outcome;
 use super::*;
 use regatta_office::{
@@ -112,6 +112,99 @@ fn session_at<R: Wait>(rt: &R, alloc: Global, hoard: &mut Hoard, bytes: usize) -
     }
 }
 
+/// The sheet before race 1 is scored.
+static ENTERED: &[u8] = b"JOURNAL 1\n1 1 SCORER ENTER A\nTABLE 1 RACES\n1 A 0.0\nEND\n";
+
+/// The sheet after that.
+static SCORED: &[u8] = b"JOURNAL 3\n1 1 SCORER ENTER A\n1 2 SCORER FINISH 1 A\n1 3 SCORER SCORE 1\n\
+    TABLE 1 RACES 1\n1 A 1.0 1.0\nEND\n";
+
+/// What a seat is sent that asks for the scored sheet, enters B and asks again.
+static SCORED_AND_ENTERED: &[u8] = b"JOURNAL 3\n1 1 SCORER ENTER A\n1 2 SCORER FINISH 1 A\n\
+    1 3 SCORER SCORE 1\nTABLE 1 RACES 1\n1 A 1.0 1.0\nEND\nOK 4 2 3.0\n\
+    JOURNAL 4\n1 1 SCORER ENTER A\n1 2 SCORER FINISH 1 A\n1 3 SCORER SCORE 1\n2 1 SCORER ENTER B\n\
+    TABLE 2 RACES 1\n1 A 1.0 1.0\n2 B 3.0 3.0/DNC\nEND\n";
+
+/// Whether seat 2 is answered these first lines, and seat 1 then scores race 1.
+fn is_scored<N: OfficeName, H: Wait + Drop, R: Wait>(
+    rt: &R,
+    alloc: Global,
+    office: &Office<N, H>,
+    first: &mut Pass<N>,
+    second: &mut Pass<N>,
+    lines: &[u8],
+    replies: &[u8],
+) -> bool {
+    let (text, done) = (b"FINISH 1 A\nSCORE 1\n", b"OK 2 1 0.0\nOK 3\n");
+    is_answered(rt, alloc, office, second, lines, End::Closed, replies)
+        & is_answered(rt, alloc, office, first, text, End::Closed, done)
+}
+
+/// Whether the seat is answered with ample memory: SHOW, a command, and SHOW again.
+fn goes_on<N: OfficeName, H: Wait + Drop, R: Wait>(
+    rt: &R,
+    alloc: Global,
+    office: &Office<N, H>,
+    pass: &mut Pass<N>,
+) -> bool {
+    let text = b"SHOW\nENTER B\nSHOW\n";
+    is_answered(
+        rt,
+        alloc,
+        office,
+        pass,
+        text,
+        End::Closed,
+        SCORED_AND_ENTERED,
+    )
+}
+
+/// The outcome of seat 2's answer to SHOW, once it was answered its first lines and race 1 was scored
+/// by seat 1. Whatever came of it, the seat goes on.
+fn sheet_with<N: OfficeName, H: Wait + Drop, R: Wait>(
+    rt: &R,
+    alloc: Global,
+    hoard: &mut Hoard,
+    bytes: usize,
+    opened: Opened<H>,
+    out: &mut Vec<u8>,
+    lines: &[u8],
+    replies: &[u8],
+) -> Outcome
+    requires { (opened.history ≡ N.history) × (opened.rules ≡ N.rules) }
+{
+    match two_seats::<N, H>(opened) {
+        Some((office, mut first, mut second)) => {
+            let is_ready = is_scored(rt, alloc, &office, &mut first, &mut second, lines, replies);
+            hoard.leave(bytes);
+            let outcome = alone_outcome(&mut second, Some(SCORED), out);
+            hoard.give_back();
+            outcome_if(is_ready & goes_on(rt, alloc, &office, &mut second), outcome)
+        }
+        None => Outcome::Other,
+    }
+}
+
+/// The same, at an office that is opened for it.
+fn sheet_at<R: Wait>(
+    rt: &R,
+    alloc: Global,
+    hoard: &mut Hoard,
+    bytes: usize,
+    lines: &[u8],
+    replies: &[u8],
+) -> Outcome {
+    let Ok(mut out) = Vec::from_slice(alloc, BEFORE) else {
+        return Outcome::Other;
+    };
+    match opened_with_a(rt, alloc) {
+        Ok(opened) => {
+            sheet_with::<Brand, _, _>(rt, alloc, hoard, bytes, opened, &mut out, lines, replies)
+        }
+        Err(_) => Outcome::Other,
+    }
+}
+
 /// The calls that open an office, or are made at one that was just opened. A replay is here, too: a
 /// test of its own would need a hoard of its own.
 #[derive(Drop)]
@@ -119,6 +212,10 @@ enum OfficeCall {
     Open,
     Split,
     Session,
+    /// SHOW from a seat that was shown nothing yet.
+    FirstSheet,
+    /// SHOW from a seat that keeps the ledger of an earlier sheet, which lacks the newer entries.
+    NextSheet,
     Replay,
 }
 
@@ -140,15 +237,19 @@ impl<R: AllocGlobal + Wait> Caller<OfficeCall> for Offices<'_, R> {
             }
             OfficeCall::Split => split_outcome(self.rt, alloc, hoard, bytes),
             OfficeCall::Session => session_at(self.rt, alloc, hoard, bytes),
+            OfficeCall::FirstSheet => sheet_at(self.rt, alloc, hoard, bytes, b"", b""),
+            OfficeCall::NextSheet => sheet_at(self.rt, alloc, hoard, bytes, b"SHOW\n", ENTERED),
             OfficeCall::Replay => replay_outcome(alloc, hoard, bytes),
         }
     }
 }
 
-static OFFICE_CALLS: [OfficeCall; 4] = [
+static OFFICE_CALLS: [OfficeCall; 6] = [
     OfficeCall::Open,
     OfficeCall::Split,
     OfficeCall::Session,
+    OfficeCall::FirstSheet,
+    OfficeCall::NextSheet,
     OfficeCall::Replay,
 ];
 
@@ -222,19 +323,21 @@ fn show_outcome<N: OfficeName>(pass: &mut Pass<N>) -> Outcome {
     }
 }
 
-/// What SHOW is answered.
-static SHEET: &[u8] = b"JOURNAL 1\n1 1 SCORER ENTER A\nTABLE 1 RACES\n1 A 0.0\nEND\n";
-
-/// The outcome of a pass's own answer to a scorer, who asks to be the jury, or else for SHOW.
-fn alone_outcome<N: OfficeName>(pass: &mut Pass<N>, is_role: bool, out: &mut Vec<u8>) -> Outcome {
-    let (line, wanted, becomes): (Line, &[u8], Role) = if is_role {
-        (Line::SetRole(Role::Jury), b"ROLE JURY\n", Role::Jury)
-    } else {
-        (Line::Show, SHEET, Role::Scorer)
+/// The outcome of a pass's own answer to a scorer, who asks for SHOW, if it is to be this text, or else
+/// to be the jury.
+fn alone_outcome<N: OfficeName>(
+    pass: &mut Pass<N>,
+    sheet: Option<&[u8]>,
+    out: &mut Vec<u8>,
+) -> Outcome {
+    let (line, wanted, becomes): (Line, &[u8], Role) = match sheet {
+        Some(text) => (Line::Show, text, Role::Scorer),
+        None => (Line::SetRole(Role::Jury), b"ROLE JURY\n", Role::Jury),
     };
     let room = out.capacity();
     let mut role = Role::Scorer;
     let is_answered = answer_alone(pass, &mut role, Ok(line), out).is_ok();
+    let is_role = sheet.is_none();
     match reply_outcome(is_answered, out, room, wanted) {
         Outcome::Ordinary => ordinary_if(role == becomes),
         // a role is refused only if there is no room for the reply
@@ -252,8 +355,6 @@ enum SeatCall {
     Answer,
     /// Seat 2 is shown one entry.
     Show,
-    /// Seat 2 asks for SHOW.
-    AnswerShow,
     /// Seat 2 asks to be the jury.
     AnswerRole,
 }
@@ -278,17 +379,11 @@ impl<N: OfficeName, H: Wait + Drop, R: Wait> Seats<'_, N, H, R> {
     }
 
     /// Whether the journal has these boats, seat 1 knows that it has sent them, and seat 2 is shown them.
-    /// After an answer to SHOW that ran out of memory, seat 2 isn't asked: its pass keeps what it is
-    /// shown, and each of these answers is to be that of a pass that was shown nothing.
-    fn has_entered(&mut self, call: &SeatCall, outcome: Outcome) -> bool {
+    fn has_entered(&mut self) -> bool {
         let journal = journal_of(self.entered);
-        let is_unseen = matches!(
-            (call, outcome),
-            (SeatCall::AnswerShow, Outcome::OutOfMemory)
-        );
         self.first.last() == self.entered
             && has_journal(self.rt, self.alloc, &self.office, journal)
-            && (is_unseen || is_shown(self.alloc, &mut self.second, journal))
+            && is_shown(self.alloc, &mut self.second, journal)
     }
 
     /// The outcome of a call, with a command to enter the next boat, and what a reply is appended to.
@@ -299,8 +394,7 @@ impl<N: OfficeName, H: Wait + Drop, R: Wait> Seats<'_, N, H, R> {
                 answer_outcome(self.rt, &self.office, &mut self.first, command, out)
             }
             SeatCall::Show => show_outcome(&mut self.second),
-            SeatCall::AnswerShow => alone_outcome(&mut self.second, false, out),
-            SeatCall::AnswerRole => alone_outcome(&mut self.second, true, out),
+            SeatCall::AnswerRole => alone_outcome(&mut self.second, None, out),
         }
     }
 }
@@ -317,7 +411,7 @@ impl<N: OfficeName, H: Wait + Drop, R: Wait> Caller<SeatCall> for Seats<'_, N, H
         let outcome = self.call_outcome(call, command, &mut out);
         hoard.give_back();
         self.count_boat(call, outcome);
-        outcome_if(self.has_entered(call, outcome), outcome)
+        outcome_if(self.has_entered(), outcome)
     }
 }
 
@@ -368,8 +462,7 @@ fn entering_runs_out_of_memory(rt: HostRuntime) {
     assert!(rt; are_seats_refused(&rt, opened, 0, &[SeatCall::Run]));
 }
 
-static SEAT_CALLS: [SeatCall; 5] = [
-    SeatCall::AnswerShow,
+static SEAT_CALLS: [SeatCall; 4] = [
     SeatCall::AnswerRole,
     SeatCall::Show,
     SeatCall::Answer,
