@@ -39,8 +39,15 @@ loop-column-preserved c =
     ∙ ap (λ n. before ++ replicate n false) (let one : length cs - i ≡ suc rest = omega (arith, h) in one) in
     let long = length-map (map hers (take i cs)) dne in
     let at : c.len.result ≡ length before =
-    omega (arith, h, c.len.ensures.value, c.loop-column.invariant.read.long, long,
-    length-map (take i cs) hers, length-take i cs) in
+    omega (
+      arith,
+      h,
+      c.len.ensures.value,
+      c.loop-column.invariant.read.long,
+      long,
+      length-map (take i cs) hers,
+      length-take i cs,
+    ) in
     record {
       read = c.push_points-so_far.ensures (scores_in cs boat) i c.loop-column.invariant.read
           (omega (arith, h, long_in cs boat))
