@@ -1,4 +1,4 @@
--- A boat is entered if and only if her number is below the number of boats.
+-- A boat is entered if and only if her number is below the number of boats; it is then her position.
 use Rattle.std.proofs.Common.{◌≡◌, ℕ, ◌+◌, Bool, true, false, cond, not, ◌||◌, List, [], ◌∷◌, refl}
 use Rattle.std.proofs.Common.{◌∙◌, ◌++◌, ap, suc, arith, length, length-append, nat_lt, Some}
 use Rattle.std.proofs.Common.{None}
