@@ -276,7 +276,7 @@ class Turns(Serving):
     def asked(self, path, replies):
         links = {}
         with contextlib.ExitStack() as stack:
-            # A client without a turn comes, too, since the office waits for so many sessions.
+            # A client without a turn comes, too, since the office waits for each of its sessions.
             for line in self.turns + self.lines:
                 client = line[:1]
                 if client not in links:
