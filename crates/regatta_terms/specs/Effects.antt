@@ -39,6 +39,7 @@ pub data Effect : Type 0 where
   Enters : Sail → Effect
   InRace : ℕ → Act → Effect
 
+-- what each command does
 abbrev pub effect : Command → Effect
 effect (Enter sail) = Enters sail
 effect (Finish race sail) = InRace race (Places sail AtEnd)
