@@ -10,18 +10,17 @@ use Rattle.regatta_terms.specs.declared.limits.TheConstants.{MAX_RACES}
 use Rattle.regatta_scores.specs.declared.boats.RaceScore.{RaceScore}
 use Rattle.regatta_scores.specs.declared.table.Row.{Row}
 use Rattle.regatta_scores.specs.Sheet.{boats, nothing_held, empty_sheet}
-use Rattle.regatta_scores.specs.Journal.{Journal, same_sail, entered, order, held, scored}
+use Rattle.regatta_scores.specs.Journal.{Journal, same_sail, entered, held, scored}
 use Rattle.regatta_scores.specs.Journal.{is_scored}
 use Rattle.regatta_scores.specs.Lines.{line_by}
-use Rattle.regatta_scores.specs.Order.{stands_in}
-use Rattle.regatta_scores.specs.Outcomes.{score_of, scores}
-use Rattle.regatta_scores.specs.RacePoints.{race_of, journal_race, plain}
+use Rattle.regatta_scores.specs.Outcomes.{outcome, score_of, scores}
+use Rattle.regatta_scores.specs.RacePoints.{race_of, journal_race}
 use Rattle.regatta_scores.specs.RaceScores.{no_score, race_score, scores_in}
 use Rattle.regatta_scores.specs.RankLaws.{lines as journal_lines}
 use Rattle.regatta_scores.specs.Ranking.{place}
 use Rattle.regatta_scores.specs.Lines.{row_by}
 use Rattle.regatta_scores.specs.Standing as by_journal
-use Rattle.regatta_scores.proofs.Renamed.{IsRenamed, score_same}
+use Rattle.regatta_scores.proofs.Renamed.{IsRenamed, outcome_same}
 use Rattle.regatta_scores.proofs.Members.{all_passed}
 use Rattle.regatta_board.specs.Table as all
 use Rattle.regatta_board.specs.Refusals.{is_entered}
@@ -58,17 +57,16 @@ module _ (rules : RulesParts) (journal : Journal) (orderly : IsOrderly rules jou
 
   -- a boat's score in the race
   abbrev hers : ℕ → Sail → RaceScore
-  hers race boat =
-      score_of (plain same_sail rules (journal_race rules journal race) boat)
-      (held journal race boat) (stands_in same_sail boat (order rules journal race))
+  hers race boat = score_of (outcome same_sail rules (journal_race rules journal race) boat)
 
   score_is : (race : ℕ) (boat : Sail) → is_entered journal boat ≡ true
       → race_score rules (sheet_of rules journal race) (number journal boat) ≡ hers race boat
   score_is race boat h =
-      score_same same_sail nat_eq (λ b. is_entered journal b ≡ true) (number journal)
+      ap score_of
+      (outcome_same same_sail nat_eq (λ b. is_entered journal b ≡ true) (number journal)
       (journal_race rules journal race)
       (race_of (sheet_of rules journal race).order (sheet_of rules journal race).held)
-      (renamed race) rules boat h
+      (renamed race) rules boat h)
 
   column_is : (race : ℕ)
       → all.column rules (sheet_of rules journal race)

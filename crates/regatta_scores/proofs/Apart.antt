@@ -229,8 +229,11 @@ module _ (rules : RulesParts) (journal : Journal) (entry : EntryParts) (race : �
 
     scores_stay : scores rules (journal ++ entry ∷ []) other ≡ scores rules journal other
     scores_stay i =
-        map (λ r. score_of (plain_stays r other i) (held_is r i)
-        (stands_in same_sail other (order_is r i))) (scored_stays i)
+        map (λ r. score_of (record {
+          plain = plain_stays r other i;
+          held = held_is r i;
+          placed = stands_in same_sail other (order_is r i);
+        })) (scored_stays i)
 
 pub redress_leaves_others : RedressLeavesOthers
 redress_leaves_others rules journal entry race boat other redress is apart =

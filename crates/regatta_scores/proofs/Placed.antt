@@ -77,4 +77,8 @@ module _ (order : List (List ℕ)) (held : List Held) (placed : List (Option ℕ
       ≡ score_with rules (get_or held boat nothing_held) (get_or placed boat None) (length held)
       (dnf_by rules.absent (length held) (number_came_with held placed))
   score_is rules seconds boat i =
-      score_of (plain_is rules boat i) (get_or held boat nothing_held) (stands_is boat i)
+      score_of (record {
+        plain = plain_is rules boat i;
+        held = get_or held boat nothing_held;
+        placed = stands_is boat i;
+      })

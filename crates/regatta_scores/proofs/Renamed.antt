@@ -9,7 +9,7 @@ use Rattle.regatta_scores.specs.Order.{in_group, stands_in}
 use Rattle.regatta_scores.specs.RacePoints.{Race, status, status_by, came, finishers, dnf}
 use Rattle.regatta_scores.specs.RacePoints.{dnf_by, base_by, plain, penalty_points}
 use Rattle.regatta_scores.specs.RaceLaws.{finishing_place, sharing}
-use Rattle.regatta_scores.specs.Outcomes.{score_of}
+use Rattle.regatta_scores.specs.Outcomes.{outcome}
 use Rattle.regatta_scores.proofs.Counts.{count_cons, count_by-map, sum_by-map}
 use Rattle.regatta_scores.proofs.TiedTimes.{any_map}
 
@@ -124,10 +124,11 @@ module _ {B C : Type 0} (same_b : B → B → Bool) (same_c : C → C → Bool) 
       let base = base_by (status_same boat known i) points (entered_same i) dnf in
       max base (min (base + 10 * penalty_points rules dnf (r.holds boat i)) (10 * dnf))
 
-  -- a boat's score is the same
-  pub score_same : (rules : RulesParts) (boat : B) → Known boat →
-      score_of (plain same_c rules renamed (name boat)) (renamed.held (name boat))
-      (stands_in same_c (name boat) renamed.order)
-      ≡ score_of (plain same_b rules race boat) (race.held boat) (stands_in same_b boat race.order)
-  score_same rules boat known i =
-      score_of (plain_same rules boat known i) (r.holds boat i) (order_same boat known i)
+  -- what came of a boat is the same
+  pub outcome_same : (rules : RulesParts) (boat : B) → Known boat →
+      outcome same_c rules renamed (name boat) ≡ outcome same_b rules race boat
+  outcome_same rules boat known i = record {
+    plain = plain_same rules boat known i;
+    held = r.holds boat i;
+    placed = order_same boat known i;
+  }

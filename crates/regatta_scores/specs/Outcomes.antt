@@ -7,11 +7,11 @@ use Rattle.regatta_terms.specs.declared.sail.Sail.{Sail}
 use Rattle.regatta_scores.specs.declared.boats.Averaged.{Averaged}
 use Rattle.regatta_scores.specs.declared.boats.Averaged.TheVariants.{OverNone, OverAll, OverBefore}
 use Rattle.regatta_scores.specs.declared.boats.RaceScore.{RaceScore}
-use Rattle.regatta_scores.specs.declared.sheet.Held.{Held}
-use Rattle.regatta_scores.specs.Journal.{Journal, same_sail, order, held, scored}
+use Rattle.regatta_scores.specs.declared.outcomes.Outcome.{Outcome}
+use Rattle.regatta_scores.specs.Journal.{Journal, same_sail, scored}
 use Rattle.regatta_scores.specs.Marks.{is_dne, mark_by}
 use Rattle.regatta_scores.specs.Order.{stands_in}
-use Rattle.regatta_scores.specs.RacePoints.{status_by, plain, journal_race}
+use Rattle.regatta_scores.specs.RacePoints.{Race, status_by, plain, journal_race}
 
 -- her points by her redress: those given (A9 (c)), or else those before redress; and over which other
 -- races an average replaces them (A9 (a), (b))
@@ -21,19 +21,30 @@ redress_by plain (Some (redress.Points award)) = (award, OverNone)
 redress_by plain (Some redress.AllRaces) = (plain, OverAll)
 redress_by plain (Some redress.RacesBefore) = (plain, OverBefore)
 
--- her score by her points before redress, what she holds, and whether she is in the finishing order
--- (A3): her points, and whether an average replaces them (A9); whether it is a DNE, which is never
--- excluded (90.3(b)); and the abbreviation in her cell (A10)
-abbrev pub score_of : ℕ → Held → Bool → RaceScore
-score_of plain held placed = record {
-  points = (redress_by plain held.redress).0;
-  averaged = (redress_by plain held.redress).1;
-  dne = is_dne held.code;
-  mark = mark_by held.redress (status_by held.code placed) held.zfp held.scp;
+-- what came of this boat in the race: her points before redress (A4, A5, A7), what she holds (A9,
+-- A10, 30.2, 44.3(c)), and whether she is in the finishing order (A3); `same` is whether two boats
+-- are one
+abbrev pub outcome : {B : Type 0} → (B → B → Bool) → RulesParts → Race B → B → Outcome
+outcome same rules race boat = record {
+  plain = plain same rules race boat;
+  held = race.held boat;
+  placed = stands_in same boat race.order;
 }
+
+-- her score by what came of her: her points, and whether an average replaces them (A9); whether it is
+-- a DNE, which is never excluded (90.3(b)); and the abbreviation in her cell (A10)
+abbrev pub score_of : Outcome → RaceScore
+score_of outcome =
+    let held = outcome.held in
+    record {
+      points = (redress_by outcome.plain held.redress).0;
+      averaged = (redress_by outcome.plain held.redress).1;
+      dne = is_dne held.code;
+      mark = mark_by held.redress (status_by held.code outcome.placed) held.zfp held.scp;
+    }
 
 -- her score in each scored race, by the journal
 abbrev pub scores : RulesParts → Journal → Sail → List RaceScore
 scores rules journal boat =
-    map (λ race. score_of (plain same_sail rules (journal_race rules journal race) boat)
-    (held journal race boat) (stands_in same_sail boat (order rules journal race))) (scored journal)
+    map (λ race. score_of (outcome same_sail rules (journal_race rules journal race) boat))
+    (scored journal)

@@ -66,4 +66,9 @@ plain_with rules held placed entered dnf =
 -- her score in the race
 abbrev pub score_with : RulesParts → Held → Option ℕ → ℕ → ℕ → RaceScore
 score_with rules held placed entered dnf =
-    score_of (plain_with rules held placed entered dnf) held (is_some placed)
+    score_of
+    (record {
+      plain = plain_with rules held placed entered dnf;
+      held = held;
+      placed = is_some placed;
+    })

@@ -6,9 +6,8 @@ use Rattle.regatta_terms.specs.Rules.{RulesParts}
 use Rattle.regatta_scores.specs.declared.boats.Averaged.TheVariants.{OverNone}
 use Rattle.regatta_scores.specs.declared.boats.RaceScore.{RaceScore}
 use Rattle.regatta_scores.specs.declared.sheet.Held.{Held}
-use Rattle.regatta_scores.specs.Order.{stands_in}
-use Rattle.regatta_scores.specs.Outcomes.{score_of}
-use Rattle.regatta_scores.specs.RacePoints.{race_of, plain}
+use Rattle.regatta_scores.specs.Outcomes.{outcome, score_of}
+use Rattle.regatta_scores.specs.RacePoints.{race_of}
 use Rattle.regatta_scores.specs.Sheet.{Sheet, boats, nothing_held}
 use Rattle.regatta_scores.specs.declared.boats.RowItem.{RowItem}
 use Rattle.regatta_scores.specs.Averages as averages
@@ -21,8 +20,7 @@ holds_nothing held =
 -- her score on the sheet
 abbrev pub race_score : RulesParts → Sheet → ℕ → RaceScore
 race_score rules sheet boat =
-    let race = race_of sheet.order sheet.held in
-    score_of (plain nat_eq rules race boat) (race.held boat) (stands_in nat_eq boat race.order)
+    score_of (outcome nat_eq rules (race_of sheet.order sheet.held) boat)
 
 -- the score of each boat on the sheet, in the order of the boats' numbers
 abbrev pub race_scores : RulesParts → Sheet → List RaceScore
@@ -32,7 +30,7 @@ race_scores rules sheet = map (race_score rules sheet) (range_with_len 0 (boats 
 abbrev pub no_score : RaceScore
 no_score = record { points = 0; averaged = OverNone; dne = false; mark = None }
 
--- one boat's score in each of some races, of which there are the scores of all boats
+-- one boat's score in each of these races, from the scores of all boats
 abbrev pub scores_in : List (List RaceScore) → ℕ → List RaceScore
 scores_in columns boat = map (λ column. slice_index_or column boat no_score) columns
 
@@ -45,7 +43,13 @@ pub record ScoresAs (one other : RaceScore) : Type 0 where
 
 -- the score of a boat that finished, and holds nothing but this redress
 abbrev pub item_score : RowItem → RaceScore
-item_score item = score_of item.plain (record nothing_held { redress = item.redress }) true
+item_score item =
+    score_of
+    (record {
+      plain = item.plain;
+      held = record nothing_held { redress = item.redress };
+      placed = true;
+    })
 
 -- one boat's points in each race, with redress (A9)
 abbrev pub points : List RowItem → List ℕ

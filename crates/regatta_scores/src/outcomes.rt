@@ -11,6 +11,17 @@ use crate::sheet::Held;
 use crate::table::Abbrev;
 use regatta_terms::{Redress, Tenths};
 
+/// What came of a boat in a race.
+#[derive(Clone, Copy)]
+pub(crate) struct Outcome {
+    /// Her points before redress (RRS A4 to A7, 30.2, 44.3(c)).
+    pub(crate) plain: Tenths,
+    /// Her code, penalties and redress.
+    pub(crate) held: Held,
+    /// Whether she is in the finishing order (RRS A3).
+    pub(crate) placed: bool,
+}
+
 /// Her points given as redress, else those before redress.
 fn award_or(plain: Tenths, held: &Held) -> Tenths
     ensures { result ≡ (redress_by plain held.now.redress).0 }
@@ -40,7 +51,7 @@ pub(crate) fn holds_nothing(held: &Held) -> bool
 
 /// The score of a boat that holds nothing.
 pub(crate) fn bare_score(plain: Tenths, placed: bool) -> RaceScore
-    ensures { result ≡ score_of plain nothing_held placed }
+    ensures { result ≡ score_of (record { plain = plain; held = nothing_held; placed = placed }) }
 {
     RaceScore {
         points: plain,
@@ -50,14 +61,15 @@ pub(crate) fn bare_score(plain: Tenths, placed: bool) -> RaceScore
     }
 }
 
-/// Her score in a race, given her points before redress and whether she is in the finishing order.
-pub(crate) fn score_of(plain: Tenths, held: &Held, placed: bool) -> RaceScore
-    ensures { result ≡ score_of plain held.now placed }
+/// Her score by what came of her.
+pub(crate) fn score_of(outcome: Outcome) -> RaceScore
+    ensures { result ≡ score_of outcome }
 {
+    let held = outcome.held;
     RaceScore {
-        points: award_or(plain, held),
+        points: award_or(outcome.plain, &held),
         averaged: averages_by(held.redress),
         dne: is_dne(held.code),
-        mark: mark(held, placed),
+        mark: mark(&held, outcome.placed),
     }
 }

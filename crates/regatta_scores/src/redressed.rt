@@ -9,7 +9,7 @@ ghost use Rattle.regatta_scores.specs.declared.boats.RaceScore.{RaceScore};
 
 use crate::boats::{Averaged, RaceScore, RowItem};
 use crate::items::{Items, PerRace, Points};
-use crate::outcomes::score_of;
+use crate::outcomes::{Outcome, score_of};
 use crate::points::tenths;
 use crate::sheet::{Held, NOTHING_HELD};
 use regatta_terms::Tenths;
@@ -135,7 +135,11 @@ fn item_score(item: &RowItem) -> RaceScore
         redress: item.redress,
         ..NOTHING_HELD
     };
-    score_of(item.plain, &held, true)
+    score_of(Outcome {
+        plain: item.plain,
+        held,
+        placed: true,
+    })
 }
 
 fn item_scores(row: &[RowItem]) -> PerRace<RaceScore>

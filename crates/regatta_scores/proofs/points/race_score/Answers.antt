@@ -8,11 +8,10 @@ use Rattle.regatta_scores.proofs.points.race_score.Goals as goal
 pub returns-then-holds_nothing : goal.returns-then-holds_nothing
 returns-then-holds_nothing c =
     c.bare_score.ensures
-    ∙ (λ i. score_of (c.plain-plain.ensures i) nothing_held (c.is_some.ensures i))
+    ∙ (λ i. score_of (record {
+      plain = c.plain-plain.ensures i;
+      held = nothing_held;
+      placed = c.is_some.ensures i;
+    }))
     ∙ ap (λ held. score_with c.args.rules.now held c.args.placed c.args.entered c.args.dnf)
     (sym (nothing_is c.args.held.now (sym c.if-holds_nothing.ensures)))
-
-pub returns : goal.returns
-returns c =
-    c.score_of.ensures
-    ∙ (λ i. score_of (c.plain-plain-2.ensures i) c.args.held.now (c.is_some-2.ensures i))
