@@ -23,7 +23,7 @@ abbrev pub line_by : RulesParts → List RaceScore → BoatScores
 line_by rules scores = record {
   points = points scores;
   excluded = excluded (exclusions_of rules.thresholds (length scores))
-      (map (λ race. record { points = race.1; dne = race.0.dne }) (zip scores (points scores)));
+      (scored_by scores (points scores));
 }
 
 -- the cells of a row, one for each scored race
@@ -40,6 +40,5 @@ row_by boat place line scores = record {
   rank = place.rank;
   tied = place.tied;
   net = net line;
-  cells = map (λ race. record { points = race.1.0; mark = race.0.mark; dropped = race.1.1 })
-      (zip scores (zip line.points line.excluded));
+  cells = cells scores line.points line.excluded;
 }
