@@ -73,7 +73,7 @@ row_at sails columns lines ranks boat =
     row_by (slice_index_or sails boat []) (slice_index_or ranks boat no_rank)
     (slice_index_or lines boat no_line) (scores_in columns boat)
 
--- the order of boats in the table: by rank, then by sail (RRS A8), and equal sails by number
+-- the order of boats in the table: by rank (RRS A8), then by sail, and equal sails by number
 abbrev pub table_cmp : List Sail → List Place → ℕ → ℕ → Ordering
 table_cmp sails ranks a b =
     ordering_then

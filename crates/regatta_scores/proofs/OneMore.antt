@@ -14,7 +14,7 @@ use Rattle.regatta_terms.specs.declared.command.PenaltyKind.TheVariants.{Zfp, Sc
 use Rattle.regatta_scores.specs.declared.sheet.Held.{Held}
 use Rattle.regatta_scores.specs.Changes.{with_decision}
 use Rattle.regatta_scores.specs.Journal.{same_sail, decision_on, is_clear, code_marked, redress_given}
-use Rattle.regatta_scores.specs.Journal.{is_penalty, counting}
+use Rattle.regatta_scores.specs.Journal.{is_penalty, race_counts}
 
 -- what is told of acts, if each act moves it one step further
 pub is_fold : {X : Type 0} (told : List Act → X) (after : X → Act → X) →
@@ -153,7 +153,7 @@ held_step boat acts act =
 -- ---- whether a race counts
 
 abbrev pub counts_by : List Act → Bool
-counts_by acts = unwrap_or (last_or None (filter_map counting acts)) false
+counts_by acts = unwrap_or (last_or None (filter_map race_counts acts)) false
 
 abbrev pub counts_after : Bool → Act → Bool
 counts_after counted (Counts counts) = counts
@@ -162,10 +162,10 @@ counts_after counted _ = counted
 pub counts_step : (acts : List Act) (act : Act) →
     counts_by (acts ++ act ∷ []) ≡ counts_after (counts_by acts) act
 counts_step acts (Counts counts) =
-    ap (λ o. unwrap_or o false) (last_more counting acts (Counts counts))
+    ap (λ o. unwrap_or o false) (last_more race_counts acts (Counts counts))
 counts_step acts (Places sail placing) =
-    ap (λ o. unwrap_or o false) (last_more counting acts (Places sail placing))
+    ap (λ o. unwrap_or o false) (last_more race_counts acts (Places sail placing))
 counts_step acts (Strikes sail) =
-    ap (λ o. unwrap_or o false) (last_more counting acts (Strikes sail))
+    ap (λ o. unwrap_or o false) (last_more race_counts acts (Strikes sail))
 counts_step acts (Decides sail decision) =
-    ap (λ o. unwrap_or o false) (last_more counting acts (Decides sail decision))
+    ap (λ o. unwrap_or o false) (last_more race_counts acts (Decides sail decision))

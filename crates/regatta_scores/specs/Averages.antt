@@ -6,7 +6,7 @@ use Rattle.regatta_scores.specs.declared.boats.Averaged.{Averaged}
 use Rattle.regatta_scores.specs.declared.boats.Averaged.TheVariants.{OverNone, OverAll, OverBefore}
 use Rattle.regatta_scores.specs.declared.boats.RaceScore.{RaceScore}
 
--- no average replaces her points (A9)
+-- whether no average replaces her points (A9)
 abbrev pub is_own : Averaged → Bool
 is_own OverNone = true
 is_own _ = false
@@ -19,8 +19,8 @@ average_over races plain =
     let n = length counted in
     if nat_eq n 0 then plain else (2 * sum_by (λ score. score.points) counted + n) / (2 * n)
 
--- her points in race i of the list: her own; the average of all other races (A9 (a)); the average
--- of those before (A9 (b))
+-- her points in race i of the list: her own; the average of all other races (A9(a)); the average
+-- of those before (A9(b))
 abbrev pub redressed : List RaceScore → ℕ → ℕ → Averaged → ℕ
 redressed scores i own OverNone = own
 redressed scores i own OverAll = average_over (remove scores i) own

@@ -51,7 +51,7 @@ looked_up news (old ∷ olds) (at ∷ positions) =
 abbrev pub flags : List NewLine → List ℕ → List Bool
 flags news positions = map (λ at. nat_lt at (length news)) positions
 
--- the positions, with those of these new lines, which begin at a position
+-- the positions, after those of these new lines are put in; the first of these is at `at`
 abbrev pub with_positions : List ℕ → ℕ → List NewLine → List ℕ
 with_positions positions at [] = positions
 with_positions positions at (new ∷ news) =
@@ -63,7 +63,7 @@ AreStill old current =
     (boat : ℕ) → boat < length old → is_new current.new boat ≡ false
     → line_of current.lines boat ≡ line_of old boat
 
--- the boats whose lines are new are those that have a new line
+-- a boat's line is flagged as new exactly if one of the new lines is hers
 abbrev pub AreFlagged : List NewLine → Lines → Type 0
 AreFlagged news current =
     (boat : ℕ) → boat < length current.new → is_new current.new boat ≡ has_new news boat

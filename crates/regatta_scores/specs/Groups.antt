@@ -13,6 +13,8 @@ abbrev pub Rises : ℕ → List ℕ → ℕ → Type 0
 Rises start [] last = start ≡ last
 Rises start (end ∷ ends) last = (start ≤ end) × Rises end ends last
 
+-- where the group at this place begins, if the groups end at these positions: where the one before
+-- it ends
 abbrev pub begin : List ℕ → ℕ → ℕ
 begin ends at = if nat_eq at 0 then 0 else slice_index_or ends (at - 1) 0
 

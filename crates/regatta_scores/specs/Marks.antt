@@ -24,8 +24,8 @@ code_mark code.Ret = abbreviation.Ret
 code_mark code.Dsq = abbreviation.Dsq
 code_mark code.Dne = abbreviation.Dne
 
--- RDG with redress, else that of the code or of DNC, else ZFP, else SCP, else none, by the numbers of
--- her ZFP and SCP (A10, 30.2, 44.3(c))
+-- RDG with redress, else that of the code or of DNC, else ZFP, else SCP, else none, by the numbers
+-- of her ZFP and SCP (A10, 30.2, 44.3(c))
 abbrev pub mark_by : Option Redress → Status → ℕ → ℕ → Option Abbrev
 mark_by (Some redress) status zfp scp = Some abbreviation.Rdg
 mark_by None (Coded code) zfp scp = Some (code_mark code)

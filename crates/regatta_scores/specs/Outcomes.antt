@@ -13,8 +13,8 @@ use Rattle.regatta_scores.specs.Marks.{is_dne, mark_by}
 use Rattle.regatta_scores.specs.Order.{stands_in}
 use Rattle.regatta_scores.specs.RacePoints.{Race, status_by, plain, journal_race}
 
--- her points by her redress: those given (A9 (c)), or else those before redress; and over which other
--- races an average replaces them (A9 (a), (b))
+-- her points by her redress: those given (A9(c)), or else those before redress; and over which
+-- other races an average replaces them (A9(a), (b))
 abbrev pub redress_by : ℕ → Option Redress → ℕ × Averaged
 redress_by plain None = (plain, OverNone)
 redress_by plain (Some (redress.Points award)) = (award, OverNone)
@@ -31,8 +31,8 @@ outcome same rules race boat = record {
   placed = stands_in same boat race.order;
 }
 
--- her score by what came of her: her points, and whether an average replaces them (A9); whether it is
--- a DNE, which is never excluded (90.3(b)); and the abbreviation in her cell (A10)
+-- her score by what came of her: her points, and whether an average replaces them (A9); whether it
+-- is a DNE, which is never excluded (90.3(b)); and the abbreviation in her cell (A10)
 abbrev pub score_of : Outcome → RaceScore
 score_of outcome =
     let held = outcome.held in

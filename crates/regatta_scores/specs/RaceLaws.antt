@@ -94,6 +94,7 @@ TiesShareEqually = (race : Race Sail) (boat : Sail) →
     sharing same_sail race boat * place_points same_sail race boat
     ≡ points_of_places (finishing_place same_sail race boat) (sharing same_sail race boat)
 
+-- whether a boat of this status finished
 abbrev pub is_finished : Status → Bool
 is_finished Finished = true
 is_finished _ = false

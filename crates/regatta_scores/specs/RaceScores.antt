@@ -34,8 +34,8 @@ no_score = record { points = 0; averaged = OverNone; dne = false; mark = None }
 abbrev pub scores_in : List (List RaceScore) → ℕ → List RaceScore
 scores_in columns boat = map (λ column. slice_index_or column boat no_score) columns
 
--- a line takes the same of both scores: the points (A2.1), the races of an average (A9), and whether
--- the score may be excluded (90.3(b))
+-- a line takes the same of both scores: the points (A2.1), the races of an average (A9), and
+-- whether the score may be excluded (90.3(b))
 pub record ScoresAs (one other : RaceScore) : Type 0 where
   pub points : one.points ≡ other.points
   pub averaged : one.averaged ≡ other.averaged

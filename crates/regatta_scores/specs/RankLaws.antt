@@ -77,7 +77,7 @@ RowsTieCompletely = (rules : RulesParts) (journal : Journal) (a b : Row) →
 
 -- ---- the rows of the standing
 
--- whether the first row comes no later than the second, by rank and then by sail (A8)
+-- whether the first row comes no later than the second: by rank (A8), then by sail
 abbrev pub comes_first : Row → Row → Bool
 comes_first a b = is_le (ordering_then (nat_cmp a.rank b.rank) (slice_cmp nat_cmp a.sail b.sail))
 

@@ -10,18 +10,19 @@ use Rattle.regatta_scores.specs.declared.redressed.Counted.{Counted}
 use Rattle.regatta_scores.specs.Averages.{points as points_of}
 use Rattle.regatta_scores.specs.RedressLaws.{counted}
 
--- her points are an average over all other races (A9 (a))
+-- whether her points are an average over all other races (A9(a))
 abbrev pub is_over_all : Averaged → Bool
 is_over_all OverNone = false
 is_over_all OverAll = true
 is_over_all OverBefore = false
 
--- the average of number points with this sum, to the nearest tenth, 0.05 upward; of none, these (A9)
+-- the average of `number` points with this sum, to the nearest tenth, 0.05 upward; `plain` if there
+-- are none (A9)
 abbrev pub average_or : ℕ → ℕ → ℕ → ℕ
 average_or plain number sum =
     if nat_eq number 0 then plain else (2 * sum + number) / (2 * number)
 
--- points, where the average of number points with this sum replaces those of some races (A9 (a))
+-- points, where the average of `number` points with this sum replaces those of some races (A9(a))
 abbrev pub averaged_at : ℕ → ℕ → List ℕ → List ℕ → List ℕ
 averaged_at number sum points [] = points
 averaged_at number sum points (race ∷ races) =

@@ -18,18 +18,18 @@ line rules journal boat = line_by rules (scores rules journal boat)
 -- her row, with her place among these boats (A8)
 abbrev pub row : RulesParts → Journal → List BoatScores → Sail → Row
 row rules journal lines boat =
-    let line = line rules journal boat in
-    row_by boat (place lines line) line (scores rules journal boat)
+    let hers = line rules journal boat in
+    row_by boat (place lines hers) hers (scores rules journal boat)
 
--- a row inserted into sorted ones: before the first than which it comes no later, by rank and then
--- by sail (A8)
+-- a row inserted into sorted ones, before the first that it precedes or equals: by rank (A8), then
+-- by sail
 abbrev pub with_row : Row → List Row → List Row
 with_row r [] = r ∷ []
 with_row r (x ∷ xs) =
     let compared = ordering_then (nat_cmp r.rank x.rank) (slice_cmp nat_cmp r.sail x.sail) in
     if is_le compared then r ∷ x ∷ xs else x ∷ with_row r xs
 
--- the rows in the order of the standing: by rank, then by sail
+-- the rows in the order of the standing: by rank (A8), then by sail
 abbrev pub sorted_rows : List Row → List Row
 sorted_rows [] = []
 sorted_rows (x ∷ xs) = with_row x (sorted_rows xs)

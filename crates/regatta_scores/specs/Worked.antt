@@ -86,15 +86,15 @@ first_rank_is_shared_without_a_race = refl
 abbrev pub item : ℕ → RowItem
 item plain = record { plain = plain; redress = None }
 
--- a score with points given as redress (A9 (c))
+-- a score with points given as redress (A9(c))
 abbrev pub handed_in : ℕ → ℕ → RowItem
 handed_in plain award = record { plain = plain; redress = Some (Points award) }
 
--- a score with the average of all other races as redress (A9 (a))
+-- a score with the average of all other races as redress (A9(a))
 abbrev pub average_of_all : ℕ → RowItem
 average_of_all plain = record { plain = plain; redress = Some AllRaces }
 
--- a score with the average of the races before as redress (A9 (b))
+-- a score with the average of the races before as redress (A9(b))
 abbrev pub average_of_before : ℕ → RowItem
 average_of_before plain = record { plain = plain; redress = Some RacesBefore }
 
