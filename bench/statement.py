@@ -23,6 +23,9 @@ from pathlib import Path
 ROOT = Path(__file__).resolve().parent.parent
 PAGE = ROOT / "docs" / "STATEMENT.md"
 CONTRACT = ("regatta_office", "run", "replay")
+# The modules of a crate in the order in which they read best; others come after these.
+READING = {"regatta_scores": """Order CorrectedTimes Journal RacePoints Marks Abbreviations Outcomes
+           Averages Exclusions Ranking Lines Standing""".split()}
 
 # What the language of definitions has itself.
 BUILT_IN = set("Type Unit tt record data where abbrev unfoldable pub let in do Prim".split())
@@ -502,22 +505,29 @@ def in_order(items: list[Item]) -> list[Item]:
     return list(done.values())
 
 
-def modules_in_order(items: list[Item]) -> list[str]:
-    """The modules of one crate, each after those whose definitions it cites."""
+def modules_in_order(items: list[Item], reading: list[str]) -> list[str]:
+    """The modules of one crate, each after those whose definitions it cites, else in the order in
+    which they read best, else by name."""
     needs: dict[str, set[str]] = {}
     for item in items:
         crate, place, _ = item.key
         needs.setdefault(place, set()).update(
             other for of, other, _ in item.cited if of == crate and not other.startswith("src."))
+    for place in reading:
+        if place not in needs:
+            raise Unreadable(f"no module {place} to read")
     done: list[str] = []
+
+    def order(place: str) -> tuple[int, str]:
+        return reading.index(place) if place in reading else len(reading), place
 
     def add(place: str) -> None:
         if place not in done:
-            for other in sorted(needs[place] - {place}):
+            for other in sorted(needs[place] - {place}, key=order):
                 add(other)
             done.append(place)
 
-    for place in sorted(needs):
+    for place in sorted(needs, key=order):
         add(place)
     return done
 
@@ -625,7 +635,7 @@ def page(sources: Sources) -> str:
             code = [line for item in in_order(rust) for line in [*item.text, ""]]
             lines += fenced("rust", code[:-1])
         sections = [("src.", in_order(rust))]
-        for place in modules_in_order(specs):
+        for place in modules_in_order(specs, READING.get(crate, [])):
             own = sorted((it for it in specs if it.key[1] == place), key=lambda it: it.order)
             sections.append((place, own))
             about = plain(sources.specs[crate, place].about)

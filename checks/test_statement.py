@@ -41,6 +41,19 @@ class Statement(unittest.TestCase):
         with self.assertRaises(statement.Unreadable):
             statement.Sources().in_specs(module, "no_such_name")
 
+    def test_modules_in_order(self) -> None:
+        """Modules come in the order given, others after them, but each after those that it cites."""
+        places = ["A", "B", "C", "D", "E"]
+        items = {place: statement.Item(("crate", place, "f"), [], []) for place in places}
+        items["D"].cited = {items["A"].key, items["C"].key}
+        found = statement.modules_in_order(list(items.values()), ["D", "C", "B"])
+        self.assertEqual(found, ["C", "A", "D", "B", "E"])
+
+    def test_missing_module(self) -> None:
+        """A module of the order that isn't there stops the script."""
+        with self.assertRaises(statement.Unreadable):
+            statement.modules_in_order([statement.Item(("crate", "A", "f"), [], [])], ["A", "B"])
+
     def test_rules_cited(self) -> None:
         item = statement.Item(("", "", ""), ["-- her rank (A8.1, 44.3(c)), `A1`; A9 (a), (b)"], [])
         self.assertEqual(statement.rules_cited(item), {"A8.1", "44.3(c)", "A9(a)", "A9(b)"})
