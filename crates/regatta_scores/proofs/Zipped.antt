@@ -2,7 +2,7 @@
 use Rattle.std.proofs.Common.{◌≡◌, ℕ, ◌+◌, ◌<◌, Bool, false, List, [], ◌∷◌, ◌++◌, refl, ap}
 use Rattle.std.proofs.Common.{◌∙◌, sym, arith, length, map, zip, take, get_or}
 use Rattle.std.proofs.lemmas.List.{get_or-map, length-map, take_more}
-use Rattle.std.proofs.lemmas.Slice.Zip.{get_or-zip, seconds-zip}
+use Rattle.std.proofs.lemmas.Slice.Zip.{get_or-zip}
 use Rattle.regatta_scores.specs.declared.boats.RaceScore.{RaceScore}
 use Rattle.regatta_scores.specs.declared.boats.Scored.{Scored}
 use Rattle.regatta_scores.specs.declared.table.Cell.{Cell}
@@ -10,7 +10,6 @@ use Rattle.regatta_scores.specs.Lines.{scored_by, cells}
 use Rattle.regatta_scores.specs.RaceScores.{no_score, scores_in}
 use Rattle.regatta_scores.specs.Redressing.{scored_with}
 use Rattle.regatta_scores.proofs.Lengths.{long_zip}
-use Rattle.regatta_scores.proofs.TiedTimes.{map_twice}
 
 -- one score for these points, and one cell
 abbrev scored : ℕ → Bool → Scored
@@ -38,13 +37,6 @@ with_dnes [] [] = refl
 with_dnes [] (p ∷ ps) = refl
 with_dnes (s ∷ ss) [] = refl
 with_dnes (s ∷ ss) (p ∷ ps) = ap (λ xs. scored p s.dne ∷ xs) (with_dnes ss ps)
-
--- they are for the points
-pub scored_points : (ss : List RaceScore) (ps : List ℕ) → length ps ≡ length ss
-    → map (λ (s : Scored). s.points) (scored_by ss ps) ≡ ps
-scored_points ss ps long =
-    map_twice (λ (s : Scored). s.points) (λ (race : RaceScore × ℕ). scored race.1 race.0.dne) (zip ss ps)
-    ∙ seconds-zip ss ps long
 
 -- one more cell is appended
 pub cell_more : (ss : List RaceScore) (ps : List ℕ) (fs : List Bool) (i : ℕ) (s : RaceScore) (p : ℕ)
