@@ -86,7 +86,8 @@ module _ {B : Type 0} (same : B → B → Bool) where
   abbrev pub plain : RulesParts → Race B → B → ℕ
   plain rules race boat =
       let dnf_score = dnf rules race in
-      let base = base_by (status race boat) (place_points race boat) (length race.entered) dnf_score in
+      let base =
+      base_by (status race boat) (place_points race boat) (length race.entered) dnf_score in
       max base (min (base + 10 * penalty_points rules dnf_score (race.held boat)) (10 * dnf_score))
 
 -- ---- the race on a sheet, and in the journal
