@@ -44,7 +44,7 @@ fn group_in<'a>(boats: &'a [u16], ends: &[usize], at: usize) -> &'a [u16]
     &boats[begin(ends, at)..ends[at]]
 }
 
-/// Appends the ends of later groups, whose boats from `begin` on come after `ahead` others now.
+/// Appends these ends, moved: boats that began at `begin` now follow `ahead` others.
 fn push_ends(
     ends: &mut Vec<usize>,
     rest: &[usize],

@@ -206,7 +206,7 @@ impl RaceSheet {
             Change::Last { .. }
             | Change::Join { .. }
             | Change::Ahead { .. }
-            | Change::Hold { .. } => { self.seconds.copy(alloc) }
+            | Change::Hold { .. } => self.seconds.copy(alloc),
         }
     }
 
