@@ -1,4 +1,4 @@
-use Rattle.std.proofs.Common.{◌≡◌, ◌+◌, ◌∙◌, ◌++◌, ◌∷◌, [], ℕ, List, ap, arith, drop, get_or, sym}
+use Rattle.std.proofs.Common.{◌≡◌, ◌+◌, ◌∙◌, ◌++◌, ◌∷◌, [], ℕ, List, ap, drop, get_or, sym}
 use Rattle.regatta_scores.proofs.Splices.{joined_is}
 use Rattle.regatta_scores.proofs.orders.joined.Goals as goal
 

@@ -1,4 +1,4 @@
-use Rattle.std.proofs.Common.{◌≡◌, ◌+◌, ◌∙◌, ◌++◌, ◌∷◌, [], ap, arith, cond, drop, get_or}
+use Rattle.std.proofs.Common.{◌≡◌, ◌+◌, ◌∙◌, ◌++◌, ◌∷◌, [], ap, cond, drop, get_or}
 use Rattle.std.proofs.Common.{nat_eq, not, sym, length}
 use Rattle.regatta_scores.proofs.Pigeonhole.{others}
 use Rattle.regatta_scores.specs.Order.{is_empty}
