@@ -1,5 +1,5 @@
 //! The lines of all boats, after new ones replace some of them.
-ghost use Rattle.std.specs.Prelude.{◌≡◌, ◌<◌, ◌≤◌, ◌^◌, [], length, replicate, IfOk};
+ghost use Rattle.std.specs.Prelude.{◌≡◌, ◌<◌, length, replicate, IfOk};
 ghost use Rattle.regatta_scores.specs.Current.{with_changed, AreFlagged, AreStill, AreWithin};
 ghost use Rattle.regatta_scores.specs.Current.{with_positions};
 ghost use Rattle.regatta_scores.specs.KeptRanking.{is_new, line_of};
