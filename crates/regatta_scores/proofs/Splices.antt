@@ -166,14 +166,11 @@ stands_first order boat at stands bound before here = by (nat_lt at (length orde
         let wrong = some_group order boat stands (λ k h. before k (omega (arith, h, past))) in cc
 
 module _ (order : List (List ℕ)) (boat other at : ℕ)
-    (placed : stands_in nat_eq other order ≡ true) (once : times_placed nat_eq order other ≤ 1)
-    (bound : at ≤ length order)
+    (once : times_placed nat_eq order other ≤ 1) (within : at < length order)
     (before : (k : ℕ) → k < at → in_group nat_eq other (get_or order k []) ≡ false)
     (here : at < length order → in_group nat_eq other (get_or order at []) ≡ true) where
   first_is : IsFirst order other at
-  first_is =
-      let within = stands_first order other at placed bound before here in
-      record { before = before; here = here within; within = within }
+  first_is = record { before = before; here = here within; within = within }
 
   pub ahead_is : with_ahead nat_eq order boat other
       ≡ (take at order ++ (boat ∷ []) ∷ []) ++ drop at order

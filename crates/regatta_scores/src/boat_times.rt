@@ -76,7 +76,8 @@ impl BoatTimes {
         ensures { IfOk result (λ new. new ≡ slice_set self.now boat time) }
     {
         let boats = self.seconds.len() + self.further as usize;
-        let mut seconds = Vec::from_slice(alloc, &self.seconds)?;
+        let mut seconds = Vec::with_capacity(alloc, boats)?;
+        seconds.extend_from_slice(&self.seconds)?;
         seconds.resize(boats, None)?;
         seconds[boat as usize] = time;
         Ok(BoatTimes {

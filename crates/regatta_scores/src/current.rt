@@ -1,5 +1,5 @@
 //! The lines of all boats, after new ones replace some of them.
-ghost use Rattle.std.specs.Prelude.{◌≡◌, ◌<◌, ◌≤◌, ◌^◌, [], length, replicate, IfOk};
+ghost use Rattle.std.specs.Prelude.{◌≡◌, ◌<◌, length, replicate, IfOk};
 ghost use Rattle.regatta_scores.specs.Current.{with_changed, AreFlagged, AreStill, AreWithin};
 ghost use Rattle.regatta_scores.specs.Current.{with_positions};
 ghost use Rattle.regatta_scores.specs.KeptRanking.{is_new, line_of};
@@ -16,7 +16,7 @@ pub struct NewLine {
     pub line: BoatLine,
 }
 
-/// The position of a boat's new line if she has none.
+/// Stands for a position if a boat has no new line.
 const NO_LINE: u16 = u16::MAX;
 
 /// The lines of all boats, after new ones replace some of them, and which are new.

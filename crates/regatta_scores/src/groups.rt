@@ -44,7 +44,7 @@ fn group_in<'a>(boats: &'a [u16], ends: &[usize], at: usize) -> &'a [u16]
     &boats[begin(ends, at)..ends[at]]
 }
 
-/// Appends the ends of later groups, whose boats from `begin` on come after `ahead` others now.
+/// Appends these ends, moved: boats that began at `begin` now follow `ahead` others.
 fn push_ends(
     ends: &mut Vec<usize>,
     rest: &[usize],
@@ -102,7 +102,9 @@ impl Groups {
     }
 
     /// The position of the first group with the boat, or the number of groups if she is in none.
+    #[tactic(auto, using(crate::proofs::Splices::stands_first))]
     pub(crate) fn group_with(&self, boat: u16) -> usize
+        ensures found { stands_in nat_eq boat self.now ≡ true → result < length self.now }
         ensures bound { result ≤ length self.now }
         ensures fits { result < 2 ^ 63 }
         ensures before { (k : ℕ) → k < result

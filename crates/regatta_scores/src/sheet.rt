@@ -1,14 +1,13 @@
 //! One race: the finishing order, and each boat's code, penalties and redress.
 ghost use Rattle.std.specs.Prelude.{◌≡◌, ◌<◌, ◌≤◌, ◌↔◌, ℕ, [], nat_eq, slice_get, Some, IsTrue};
-ghost use Rattle.std.specs.Prelude.{IfOk, false};
+ghost use Rattle.std.specs.Prelude.{◌++◌, ◌∷◌, length, slice_set, IfOk, false};
 ghost use Rattle.regatta_terms.specs.declared.limits.TheConstants.{MAX_BOATS, MAX_PENALTIES};
-ghost use Rattle.regatta_scores.specs.Sheet.{boats, empty_sheet, time_of};
+ghost use Rattle.regatta_scores.specs.Sheet.{boats, empty_sheet, nothing_held, time_of};
 ghost use Rattle.regatta_scores.specs.Order.{stands_in};
 ghost use Rattle.regatta_scores.specs.SheetFacts.{IsSheet, Allows};
 ghost use Rattle.regatta_scores.specs.Changes.{after};
 
 use crate::boat_times::BoatTimes;
-use crate::copies::{with_changed, with_one_more};
 use crate::groups::Groups;
 use crate::{orders, timed};
 use regatta_terms::{Code, Redress, Seconds};
@@ -62,6 +61,31 @@ impl Model for RaceSheet {
     ghost use Rattle.regatta_scores.specs.SheetFacts.{IsWhole};
 
     ghost invariant = { λ s. IsWhole s.order s.held.items s.seconds };
+}
+
+/// Copies what the boats hold, for one more boat, who holds nothing.
+fn held_with_boat(alloc: Global, all: &[Held]) -> Result<Vec<Held>, AllocError>
+    ensures { IfOk result (λ new. new.items ≡ all.now ++ nothing_held ∷ []) }
+{
+    let mut new = Vec::with_capacity(alloc, all.len() + 1)?;
+    new.extend_from_slice(all)?;
+    new.push(NOTHING_HELD)?;
+    Ok(new)
+}
+
+/// Copies what the boats hold, with this for one of them.
+fn held_with_change(
+    alloc: Global,
+    all: &[Held],
+    boat: u16,
+    held: Held,
+) -> Result<Vec<Held>, AllocError>
+    requires { boat < length all.now }
+    ensures { IfOk result (λ new. new.items ≡ slice_set all.now boat held) }
+{
+    let mut new = Vec::from_slice(alloc, all)?;
+    new[boat as usize] = held;
+    Ok(new)
 }
 
 impl RaceSheet {
@@ -161,9 +185,13 @@ impl RaceSheet {
         ensures { IfOk result (λ held. held.items ≡ (after self.now change.now).held) }
     {
         match *change {
-            Change::AddBoat => with_one_more(alloc, &self.held, NOTHING_HELD),
-            Change::Hold { boat, held } => with_changed(alloc, &self.held, boat, held),
-            _ => Vec::from_slice(alloc, &self.held),
+            Change::AddBoat => held_with_boat(alloc, &self.held),
+            Change::Hold { boat, held } => held_with_change(alloc, &self.held, boat, held),
+            Change::Last { .. }
+            | Change::Join { .. }
+            | Change::Ahead { .. }
+            | Change::Timed { .. }
+            | Change::Out { .. } => Vec::from_slice(alloc, &self.held),
         }
     }
 
@@ -175,7 +203,10 @@ impl RaceSheet {
             Change::AddBoat => self.seconds.with_boat(alloc),
             Change::Timed { boat, seconds } => self.seconds.with_time(alloc, boat, Some(seconds)),
             Change::Out { boat } => self.seconds.without(alloc, boat),
-            _ => self.seconds.copy(alloc),
+            Change::Last { .. }
+            | Change::Join { .. }
+            | Change::Ahead { .. }
+            | Change::Hold { .. } => self.seconds.copy(alloc),
         }
     }
 

@@ -8,7 +8,7 @@ ghost use Rattle.regatta_scores.specs.declared.sheet.Change.TheVariants.{Last};
 use super::*;
 use regatta_scores::{
     BoatLine, Change, Held, NOTHING_HELD, Places, RaceSheet, RowItem, Scored, Work, averages,
-    excluded, race_points, race_scores, ranks, ranks_of,
+    excluded, race_points, race_scores, ranks,
 };
 use regatta_terms::{Award, Redress, Seconds, Tenths};
 
@@ -26,7 +26,6 @@ enum Call {
     Averages,
     Excluded,
     Ranks,
-    RanksOf,
     AddBoat,
     Last,
     Timed,
@@ -138,13 +137,6 @@ fn are_ranked(alloc: Global) -> Result<bool, AllocError> {
     Ok(is_first_shared(&places))
 }
 
-/// Whether references to three lines are ranked.
-fn are_references_ranked(alloc: Global) -> Result<bool, AllocError> {
-    let [one, two, three] = &three_lines(alloc)?;
-    let places = ranks_of(alloc, &[one, two, three])?;
-    Ok(is_first_shared(&places))
-}
-
 /// The outcome of a change with `bytes` bytes left: the boats then have these points.
 fn change_outcome(
     alloc: Global,
@@ -215,7 +207,6 @@ impl Races {
             Call::Averages => are_averages(alloc),
             Call::Excluded => is_excluded(alloc),
             Call::Ranks => are_ranked(alloc),
-            Call::RanksOf => are_references_ranked(alloc),
             Call::Sheet => {
                 let sheet = RaceSheet::new(alloc, 3)?;
                 Ok(sheet.is_empty() && !sheet.placed(2))
@@ -266,14 +257,13 @@ impl Caller<Call> for Races {
     }
 }
 
-static CALLS: [Call; 14] = [
+static CALLS: [Call; 13] = [
     Call::Sheet,
     Call::Points,
     Call::Scores,
     Call::Averages,
     Call::Excluded,
     Call::Ranks,
-    Call::RanksOf,
     Call::AddBoat,
     Call::Last,
     Call::Timed,

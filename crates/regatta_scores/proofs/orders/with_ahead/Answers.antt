@@ -10,5 +10,5 @@ returns c =
     c.in_ok-new-2.ensures
     ∙ (λ i. (c.in_ok-push.ensures ∙ (λ j. c.in_ok-new.ensures j ++ (c.args.boat ∷ []) ∷ [])) i
     ++ drop at order)
-    ∙ sym (ahead_is order c.args.boat c.args.other at c.requires.placed c.requires.once
-    found.bound found.before found.here)
+    ∙ sym (ahead_is order c.args.boat c.args.other at c.requires.once
+    (found.found c.requires.placed) found.before found.here)

@@ -1,22 +1,9 @@
-use Rattle.std.proofs.Common.{◌≡◌, ◌+◌, ◌∙◌, ◌++◌, ◌∷◌, [], ap, arith, cond, drop, get_or}
+use Rattle.std.proofs.Common.{◌≡◌, ◌+◌, ◌∙◌, ◌++◌, ◌∷◌, [], ap, cond, drop, get_or}
 use Rattle.std.proofs.Common.{nat_eq, not, sym, length}
 use Rattle.regatta_scores.proofs.Pigeonhole.{others}
 use Rattle.regatta_scores.specs.Order.{is_empty}
-use Rattle.regatta_scores.proofs.Splices.{no_boats, stands_first, without_is}
+use Rattle.regatta_scores.proofs.Splices.{no_boats, without_is}
 use Rattle.regatta_scores.proofs.orders.without.Goals as goal
-
-pub group-requires : goal.group-requires
-group-requires c =
-    let found = c.group_with-at.ensures in
-    stands_first c.args.order.now c.args.boat c.group_with-at.result c.requires.placed
-    found.bound found.before found.here
-
-pub followed_by-requires : goal.followed_by-requires
-followed_by-requires c =
-    let found = c.group_with-at.ensures in
-    let within = stands_first c.args.order.now c.args.boat c.group_with-at.result
-    c.requires.placed found.bound found.before found.here in
-    omega (arith, within)
 
 pub returns : goal.returns
 returns c =
@@ -33,5 +20,5 @@ returns c =
     ∙ no_boats (others c.args.boat (get_or order at []))) in
     c.in_ok-new-2.ensures ∙ (λ i. (c.in_ok-push_if.ensures
     ∙ (λ j. c.in_ok-new.ensures j ++ cond (wanted j) (group j ∷ []) [])) i ++ drop (at + 1) order)
-    ∙ sym (without_is order c.args.boat c.args.boat at c.requires.placed c.requires.once
-    found.bound found.before found.here c.requires.no_empty)
+    ∙ sym (without_is order c.args.boat c.args.boat at c.requires.once
+    (found.found c.requires.placed) found.before found.here c.requires.no_empty)

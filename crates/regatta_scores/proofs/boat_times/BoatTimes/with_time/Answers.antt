@@ -7,10 +7,11 @@ use Rattle.regatta_scores.proofs.boat_times.BoatTimes.with_time.Goals as goal
 pub returns : goal.returns
 returns c =
     let t = c.self.inside in
-    let copy = c.in_ok-seconds.seconds in
+    let copy = c.extend_from_slice.new.self in
     let boats = c.len.result + t.further in
     let copied : copy.items ≡ t.seconds.items =
-    c.in_ok-seconds.ensures.items ∙ c.deref.ensures.value in
+    c.in_ok-extend_from_slice.ensures.items
+    ∙ (λ i. c.in_ok-seconds.ensures.items i ++ c.deref.ensures.value i) in
     let long : copy.len ≡ c.len.result =
     omega (arith, c.len.ensures, t.seconds.ok.0, copy.ok.0, ap length copied) in
     let first = take_all boats copy.items (omega (arith, long, copy.ok.0)) ∙ copied in
