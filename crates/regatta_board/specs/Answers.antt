@@ -7,6 +7,7 @@ use Rattle.regatta_terms.specs.Effects.{TiedWith, AheadOf, Places, Strikes, Deci
 use Rattle.regatta_terms.specs.Effects.{Effect, Enters, InRace, effect}
 use Rattle.regatta_terms.specs.Entries.{EntryParts}
 use Rattle.regatta_terms.specs.Rules.{RulesParts}
+use Rattle.regatta_terms.specs.declared.command.Command.{Command}
 use Rattle.regatta_terms.specs.declared.sail.Sail.{Sail}
 use Rattle.regatta_terms.specs.declared.reply.Answer.{Answer}
 use Rattle.regatta_terms.specs.declared.reply.Touched.{Touched}
@@ -49,6 +50,10 @@ answer rules journal entry = record {
 
 -- the most races that an effect rescores, by the journal that ends with it: all that count if it
 -- enters a boat, else its own, if that counts
-abbrev pub most_rescored : Journal → Effect → ℕ
-most_rescored journal (Enters sail) = length (scored journal)
-most_rescored journal (InRace race act) = if is_scored journal race then 1 else 0
+abbrev pub most_rescored_by : Journal → Effect → ℕ
+most_rescored_by journal (Enters sail) = length (scored journal)
+most_rescored_by journal (InRace race act) = if is_scored journal race then 1 else 0
+
+-- the most races that a command rescores, by the journal that ends with it
+abbrev pub most_rescored : Journal → Command → ℕ
+most_rescored journal command = most_rescored_by journal (effect command)
