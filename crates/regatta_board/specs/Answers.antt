@@ -14,7 +14,7 @@ use Rattle.regatta_terms.specs.declared.reply.Touched.{Touched}
 use Rattle.regatta_scores.specs.Journal.{Journal, same_sail, is_scored, scored}
 use Rattle.regatta_scores.specs.Standing.{standing}
 
--- the boat that a command concerns, if any
+-- the first boat that a command names, if any
 abbrev pub boat_named : Effect → Option Sail
 boat_named (Enters sail) = Some sail
 boat_named (InRace race (Places sail placing)) = Some sail
@@ -28,7 +28,7 @@ other_named (InRace race (Places sail (TiedWith other))) = Some other
 other_named (InRace race (Places sail (AheadOf other))) = Some other
 other_named _ = None
 
--- the number of the boat that a command names, if any, is her position in the entry list
+-- the number of the first boat that a command names, if any, is her position in the entry list
 abbrev pub IsNumberOf : List Sail → Effect → ℕ → Type 0
 IsNumberOf sails e number =
     IfSome (boat_named e) (λ boat. position (same_sail boat) sails ≡ Some number)
