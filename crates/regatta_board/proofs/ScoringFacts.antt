@@ -266,25 +266,25 @@ module _ (rules : RulesParts) (kept : Kept) {scoring : Scoring} (is : IsScoring 
     {change : Revision} {boats : List Sail} {sheets : List Sheet}
     (enters : change ≡ revision.Enter boats sheets) (grows : AddsBoat kept change) {after : List ℕ}
     (counted : after ≡ races (revised kept change).counts) (empty : nat_eq (length after) 0 ≡ true)
-    where
-  adds : length boats ≡ length kept.sails + 1
-  adds = subst (AddsBoat kept) enters grows
+  where
+    adds : length boats ≡ length kept.sails + 1
+    adds = subst (AddsBoat kept) enters grows
 
-  none : races kept.counts ≡ []
-  none = ap (λ r. races (revised kept r).counts) (sym enters) ∙ sym counted
-      ∙ none_there after empty
+    none : races kept.counts ≡ []
+    none = ap (λ r. races (revised kept r).counts) (sym enters) ∙ sym counted
+        ∙ none_there after empty
 
-  pub boat_added : with_lines scoring.lines Added ≡ lines_by rules (revised kept change)
-  boat_added =
-      let n = length kept.sails in
-      ap (λ ls. ls ++ no_line ∷ []) is.lines
-      ∙ ap (λ rs. lines rules (columns rules kept.sheets rs) n ++ line_by rules [] ∷ []) none
-      ∙ sym (lines_more rules [] n)
-      ∙ ap (lines rules []) (sym adds)
-      ∙ ap (λ rs. lines rules (columns rules sheets rs) (length boats)) (sym none)
-      ∙ ap (λ r. lines_by rules (revised kept r)) (sym enters)
+    pub boat_added : with_lines scoring.lines Added ≡ lines_by rules (revised kept change)
+    boat_added =
+        let n = length kept.sails in
+        ap (λ ls. ls ++ no_line ∷ []) is.lines
+        ∙ ap (λ rs. lines rules (columns rules kept.sheets rs) n ++ line_by rules [] ∷ []) none
+        ∙ sym (lines_more rules [] n)
+        ∙ ap (lines rules []) (sym adds)
+        ∙ ap (λ rs. lines rules (columns rules sheets rs) (length boats)) (sym none)
+        ∙ ap (λ r. lines_by rules (revised kept r)) (sym enters)
 
-  pub room_for_boat : IsKept (revised kept change) → length scoring.lines < limits.boats
-  room_for_boat next =
-      let few = (subst (λ r. IsKept (revised kept r)) enters next).few in
-      omega (arith, few, adds, ap length is.lines, lines_by_long rules kept)
+    pub room_for_boat : IsKept (revised kept change) → length scoring.lines < limits.boats
+    room_for_boat next =
+        let few = (subst (λ r. IsKept (revised kept r)) enters next).few in
+        omega (arith, few, adds, ap length is.lines, lines_by_long rules kept)
