@@ -14,11 +14,12 @@ use Rattle.regatta_scores.specs.Standing.{standing}
 use Rattle.regatta_board.specs.Refusals.{limits, refusal, is_lawful}
 use Rattle.regatta_board.specs.Answers.{boat_named, rank_of, IsNumberOf}
 use Rattle.regatta_board.specs.declared.kept.Revision.{Revision}
+use Rattle.regatta_board.specs.declared.scoring.NewScores.{NewScores}
 use Rattle.regatta_board.specs.Revisions.{revised}
 use Rattle.regatta_board.specs.Scoring.{Scoring, IsScoring, touched_at}
 use Rattle.regatta_board.specs.Table.{Kept, IsKept, table}
 use Rattle.regatta_board.specs.KeptJournal.{number, kept_of}
-use Rattle.regatta_board.specs.BoardFacts.{BoardValue, StagedValue}
+use Rattle.regatta_board.specs.BoardFacts.{BoardValue, StagedValue, IsStaged}
 use Rattle.regatta_board.specs.LedgerFacts.{IsRevision}
 use Rattle.regatta_scores.proofs.Apart.{entered_more, same_entered}
 use Rattle.regatta_board.proofs.Accepted.{MayAct, MayStep, may_step}
@@ -73,10 +74,16 @@ lines_few rules journal lawful scoring is =
     let kept = lawful_kept rules journal lawful in
     omega (arith, lines, kept.few)
 
--- a command that may be committed was prepared on the same board
-pub basis_is : {staged value : StagedValue} {held board : BoardValue} → staged ≡ value
-    → value.board ≡ board → held ≡ board → staged.board ≡ held
-basis_is staged_is of held_is = ap (λ (v : StagedValue). v.board) staged_is ∙ of ∙ sym held_is
+-- a command that may be committed was prepared on the board as it is
+module _ {entry : EntryParts} {place : ℕ} {revision : Revision} {scores : NewScores} {boat : ℕ}
+  where
+    pub staged_on : {staged value : StagedValue} {held board : BoardValue} → staged ≡ value
+        → value.board ≡ board → held ≡ board
+        → IsStaged staged.board entry place revision scores boat
+        → IsStaged held entry place revision scores boat
+    staged_on staged_is of held_is =
+        subst (λ (v : BoardValue). IsStaged v entry place revision scores boat)
+        (ap (λ (v : StagedValue). v.board) staged_is ∙ of ∙ sym held_is)
 
 -- the table computed from what is kept of a lawful journal is its standing
 pub lawful_table : (rules : RulesParts) (journal : Journal) → is_lawful limits rules journal ≡ true

@@ -8,7 +8,7 @@ use Rattle.std.proofs.lemmas.List.Sums.{prefix_len-le-length}
 use borrow.Author.Tests.{lt-ltb}
 
 -- a test of two numbers is that of the next ones
-next_test : (a n : ℕ) → nat_lt (1 + a) (suc n) ≡ nat_lt a n
+pub next_test : (a n : ℕ) → nat_lt (1 + a) (suc n) ≡ nat_lt a n
 next_test a n = grind (arith, nat_tests)
 
 -- an element passes if and only if the index of the first that does is below the length

@@ -1,6 +1,6 @@
 -- Lines and rows of all boats.
-use Rattle.std.proofs.Common.{◌≡◌, ℕ, ◌+◌, ◌<◌, List, [], ◌∷◌, ◌++◌, refl, ap, ◌∙◌, arith, length}
-use Rattle.std.proofs.Common.{map, drop, get_or}
+use Rattle.std.proofs.Common.{◌≡◌, ℕ, ◌+◌, ◌<◌, List, [], ◌∷◌, ◌++◌, ap, ◌∙◌, arith, length}
+use Rattle.std.proofs.Common.{map, get_or}
 use Rattle.std.specs.List.{range_with_len}
 use Rattle.std.proofs.lemmas.List.{get_or-map}
 use Rattle.std.proofs.lemmas.List.FromFn.{length-map-range_with_len, get_or-map-range_with_len}
@@ -38,10 +38,6 @@ rank_at rules columns n b d h =
     (let within : b < length all = omega (arith, lines_long rules columns n) in within)
     ∙ ap (place all) (get_or-map-range_with_len (λ b. line_by rules (scores_in columns b)) 0 n b b
     hers h (omega arith))
-
-pub drop_past : {X : Type 0} (xs : List X) → drop (length xs) xs ≡ []
-drop_past [] = refl
-drop_past (x ∷ xs) = drop_past xs
 
 -- the line of one boat among all
 pub line_at : (rules : RulesParts) (columns : List (List RaceScore)) (n b : ℕ) (d : BoatScores)

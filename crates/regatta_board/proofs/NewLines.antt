@@ -7,12 +7,11 @@ use Rattle.std.proofs.lemmas.List.{drop_more, append_assoc, append-nil}
 use Rattle.std.proofs.lemmas.List.{length-append, get_or_append_left, get_or_push}
 use borrow.Author.Tests.{ltb-true, ltb-false}
 use Rattle.std.proofs.lemmas.List.Elements.{All-push}
-use Rattle.std.proofs.Math.Seq.{set-append_seam}
+use Rattle.std.proofs.Math.Seq.{set-append_seam, drop-length}
 use Rattle.regatta_scores.specs.Ranking.{BoatScores}
 use Rattle.regatta_scores.specs.declared.current.NewLine.{NewLine}
 use Rattle.regatta_scores.specs.Current.{with_changed, AreInOrder, AreOfBoats, AreWithin}
 use Rattle.regatta_board.specs.Scoring.{with_new}
-use Rattle.regatta_board.proofs.Lines.{drop_past}
 
 -- the last new line is moved in last
 changed_last : (olds : List BoatScores) (news : List NewLine) (new : NewLine)
@@ -42,7 +41,7 @@ changed_more olds news done b d (Some line) hers long h e is =
 pub changed_all : (olds done : List BoatScores) (n : ℕ) → n ≡ length olds
     → done ++ drop n olds ≡ done
 changed_all olds done n e =
-    ap (λ k. done ++ drop k olds) e ∙ ap (λ xs. done ++ xs) (drop_past olds) ∙ append-nil done
+    ap (λ k. done ++ drop k olds) e ∙ ap (λ xs. done ++ xs) (drop-length olds) ∙ append-nil done
 
 -- the new line of one more boat is that of a boat, and comes after those of the boats before
 pub of_boats_more : (news : List NewLine) (b : ℕ) (new : Option BoatScores)

@@ -9,7 +9,7 @@ use Rattle.regatta_terms.specs.declared.limits.TheConstants.{MAX_RACES}
 use Rattle.regatta_scores.specs.Journal.{Journal, acts, act_in, is_scored}
 use Rattle.regatta_scores.proofs.Apart.{one_act, same_acts}
 use Rattle.regatta_scores.proofs.OneMore.{counts_by, counts_after, counts_step}
-use Rattle.regatta_board.specs.Answers.{most_rescored}
+use Rattle.regatta_board.specs.Answers.{most_rescored_by}
 use Rattle.regatta_board.specs.KeptJournal.{kept_of, IsOrderly}
 use Rattle.regatta_board.specs.Scoring.{most_remade_by}
 use Rattle.regatta_board.proofs.Accepted.{NamesRace}
@@ -25,7 +25,7 @@ module _ (rules : RulesParts) (journal : Journal) (orderly : IsOrderly rules jou
       ap counts_by (one_act journal entry race act is) ∙ counts_step (acts journal race) act
 
   pub named_few : (e : Effect) → effect entry.command ≡ e → NamesRace e
-      → most_remade_by (kept_of rules journal) e ≡ most_rescored (journal ++ entry ∷ []) e
+      → most_remade_by (kept_of rules journal) e ≡ most_rescored_by (journal ++ entry ∷ []) e
   named_few (Enters sail) is named =
       ap length (races_are rules journal orderly)
       ∙ (λ i. length (filter (λ r. counts_by

@@ -23,7 +23,7 @@ use Rattle.regatta_board.specs.declared.kept.Revision.TheVariants as revision
 use Rattle.regatta_scores.specs.declared.boats.RaceScore.{RaceScore}
 use Rattle.regatta_scores.specs.Lines.{line_by}
 use Rattle.regatta_board.specs.Revisions.{revised, may_change_standing}
-use Rattle.regatta_board.specs.Scoring.{Scoring, IsScoring, AreColumns, AreNewColumns}
+use Rattle.regatta_board.specs.Scoring.{AddsBoat, Scoring, IsScoring, AreColumns, AreNewColumns}
 use Rattle.regatta_board.specs.Scoring.{RemakesOneColumn, RemakesOnly, with_columns, lines_by}
 use Rattle.regatta_board.specs.Scoring.{AreNewScores, FitBoats, with_lines, AreRanked, with_scores}
 use Rattle.regatta_board.specs.declared.scoring.NewLines.{NewLines}
@@ -257,27 +257,34 @@ pub unchanged_lines : (rules : RulesParts) (before after : Kept) (scoring : Scor
 unchanged_lines rules before after scoring is new stay made =
     sym is.lines ∙ sym (stay scoring.lines) ∙ made
 
-pub none_there : (xs : List ℕ) → nat_eq (length xs) 0 ≡ true → xs ≡ []
+none_there : (xs : List ℕ) → nat_eq (length xs) 0 ≡ true → xs ≡ []
 none_there [] e = refl
 none_there (x ∷ xs) e = let same = eqb-true (length (x ∷ xs)) 0 e in absurd (omega (arith, same))
 
 -- before a race counts, one more boat has one more line
-module _ (rules : RulesParts) (kept : Kept) (scoring : Scoring) (is : IsScoring rules kept scoring)
-    (boats : List Sail) (sheets : List Sheet) (adds : length boats ≡ length kept.sails + 1)
-    (none : races kept.counts ≡ []) where
-  abbrev next : Kept
-  next = revised kept (revision.Enter boats sheets)
+module _ (rules : RulesParts) (kept : Kept) {scoring : Scoring} (is : IsScoring rules kept scoring)
+    {change : Revision} {boats : List Sail} {sheets : List Sheet}
+    (enters : change ≡ revision.Enter boats sheets) (grows : AddsBoat kept change) {after : List ℕ}
+    (counted : after ≡ races (revised kept change).counts) (empty : nat_eq (length after) 0 ≡ true)
+  where
+    adds : length boats ≡ length kept.sails + 1
+    adds = subst (AddsBoat kept) enters grows
 
-  pub boat_added : with_lines scoring.lines Added ≡ lines_by rules next
-  boat_added =
-      let n = length kept.sails in
-      ap (λ ls. ls ++ no_line ∷ []) is.lines
-      ∙ ap (λ rs. lines rules (columns rules kept.sheets rs) n ++ line_by rules [] ∷ []) none
-      ∙ sym (lines_more rules [] n)
-      ∙ ap (lines rules []) (sym adds)
-      ∙ ap (λ rs. lines rules (columns rules sheets rs) (length boats)) (sym none)
+    none : races kept.counts ≡ []
+    none = ap (λ r. races (revised kept r).counts) (sym enters) ∙ sym counted
+        ∙ none_there after empty
 
-  pub room_for_boat : IsKept next → length scoring.lines < limits.boats
-  room_for_boat kept_next =
-      let few = kept_next.few in
-      omega (arith, few, adds, ap length is.lines, lines_by_long rules kept)
+    pub boat_added : with_lines scoring.lines Added ≡ lines_by rules (revised kept change)
+    boat_added =
+        let n = length kept.sails in
+        ap (λ ls. ls ++ no_line ∷ []) is.lines
+        ∙ ap (λ rs. lines rules (columns rules kept.sheets rs) n ++ line_by rules [] ∷ []) none
+        ∙ sym (lines_more rules [] n)
+        ∙ ap (lines rules []) (sym adds)
+        ∙ ap (λ rs. lines rules (columns rules sheets rs) (length boats)) (sym none)
+        ∙ ap (λ r. lines_by rules (revised kept r)) (sym enters)
+
+    pub room_for_boat : IsKept (revised kept change) → length scoring.lines < limits.boats
+    room_for_boat next =
+        let few = (subst (λ r. IsKept (revised kept r)) enters next).few in
+        omega (arith, few, adds, ap length is.lines, lines_by_long rules kept)

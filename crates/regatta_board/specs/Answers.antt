@@ -7,13 +7,14 @@ use Rattle.regatta_terms.specs.Effects.{TiedWith, AheadOf, Places, Strikes, Deci
 use Rattle.regatta_terms.specs.Effects.{Effect, Enters, InRace, effect}
 use Rattle.regatta_terms.specs.Entries.{EntryParts}
 use Rattle.regatta_terms.specs.Rules.{RulesParts}
+use Rattle.regatta_terms.specs.declared.command.Command.{Command}
 use Rattle.regatta_terms.specs.declared.sail.Sail.{Sail}
 use Rattle.regatta_terms.specs.declared.reply.Answer.{Answer}
 use Rattle.regatta_terms.specs.declared.reply.Touched.{Touched}
 use Rattle.regatta_scores.specs.Journal.{Journal, same_sail, is_scored, scored}
 use Rattle.regatta_scores.specs.Standing.{standing}
 
--- the boat that a command concerns, if any
+-- the first boat that a command names, if any
 abbrev pub boat_named : Effect → Option Sail
 boat_named (Enters sail) = Some sail
 boat_named (InRace race (Places sail placing)) = Some sail
@@ -27,7 +28,7 @@ other_named (InRace race (Places sail (TiedWith other))) = Some other
 other_named (InRace race (Places sail (AheadOf other))) = Some other
 other_named _ = None
 
--- the number of the boat that a command names, if any, is her position in the entry list
+-- the number of the first boat that a command names, if any, is her position in the entry list
 abbrev pub IsNumberOf : List Sail → Effect → ℕ → Type 0
 IsNumberOf sails e number =
     IfSome (boat_named e) (λ boat. position (same_sail boat) sails ≡ Some number)
@@ -49,6 +50,10 @@ answer rules journal entry = record {
 
 -- the most races that an effect rescores, by the journal that ends with it: all that count if it
 -- enters a boat, else its own, if that counts
-abbrev pub most_rescored : Journal → Effect → ℕ
-most_rescored journal (Enters sail) = length (scored journal)
-most_rescored journal (InRace race act) = if is_scored journal race then 1 else 0
+abbrev pub most_rescored_by : Journal → Effect → ℕ
+most_rescored_by journal (Enters sail) = length (scored journal)
+most_rescored_by journal (InRace race act) = if is_scored journal race then 1 else 0
+
+-- the most races that a command rescores, by the journal that ends with it
+abbrev pub most_rescored : Journal → Command → ℕ
+most_rescored journal command = most_rescored_by journal (effect command)

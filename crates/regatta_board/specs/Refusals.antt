@@ -29,6 +29,7 @@ use Rattle.regatta_scores.specs.declared.sheet.Held.{Held}
 use Rattle.regatta_scores.specs.Journal.{Journal, same_sail, entered, order, held, is_scored}
 use Rattle.regatta_scores.specs.Journal.{is_of_other_system}
 use Rattle.regatta_scores.specs.Order.{stands_in, is_empty}
+use Rattle.regatta_scores.specs.RaceScores.{holds_nothing}
 
 -- how many boats may be entered, and how many entries a journal may have
 pub record Limits : Type 0 where
@@ -102,8 +103,7 @@ decision_refusal role held (Penalises kind) =
     else if nat_le MAX_PENALTIES (penalties kind held) then Some PenaltyLimit else None
 decision_refusal role held Clears =
     if is_decided held && not (is_jury role) then Some Decided
-    else if is_none held.code && nat_eq held.zfp 0 && nat_eq held.scp 0 && is_none held.redress
-    then Some NothingToClear else None
+    else if holds_nothing held then Some NothingToClear else None
 
 -- Score and Unscore: a race counts once, and only if its order has a boat (one with a code is
 -- enough); a race that doesn't count can't stop counting

@@ -41,6 +41,7 @@ column_at rules kept k =
     if slice_index_or kept.counts k false
     then column rules (slice_index_or kept.sheets k (empty_sheet 0)) else []
 
+-- each race's column is at its index
 abbrev pub AreColumns : RulesParts → Kept → List (List RaceScore) → Type 0
 AreColumns rules kept columns = (k : ℕ) → slice_index_or columns k [] ≡ column_at rules kept k
 
@@ -109,8 +110,8 @@ with_lines old lines.Added = old ++ no_line ∷ []
 with_lines old (lines.All new) = new.items
 
 -- if some lines are new, they are those of different boats in the order of their numbers, and there
--- are no more than boats; for one more boat there is room; and the lines of all boats have room for
--- all that a series may have
+-- are no more of them than boats; for one more boat there is room; and the lines of all boats have
+-- room for all that a series may have
 abbrev pub FitBoats : List BoatScores → NewLines → Type 0
 FitBoats old (lines.Changed new) = AreOfBoats (length old) new.items × (length new.items ≤ length old)
 FitBoats old lines.Added = length old < limits.boats

@@ -13,7 +13,7 @@ use std::marker::Model;
 /// The boats entered, in order of entry, each once. A boat's number is her position in the list,
 /// from 0.
 #[derive(Drop)]
-pub struct Boats {
+pub(crate) struct Boats {
     numbers: IndexMap<Sail, u16>,
 }
 

@@ -1,6 +1,6 @@
 //! Columns: the scores of all boats in a race that counts, before averages.
 ghost use Rattle.std.specs.Prelude.{◌≡◌, ◌+◌, ◌-◌, ◌<◌, ◌≤◌, ◌^◌, [], true, false, length, List};
-ghost use Rattle.std.specs.Prelude.{map, slice_index_or, slice_set, IfOk, OnOk, if◌then◌else◌, ◌↔◌};
+ghost use Rattle.std.specs.Prelude.{map, slice_index_or, slice_set, IfOk, OnOk, if◌then◌else◌};
 ghost use Rattle.regatta_terms.specs.Entries.{IsRace};
 ghost use Rattle.regatta_scores.specs.declared.boats.RaceScore.{RaceScore};
 ghost use Rattle.regatta_scores.specs.RaceScores.{no_score};
@@ -20,7 +20,7 @@ use std::marker::Model;
 
 /// The score of each boat in one race, before averages, in the order of the boats' numbers.
 #[derive(Drop)]
-pub struct Column {
+pub(crate) struct Column {
     scores: RaceScores,
 }
 
@@ -68,7 +68,7 @@ pub(crate) fn made_column(
 
 /// The columns that a command recomputes.
 #[derive(Drop)]
-pub enum NewColumns {
+pub(crate) enum NewColumns {
     /// None: the command names a race that doesn't count.
     Same,
     /// The column of one race; it is empty if the race no longer counts.

@@ -47,7 +47,7 @@ pub(crate) fn other_named(command: Command) -> Option<Sail>
 /// The numbers of the boats that a command names. A boat who isn't entered, or isn't named, has the
 /// number of boats.
 #[derive(Clone, Copy)]
-pub struct Numbers {
+pub(crate) struct Numbers {
     pub boat: u16,
     pub other: u16,
 }

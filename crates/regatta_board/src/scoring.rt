@@ -1,7 +1,7 @@
 //! The scores that are kept: a column for each race, a line for each boat, and their ranking.
 ghost use Rattle.std.specs.Prelude.{◌≡◌, ◌+◌, ◌-◌, ◌<◌, ◌≤◌, ◌^◌, ℕ, true, false, length};
 ghost use Rattle.std.specs.Prelude.{◌++◌, ◌∷◌, [], List, slice_index_or, All, IfOk, IfSome, OnOk};
-ghost use Rattle.std.specs.Prelude.{None, ◌↔◌, unwrap_or, vec_capacity};
+ghost use Rattle.std.specs.Prelude.{None, unwrap_or, vec_capacity};
 ghost use Rattle.regatta_terms.specs.Rules.{RulesParts};
 ghost use Rattle.regatta_scores.specs.Current.{with_changed, AreOfBoats, AreWithin};
 ghost use Rattle.regatta_scores.specs.KeptRanking.{IsRanking};
@@ -60,7 +60,7 @@ impl Model for Scoring {
 
 /// The lines that a command recomputes.
 #[derive(Drop)]
-pub enum NewLines {
+pub(crate) enum NewLines {
     /// Those of the boats whose score in a race changed in more than its abbreviation, in the order
     /// of their numbers. The lines of the others stay.
     Changed { lines: Vec<NewLine> },
@@ -84,14 +84,14 @@ impl NewLines {
 
 /// New lines, and the ranking of all boats with them.
 #[derive(Drop)]
-pub struct Ranked {
+pub(crate) struct Ranked {
     lines: NewLines,
     ranking: Ranking,
 }
 
 /// The scores that a command changes.
 #[derive(Drop)]
-pub struct NewScores {
+pub(crate) struct NewScores {
     /// `None` if the same races count.
     races: Option<Races>,
     columns: NewColumns,

@@ -15,7 +15,7 @@ use std::marker::Model;
 /// The sheet of each race, by its index from 0. Races whose sheet was never changed share a blank
 /// one, so entering a boat costs nothing for them.
 #[derive(Drop)]
-pub struct Sheets {
+pub(crate) struct Sheets {
     blank: RaceSheet,
     changed: Vec<Option<RaceSheet>>,
 }

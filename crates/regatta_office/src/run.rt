@@ -1,9 +1,10 @@
 //! A run, from an input stream to an output stream.
-ghost use Rattle.std.specs.Prelude.{◌≡◌, ◌≢◌, ◌+◌, ◌<◌, ◌≤◌, ℕ, List, [], length, take, None};
+ghost use Rattle.std.specs.Prelude.{◌≡◌, ◌≢◌, ◌+◌, ◌<◌, ◌≤◌, ℕ, List, length, take, None};
 ghost use Rattle.std.specs.Prelude.{OnOk, IfOk, IfErr, IfSome, IsErrOf, ◌⊎◌, false, true};
 ghost use Rattle.std.specs.Io.KnownBytes.{Appends, Consumes, Keeps};
 ghost use Rattle.regatta_streams.specs.Texts.{AppendsPrefix, GaveAtMost};
-ghost use Rattle.regatta_board.specs.Refusals.{limits, is_lawful, refused_from};
+ghost use Rattle.regatta_board.specs.Refusals.{limits, is_lawful};
+ghost use Rattle.regatta_board.specs.Replays.{first_refused};
 ghost use Rattle.regatta_office.specs.declared.run.TheConstants.{INPUT_LIMIT};
 ghost use Rattle.regatta_office.specs.Coming.{Cuts, IsTooLong, IsWithin, ReadSome, Stops, Talked};
 ghost use Rattle.regatta_office.specs.Coming.{coming};
@@ -198,9 +199,9 @@ pub fn replay<R: Source, W: Sink>(
     // If an entry of the start is refused, the result is the first of them, or `NoMemory`. Nothing
     // is read or written then.
     ensures lawful { OnOk result (is_lawful limits rules.now start.now ≡ true) }
-    ensures start { IfErr result (IsRunFault (refused_from limits rules.now [] start.now)) }
-    ensures unread { refused_from limits rules.now [] start.now ≢ None → input.new ≡ input.old }
-    ensures silent { refused_from limits rules.now [] start.now ≢ None → output.new ≡ output.old }
+    ensures start { IfErr result (IsRunFault (first_refused rules.now start.now)) }
+    ensures unread { first_refused rules.now start.now ≢ None → input.new ≡ input.old }
+    ensures silent { first_refused rules.now start.now ≢ None → output.new ≡ output.old }
 
     // A failed device is reported as its own fault and as nothing else.
     ensures well { OnOk result ((R.failures input.new ≡ R.failures input.old)

@@ -1,10 +1,11 @@
 //! Which commands are refused, and why.
-ghost use Rattle.std.specs.Prelude.{◌≡◌, ◌<◌, ◌&&◌, length, nat_eq, nat_le, true, false, not, is_none};
-ghost use Rattle.std.specs.Prelude.{Some, None, nat_lt, if◌then◌else◌};
+ghost use Rattle.std.specs.Prelude.{◌≡◌, ◌<◌, length, nat_le, nat_lt, true, false, not, Some, None};
+ghost use Rattle.std.specs.Prelude.{if◌then◌else◌};
 ghost use Rattle.regatta_terms.specs.Effects.{AtEnd, Clears, Decides, InRace, effect};
 ghost use Rattle.regatta_scores.specs.Journal.{entered, order, is_of_other_system};
 ghost use Rattle.regatta_scores.specs.Journal.{is_scored as is_scored_in, held as held_in};
 ghost use Rattle.regatta_scores.specs.Order.{is_empty};
+ghost use Rattle.regatta_scores.specs.RaceScores.{holds_nothing};
 ghost use Rattle.regatta_terms.specs.declared.sail.Sail.{Sail};
 ghost use Rattle.regatta_board.specs.KeptJournal.{kept_of, number as number_of};
 ghost use Rattle.regatta_board.specs.Step.{AreNumbers};
@@ -36,8 +37,7 @@ fn penalties(kind: PenaltyKind, held: &Held) -> u8
 }
 
 fn holds_nothing(held: &Held) -> bool
-    ensures { result ≡ (is_none held.now.code && nat_eq held.now.zfp 0 && nat_eq held.now.scp 0
-        && is_none held.now.redress) }
+    ensures { result ≡ holds_nothing held.now }
 {
     held.code.is_none() && held.zfp == 0 && held.scp == 0 && held.redress.is_none()
 }

@@ -1,8 +1,8 @@
-use Rattle.std.proofs.Common.{◌≡◌, ◌∙◌, [], ap, arith, length, subst, sym}
+use Rattle.std.proofs.Common.{◌≡◌, ◌∙◌, ap, arith, length, subst, sym}
 use Rattle.regatta_board.specs.Revisions.{revised}
-use Rattle.regatta_board.specs.Scoring.{Scoring, AddsBoat, AreColumns, lines_by, with_columns}
-use Rattle.regatta_board.specs.Table.{Kept, IsKept, races}
-use Rattle.regatta_board.proofs.ScoringFacts.{sheet_turns, boat_added, room_for_boat, none_there}
+use Rattle.regatta_board.specs.Scoring.{Scoring, AreColumns, lines_by, with_columns}
+use Rattle.regatta_board.specs.Table.{Kept, races}
+use Rattle.regatta_board.proofs.ScoringFacts.{sheet_turns, boat_added, room_for_boat}
 use Rattle.regatta_board.proofs.ScoringFacts.{lines_by_long}
 use Rattle.regatta_board.proofs.scoring.new_lines.Goals as goal
 
@@ -28,23 +28,13 @@ drafted_lines-requires-clause-races c =
 
 pub returns-in-Enter-clause-each : goal.returns-in-Enter-clause-each
 returns-in-Enter-clause-each c =
-    let a = c.args in
-    let none : races a.kept.now.counts ≡ [] =
-    ap (λ r. races (revised a.kept.now r).counts) (sym c.in-Enter.is) ∙ sym c.requires.races
-    ∙ none_there a.races.now (sym c.is_empty.ensures ∙ c.if-is_empty.true) in
-    room_for_boat a.rules.now a.kept.now a.scoring.now c.requires.scoring c.in-Enter.boats
-    c.in-Enter.sheets (subst (λ r. AddsBoat a.kept.now r) c.in-Enter.is c.requires.adds) none
-    (subst (λ r. IsKept (revised a.kept.now r)) c.in-Enter.is c.requires.next)
+    room_for_boat c.args.rules.now c.args.kept.now c.requires.scoring c.in-Enter.is c.requires.adds
+    c.requires.races (sym c.is_empty.ensures ∙ c.if-is_empty.true) c.requires.next
 
 pub returns-in-Enter-clause-value : goal.returns-in-Enter-clause-value
 returns-in-Enter-clause-value c =
-    let a = c.args in
-    let none : races a.kept.now.counts ≡ [] =
-    ap (λ r. races (revised a.kept.now r).counts) (sym c.in-Enter.is) ∙ sym c.requires.races
-    ∙ none_there a.races.now (sym c.is_empty.ensures ∙ c.if-is_empty.true) in
-    boat_added a.rules.now a.kept.now a.scoring.now c.requires.scoring c.in-Enter.boats
-    c.in-Enter.sheets (subst (λ r. AddsBoat a.kept.now r) c.in-Enter.is c.requires.adds) none
-    ∙ ap (λ r. lines_by a.rules.now (revised a.kept.now r)) (sym c.in-Enter.is)
+    boat_added c.args.rules.now c.args.kept.now c.requires.scoring c.in-Enter.is c.requires.adds
+    c.requires.races (sym c.is_empty.ensures ∙ c.if-is_empty.true)
 
 pub returns-in_ok-lines-in-Enter-2-clause-each : goal.returns-in_ok-lines-in-Enter-2-clause-each
 returns-in_ok-lines-in-Enter-2-clause-each c =
