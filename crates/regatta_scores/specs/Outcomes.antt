@@ -34,14 +34,13 @@ outcome same rules race boat = record {
 -- her score by what came of her: her points, and whether an average replaces them (A9); whether it
 -- is a DNE, which is never excluded (90.3(b)); and the abbreviation in her cell (A10)
 abbrev pub score_of : Outcome → RaceScore
-score_of outcome =
-    let held = outcome.held in
-    record {
-      points = (redress_by outcome.plain held.redress).0;
-      averaged = (redress_by outcome.plain held.redress).1;
-      dne = is_dne held.code;
-      mark = mark_by held.redress (status_by held.code outcome.placed) held.zfp held.scp;
-    }
+score_of outcome = record {
+  points = (redress_by outcome.plain outcome.held.redress).0;
+  averaged = (redress_by outcome.plain outcome.held.redress).1;
+  dne = is_dne outcome.held.code;
+  mark = mark_by outcome.held.redress (status_by outcome.held.code outcome.placed)
+      outcome.held.zfp outcome.held.scp;
+}
 
 -- her score in each scored race, by the journal
 abbrev pub scores : RulesParts → Journal → Sail → List RaceScore

@@ -85,10 +85,9 @@ module _ {B : Type 0} (same : B → B → Bool) where
   -- to the DNF score; a score that is no better than that stays (30.2, 44.3(c))
   abbrev pub plain : RulesParts → Race B → B → ℕ
   plain rules race boat =
-      let dnf_score = dnf rules race in
-      let base =
-      base_by (status race boat) (place_points race boat) (length race.entered) dnf_score in
-      max base (min (base + 10 * penalty_points rules dnf_score (race.held boat)) (10 * dnf_score))
+      let cap = dnf rules race in
+      let base = base_by (status race boat) (place_points race boat) (length race.entered) cap in
+      max base (min (base + 10 * penalty_points rules cap (race.held boat)) (10 * cap))
 
 -- ---- the race on a sheet, and in the journal
 
