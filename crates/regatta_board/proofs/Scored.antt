@@ -1,10 +1,12 @@
 -- The scores that the board keeps, after one more command.
 use Rattle.std.proofs.Common.{◌≡◌, ◌≢◌, ℕ, ◌+◌, ◌-◌, ◌<◌, ◌≤◌, Bool, true, false, List, [], ◌∷◌, ◌++◌}
-use Rattle.std.proofs.Common.{refl, ap, ◌∙◌, sym, arith, length, map, get_or, nat_eq, nat_lt, cond}
+use Rattle.std.proofs.Common.{refl, ap, ◌∙◌, sym, arith, length, map, filter, get_or, nat_eq, nat_lt}
+use Rattle.std.proofs.Common.{cond}
 use Rattle.std.specs.List.{range_with_len}
 use Rattle.std.proofs.Math.ListN.{set}
 use Rattle.std.proofs.lemmas.List.{get_or-set_other, get_or-set_same, get_or_push}
 use Rattle.std.proofs.lemmas.List.{get_or_append_left, get_or_past}
+use Rattle.std.proofs.lemmas.List.Elements.{filter_passes, recursion_from_All}
 use Rattle.std.proofs.lemmas.Bool.{eqb-false}
 use borrow.Author.Tests.{eqb-true, ltb-true, ltb-false}
 use Rattle.regatta_terms.specs.Rules.{RulesParts}
@@ -16,7 +18,14 @@ use Rattle.regatta_scores.specs.RaceScores.{no_score, scores_in, ScoresAs}
 use Rattle.regatta_scores.proofs.AlikeScores.{line_unmarked, unmarked, unmarked_one}
 use Rattle.regatta_board.specs.Table.{Kept, column, columns, races}
 use Rattle.regatta_board.specs.Scoring.{AreColumns, column_at}
-use Rattle.regatta_board.proofs.Untouched.{map_passed}
+use Rattle.regatta_board.proofs.Numbers.{map_known}
+
+-- mapping the elements that pass a test by two functions that agree on them
+map_passed : {X Y : Type 0} (p : X → Bool) (f g : X → Y) → ((x : X) → p x ≡ true → f x ≡ g x)
+    → (xs : List X) → map f (filter p xs) ≡ map g (filter p xs)
+map_passed p f g same xs =
+    map_known (λ x. p x ≡ true) f g same (filter p xs)
+    (recursion_from_All (λ x. p x ≡ true) (filter p xs) (filter_passes p xs))
 
 -- two cases: two numbers are equal, or they are not
 one_or_other : {P : Type 0} (k r : ℕ) → (k ≡ r → P) → (k ≢ r → P) → P

@@ -39,7 +39,6 @@ use Rattle.regatta_board.proofs.LedgerLemmas.{sheet_long}
 use Rattle.regatta_board.proofs.Lines.{line_at, lines_long, lines_more}
 use Rattle.regatta_board.proofs.Numbers.{all_races}
 use Rattle.regatta_board.proofs.Scored.{columns_found, counted_at, line_stays, uncounted_sheet}
-use Rattle.regatta_board.proofs.Untouched.{untouched_columns}
 
 -- the columns of the races that count have a score for each boat
 pub columns_even : (rules : RulesParts) (kept : Kept) → IsKept kept
@@ -59,8 +58,8 @@ columns_even rules kept is =
 
 -- columns that are looked up one by one are those of the sheets
 module _ (rules : RulesParts) (kept : Kept) (is : IsKept kept) (slots : List (List RaceScore))
-    (are : AreColumns rules kept slots) (rs : List ℕ) (counted : rs ≡ races kept.counts)
-    (found : List (List RaceScore))
+    (are : AreColumns rules kept slots) {rs : List ℕ} (counted : rs ≡ races kept.counts)
+    {found : List (List RaceScore)}
     (each : found ≡ map (λ race. get_or slots (race - 1) []) rs) where
   pub found_columns : found ≡ columns rules kept.sheets (races kept.counts)
   found_columns = each ∙ ap (map (λ race. get_or slots (race - 1) [])) counted
@@ -122,13 +121,12 @@ pub record AreTurned (rules : RulesParts) (ls : List BoatScores) (was hers : Lis
       → ScoresAs (get_or hers boat no_score) (get_or was boat no_score)
       → get_or ls boat no_line ≡ line_by rules (scores_in found boat)
 
-module _ (rules : RulesParts) (kept : Kept) (change : Revision)
-    (next : IsKept (revised kept change)) (scoring : Scoring)
-    (is : IsScoring rules kept scoring) (new : NewColumns)
-    (are : AreNewColumns rules kept (revised kept change) new) (race : ℕ)
-    (turned : RemakesOnly rules kept change race scoring new) (ls : List BoatScores)
-    (lines_are : ls ≡ scoring.lines) (rs : List ℕ) (counted : rs ≡ races kept.counts)
-    (found : List (List RaceScore))
+module _ {rules : RulesParts} {kept : Kept} {change : Revision} {race : ℕ} {scoring : Scoring}
+    {new : NewColumns} (turned : RemakesOnly rules kept change race scoring new)
+    (next : IsKept (revised kept change)) (is : IsScoring rules kept scoring)
+    (are : AreNewColumns rules kept (revised kept change) new) {ls : List BoatScores}
+    (lines_are : ls ≡ scoring.lines) {rs : List ℕ} (counted : rs ≡ races kept.counts)
+    {found : List (List RaceScore)}
     (each : found ≡ map (λ race. get_or (with_columns scoring.columns new) (race - 1) []) rs) where
   abbrev slots : List (List RaceScore)
   slots = with_columns scoring.columns new
@@ -148,11 +146,11 @@ module _ (rules : RulesParts) (kept : Kept) (change : Revision)
   -- the lines computed from the columns found are those of what is kept afterwards
   pub turned_all : lines rules found (length ls) ≡ lines_by rules (revised kept change)
   turned_all i =
-      lines rules (found_columns rules (revised kept change) next slots slots_are rs counted_after
-      found each i) (long_after i)
+      lines rules (found_columns rules (revised kept change) next slots slots_are counted_after each i)
+      (long_after i)
 
   module _ (is_kept : IsKept kept) (within : IsRace race)
-      (counts : get_or kept.counts (race - 1) false ≡ true) (was hers : List RaceScore)
+      (counts : get_or kept.counts (race - 1) false ≡ true) {was hers : List RaceScore}
       (was_is : was ≡ get_or scoring.columns (race - 1) [])
       (hers_is : hers ≡ get_or (with_columns scoring.columns new) (race - 1) []) where
     line_kept : (boat : ℕ) → boat < length ls
@@ -177,8 +175,8 @@ module _ (rules : RulesParts) (kept : Kept) (change : Revision)
 
     pub turned_lines : AreTurned rules ls was hers found
     turned_lines = record {
-      even = found_even rules (revised kept change) next slots slots_are rs counted_after found
-          each (length ls) long_after;
+      even = found_even rules (revised kept change) next slots slots_are counted_after each (length ls)
+          long_after;
       old = ap length was_is
           ∙ column_even rules kept is_kept scoring.columns is.columns race within counts ∙ sym long;
       new = ap length hers_is
@@ -237,16 +235,18 @@ are_ranked rules before after old is ranked each made ranking = (
 
 -- a revision that can't change the standing changes no score
 pub untouched_scores : (rules : RulesParts) (kept : Kept) (change : Revision)
+    (slots : List (List RaceScore)) → AreColumns rules kept slots
     → may_change_standing kept change ≡ false
     → AreNewScores rules kept (revised kept change)
     (record { races = None; columns = Same; ranked = None })
-untouched_scores rules kept (revision.Enter boats sheets) e = cc
-untouched_scores rules kept (revision.Counts race counts) e = cc
-untouched_scores rules kept (revision.Sheet race sheet) e = record {
+untouched_scores rules kept (revision.Enter boats sheets) slots are e = cc
+untouched_scores rules kept (revision.Counts race counts) slots are e = cc
+untouched_scores rules kept (revision.Sheet race sheet) slots are e = record {
   races = refl;
-  columns = λ old long are. (long, uncounted_sheet rules kept old are (race - 1) sheet e);
-  ranked = λ i. lines rules (sym (untouched_columns rules kept race sheet e) i)
-      (length kept.sails);
+  columns = λ old long those. (long, uncounted_sheet rules kept old those (race - 1) sheet e);
+  ranked = λ i. lines rules ((sym (columns_found rules kept slots are)
+      ∙ columns_found rules (revised kept (revision.Sheet race sheet)) slots
+      (uncounted_sheet rules kept slots are (race - 1) sheet e)) i) (length kept.sails);
 }
 
 -- if no line is new, no line changes

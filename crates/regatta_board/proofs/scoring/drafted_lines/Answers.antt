@@ -1,5 +1,4 @@
 use Rattle.std.proofs.Common.{◌≡◌, ◌∙◌, ap, arith, length}
-use Rattle.regatta_board.specs.Scoring.{with_columns}
 use Rattle.regatta_board.specs.Table.{columns, lines, races}
 use Rattle.regatta_board.proofs.Columns.{columns_few, races_few}
 use Rattle.regatta_board.proofs.ScoringFacts.{found_columns, found_even}
@@ -7,20 +6,16 @@ use Rattle.regatta_board.proofs.scoring.drafted_lines.Goals as goal
 
 pub whole_lines-requires-clause-even : goal.whole_lines-requires-clause-even
 whole_lines-requires-clause-even c =
-    found_even c.args.rules.now c.args.draft.now c.requires.kept
-    (with_columns c.args.old.now c.args.new.now) c.requires.columns c.args.races.now
-    c.requires.races c.deref.result.now
-    (c.deref.ensures.0 ∙ c.push_columns.ensures) c.len.result
+    found_even c.args.rules.now c.args.draft.now c.requires.kept _ c.requires.columns
+    c.requires.races (c.deref.ensures.0 ∙ c.push_columns.ensures) c.len.result
     (cc (c.len.ensures, c.boats.ensures))
 
 pub returns-clause-value : goal.returns-clause-value
 returns-clause-value c =
     let found : c.deref.result.now
     ≡ columns c.args.rules.now c.args.draft.now.sheets (races c.args.draft.now.counts) =
-    found_columns c.args.rules.now c.args.draft.now c.requires.kept
-    (with_columns c.args.old.now c.args.new.now) c.requires.columns c.args.races.now
-    c.requires.races c.deref.result.now
-    (c.deref.ensures.0 ∙ c.push_columns.ensures) in
+    found_columns c.args.rules.now c.args.draft.now c.requires.kept _ c.requires.columns
+    c.requires.races (c.deref.ensures.0 ∙ c.push_columns.ensures) in
     let n : c.len.result ≡ length c.args.draft.now.sails = cc (c.len.ensures, c.boats.ensures) in
     c.in_ok-lines.ensures.value ∙ (λ i. lines c.args.rules.now (found i) (n i))
 

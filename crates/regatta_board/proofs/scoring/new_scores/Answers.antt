@@ -10,6 +10,7 @@ use Rattle.regatta_board.proofs.scoring.new_scores.Goals as goal
 pub returns-then-not-may_change_standing-clause-value : goal.returns-then-not-may_change_standing-clause-value
 returns-then-not-may_change_standing-clause-value c =
     untouched_scores c.args.rules.now c.args.kept.now c.args.revision.now
+    c.args.scoring.now.columns c.requires.scoring.columns
     (sym c.may_change_standing.ensures ∙ c.if-not-may_change_standing.true)
 
 pub new_lines-requires-clause-races : goal.new_lines-requires-clause-races

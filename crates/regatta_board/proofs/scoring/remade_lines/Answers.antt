@@ -27,13 +27,11 @@ turned c =
     c.deref-2.ensures.value ∙ ap (λ (s : Scoring). s.columns) c.scoring.view_is in
     let was : c.index-old.result.now ≡ get_or a.scoring.now.columns (a.race - 1) [] =
     grind (arith, common_steps) in
-    turned_lines a.rules.now a.kept.now a.revision.now c.requires.next a.scoring.now
-    c.requires.scoring a.columns.now c.requires.new a.race c.requires.turned c.deref-3.result.now
-    (ls c) c.as_slice.result.now (rs c) c.deref-4.result.now
+    turned_lines c.requires.turned c.requires.next c.requires.scoring c.requires.new (ls c) (rs c)
     (c.deref-4.ensures.0 ∙ c.push_columns.ensures
     ∙ (λ i. map (λ race. get_or (with_columns (cols i) a.columns.now) (race - 1) [])
     c.as_slice.result.now)) c.requires.kept c.get.ensures.range c.requires.counts
-    c.index-old.result.now c.current-new.result was
+    was
     (c.current-new.ensures
     ∙ (λ i. get_or (with_columns (cols-2 i) a.columns.now) (a.race - 1) []))
 
@@ -82,11 +80,9 @@ returns-clause-value c =
     c.deref-3.ensures.value ∙ ap (λ (s : Scoring). s.lines) c.scoring.view_is in
     ap (λ xs. with_changed xs c.in_ok-lines.lines.items) (sym ls)
     ∙ c.in_ok-lines.ensures.value
-    ∙ turned_all a.rules.now a.kept.now a.revision.now c.requires.next a.scoring.now
-    c.requires.scoring a.columns.now c.requires.new a.race c.requires.turned c.deref-3.result.now
-    ls c.as_slice.result.now
+    ∙ turned_all c.requires.turned c.requires.next c.requires.scoring c.requires.new ls
     (c.as_slice.ensures ∙ ap (λ (s : Scoring). s.races) c.scoring.view_is
-    ∙ c.requires.scoring.races) c.deref-4.result.now
+    ∙ c.requires.scoring.races)
     (c.deref-4.ensures.0 ∙ c.push_columns.ensures
     ∙ (λ i. map (λ race. get_or (with_columns (cols i) a.columns.now) (race - 1) [])
     c.as_slice.result.now))

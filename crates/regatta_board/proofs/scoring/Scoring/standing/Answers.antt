@@ -48,8 +48,8 @@ each c =
 found : (c : goal.After-as_slice-2) → c.deref-4.result.now
     ≡ columns c.requires.scoring.0 c.args.kept.now.sheets (races c.args.kept.now.counts)
 found c =
-    found_columns c.requires.scoring.0 c.args.kept.now c.requires.kept c.args.self.now.columns
-    c.requires.scoring.1.columns c.deref-2.result.now (rs c) c.deref-4.result.now (each c)
+    found_columns c.requires.scoring.0 c.args.kept.now c.requires.kept _
+    c.requires.scoring.1.columns (rs c) (each c)
 
 ps : (c : goal.After-as_slice-2) → c.as_slice-2.result.now ≡ places c.args.self.now.lines
 ps c = c.as_slice-2.ensures ∙ c.in_ok-places.ensures
@@ -65,9 +65,8 @@ sorted_rows-requires-clause-ranking c =
 
 pub sorted_rows-requires-clause-even : goal.sorted_rows-requires-clause-even
 sorted_rows-requires-clause-even c =
-    found_even c.requires.scoring.0 c.args.kept.now c.requires.kept c.args.self.now.columns
-    c.requires.scoring.1.columns c.deref-2.result.now (rs c) c.deref-4.result.now (each c)
-    (length c.boats.result.now) (ap length (boats c))
+    found_even c.requires.scoring.0 c.args.kept.now c.requires.kept _
+    c.requires.scoring.1.columns (rs c) (each c) (length c.boats.result.now) (ap length (boats c))
 
 pub sorted_rows-requires-clause-lines : goal.sorted_rows-requires-clause-lines
 sorted_rows-requires-clause-lines c = ap length (ls c) ∙ many c
@@ -112,8 +111,7 @@ returns c rules is =
     ≡ map (λ race. get_or c.args.self.now.columns (race - 1) []) c.deref-2.result.now =
     c.deref-4.ensures.0 ∙ c.push_columns.ensures
     ∙ (λ i. map (λ race. get_or (cols i) (race - 1) []) c.deref-2.result.now) in
-    let found = found_columns rules c.args.kept.now c.requires.kept c.args.self.now.columns
-    is.columns c.deref-2.result.now rs c.deref-4.result.now each in
+    let found = found_columns rules c.args.kept.now c.requires.kept _ is.columns rs each in
     let all = columns rules c.args.kept.now.sheets (races c.args.kept.now.counts) in
     let races_are = c.new.ensures ∙ counted in
     let rows_made = c.new-2.ensures ∙ c.in_ok-rows.ensures
