@@ -1,10 +1,7 @@
-use Rattle.std.proofs.Common.{◌≡◌, ◌++◌, ◌∷◌, [], ap, ◌∙◌, sym, length, refl, None, arith}
+use Rattle.std.proofs.Common.{◌≡◌, ◌++◌, ◌∷◌, [], ap, ◌∙◌, sym, length, arith}
 use Rattle.std.proofs.Common.{map, nat_eq}
 use Rattle.std.specs.List.{range_with_len}
-use Rattle.std.proofs.lemmas.List.{get_or_read_under}
-use Rattle.regatta_scores.specs.Sheet.{nothing_held}
-use Rattle.regatta_scores.specs.RacePoints.{dnf_by, plain, race_of}
-use Rattle.regatta_scores.specs.PlacedPoints.{plain_with, number_came_with}
+use Rattle.regatta_scores.specs.RacePoints.{plain, race_of}
 use Rattle.regatta_scores.proofs.Placed.{plain_at}
 use Rattle.regatta_scores.proofs.Ranges.{map_range_more}
 use Rattle.regatta_scores.proofs.points.plain_points.Goals as goal

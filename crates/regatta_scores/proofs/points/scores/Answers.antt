@@ -1,10 +1,6 @@
-use Rattle.std.proofs.Common.{◌≡◌, ◌++◌, ◌∷◌, [], ap, ◌∙◌, sym, length, refl, None, arith, map}
+use Rattle.std.proofs.Common.{◌≡◌, ◌++◌, ◌∷◌, [], ap, ◌∙◌, sym, length, arith, map}
 use Rattle.std.specs.List.{range_with_len}
-use Rattle.std.proofs.lemmas.List.{get_or_read_under}
-use Rattle.regatta_scores.specs.Sheet.{nothing_held}
-use Rattle.regatta_scores.specs.RacePoints.{dnf_by}
 use Rattle.regatta_scores.specs.RaceScores.{race_score}
-use Rattle.regatta_scores.specs.PlacedPoints.{score_with, number_came_with}
 use Rattle.regatta_scores.proofs.Placed.{score_at}
 use Rattle.regatta_scores.proofs.Ranges.{map_range_more}
 use Rattle.regatta_scores.proofs.points.scores.Goals as goal
