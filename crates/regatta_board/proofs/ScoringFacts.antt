@@ -186,48 +186,47 @@ module _ {rules : RulesParts} {kept : Kept} {change : Revision} {race : ℕ} {sc
     }
 
 -- after new scores are moved in, the scores are those of what is kept afterwards
-pub scored_after : (rules : RulesParts) (before after : Kept) (old : Scoring)
-    → IsScoring rules before old → (new : NewScores) → AreNewScores rules before after new
-    → IsScoring rules after (with_scores old new)
-scored_after rules before after old is new are = record {
-  races = ap (unwrap_or new.races) is.races ∙ are.races;
-  long = (are.columns old.columns is.long is.columns).0;
-  columns = (are.columns old.columns is.long is.columns).1;
-  lines = lines_are new.ranked are.ranked;
-  ranking = ranking_is new.ranked are.ranked;
-}
-  where
-    lines_are : (ranked : Option Ranked) → AreRanked rules before after ranked
-        → option_map_or (λ (r : Ranked). with_lines old.lines r.lines) ranked old.lines
-        ≡ lines_by rules after
-    lines_are None e = is.lines ∙ e
-    lines_are (Some ranked) e = ap (λ ls. with_lines ls ranked.lines) is.lines ∙ e.1
+module _ {rules : RulesParts} {before after : Kept} {old : Scoring}
+    (is : IsScoring rules before old) {new : NewScores}
+    (are : AreNewScores rules before after new) where
+  pub scored_after : IsScoring rules after (with_scores old new)
+  scored_after = record {
+    races = ap (unwrap_or new.races) is.races ∙ are.races;
+    long = (are.columns old.columns is.long is.columns).0;
+    columns = (are.columns old.columns is.long is.columns).1;
+    lines = lines_are new.ranked are.ranked;
+    ranking = ranking_is new.ranked are.ranked;
+  }
+    where
+      lines_are : (ranked : Option Ranked) → AreRanked rules before after ranked
+          → option_map_or (λ (r : Ranked). with_lines old.lines r.lines) ranked old.lines
+          ≡ lines_by rules after
+      lines_are None e = is.lines ∙ e
+      lines_are (Some ranked) e = ap (λ ls. with_lines ls ranked.lines) is.lines ∙ e.1
 
-    ranking_is : (ranked : Option Ranked) → AreRanked rules before after ranked
-        → IsRanking (option_map_or (λ (r : Ranked). with_lines old.lines r.lines) ranked old.lines)
-        (option_map_or (λ (r : Ranked). r.ranking) ranked old.ranking)
-    ranking_is None e = is.ranking
-    ranking_is (Some ranked) e =
-        subst (λ ls. IsRanking ls ranked.ranking) (sym (lines_are (Some ranked) e)) e.2
+      ranking_is : (ranked : Option Ranked) → AreRanked rules before after ranked
+          → IsRanking (option_map_or (λ (r : Ranked). with_lines old.lines r.lines) ranked old.lines)
+          (option_map_or (λ (r : Ranked). r.ranking) ranked old.ranking)
+      ranking_is None e = is.ranking
+      ranking_is (Some ranked) e =
+          subst (λ ls. IsRanking ls ranked.ranking) (sym (lines_are (Some ranked) e)) e.2
 
--- new lines, if there are any, are those of boats
-pub new_lines_fit : (rules : RulesParts) (before after : Kept) (old : Scoring)
-    → IsScoring rules before old → (new : NewScores) → AreNewScores rules before after new
-    → IfSome new.ranked (λ ranked. FitBoats old.lines ranked.lines)
-new_lines_fit rules before after old is new are = by new.ranked are.ranked
-  where
-    by : (ranked : Option Ranked) → AreRanked rules before after ranked
-        → IfSome ranked (λ r. FitBoats old.lines r.lines)
-    by None e = tt
-    by (Some ranked) e = subst (λ ls. FitBoats ls ranked.lines) (sym is.lines) e.0
+  -- new lines, if there are any, are those of boats
+  pub new_lines_fit : IfSome new.ranked (λ ranked. FitBoats old.lines ranked.lines)
+  new_lines_fit = by new.ranked are.ranked
+    where
+      by : (ranked : Option Ranked) → AreRanked rules before after ranked
+          → IfSome ranked (λ r. FitBoats old.lines r.lines)
+      by None e = tt
+      by (Some ranked) e = subst (λ ls. FitBoats ls ranked.lines) (sym is.lines) e.0
 
 -- new lines and their ranking, computed from the lines that are kept, are those of what is kept afterwards
-pub are_ranked : (rules : RulesParts) (before after : Kept) (old : Scoring)
+pub are_ranked : {rules : RulesParts} {before : Kept} (after : Kept) {old : Scoring}
     → IsScoring rules before old → (ranked : Ranked) → FitBoats old.lines ranked.lines
     → with_lines old.lines ranked.lines ≡ lines_by rules after
     → IsRanking (with_lines old.lines ranked.lines) ranked.ranking
     → AreRanked rules before after (Some ranked)
-are_ranked rules before after old is ranked each made ranking = (
+are_ranked after is ranked each made ranking = (
   subst (λ ls. FitBoats ls ranked.lines) is.lines each,
   ap (λ ls. with_lines ls ranked.lines) (sym is.lines) ∙ made,
   subst (λ ls. IsRanking ls ranked.ranking) made ranking,
@@ -250,12 +249,11 @@ untouched_scores rules kept (revision.Sheet race sheet) slots are e = record {
 }
 
 -- if no line is new, no line changes
-pub unchanged_lines : (rules : RulesParts) (before after : Kept) (scoring : Scoring)
+pub unchanged_lines : {rules : RulesParts} {before : Kept} (after : Kept) {scoring : Scoring}
     → IsScoring rules before scoring → (new : NewLines)
     → ((old : List BoatScores) → with_lines old new ≡ old)
     → with_lines scoring.lines new ≡ lines_by rules after → lines_by rules before ≡ lines_by rules after
-unchanged_lines rules before after scoring is new stay made =
-    sym is.lines ∙ sym (stay scoring.lines) ∙ made
+unchanged_lines after is new stay made = sym is.lines ∙ sym (stay _) ∙ made
 
 none_there : (xs : List ℕ) → nat_eq (length xs) 0 ≡ true → xs ≡ []
 none_there [] e = refl

@@ -48,8 +48,7 @@ returns-then-is_empty-clause-value c = record {
   races = c.in_ok-races.ensures;
   columns = c.in_ok-columns.ensures.value;
   ranked =
-      unchanged_lines c.args.rules.now c.args.kept.now
-      (revised c.args.kept.now c.args.revision.now) c.args.scoring.now c.requires.scoring
+      unchanged_lines (revised c.args.kept.now c.args.revision.now) c.requires.scoring
       c.in_ok-lines.lines (c.is_empty.ensures c.if-is_empty.true) c.in_ok-lines.ensures.value;
 }
 
@@ -61,8 +60,7 @@ returns-clause-value c =
       races = c.in_ok-races.ensures;
       columns = c.in_ok-columns.ensures.value;
       ranked =
-          are_ranked c.args.rules.now c.args.kept.now
-          (revised c.args.kept.now c.args.revision.now) c.args.scoring.now c.requires.scoring
+          are_ranked (revised c.args.kept.now c.args.revision.now) c.requires.scoring
           (record { lines = c.in_ok-lines.lines; ranking = c.in_ok-ranking.ranking })
           c.in_ok-lines.ensures.each c.in_ok-lines.ensures.value
           (subst (λ xs. IsRanking (with_lines xs c.in_ok-lines.lines) c.in_ok-ranking.ranking) ls
