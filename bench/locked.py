@@ -3,9 +3,12 @@
 
     bench/locked.py PROGRAM
 
-An office with two seats serves 200 boats and 15 races that count; the first 180 boats finish in each
-race, in one order. Each line is sent after these, and what a run without it takes is subtracted. It
-counts `Desk::confirm` and `Desk::reply`, which are called under the lock, or `Board::prepare` alone.
+An office with two or sixteen seats serves 200 boats and 15 races that count; the first 180 boats
+finish in each race, in one order. Each line is sent after these, and what a run without it takes is
+subtracted. `Office::desk`, which takes the lock, is counted, and the functions that are called under
+it: `Desk::confirm`, `Desk::note_source` and `Desk::reply`; or `Board::prepare` alone. Giving the lock
+back isn't counted. If the compiler has inlined one of these functions, the script ends with a message,
+since it can't be counted.
 """
 import argparse
 import os
@@ -15,16 +18,20 @@ import sys
 import tempfile
 import time
 
-sys.path.append(os.path.join(os.path.dirname(os.path.abspath(__file__)), os.pardir, "tools"))
-from office import Link  # noqa: E402
+from serve import first_link
 
-BOATS, FINISHERS, RACES, PATIENCE = 200, 180, 15, 60.0
-UNDER_THE_LOCK = ["regatta_desk::desk::Desk::confirm*", "regatta_desk::desk::Desk::reply*"]
+BOATS, FINISHERS, RACES = 200, 180, 15
+# None of these calls another, since callgrind would count the outer one without the inner.
+UNDER_THE_LOCK = ["regatta_desk::office::Office::desk::*", "regatta_desk::desk::Desk::confirm*",
+                  "regatta_desk::desk::Desk::note_source*", "regatta_desk::desk::Desk::reply*"]
 PREPARE = ["regatta_board::board::Board::prepare*"]
-LINES = (
-    ("RANK", "RANK B9"),
-    ("FINISH, the race doesn't count", f"FINISH {RACES + 1} B9"),
-    ("BEFORE the first boat", f"BEFORE 10 B{FINISHERS} B0"),
+FINISH = ("FINISH, the race doesn't count", f"FINISH {RACES + 1} B9")
+# What is counted, by the seats of the office. The last BEFORE moves nearly every boat that finished.
+ROWS = (
+    (2, "RANK", "RANK B9"),
+    (2, *FINISH),
+    (16, *FINISH),
+    (2, "BEFORE the first of 180 finishers", f"BEFORE 10 B{FINISHERS} B0"),
 )
 
 
@@ -36,18 +43,17 @@ def series():
     return lines
 
 
-def counted(program, functions, lines):
+def counted(program, seats, functions, lines):
     """The instructions of these functions, and of what they call, for the lines of a client."""
     with tempfile.TemporaryDirectory() as folder:
         path = os.path.join(folder, "socket")
         words = ["valgrind", "--tool=callgrind", "--callgrind-out-file=/dev/null"]
         words += [f"--toggle-collect={name}" for name in functions]
-        words += [program, "serve", "--socket", path, "--clients", "2", "--sessions", "1"]
+        words += [program, "serve", "--socket", path, "--clients", str(seats), "--sessions", "1"]
         office = subprocess.Popen(words, stdout=subprocess.DEVNULL, stderr=subprocess.PIPE)
         while not os.path.exists(path) and office.poll() is None:
             time.sleep(0.05)
-        time.sleep(0.5)
-        client = Link(path, PATIENCE)
+        client = first_link(path)
         for line in lines:
             if not client.ask(line).startswith(("OK", "RANK")):
                 sys.exit(f"the program refuses {line}")
@@ -57,17 +63,29 @@ def counted(program, functions, lines):
         return int(re.search(r"Collected : (\d+)", said)[1])
 
 
+def check_none_is_inlined(program):
+    """Each function is called for these lines, so it has a count unless it is inlined."""
+    for name in UNDER_THE_LOCK + PREPARE:
+        if counted(program, 2, [name], ["ENTER A", "RANK A"]) == 0:
+            sys.exit(f"{name} can't be counted: the compiler has inlined it, or it has another name")
+
+
 def main():
     parser = argparse.ArgumentParser(
         description=__doc__, formatter_class=argparse.RawDescriptionHelpFormatter)
     parser.add_argument("program", metavar="PROGRAM")
     program = parser.parse_args().program
-    print("| line | under the lock | of that `Board::prepare` |")
-    print("|---|---|---|")
-    before = [counted(program, functions, series()) for functions in (UNDER_THE_LOCK, PREPARE)]
-    for name, line in LINES:
-        after = [counted(program, functions, series() + [line]) for functions in (UNDER_THE_LOCK, PREPARE)]
-        print(f"| {name} | {after[0] - before[0]:,} | {after[1] - before[1]:,} |", flush=True)
+    check_none_is_inlined(program)
+    before = {(seats, kind): counted(program, seats, functions, series())
+              for seats in {row[0] for row in ROWS}
+              for kind, functions in enumerate((UNDER_THE_LOCK, PREPARE))}
+    print("| line | seats | under the lock | of that `Board::prepare` |")
+    print("|---|---|---|---|")
+    for seats, name, line in ROWS:
+        locked, prepare = (
+            counted(program, seats, functions, series() + [line]) - before[seats, kind]
+            for kind, functions in enumerate((UNDER_THE_LOCK, PREPARE)))
+        print(f"| {name} | {seats} | {locked:,} | {prepare:,} |", flush=True)
     return 0
 
 

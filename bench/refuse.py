@@ -26,6 +26,9 @@ printed although no memory is reported.
 
 Clients who wait for each answer must also be answered as in a run of the answered lines alone, and the
 table must be the one of that run. Each other answer is reported, and the script then ends with status 1.
+
+It also does if a client's second sheet, or one after a newer entry, makes more than half as many
+requests as the first. Then the ledger of the last sheet isn't kept.
 """
 import contextlib
 import itertools
@@ -338,6 +341,24 @@ class Turns(Serving):
         return (status, said, printed) == (0, b"", table) and len(answered) < len(self.lines)
 
 
+def requests_of_lines(run, library):
+    """How many requests each line of a client makes, except the last, which is QUIT."""
+    counts = []
+    for end in range(len(run.lines)):
+        run.served(library, 0, run.lines[:end] + run.lines[-1:])
+        counts.append(run.requests())
+    return [after - before for before, after in itertools.pairwise(counts)]
+
+
+def are_sheets_kept(folder, program, library):
+    """Whether a second sheet, and one after a newer entry, make few requests."""
+    words = ["serve", "--sessions", "1", "--clients", "1", "--entries", os.path.join(EXAMPLES, "boats.csv")]
+    lines = b"A SHOW\nA SHOW\nA FINISH 1 GBR7\nA SHOW\nA QUIT\n"
+    first, again, _, newer = requests_of_lines(Turns(folder, program, "sheets", words, lines), library)
+    print(f"sheets: {first} requests for the first, {again} for the second, {newer} after a newer entry")
+    return 2 * max(again, newer) <= first
+
+
 def runs(folder, program):
     def run(name, words, text=b"", kind=Run, asks_again=False):
         return kind(folder, program, name, words, text, asks_again)
@@ -364,7 +385,7 @@ def runs(folder, program):
     yield run("serving a kept series", ["serve", "--sessions", "1", "--clients", "2"] + boats, lines,
               Keeping)
     yield run("a sheet after newer entries", ["serve", "--sessions", "1", "--clients", "1"] + boats,
-              b"A FINISH 1 GBR7\nA SHOW\nA SCORE 1\nA SHOW\nA RANK GBR7\nA QUIT\n", Turns)
+              b"A FINISH 1 GBR7\nA SHOW\nA SCORE 1\nA SHOW\nA RANK GBR7\nA SHOW\nA QUIT\n", Turns)
     yield run("a sheet after another's entries", ["serve", "--sessions", "2", "--clients", "2"] + boats,
               TURNS, Turns)
 
@@ -408,8 +429,11 @@ def main():
             print(f"{run.name}: {requests} requests refused{again}, {len(others)} answered otherwise")
             for other in others:
                 print(f"    {other}")
+        are_kept = are_sheets_kept(folder, program, library)
     print(f"{total} requests refused in all, {wrong} answered otherwise")
-    return 1 if wrong else 0
+    if not are_kept:
+        print("a later sheet makes its ledger again from all entries")
+    return 0 if are_kept and not wrong else 1
 
 
 if __name__ == "__main__":

@@ -259,6 +259,16 @@ class Told:
         print(f"  {self.memory:.1f} MiB at most")
 
 
+def print_ratios(one, other):
+    """How the first program compares with the other."""
+    print(f"{one.rate() / other.rate():.2f} times as fast as the other")
+    if one.shows and other.shows:
+        rate = statistics.median(one.show_rates) / statistics.median(other.show_rates)
+        wait = statistics.median(one.shows) / statistics.median(other.shows)
+        print(f"{rate:.2f} times as many SHOWs a second; "
+              f"the median SHOW waits {wait:.2f} times as long")
+
+
 def bench(asked):
     programs = [Told(asked.words)]
     if asked.beside:
@@ -270,7 +280,7 @@ def bench(asked):
     for program in programs:
         program.print()
     if asked.beside:
-        print(f"{programs[0].rate() / programs[1].rate():.2f} times as fast as the other")
+        print_ratios(*programs)
     return 0
 
 

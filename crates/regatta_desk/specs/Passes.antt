@@ -53,7 +53,8 @@ pub record IsTold (history : TableId) (told : Told) : Type 0 where
   pub longest : IsKnown told.listener.longest told.length told.last
   pub each : All (λ j. IsPrefix j told.listener.longest) told.listener.told
 
--- what is kept of a sheet of this journal: its ledger, or none, and the text of its first entries
+-- what a pass keeps of the sheet of this journal: its ledger, or none, and the text of its first
+-- entries
 pub record IsLastSheet (rules : RulesParts) (journal : Journal) (sheet : LastSheet) : Type 0 where
   pub ledger : IfSome sheet.ledger (λ l. l ≡ record { rules = rules; entries = journal })
   pub text : IsTextOfFirst journal sheet.text

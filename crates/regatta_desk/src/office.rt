@@ -18,9 +18,9 @@ use std::marker::{Brand, Model};
 use std::sync::{Mutex, MutexGuard, Wait};
 use std::thread::yield_now;
 
-/// How many turns a thread gives up before it sleeps for the lock: who sleeps has to be woken, which
-/// takes longer than a command.
-const TURNS: u32 = 200;
+/// How many turns a thread gives up before it sleeps for the lock: waking a thread takes longer than
+/// most commands.
+const TRIES_FOR_THE_LOCK: u32 = 200;
 
 /// An office that isn't locked yet.
 ///
@@ -65,7 +65,7 @@ pub struct Office<N: OfficeName, R: Wait + Drop> {
 impl<N: OfficeName, R: Wait + Drop> Office<N, R> {
     /// Waits for the lock and returns the desk. There is no other way to it.
     pub fn desk<W: Wait>(&self, rt: &W) -> MutexGuard<'_, Desk<N, R>> {
-        for _ in 0..TURNS {
+        for _ in 0..TRIES_FOR_THE_LOCK {
             if let Some(desk) = self.desk.try_lock() {
                 return desk;
             }

@@ -52,7 +52,8 @@ impl Cutter {
         false
     }
 
-    /// Takes bytes of the text, none of which ends the line. What isn't buffered isn't read.
+    /// Takes bytes of the text, none of which ends the line. Bytes that there is no room for
+    /// aren't looked at.
     pub fn hear(&mut self, bytes: &[u8])
         ensures { self.new ≡ fold heard_with self.old bytes.now }
     {
