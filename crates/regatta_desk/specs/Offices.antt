@@ -3,7 +3,8 @@ use Rattle.std.specs.Prelude.{◌≡◌, ℕ, ◌+◌, List, [], Some, None, sli
 use Rattle.atomic_table.specs.Seated.{TableId}
 use Rattle.regatta_terms.specs.Rules.{RulesParts}
 use Rattle.regatta_scores.specs.Journal.{Journal}
-use Rattle.regatta_board.specs.Refusals.{limits, last_number, refused_from}
+use Rattle.regatta_board.specs.Refusals.{last_number}
+use Rattle.regatta_board.specs.Replays.{first_refused}
 use Rattle.regatta_watch.specs.Published.{Published}
 use Rattle.regatta_desk.specs.Passes.{PassValue}
 use Rattle.regatta_desk.specs.declared.opening.OpenFault.{OpenFault}
@@ -19,8 +20,8 @@ pub record OpenedValue : Type 0 where
 -- why an office with this start may fail to open: `Refused` names the first refused entry, and
 -- `NoReader` never comes if an entry is refused
 abbrev pub IsOpenFault : RulesParts → Journal → OpenFault → Type 0
-IsOpenFault rules start (fault.Refused at why) = refused_from limits rules [] start ≡ Some (at, why)
-IsOpenFault rules start fault.NoReader = refused_from limits rules [] start ≡ None
+IsOpenFault rules start (fault.Refused at why) = first_refused rules start ≡ Some (at, why)
+IsOpenFault rules start fault.NoReader = first_refused rules start ≡ None
 IsOpenFault rules start fault.BadSeats = Unit {0}
 IsOpenFault rules start fault.NoMemory = Unit {0}
 
