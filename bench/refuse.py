@@ -27,8 +27,8 @@ printed although no memory is reported.
 Clients who wait for each answer must also be answered as in a run of the answered lines alone, and the
 table must be the one of that run. Each other answer is reported, and the script then ends with status 1.
 
-It also does if a client's second sheet, or one after a newer entry, makes more than half as many
-requests as the first. Then the ledger of the last sheet isn't kept.
+The script also ends with status 1 if a client's second sheet, or one after a newer entry, makes more
+than half as many requests as the first: the ledger of the last sheet isn't kept then.
 """
 import contextlib
 import itertools

@@ -40,7 +40,7 @@ rank_of rules journal boat =
     option_map (λ row. record { rank = row.rank; tied = row.tied; net = row.net })
     (find (λ row. same_sail boat row.sail) (standing rules journal).rows)
 
--- the place of the entry, and the new row of the boat that it names
+-- the place of the entry, and the new row of the first boat that it names, if any
 abbrev pub answer : RulesParts → Journal → EntryParts → Answer
 answer rules journal entry = record {
   place = length journal + 1;

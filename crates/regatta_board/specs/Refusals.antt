@@ -29,7 +29,7 @@ use Rattle.regatta_scores.specs.declared.sheet.Held.{Held}
 use Rattle.regatta_scores.specs.Journal.{Journal, same_sail, entered, order, held, is_scored}
 use Rattle.regatta_scores.specs.Journal.{is_of_other_system}
 use Rattle.regatta_scores.specs.Order.{stands_in, is_empty}
-use Rattle.regatta_scores.specs.RaceScores.{holds_nothing}
+use Rattle.regatta_scores.specs.Journal.{holds_nothing}
 
 -- how many boats may be entered, and how many entries a journal may have
 pub record Limits : Type 0 where

@@ -1,7 +1,7 @@
 //! The scores that are kept: a column for each race, a line for each boat, and their ranking.
 ghost use Rattle.std.specs.Prelude.{◌≡◌, ◌+◌, ◌-◌, ◌<◌, ◌≤◌, ◌^◌, ℕ, true, false, length};
 ghost use Rattle.std.specs.Prelude.{◌++◌, ◌∷◌, [], List, slice_index_or, All, IfOk, IfSome, OnOk};
-ghost use Rattle.std.specs.Prelude.{None, unwrap_or, vec_capacity};
+ghost use Rattle.std.specs.Prelude.{unwrap_or, vec_capacity};
 ghost use Rattle.regatta_terms.specs.Rules.{RulesParts};
 ghost use Rattle.regatta_scores.specs.Current.{with_changed, AreOfBoats, AreWithin};
 ghost use Rattle.regatta_scores.specs.KeptRanking.{IsRanking};

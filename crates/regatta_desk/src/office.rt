@@ -18,8 +18,8 @@ use std::marker::{Brand, Model};
 use std::sync::{Mutex, MutexGuard, Wait};
 use std::thread::yield_now;
 
-/// How many turns a thread gives up before it sleeps for the lock: waking a thread takes longer than
-/// most commands.
+/// How often a thread tries to take the lock, and gives up its turn, before it sleeps for it: waking
+/// a thread takes longer than most commands.
 const TRIES_FOR_THE_LOCK: u32 = 200;
 
 /// An office that isn't locked yet.

@@ -3,7 +3,7 @@ use Rattle.std.proofs.Common.{◌≡◌, Bool, true, false, ◌&&◌, Option, No
 use Rattle.std.specs.Prelude.{is_none}
 use borrow.Author.Tests.{eqb-true}
 use Rattle.regatta_scores.specs.declared.sheet.Held.{Held}
-use Rattle.regatta_scores.specs.RaceScores.{holds_nothing}
+use Rattle.regatta_scores.specs.Journal.{holds_nothing}
 use Rattle.regatta_scores.specs.Sheet.{nothing_held}
 
 both : (a b : Bool) → (a && b) ≡ true → (a ≡ true) × (b ≡ true)

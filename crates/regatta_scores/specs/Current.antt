@@ -51,7 +51,8 @@ looked_up news (old ∷ olds) (at ∷ positions) =
 abbrev pub flags : List NewLine → List ℕ → List Bool
 flags news positions = map (λ at. nat_lt at (length news)) positions
 
--- the positions, after those of these new lines are put in; the first of these is at `at`
+-- the positions, after each boat that has a new line gets that line's position; the first new line
+-- is at `at`
 abbrev pub with_positions : List ℕ → ℕ → List NewLine → List ℕ
 with_positions positions at [] = positions
 with_positions positions at (new ∷ news) =

@@ -21,9 +21,9 @@ redress_by plain (Some (redress.Points award)) = (award, OverNone)
 redress_by plain (Some redress.AllRaces) = (plain, OverAll)
 redress_by plain (Some redress.RacesBefore) = (plain, OverBefore)
 
--- what came of this boat in the race: her points before redress (A4, A5, A7), what she holds (A9,
--- A10, 30.2, 44.3(c)), and whether she is in the finishing order (A3); `same` is whether two boats
--- are one
+-- what came of this boat in the race: her points before redress (A4 to A7, 30.2, 44.3(c)), what she
+-- holds (A9, A10), and whether she is in the finishing order (A3); `same` is whether two boats are
+-- one
 abbrev pub outcome : {B : Type 0} → (B → B → Bool) → RulesParts → Race B → B → Outcome
 outcome same rules race boat = record {
   plain = plain same rules race boat;
@@ -31,7 +31,7 @@ outcome same rules race boat = record {
   placed = stands_in same boat race.order;
 }
 
--- her score by what came of her: her points, and whether an average replaces them (A9); whether it
+-- her score, by her outcome: her points, and whether an average replaces them (A9); whether it
 -- is a DNE, which is never excluded (90.3(b)); and the abbreviation in her cell (A10)
 abbrev pub score_of : Outcome → RaceScore
 score_of outcome = record {

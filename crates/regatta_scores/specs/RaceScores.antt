@@ -1,21 +1,14 @@
 -- The scores of the boats on a sheet, by their numbers.
-use Rattle.std.specs.Prelude.{◌≡◌, ℕ, Bool, false, ◌&&◌, List, map, nat_eq, None, is_none}
-use Rattle.std.specs.Prelude.{slice_index_or, true}
+use Rattle.std.specs.Prelude.{◌≡◌, ℕ, false, List, map, nat_eq, None, slice_index_or, true}
 use Rattle.std.specs.List.{range_with_len}
 use Rattle.regatta_terms.specs.Rules.{RulesParts}
 use Rattle.regatta_scores.specs.declared.boats.Averaged.TheVariants.{OverNone}
 use Rattle.regatta_scores.specs.declared.boats.RaceScore.{RaceScore}
-use Rattle.regatta_scores.specs.declared.sheet.Held.{Held}
 use Rattle.regatta_scores.specs.Outcomes.{outcome, score_of}
 use Rattle.regatta_scores.specs.RacePoints.{race_of}
 use Rattle.regatta_scores.specs.Sheet.{Sheet, boats, nothing_held}
 use Rattle.regatta_scores.specs.declared.boats.RowItem.{RowItem}
 use Rattle.regatta_scores.specs.Averages as averages
-
--- whether she has no code, no penalty and no redress
-abbrev pub holds_nothing : Held → Bool
-holds_nothing held =
-    ((is_none held.code && nat_eq held.zfp 0) && nat_eq held.scp 0) && is_none held.redress
 
 -- her score on the sheet
 abbrev pub race_score : RulesParts → Sheet → ℕ → RaceScore

@@ -1,7 +1,7 @@
 //! What a line and a cell take of a boat's outcome in one race.
 ghost use Rattle.std.specs.Prelude.{◌≡◌, ℕ};
 ghost use Rattle.regatta_scores.specs.Outcomes.{redress_by, score_of};
-ghost use Rattle.regatta_scores.specs.RaceScores.{holds_nothing};
+ghost use Rattle.regatta_scores.specs.Journal.{holds_nothing};
 ghost use Rattle.regatta_scores.specs.Sheet.{nothing_held};
 
 use crate::boats::{Averaged, RaceScore};
@@ -61,15 +61,21 @@ pub(crate) fn bare_score(plain: Tenths, placed: bool) -> RaceScore
     }
 }
 
-/// Her score by what came of her.
-pub(crate) fn score_of(outcome: Outcome) -> RaceScore
-    ensures { result ≡ score_of outcome }
+/// Her score, by her outcome.
+pub(crate) fn score_of(outcome: &Outcome) -> RaceScore
+    ensures { result ≡ score_of outcome.now }
 {
-    let held = outcome.held;
+    score_by(outcome.plain, &outcome.held, outcome.placed)
+}
+
+/// Her score, by the parts of her outcome: so nothing is copied for each boat of a race.
+pub(crate) fn score_by(plain: Tenths, held: &Held, placed: bool) -> RaceScore
+    ensures { result ≡ score_of (record { plain = plain; held = held.now; placed = placed }) }
+{
     RaceScore {
-        points: award_or(outcome.plain, &held),
+        points: award_or(plain, held),
         averaged: averages_by(held.redress),
         dne: is_dne(held.code),
-        mark: mark(&held, outcome.placed),
+        mark: mark(held, placed),
     }
 }

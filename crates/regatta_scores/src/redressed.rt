@@ -135,7 +135,7 @@ fn item_score(item: &RowItem) -> RaceScore
         redress: item.redress,
         ..NOTHING_HELD
     };
-    score_of(Outcome {
+    score_of(&Outcome {
         plain: item.plain,
         held,
         placed: true,

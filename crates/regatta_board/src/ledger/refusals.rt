@@ -5,7 +5,7 @@ ghost use Rattle.regatta_terms.specs.Effects.{AtEnd, Clears, Decides, InRace, ef
 ghost use Rattle.regatta_scores.specs.Journal.{entered, order, is_of_other_system};
 ghost use Rattle.regatta_scores.specs.Journal.{is_scored as is_scored_in, held as held_in};
 ghost use Rattle.regatta_scores.specs.Order.{is_empty};
-ghost use Rattle.regatta_scores.specs.RaceScores.{holds_nothing};
+ghost use Rattle.regatta_scores.specs.Journal.{holds_nothing};
 ghost use Rattle.regatta_terms.specs.declared.sail.Sail.{Sail};
 ghost use Rattle.regatta_board.specs.KeptJournal.{kept_of, number as number_of};
 ghost use Rattle.regatta_board.specs.Step.{AreNumbers};
