@@ -13,6 +13,7 @@ use std::marker::Model;
 pub struct NewLine {
     /// The boat's number.
     pub boat: u16,
+    /// Her line.
     pub line: BoatLine,
 }
 

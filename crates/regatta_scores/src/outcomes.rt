@@ -1,7 +1,6 @@
 //! What a line and a cell take of a boat's outcome in one race.
 ghost use Rattle.std.specs.Prelude.{◌≡◌, ℕ};
 ghost use Rattle.regatta_scores.specs.Outcomes.{redress_by, score_of};
-ghost use Rattle.regatta_scores.specs.Journal.{holds_nothing};
 ghost use Rattle.regatta_scores.specs.Sheet.{nothing_held};
 
 use crate::boats::{Averaged, RaceScore};
@@ -40,13 +39,6 @@ fn averages_by(redress: Option<Redress>) -> Averaged
         Some(Redress::AllRaces) => Averaged::OverAll,
         Some(Redress::RacesBefore) => Averaged::OverBefore,
     }
-}
-
-/// Whether she has no code, no penalty and no redress.
-pub(crate) fn holds_nothing(held: &Held) -> bool
-    ensures { result ≡ holds_nothing held.now }
-{
-    held.code.is_none() && held.zfp == 0 && held.scp == 0 && held.redress.is_none()
 }
 
 /// The score of a boat that holds nothing.

@@ -2,6 +2,7 @@
 ghost use Rattle.std.specs.Prelude.{◌≡◌, ◌<◌, ◌≤◌, ◌↔◌, ℕ, [], nat_eq, slice_get, Some, IsTrue};
 ghost use Rattle.std.specs.Prelude.{◌++◌, ◌∷◌, length, slice_set, IfOk, false};
 ghost use Rattle.regatta_terms.specs.declared.limits.TheConstants.{MAX_BOATS, MAX_PENALTIES};
+ghost use Rattle.regatta_scores.specs.Journal.{holds_nothing};
 ghost use Rattle.regatta_scores.specs.Sheet.{boats, empty_sheet, nothing_held, time_of};
 ghost use Rattle.regatta_scores.specs.Order.{stands_in};
 ghost use Rattle.regatta_scores.specs.SheetFacts.{IsSheet, Allows};
@@ -27,6 +28,15 @@ pub struct Held {
     pub scp: u8,
     /// The redress that replaces her score, if any (RRS A9).
     pub redress: Option<Redress>,
+}
+
+impl Held {
+    /// Whether she has no code, no penalty and no redress.
+    pub fn is_nothing(&self) -> bool
+        ensures { result ≡ holds_nothing self.now }
+    {
+        self.code.is_none() && self.zfp == 0 && self.scp == 0 && self.redress.is_none()
+    }
 }
 
 /// No code, no penalty and no redress.

@@ -5,7 +5,6 @@ ghost use Rattle.regatta_terms.specs.Effects.{AtEnd, Clears, Decides, InRace, ef
 ghost use Rattle.regatta_scores.specs.Journal.{entered, order, is_of_other_system};
 ghost use Rattle.regatta_scores.specs.Journal.{is_scored as is_scored_in, held as held_in};
 ghost use Rattle.regatta_scores.specs.Order.{is_empty};
-ghost use Rattle.regatta_scores.specs.Journal.{holds_nothing};
 ghost use Rattle.regatta_terms.specs.declared.sail.Sail.{Sail};
 ghost use Rattle.regatta_board.specs.KeptJournal.{kept_of, number as number_of};
 ghost use Rattle.regatta_board.specs.Step.{AreNumbers};
@@ -34,12 +33,6 @@ fn penalties(kind: PenaltyKind, held: &Held) -> u8
         PenaltyKind::Zfp => held.zfp,
         PenaltyKind::Scp => held.scp,
     }
-}
-
-fn holds_nothing(held: &Held) -> bool
-    ensures { result ≡ holds_nothing held.now }
-{
-    held.code.is_none() && held.zfp == 0 && held.scp == 0 && held.redress.is_none()
 }
 
 impl Ledger {
@@ -208,7 +201,7 @@ impl Ledger {
         let held = self.held(race, number);
         if is_decided(&held) && role != Role::Jury {
             Some(Refusal::Decided)
-        } else if holds_nothing(&held) {
+        } else if held.is_nothing() {
             Some(Refusal::NothingToClear)
         } else {
             None
