@@ -53,7 +53,7 @@ pub enum End {
 
 /// Yields to other threads after a SHOW, so that a client who asks for sheets without a pause
 /// leaves the processors to those who send commands.
-fn make_way(shown: bool) {
+fn yield_to_others(shown: bool) {
     if shown {
         for _ in 0..TURNS {
             thread::yield_now();
@@ -220,7 +220,7 @@ impl<N: OfficeName, H: Wait + Drop, C: Covers<N>, G: Gate> Talk<'_, N, H, C, G> 
             return;
         }
         self.gate.after(pass.seat(), self.line);
-        make_way(self.shown);
+        yield_to_others(self.shown);
         match next {
             Next::Go => {}
             Next::End => self.ended = Some(End::Quit),

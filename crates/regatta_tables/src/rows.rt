@@ -70,9 +70,9 @@ fn put_head(page: &mut [u8], row: &Row) -> usize
     put_net(page, at, row.net)
 }
 
-/// Makes room for a score in the page: if there is none, the text so far is appended to `out`, and
-/// the page is empty again.
-fn make_way(page: &[u8], at: usize, out: &mut Vec<u8>) -> Result<usize, AllocError>
+/// Where the next score comes in the page. If there is no room for one, the text so far is appended
+/// to `out`, and the page starts empty.
+fn next_place(page: &[u8], at: usize, out: &mut Vec<u8>) -> Result<usize, AllocError>
     requires page { length page.now ≡ PAGE_ROOM }
     requires within { at ≤ PAGE_ROOM }
     ensures ok { IfOk result (λ place. out.new.items ++ take place page.now
@@ -110,7 +110,7 @@ fn put_cells(
 {
     let mut at = from;
     for cell in cells {
-        let place = make_way(page, at, out)?;
+        let place = next_place(page, at, out)?;
         let place = put(page, place, b' ');
         at = put_cell(page, place, cell);
     }

@@ -52,8 +52,8 @@ impl Cutter {
         false
     }
 
-    /// Takes bytes of the text, none of which ends the line. Bytes that there is no room for
-    /// aren't looked at.
+    /// Takes bytes of the text, none of which ends the line. Bytes that there is no room for are
+    /// dropped.
     pub fn hear(&mut self, bytes: &[u8])
         ensures { self.new ≡ fold heard_with self.old bytes.now }
     {
