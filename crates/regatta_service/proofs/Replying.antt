@@ -9,7 +9,7 @@ use Rattle.regatta_talk.specs.Replies.{role_after}
 use mathlib.Core.List.{IsPrefix}
 use Rattle.regatta_desk.specs.Passes.{PassValue}
 use Rattle.regatta_keeper.specs.Sealing.{IsNoted, Needs}
-use Rattle.regatta_service.specs.Lines.{CutOff, Prepared, Replied, Unsaid}
+use Rattle.regatta_service.specs.Lines.{CutOff, Prepared, Replied}
 use Rattle.regatta_service.specs.LinesTaken.{Asked}
 
 prefix_then : (a b c : Journal) → IsPrefix a b → IsPrefix b c → IsPrefix a c
@@ -52,12 +52,4 @@ module _ {rules : RulesParts} {asked : Asked} {role later : Role} {before after 
     role_set = role_set;
     kept = noted_less p.made_from need book noted p.needs is;
     wrote = wrote;
-  }
-
-  pub unsaid_by : Unsaid rules asked role later before after
-  unsaid_by = record {
-    text = text;
-    made_from = p.made_from;
-    answered = p.answered;
-    role_set = role_set;
   }
