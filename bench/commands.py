@@ -3,9 +3,10 @@
 
     bench/commands.py PROGRAM
 
-Each series has some boats and 15 races that count; in each race all boats but one of ten finish. Each
-command is the last line of a run of `PROGRAM replay`. What the same run without it takes is
-subtracted. The figures are the same on a busy machine. They are printed in thousands.
+Each series has some boats and 15 races that count; nine boats of ten finish in each race. Each command
+is the last line of a run of `PROGRAM replay`. What the same run without it takes is subtracted, so a
+figure includes what a longer input or table and the allocator happen to take in one of the two. The
+figures are the same on a busy machine. They are printed in thousands.
 """
 import argparse
 

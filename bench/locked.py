@@ -21,7 +21,7 @@ import time
 from serve import first_link
 
 BOATS, FINISHERS, RACES = 200, 180, 15
-# None of these calls another, since callgrind would count the outer one without the inner.
+# None of these calls another: callgrind stops counting when it enters a second one.
 UNDER_THE_LOCK = ["regatta_desk::office::Office::desk::*", "regatta_desk::desk::Desk::confirm*",
                   "regatta_desk::desk::Desk::note_source*", "regatta_desk::desk::Desk::reply*"]
 PREPARE = ["regatta_board::board::Board::prepare*"]

@@ -219,10 +219,10 @@ class Serving(Run):
         client.join()
         if os.path.exists(path):
             os.unlink(path)
-        return run.returncode, said, printed, self.told(replies)
+        return run.returncode, said, printed, self.received(replies)
 
     @staticmethod
-    def told(replies):
+    def received(replies):
         return b"".join(replies)
 
     def first_replies(self, library):
@@ -306,7 +306,7 @@ class Turns(Serving):
         return answer
 
     @staticmethod
-    def told(replies):
+    def received(replies):
         return tuple(replies)
 
     def served(self, library, refused, turns=None):

@@ -55,10 +55,11 @@ def crates() -> list[str]:
 
 
 def below(crate: str) -> set[str]:
-    """The crates that a crate uses."""
+    """The crates that a crate uses, and those that they use."""
     rows = (ROOT / "crates.txt").read_text(encoding="utf-8").splitlines()
     uses = {row.partition(":")[0].strip(): row.partition(":")[2].split() for row in rows if row}
-    return {name for name in uses[crate] if name in uses}
+    direct = {name for name in uses[crate] if name in uses}
+    return direct.union(*map(below, direct))
 
 
 def copy_to(copy: Path, made: set[str]) -> None:
