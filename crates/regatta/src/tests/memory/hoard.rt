@@ -4,7 +4,8 @@
 //! call as many bytes as it likes: the heap itself refuses a call that asks for more. Each test is a
 //! process of its own, and makes one hoard.
 
-use regatta_terms::{Entry, MAX_ENTRIES};
+use regatta_scores::BoatLine;
+use regatta_terms::{Entry, MAX_BOATS, MAX_ENTRIES};
 use std::alloc::{AllocError, Global};
 use std::fs;
 use std::fs::Files;
@@ -115,16 +116,28 @@ pub(crate) const MOST_RUNS: usize = 100_000;
 /// runs, or requests are skipped, as `bench/growths.py` shows.
 pub(crate) const FINE_RUNS: usize = 1024;
 
+/// The bytes of a room for this many items, with what the heap adds.
+fn room(items: usize, size: usize) -> usize {
+    items.saturating_mul(size).saturating_add(UNIT)
+}
+
+/// How many bytes are left after this many jumps: those of no room, of one for the lines of all boats,
+/// of one for all entries, of both, of two for the entries, and so on.
+fn rooms_left(jumps: usize) -> usize {
+    let entries = (jumps / 2).saturating_mul(room(MAX_ENTRIES, size_of::<Entry>()));
+    let lines = (jumps % 2).saturating_mul(room(MAX_BOATS, size_of::<BoatLine>()));
+    entries.saturating_add(lines)
+}
+
 /// How many bytes are left to this run of a call, counted from 0: more by a unit each time, so that no
 /// allocation that asks for more than the call has freed is skipped.
 ///
-/// Some calls ask for rooms for all entries that there may be. At any moment such a call has some of
-/// these rooms, and fewer bytes besides than this many runs go through; after them the bytes jump to
-/// the next room.
+/// Some calls ask for rooms for all entries that there may be, or for the lines of all boats. At any
+/// moment such a call has some of these rooms, and fewer bytes besides than this many runs go through;
+/// after them the bytes jump to the next room.
 pub(crate) fn bytes_left(run: usize, fine_runs: usize) -> usize {
     let runs = fine_runs.max(1);
-    let jumped = (run / runs).saturating_mul(MAX_ENTRIES * size_of::<Entry>() + UNIT);
-    jumped.saturating_add((run % runs).saturating_mul(UNIT))
+    rooms_left(run / runs).saturating_add((run % runs).saturating_mul(UNIT))
 }
 
 impl Blocks {
