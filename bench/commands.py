@@ -5,8 +5,8 @@
 
 Each series has some boats and 15 races that count; nine boats of ten finish in each race. Each command
 is the last line of a run of `PROGRAM replay`. What the same run without it takes is subtracted, so a
-figure includes what a longer input or table and the allocator happen to take in one of the two. The
-figures are the same on a busy machine. They are printed in thousands.
+figure includes what a longer input, a longer table and the allocator add. The figures are the same
+on a busy machine. They are printed in thousands.
 """
 import argparse
 

@@ -3,29 +3,23 @@
 
     bench/sheets.py PROGRAM..
 
-An office opens with the journal of a season (season.py) of 40 races: one of 200 boats and 4,000
-entries, and one as large as a series may grow. Sixteen clients ask for SHOW at the same moment, and
-again once all have their sheets, three times in all. The peak memory of each PROGRAM is printed.
+An office opens with the journal of a season of 40 races (season.py): first one of 200 boats and at
+most 4,000 entries, then one as large as a series may grow. Sixteen clients ask for SHOW at the same
+moment, three times; each time they wait until all have their sheets. The peak memory of each PROGRAM
+is printed.
 """
 import argparse
 import os
-import subprocess
 import sys
 import tempfile
 import threading
+from concurrent.futures import ThreadPoolExecutor
 
-from season import BOATS, ENTRIES, RACES, season
-from serve import PATIENCE, SEATS, Server, first_link, read_sheet
+from season import BOATS, ENTRIES, RACES, journal, season, text
+from serve import PATIENCE, SEATS, Server, begin, first_link, read_sheet
 
 TIMES = 3
 SEASONS = ((200, 4000), (BOATS, ENTRIES))
-
-
-def journal(program, lines):
-    """The journal of these lines, as `--journal` reads it."""
-    run = subprocess.run([program, "replay", "--print", "journal"], check=True, text=True,
-                         input="\n".join(lines) + "\n", stdout=subprocess.PIPE)
-    return run.stdout[run.stdout.index("REGATTA 2\n"):]
 
 
 def show(path, together):
@@ -38,36 +32,42 @@ def show(path, together):
     client.close()
 
 
-def memory(program, start):
-    """The peak memory of an office that opens with this journal, in MiB."""
-    server = Server([program, "serve", "--journal", start], SEATS, SEATS + 1)
+def peak(server):
+    """The peak memory of an office, in MiB, once all clients were shown their sheets."""
     together = threading.Barrier(SEATS)
-    clients = [threading.Thread(target=show, args=(server.path, together)) for _ in range(SEATS)]
-    for client in clients:
-        client.start()
-    for client in clients:
-        client.join()
-    peak = server.memory()
-    last = first_link(server.path)
-    last.ask("QUIT")
-    last.close()
-    server.end()
-    return peak
+    with ThreadPoolExecutor(SEATS) as pool:
+        for client in [pool.submit(show, server.path, together) for _ in range(SEATS)]:
+            client.result()
+    memory = server.memory()
+    begin(server, [])
+    status, _, errors = server.end()
+    if status != 0:
+        sys.exit(f"the program ended with status {status}: {errors.decode()}")
+    return memory
+
+
+def measured(program, entries):
+    """The peak memory of an office that opens with these entries, in MiB."""
+    with tempfile.TemporaryDirectory() as folder:
+        start = os.path.join(folder, "journal")
+        with open(start, "wb") as file:
+            file.write(text(entries))
+        server = Server([program, "serve", "--journal", start], SEATS, SEATS + 1)
+        try:
+            return peak(server)
+        finally:
+            server.program.kill()
 
 
 def main():
     parser = argparse.ArgumentParser(usage=__doc__.split("\n\n")[1])
     parser.add_argument("programs", nargs="+")
     asked = parser.parse_args()
-    for boats, entries in SEASONS:
-        lines = season(boats, RACES, entries)
+    for boats, most in SEASONS:
+        entries = journal(season(boats, RACES, most))
         for program in asked.programs:
-            with tempfile.TemporaryDirectory() as folder:
-                start = os.path.join(folder, "journal")
-                with open(start, "w", encoding="ascii") as file:
-                    file.write(journal(program, lines))
-                print(f"{program}: {boats} boats, {entries} entries: "
-                      f"{memory(program, start):.1f} MiB at most")
+            print(f"{program}: {boats} boats, {len(entries)} entries: "
+                  f"{measured(program, entries):.1f} MiB at most")
     return 0
 
 
