@@ -1,13 +1,15 @@
 #!/usr/bin/env python3
-"""Makes docs/STATEMENT.md: what the contract of `replay` says, down to the last definition.
+"""Makes docs/STATEMENT.md: what the sentences of Appendix A and the contract of `replay` say, down to
+the last definition.
 
     bench/statement.py             writes the page
     bench/statement.py --check     compares the page with the sources; status 1 if it is out of date
     bench/statement.py --figures   prints the numbers of definitions and lines
 
-The page has the contract, each definition of `specs/` that it rests on, and the types and constants
-of the Rust code that these name. It has nothing else. The script follows each name from where it is
-cited to where it is defined. A name that is bound (a parameter, a field, after `λ` or `let`) cites
+The first part of the page has the sentences and what they rest on, the second part the contract and
+what else it rests on: definitions of `specs/`, and the types and constants of the Rust code that
+these name. It has nothing else. The script follows each name from where it is cited to where it is
+defined. A name that is bound (a parameter, a field, after `λ` or `let`) cites
 nothing. A name that is neither bound, defined nor imported stops the script, and so does a part of
 `specs/` that it can't read, so nothing is left out silently.
 """
@@ -23,9 +25,15 @@ from pathlib import Path
 ROOT = Path(__file__).resolve().parent.parent
 PAGE = ROOT / "docs" / "STATEMENT.md"
 CONTRACT = ("regatta_office", "run", "replay")
+# The crate of the rules, and its law that at most one table fits the sentences.
+RULES = "regatta_scores"
+SENTENCES = (RULES, "AppendixLaws", "AtMostOneFits")
+# The modules of the sentences, which come first, and those of the facts of a journal.
+SENTENCES_FIRST = "AppendixA AppendixLaws".split()
+FACTS = "Order CorrectedTimes Journal".split()
 # The modules of a crate in the order in which they read best; others come after these.
-READING = {"regatta_scores": """Order CorrectedTimes Journal RacePoints Marks Abbreviations Outcomes
-           Averages Exclusions Ranking Lines Standing""".split()}
+READING = {RULES: """Order CorrectedTimes Journal RacePoints Marks Abbreviations Outcomes Averages
+           Exclusions Ranking Lines Standing""".split()}
 
 # What the language of definitions has itself.
 BUILT_IN = set("Type Unit tt record data where abbrev unfoldable pub let in do Prim".split())
@@ -102,7 +110,7 @@ class Scope:
 
 def binders(found: list[str], at: int) -> list[str]:
     """The names that a parenthesis binds, as `(a b : ℕ)`; none if it isn't of that kind."""
-    names = []
+    names: list[str] = []
     for token in found[at + 1:]:
         if token == ":":
             return names
@@ -114,7 +122,8 @@ def binders(found: list[str], at: int) -> list[str]:
 
 def lambda_names(found: list[str], at: int) -> list[str]:
     """The names that the λ at this place binds."""
-    names, depth, typed = [], 0, False
+    names: list[str] = []
+    depth, typed = 0, False
     for token in found[at + 1:]:
         if token == "." and depth == 0:
             break
@@ -280,15 +289,17 @@ class Specs:
 
     def names_of_parts(self, item: Item, lines: list[str], bound: set[str]) -> set[str]:
         """The names in the header of a record or data type, and in the types of its parts."""
-        scope, found = Scope(bound), set()
+        scope = Scope(bound)
+        found: set[str] = set()
         text = "\n".join(lines)
         head, _, rest = text.partition("where")
         words = tokens(head)
         found |= set(cited_names(words[words.index(item.key[2]) + 1:], scope))
-        for part in re.split(r"\n(?=  (?:pub )?\S+ : )", rest):
+        indent = len(head) - len(head.lstrip()) + 2
+        for part in re.split(rf"\n(?= {{{indent}}}(?:pub )?\S+ : )", rest):
             words = tokens(part.strip().removeprefix("pub "))
             if words:
-                found |= set(cited_names(words[1:], scope))
+                found |= set(cited_names(words[1:], Scope(scope.levels[0])))
                 scope.bind(words[0])
         return found
 
@@ -417,7 +428,8 @@ class Sources:
 
     def cited_by_rust(self, source: Source, text: str) -> list[Item | tuple[str, str]]:
         """What a declaration cites, and the clauses in it."""
-        ghost, found = source.ghost_imports(), []
+        ghost = source.ghost_imports()
+        found: list[Item | tuple[str, str]] = []
         seen = re.search(r"// A contract sees (.*)\.$", text, re.M)
         clauses = [seen[1]] if seen else clauses_of(text)
         bare = re.sub("//.*", "", text)
@@ -506,8 +518,8 @@ def in_order(items: list[Item]) -> list[Item]:
 
 
 def modules_in_order(items: list[Item], reading: list[str]) -> list[str]:
-    """The modules of one crate, each after those whose definitions it cites, else in the order in
-    which they read best, else by name."""
+    """The modules of one crate that have items here, each after those whose definitions it cites,
+    else in the order in which they read best, else by name."""
     needs: dict[str, set[str]] = {}
     for item in items:
         crate, place, _ = item.key
@@ -523,7 +535,7 @@ def modules_in_order(items: list[Item], reading: list[str]) -> list[str]:
 
     def add(place: str) -> None:
         if place not in done:
-            for other in sorted(needs[place] - {place}, key=order):
+            for other in sorted(needs[place] & needs.keys() - {place}, key=order):
                 add(other)
             done.append(place)
 
@@ -536,11 +548,12 @@ def modules_in_order(items: list[Item], reading: list[str]) -> list[str]:
 
 INTRODUCTION = """# The statement
 
-This page says what is proved of a whole run: the contract of `replay`, all definitions that it rests on, and no others. The script [`bench/statement.py`](../bench/statement.py) makes it from the sources; change those, and run the script.
+This page says what is proved of scores and of a whole run, down to the last definition. The script [`bench/statement.py`](../bench/statement.py) makes it from the sources; change those, and run the script.
 
-The prover checks that the code meets the contract. Only reading shows that these definitions say what the racing rules mean: compare them with the rules, by the [table of rules](#by-rule) at the end. [SCORING](SCORING.md) and [FORMATS](FORMATS.md) say the same in words, and the modules `Worked..` of `specs/` compute examples.
+1. [The sentences](#the-sentences) are Appendix A as a relation between a journal and a table: a field for each sentence of the rules, and the facts of a journal that they rest on. Whoever believes them knows what a table means. At most one table fits them (the law `at_most_one_table_fits`), and each table that the program makes does: the contracts of `Board::standing`, `standing_of`, `Pass::show` and `replay` say so first, in the clause `appendix_a`.
+2. [How it is computed](#how-it-is-computed) has the contract of `replay`, and each definition that it rests on besides. Nobody has to believe those of scores: by the law `only_the_standing_fits` the table that they compute is the one that fits.
 
-Each definition comes after those that it cites.
+The prover checks that the code meets the contracts. Only reading shows that the sentences say what the racing rules mean: compare them with the rules, by the [table of rules](#by-rule) at the end. [SCORING](SCORING.md) and [FORMATS](FORMATS.md) say the same in words, and the modules `Worked..` of `specs/` compute examples.
 
 | notation | meaning |
 |---|---|
@@ -549,14 +562,30 @@ Each definition comes after those that it cites.
 | `λ x. e`, `A → B` | a function; the type of a function, and of facts "if A then B" |
 | `(a, b)`, `p.0` | a pair, and its first part |
 | `≡`, `×`, `⊎`, `⊥` | equality, "and", "or", what never holds |
+| `A ↔ B` | A if and only if B |
 | `(n : ℕ) × P` | "for some n" |
 | `codes "QUIT"` | the bytes of a word |
 | `x.old`, `x.new`, `x.now` | a value before the call, after it, and throughout |
 """
 
+FIRST_PART = """## The sentences
 
-def heading(crate: str, place: str) -> str:
-    return f"{crate}: types and constants" if place.startswith("src.") else f"{crate}: {place}"
+What has to be believed about scores, and all of it. The sentences come first; after them each definition comes after those that it cites.
+"""
+
+SECOND_PART = """## How it is computed
+
+The contract of `replay`, and what it rests on besides the first part. Each definition comes after those that it cites.
+"""
+
+
+def heading(crate: str, place: str, more: bool = False) -> str:
+    """The heading of a module, or of the types and constants of a crate; `more` if the first part
+    of the page has some of it."""
+    named = "types and constants" if place.startswith("src.") else place
+    if more:
+        named = f"more {named}" if place.startswith("src.") else f"more of {named}"
+    return f"{crate}: {named}"
 
 
 def slug(text: str) -> str:
@@ -595,7 +624,7 @@ def rules_cited(item: Item) -> set[str]:
             for part in re.findall(r"\([a-z]\)", parts) or [""]}
 
 
-def rule_order(rule: str) -> tuple:
+def rule_order(rule: str) -> tuple[bool, list[int]]:
     parts = re.findall(r"\d+|[a-z]", rule)
     return rule[0] != "A", [int(part) if part.isdigit() else ord(part) for part in parts]
 
@@ -606,58 +635,124 @@ def figures(items: list[Item]) -> tuple[int, int, int]:
     return len(own), sum(item.lines() for item in own), len(items) - len(own)
 
 
-def table_of_figures(crates: list[str], found: dict[Key, Item]) -> list[str]:
-    lines = ["| crate | definitions | their lines | types and constants |", "|---|---|---|---|"]
-    for crate in crates:
-        mine = [item for item in found.values() if item.key[0] == crate]
-        if mine:
-            lines.append(f"| `{crate}` | {' | '.join(map(str, figures(mine)))} |")
-    return lines + [f"| all | {' | '.join(map(str, figures(list(found.values()))))} |", ""]
+@dataclass
+class Parts:
+    """The items of the first part, and what the second part has besides."""
+
+    first: list[Item]
+    second: list[Item]
 
 
-def page(sources: Sources) -> str:
-    contract = sources.contract()
-    found = sources.closure(contract)
-    lines = INTRODUCTION.splitlines() + [""]
-    lines += table_of_figures(sources.crates, found)
-    lines += ["## The contract of `replay`", ""] + fenced("rust", contract.text)
-    rules: dict[str, list[str]] = {}
-    for crate in sources.crates:
-        mine = [item for item in found.values() if item.key[0] == crate]
-        places = sorted({item.key[1] for item in mine if item.rust})
-        rust = [item for place in places for item in sorted(
-            (it for it in mine if it.key[1] == place), key=lambda it: it.order)]
-        specs = [item for item in mine if not item.rust]
-        if mine:
-            lines += [f"## {crate}", ""]
-        if rust:
-            lines += [f"### {heading(crate, 'src.')}", ""]
-            code = [line for item in in_order(rust) for line in [*item.text, ""]]
-            lines += fenced("rust", code[:-1])
-        sections = [("src.", in_order(rust))]
-        for place in modules_in_order(specs, READING.get(crate, [])):
-            own = sorted((it for it in specs if it.key[1] == place), key=lambda it: it.order)
-            sections.append((place, own))
-            about = plain(sources.specs[crate, place].about)
-            lines += [f"### {heading(crate, place)}", "", about, ""] + fenced("text", shown(own))
-        for place, own in sections:
-            for item in own:
-                for rule in rules_cited(item):
-                    rules.setdefault(rule, []).append(
-                        f"[`{item.key[2]}`](#{slug(heading(crate, place))})")
-    lines += ["## Words of the library", "",
-              "The toolchain's library defines these, and its pages explain them.", ""]
+def parts_of(sources: Sources) -> Parts:
+    law = sources.get(SENTENCES)
+    sources.follow(law)
+    first = {law.key: law, **sources.closure(law)}
+    whole = sources.closure(sources.contract())
+    cited = {key[:2] for key in [*first, *whole]}
+    for place in READING[RULES]:
+        if (RULES, place) not in cited:
+            raise Unreadable(f"no module {place} to read")
+    return Parts(list(first.values()), [item for key, item in whole.items() if key not in first])
+
+
+def is_fact(item: Item) -> bool:
+    crate, place, _ = item.key
+    return crate != RULES or place in FACTS
+
+
+def table_of_figures(parts: Parts) -> list[str]:
+    rows = {
+        "the sentences": [item for item in parts.first if not is_fact(item)],
+        "the facts of a journal that they rest on": list(filter(is_fact, parts.first)),
+        "the first part": parts.first,
+        "how it is computed": parts.second,
+    }
+    lines = ["| what | definitions | their lines | types and constants |", "|---|---|---|---|"]
+    lines += [f"| {name} | {' | '.join(map(str, figures(items)))} |" for name, items in rows.items()]
+    return lines + [""]
+
+
+class Page:
+    """Writes the sections of the page, and remembers which definition cites which rule."""
+
+    def __init__(self, sources: Sources) -> None:
+        self.sources = sources
+        self.rules: dict[str, list[str]] = {}
+        self.headings: set[str] = set()
+
+    def titled(self, crate: str, place: str, items: list[Item]) -> list[str]:
+        """The heading of a section; the rules that its items cite are noted under it."""
+        title = heading(crate, place)
+        if title in self.headings:
+            title = heading(crate, place, more=True)
+        self.headings.add(title)
+        for item in items:
+            for rule in rules_cited(item):
+                self.rules.setdefault(rule, []).append(f"[`{item.key[2]}`](#{slug(title)})")
+        return [f"### {title}", ""]
+
+    def module(self, crate: str, place: str, items: list[Item]) -> list[str]:
+        own = sorted((item for item in items if item.key[:2] == (crate, place)),
+                     key=lambda item: item.order)
+        about = plain(self.sources.specs[crate, place].about)
+        return self.titled(crate, place, own) + [about, ""] + fenced("text", shown(own))
+
+    def types(self, crate: str, items: list[Item]) -> list[str]:
+        rust = sorted((item for item in items if item.rust),
+                      key=lambda item: (item.key[1], item.order))
+        code = [line for item in in_order(rust) for line in [*item.text, ""]]
+        return self.titled(crate, "src.", in_order(rust)) + fenced("rust", code[:-1])
+
+    def crates(self, items: list[Item]) -> list[str]:
+        """The types, constants and modules of all crates, the lowest crate first."""
+        lines: list[str] = []
+        for crate in self.sources.crates:
+            mine = [item for item in items if item.key[0] == crate]
+            specs = [item for item in mine if not item.rust]
+            if len(specs) < len(mine):
+                lines += self.types(crate, mine)
+            places = {item.key[1] for item in specs}
+            reading = [place for place in READING.get(crate, []) if place in places]
+            for place in modules_in_order(specs, reading):
+                lines += self.module(crate, place, specs)
+        return lines
+
+    def first_part(self, items: list[Item]) -> list[str]:
+        lines = [*FIRST_PART.splitlines(), ""]
+        for place in SENTENCES_FIRST:
+            lines += self.module(RULES, place, items)
+        return lines + self.crates([item for item in items if item.key[1] not in SENTENCES_FIRST])
+
+    def second_part(self, contract: Item, items: list[Item]) -> list[str]:
+        lines = [*SECOND_PART.splitlines(), "", "### The contract of `replay`", ""]
+        return lines + fenced("rust", contract.text) + self.crates(items)
+
+    def by_rule(self) -> list[str]:
+        lines = ["## By rule", "", "Which definitions and types cite which rule of the RRS.", "",
+                 "| rule | definitions |", "|---|---|"]
+        return lines + [f"| {rule} | {', '.join(self.rules[rule])} |"
+                        for rule in sorted(self.rules, key=rule_order)]
+
+
+def library_words(items: list[Item]) -> list[str]:
     words: dict[str, set[str]] = {}
-    for item in [contract, *found.values()]:
+    for item in items:
         for path, name in item.words:
             words.setdefault(path, set()).add(name)
-    lines += ["| module | words |", "|---|---|"]
+    lines = ["## Words of the library", "",
+             "The toolchain's library defines these, and its pages explain them.", "",
+             "| module | words |", "|---|---|"]
     for path in sorted(words):
         named = ", ".join(f"`{name}`" for name in sorted(words[path]))
         lines.append(f"| `{path.removeprefix('Rattle.')}` | {named} |")
-    lines += ["", "## By rule", "", "Which definitions and types cite which rule of the RRS.", "",
-              "| rule | definitions |", "|---|---|"]
-    lines += [f"| {rule} | {', '.join(rules[rule])} |" for rule in sorted(rules, key=rule_order)]
+    return lines + [""]
+
+
+def page(sources: Sources) -> str:
+    contract, parts, made = sources.contract(), parts_of(sources), Page(sources)
+    lines = [*INTRODUCTION.splitlines(), "", *table_of_figures(parts)]
+    lines += made.first_part(parts.first) + made.second_part(contract, parts.second)
+    lines += library_words([contract, *parts.first, *parts.second]) + made.by_rule()
     return "\n".join(lines) + "\n"
 
 
@@ -669,7 +764,7 @@ def main() -> int:
     try:
         sources = Sources()
         if asked.figures:
-            print("\n".join(table_of_figures(sources.crates, sources.closure(sources.contract()))))
+            print("\n".join(table_of_figures(parts_of(sources))))
             return 0
         made = page(sources)
     except Unreadable as why:

@@ -2,7 +2,9 @@
 from __future__ import annotations
 
 import os
+import pathlib
 import sys
+import tempfile
 import unittest
 
 import helpers
@@ -25,6 +27,27 @@ CITED = [
     ('f "text of f" 12 -- and a comment', "", "f"),
     ("if same a b then a ∷ [] else []", "a b", "if◌then◌else◌ same ∷ []"),
 ]
+
+
+# A module with a record under parameters that has comments between its fields.
+RECORDS = """-- Records.
+use Rattle.std.specs.Prelude.{◌≡◌, ℕ, List, length}
+
+module _ (scores : List ℕ) where
+  -- how many scores there are
+  abbrev pub many : ℕ
+  many = length scores
+
+  -- a row
+  pub record IsRow (row : List ℕ) : Type 0 where
+    -- A2.2: she is scored in each race
+    pub a2_2 : length row ≡ many
+    -- A8.1: the first
+    -- and more
+    pub a8 : (n : ℕ) → first row ≡ n →
+        n ≡ best row
+    pub last : a8 ≡ n
+"""
 
 
 class Statement(unittest.TestCase):
@@ -53,6 +76,34 @@ class Statement(unittest.TestCase):
         """A module of the order that isn't there stops the script."""
         with self.assertRaises(statement.Unreadable):
             statement.modules_in_order([statement.Item(("crate", "A", "f"), [], [])], ["A", "B"])
+
+    def test_record_of_sentences(self) -> None:
+        """Each field's type is read, and a comment above a field is none of it."""
+        with tempfile.TemporaryDirectory() as folder:
+            path = pathlib.Path(folder) / "Records.antt"
+            path.write_text(RECORDS, encoding="utf-8")
+            module = statement.Specs("crate", path)
+        row = module.items["IsRow"]
+        self.assertEqual(module.names(row), set("List ℕ length ≡ many first best n".split()))
+        self.assertEqual(statement.rules_cited(row), {"A2.2", "A8.1"})
+        self.assertEqual(row.lines(), 5)
+
+    def test_parts(self) -> None:
+        """No definition stands in both parts, and the first stays short."""
+        parts = statement.parts_of(statement.Sources())
+        first, second = ({item.key for item in items} for items in (parts.first, parts.second))
+        self.assertFalse(first & second)
+        self.assertIn(("regatta_scores", "AppendixA", "IsAppendixA"), first)
+        definitions, lines, _ = statement.figures(parts.first)
+        self.assertLessEqual(definitions, 70)
+        self.assertLessEqual(lines, 310)
+
+    def test_sentences_compute_nothing(self) -> None:
+        """The first part cites nothing by which a table is computed."""
+        parts = statement.parts_of(statement.Sources())
+        computed = set("Standing Lines Ranking Exclusions Averages Outcomes".split())
+        places = {item.key[1] for item in parts.first}
+        self.assertFalse(places & computed)
 
     def test_rules_cited(self) -> None:
         item = statement.Item(("", "", ""), ["-- her rank (A8.1, 44.3(c)), `A1`; A9 (a), (b)"], [])

@@ -12,6 +12,8 @@ use Rattle.regatta_terms.specs.declared.reply.Refusal.{Refusal}
 use Rattle.regatta_terms.specs.declared.reply.Refusal.TheVariants.{NoMemory}
 use Rattle.regatta_terms.specs.declared.reply.Reply.{Reply}
 use Rattle.regatta_terms.specs.declared.reply.Reply.TheVariants.{Closed, Refused}
+use Rattle.regatta_scores.specs.declared.table.Standing.{Standing}
+use Rattle.regatta_scores.specs.AppendixA.{IsAppendixA}
 use Rattle.regatta_scores.specs.Journal.{Journal}
 use Rattle.regatta_scores.specs.Standing.{standing}
 use Rattle.regatta_board.specs.Answers.{answer, rank_of}
@@ -79,13 +81,17 @@ pub record MayShow (rules : RulesParts) (pass : PassValue) (journal : Journal) :
   pub told : All (λ j. IsPrefix j journal) pass.told
   pub sources : All (λ j. IsPrefix j journal) pass.sources
 
--- the sheet of such a journal, with its standing: the pass has now seen it
+-- the sheet of such a journal, with the table that fits Appendix A, its standing: the pass has now
+-- seen it
 pub record ShowsSheet (rules : RulesParts) (before after : PassValue) (old new : List ℕ)
     : Type 0 where
   pub journal : Journal
   pub may : MayShow rules before journal
   pub pass : after ≡ record before { seen = journal }
-  pub text : new ≡ old ++ sheet_text journal (standing rules journal)
+  pub table : Standing
+  pub appendix_a : IsAppendixA rules journal table
+  pub computed : table ≡ standing rules journal
+  pub text : new ≡ old ++ sheet_text journal table
 
 -- a sheet without memory for its text: the pass has seen it, and the reply is a refusal
 pub record SawSheet (rules : RulesParts) (before after : PassValue) (old new : List ℕ)

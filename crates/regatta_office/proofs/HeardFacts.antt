@@ -1,13 +1,12 @@
 -- Bytes of a line that are buffered one after another.
-use Rattle.std.proofs.Common.{◌≡◌, ℕ, zero, suc, ◌+◌, ◌<◌, Bool, true, false, cond, List, []}
-use Rattle.std.proofs.Common.{◌∷◌, ◌++◌, ◌||◌, length, take, get_or, refl, sym, ap, ◌∙◌, arith}
+use Rattle.std.proofs.Common.{◌≡◌, ℕ, Bool, true, false, List, []}
+use Rattle.std.proofs.Common.{◌∷◌, ◌++◌, ◌||◌, length, get_or, refl, sym, ap, ◌∙◌, arith}
 use Rattle.std.proofs.Common.{map, Err}
 use Rattle.regatta_terms.specs.Lines.{line_of_words}
 use Rattle.regatta_terms.specs.declared.line.LineFault.TheVariants.{NoSuchWord}
 use Rattle.std.specs.List.{fold, list_any}
 use Rattle.std.specs.List.{slice_split, onto_first}
 use Rattle.std.proofs.lemmas.List.Splits.{slice_split-cons_yes, slice_split-cons_no}
-use Rattle.std.proofs.lemmas.List.Sums.{fold_more}
 use Rattle.regatta_terms.specs.Lines.{line_of}
 use Rattle.regatta_terms.specs.TextLines.{is_line_end, lines_of_pieces}
 use Rattle.regatta_talk.specs.HeardLines.{heard, heard_with, heard_lines}

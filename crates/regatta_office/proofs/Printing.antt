@@ -5,7 +5,9 @@ use Rattle.std.specs.Io.KnownBytes.{Appends, Keeps}
 use mathlib.Core.List.{IsPrefix}
 use Rattle.regatta_streams.specs.Texts.{AppendsPrefix}
 use Rattle.regatta_terms.specs.Rules.{RulesParts}
+use Rattle.regatta_scores.specs.AppendixA.{IsAppendixA}
 use Rattle.regatta_scores.specs.Journal.{Journal}
+use Rattle.regatta_scores.specs.Standing.{standing}
 use Rattle.regatta_board.specs.BoardFacts.{BoardValue}
 use Rattle.regatta_board.specs.Refusals.{is_lawful, limits}
 use Rattle.regatta_office.specs.Asked.{BreaksOffTable, PrintsAtMostTable, PrintsKeptTable, PrintsTable}
@@ -35,6 +37,9 @@ without_kept rules start old new (Ok kept) printed = record {
   journal = printed.journal;
   begins = printed.begins;
   lawful = printed.lawful;
+  table = printed.table;
+  appendix_a = printed.appendix_a;
+  computed = printed.computed;
   wrote = printed.wrote;
 }
 without_kept rules start old new (Err fault) printed = tt
@@ -60,7 +65,12 @@ at_most contents rules start old new (Err ScribeFault.NoMemory) table cut silent
 module _ {S : Type 0} (contents : S → Option (List ℕ)) (rules : RulesParts) (start : Journal)
     (old new : S) (board : BoardValue) (same : board.rules ≡ rules)
     (begins : IsPrefix start board.entries)
-    (lawful : is_lawful limits rules board.entries ≡ true) where
+    (lawful : is_lawful limits rules board.entries ≡ true)
+    (fits : IsAppendixA board.rules board.entries (standing board.rules board.entries)) where
+  table_fits : IsAppendixA rules board.entries (standing rules board.entries)
+  table_fits = subst (λ (rules : RulesParts). IsAppendixA rules board.entries
+      (standing rules board.entries)) same fits
+
   pub table_printed : {A E : Type 0} (r : Result A E)
       → OnOk r (Appends (contents old) (contents new) (final_text board.rules Table board.entries))
       → OnOk r (PrintsTable rules start (contents old) (contents new))
@@ -68,6 +78,9 @@ module _ {S : Type 0} (contents : S → Option (List ℕ)) (rules : RulesParts) 
     journal = board.entries;
     begins = begins;
     lawful = lawful;
+    table = standing rules board.entries;
+    appendix_a = table_fits;
+    computed = refl;
     wrote = subst (λ (rules : RulesParts). Appends (contents old) (contents new)
         (final_text rules Table board.entries)) same all;
   }) wrote
@@ -84,6 +97,9 @@ module _ {S : Type 0} (contents : S → Option (List ℕ)) (rules : RulesParts) 
         journal = board.entries;
         begins = begins;
         lawful = lawful;
+        table = standing rules board.entries;
+        appendix_a = table_fits;
+        computed = refl;
         wrote = subst (λ (rules : RulesParts). AppendsPrefix (contents old) (contents new)
             (final_text rules Table board.entries)) same (cut write);
       }) silent

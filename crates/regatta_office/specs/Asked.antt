@@ -5,17 +5,20 @@ use Rattle.std.specs.Io.KnownBytes.{Appends, Keeps}
 use mathlib.Core.List.{IsPrefix}
 use Rattle.regatta_streams.specs.Texts.{AppendsPrefix}
 use Rattle.regatta_terms.specs.Rules.{RulesParts, rules_of_texts}
+use Rattle.regatta_scores.specs.declared.table.Standing.{Standing}
+use Rattle.regatta_scores.specs.AppendixA.{IsAppendixA}
 use Rattle.regatta_scores.specs.Journal.{Journal}
+use Rattle.regatta_scores.specs.Standing.{standing}
 use Rattle.regatta_board.specs.Refusals.{limits, is_lawful}
 use Rattle.regatta_tables.specs.EntryLists.{entries_of_text}
 use Rattle.regatta_tables.specs.JournalFiles.{journal_of}
+use Rattle.regatta_tables.specs.TableTexts.{table_text}
 use Rattle.regatta_office.specs.declared.start_files.TheConstants.{FILE_LIMIT}
 use Rattle.regatta_office.specs.declared.form.Form.{Form}
-use Rattle.regatta_office.specs.declared.form.Form.TheVariants.{Table}
 use Rattle.regatta_keep.specs.WholeLines.{recovery, torn_part}
 use Rattle.regatta_office.specs.KeptStarts.{IsKeptStart}
 use Rattle.regatta_office.specs.Starts.{start_of}
-use Rattle.regatta_office.specs.Transcript.{final_text, run_text}
+use Rattle.regatta_office.specs.Transcript.{WritesRun, run_text}
 
 -- a series: the texts of its rules, whether places follow corrected times (RRS A3), and the paths
 -- of the files that it starts with
@@ -97,15 +100,20 @@ pub record IsReplayOf (asked : ReplayAsked) (given old new : Option (List ℕ)) 
   pub start : Journal
   pub begins : Begins asked.series rules start
   pub lawful : is_lawful limits rules start ≡ true
+  pub appendix_a : IfSome given (λ text. WritesRun rules start asked.form text old new)
   pub wrote : IfSome given (λ text. Appends old new (run_text rules start asked.form text))
 
--- the table of a lawful journal that begins with the start was written
+-- the table of a lawful journal that begins with the start was written: the one that fits Appendix A
+-- for it
 pub record PrintsTable (rules : RulesParts) (start : Journal) (old new : Option (List ℕ)) : Type 0
   where
     pub journal : Journal
     pub begins : IsPrefix start journal
     pub lawful : is_lawful limits rules journal ≡ true
-    pub wrote : Appends old new (final_text rules Table journal)
+    pub table : Standing
+    pub appendix_a : IsAppendixA rules journal table
+    pub computed : table ≡ standing rules journal
+    pub wrote : Appends old new (table_text table)
 
 -- the table of a lawful journal that begins with the start was written, and the journal is a beginning
 -- of one that is kept
@@ -115,7 +123,10 @@ pub record PrintsKeptTable (rules : RulesParts) (start kept : Journal) (old new 
   pub begins : IsPrefix start journal
   pub lawful : is_lawful limits rules journal ≡ true
   pub covered : IsPrefix journal kept
-  pub wrote : Appends old new (final_text rules Table journal)
+  pub table : Standing
+  pub appendix_a : IsAppendixA rules journal table
+  pub computed : table ≡ standing rules journal
+  pub wrote : Appends old new (table_text table)
 
 -- a beginning of such a table was written, and not all of it
 pub record BreaksOffTable (rules : RulesParts) (start : Journal) (old new : Option (List ℕ)) :
@@ -123,7 +134,10 @@ pub record BreaksOffTable (rules : RulesParts) (start : Journal) (old new : Opti
   pub journal : Journal
   pub begins : IsPrefix start journal
   pub lawful : is_lawful limits rules journal ≡ true
-  pub wrote : AppendsPrefix old new (final_text rules Table journal)
+  pub table : Standing
+  pub appendix_a : IsAppendixA rules journal table
+  pub computed : table ≡ standing rules journal
+  pub wrote : AppendsPrefix old new (table_text table)
 
 -- nothing was written, or such a table or a beginning of it
 abbrev pub PrintsAtMostTable : RulesParts → Journal → Option (List ℕ) → Option (List ℕ) → Type 0

@@ -1,6 +1,7 @@
 -- What a replay writes: a reply to each line of a text, and then the table, CSV or journal.
-use Rattle.std.specs.Prelude.{ℕ, Bool, true, false, List, [], ◌∷◌, ◌++◌, Result, Ok, Err}
-use Rattle.std.specs.Prelude.{if◌then◌else◌}
+use Rattle.std.specs.Prelude.{◌≡◌, ℕ, Bool, true, false, List, [], ◌∷◌, ◌++◌, Result, Ok, Err}
+use Rattle.std.specs.Prelude.{if◌then◌else◌, Option}
+use Rattle.std.specs.Io.KnownBytes.{Appends}
 use Rattle.regatta_terms.specs.Lines.{line_of}
 use Rattle.regatta_terms.specs.Rules.{RulesParts}
 use Rattle.regatta_terms.specs.declared.command.Role.{Role}
@@ -9,6 +10,8 @@ use Rattle.regatta_terms.specs.declared.line.Line.{Line}
 use Rattle.regatta_terms.specs.declared.line.Line.TheVariants.{Do, SetRole, Rank, Show, Quit}
 use Rattle.regatta_terms.specs.declared.line.LineFault.{LineFault}
 use Rattle.regatta_terms.specs.declared.reply.Reply.TheVariants.{RoleSet, Bye, Fault}
+use Rattle.regatta_scores.specs.declared.table.Standing.{Standing}
+use Rattle.regatta_scores.specs.AppendixA.{IsAppendixA}
 use Rattle.regatta_scores.specs.Journal.{Journal}
 use Rattle.regatta_scores.specs.Standing.{standing}
 use Rattle.regatta_board.specs.Answers.{rank_of}
@@ -83,6 +86,35 @@ talk_at_end rules talk (line ∷ rest) = talk_at_end rules (turn rules talk (lin
 abbrev pub transcript : RulesParts → Journal → List (List ℕ) → List ℕ
 transcript rules start lines = replies rules (opening start) (up_to_quit lines)
 
+-- the journal after the lines of a text
+abbrev pub journal_at_end : RulesParts → Journal → List ℕ → Journal
+journal_at_end rules start text =
+    (talk_at_end rules (opening start) (up_to_quit (lines text))).journal
+
+-- what a run writes last: the text of a table that fits Appendix A for the journal, or such a table
+-- as CSV, or the journal's own text
+abbrev pub IsFinalPart : RulesParts → Form → Journal → List ℕ → Type 0
+IsFinalPart rules form.Table journal text =
+    (table : Standing) × IsAppendixA rules journal table × (text ≡ table_text table)
+IsFinalPart rules form.Csv journal text =
+    (table : Standing) × IsAppendixA rules journal table × (text ≡ csv_text table)
+IsFinalPart rules form.Journal journal text = text ≡ journal_text journal
+
+-- all that a run writes: the transcript, and then the journal at its end in the form asked for
+pub record IsRunText (rules : RulesParts) (start : Journal) (form : Form) (text written : List ℕ)
+    : Type 0 where
+  pub final : List ℕ
+  pub is_final : IsFinalPart rules form (journal_at_end rules start text) final
+  pub whole : written ≡ transcript rules start (lines text) ++ final
+
+-- a run appended all that it writes
+abbrev pub WritesRun : RulesParts → Journal → Form → List ℕ → Option (List ℕ) → Option (List ℕ)
+    → Type 0
+WritesRun rules start form text old new =
+    (written : List ℕ) × IsRunText rules start form text written × Appends old new written
+
+-- ---- the same, computed
+
 -- a journal as its table, its results as CSV, or its own text
 abbrev pub final_text : RulesParts → Form → Journal → List ℕ
 final_text rules form.Table journal = table_text (standing rules journal)
@@ -92,5 +124,5 @@ final_text rules form.Journal journal = journal_text journal
 -- all that a run writes: the transcript, and then the final journal in the form asked for
 abbrev pub run_text : RulesParts → Journal → Form → List ℕ → List ℕ
 run_text rules start form text =
-    let end = talk_at_end rules (opening start) (up_to_quit (lines text)) in
-    transcript rules start (lines text) ++ final_text rules form end.journal
+    transcript rules start (lines text)
+    ++ final_text rules form (journal_at_end rules start text)

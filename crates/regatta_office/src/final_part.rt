@@ -2,6 +2,8 @@
 ghost use Rattle.std.specs.Prelude.{◌≡◌, ◌+◌, ◌++◌, OnOk, IsErrOf};
 ghost use Rattle.std.specs.Io.KnownBytes.{Appends};
 ghost use Rattle.regatta_streams.specs.Texts.{AppendsPrefix};
+ghost use Rattle.regatta_scores.specs.AppendixA.{IsAppendixA};
+ghost use Rattle.regatta_scores.specs.Standing.{standing};
 ghost use Rattle.regatta_office.specs.Transcript.{final_text};
 
 use crate::form::Form;
@@ -27,7 +29,8 @@ fn write_final(
     }
 }
 
-/// Prints the journal of the board in the form asked for. The text is made whole and then written.
+/// Prints the journal of the board in the form asked for. Its standing, which is the table printed,
+/// fits the sentences of Appendix A. The text is made whole and then written.
 ///
 /// # Errors
 ///
@@ -39,6 +42,8 @@ pub(crate) fn print_final<W: Sink>(
     form: Form,
     output: &mut W,
 ) -> Result<(), ScribeFault>
+    ensures appendix_a { IsAppendixA board.now.rules board.now.entries
+        (standing board.now.rules board.now.entries) }
     ensures wrote { OnOk result (Appends (W.contents output.old) (W.contents output.new)
         (final_text board.now.rules form board.now.entries)) }
     ensures well { OnOk result (W.failures output.new ≡ W.failures output.old) }
@@ -48,6 +53,7 @@ pub(crate) fn print_final<W: Sink>(
         (W.contents output.new) (final_text board.now.rules form board.now.entries) }
     ensures silent { IsErrOf result ScribeFault.NoMemory → output.new ≡ output.old }
 {
+    board.standing_fits();
     let mut text = Vec::new(alloc);
     if write_final(alloc, board, form, &mut text).is_err() {
         return Err(ScribeFault::NoMemory);

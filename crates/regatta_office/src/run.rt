@@ -14,7 +14,7 @@ ghost use Rattle.regatta_office.specs.Faults.{start_fault as start_fault_of};
 ghost use Rattle.regatta_terms.specs.TextLines.{ended_lines, lines};
 ghost use Rattle.regatta_office.specs.Scribes.{point};
 ghost use Rattle.regatta_office.specs.Starts.{IsRunFault};
-ghost use Rattle.regatta_office.specs.Transcript.{has_quit, run_text, transcript};
+ghost use Rattle.regatta_office.specs.Transcript.{WritesRun, has_quit, run_text, transcript};
 
 use crate::final_part::print_final;
 use crate::form::Form;
@@ -184,8 +184,12 @@ pub fn replay<R: Source, W: Sink>(
     start: &[Entry],
     form: Form,
 ) -> Result<(), RunFault>
-    // The lines of the text that the reader gives are answered, however its bytes are cut. Then the
-    // final journal is written, and nothing else.
+    // The lines of the text that the reader gives are answered, however its bytes are cut. What is
+    // printed last is a table that fits Appendix A for the final journal, its CSV or the journal,
+    // and nothing else.
+    ensures appendix_a { OnOk result (IfSome (R.remaining input.old) (λ text.
+        WritesRun rules.now start.now form text (W.contents output.old) (W.contents output.new))) }
+    // The same, with the transcript and the table as they are computed.
     ensures answered { OnOk result (IfSome (R.remaining input.old) (λ text. Appends
         (W.contents output.old) (W.contents output.new)
         (run_text rules.now start.now form text))) }

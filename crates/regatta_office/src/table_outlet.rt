@@ -3,6 +3,8 @@ ghost use Rattle.std.specs.Prelude.{◌≡◌, ◌+◌, OnOk, IsErrOf};
 ghost use Rattle.std.specs.Io.KnownBytes.{Appends};
 ghost use mathlib.Core.List.{IsPrefix};
 ghost use Rattle.regatta_streams.specs.Texts.{AppendsPrefix};
+ghost use Rattle.regatta_scores.specs.AppendixA.{IsAppendixA};
+ghost use Rattle.regatta_scores.specs.Standing.{standing};
 ghost use Rattle.regatta_office.specs.Transcript.{final_text};
 ghost use Rattle.regatta_office.specs.declared.form.Form.TheVariants.{Table};
 
@@ -30,6 +32,8 @@ pub(crate) trait TableOutlet: Device {
         kept: &Kept<N>,
     ) -> Result<(), ScribeFault>
         requires kept { IsPrefix board.now.entries kept.now }
+        ensures appendix_a { IsAppendixA board.now.rules board.now.entries
+            (standing board.now.rules board.now.entries) }
         ensures wrote { OnOk result (Appends (Self.contents self.old) (Self.contents self.new)
             (final_text board.now.rules Table board.now.entries)) }
         ensures well { OnOk result (Self.failures self.new ≡ Self.failures self.old) }

@@ -33,12 +33,12 @@ less_is x y e = by (nat_lt x y) refl e
         other true e = cc
         other false e = cc
 
-is_less : (x y : ℕ) → x < y → nat_cmp x y ≡ Less
+pub is_less : (x y : ℕ) → x < y → nat_cmp x y ≡ Less
 is_less x y h = rw (lt-ltb x y h) refl
 
 -- ---- comparisons of lists
 
-then_lower : (r s : Ordering) → r ≡ Equal → s ≡ Less → ordering_then r s ≡ Less
+pub then_lower : (r s : Ordering) → r ≡ Equal → s ≡ Less → ordering_then r s ≡ Less
 then_lower r s e f = rw e f
 
 lower_at : (xs ys : List ℕ) (k : ℕ) → k < length xs → k < length ys → take k xs ≡ take k ys →

@@ -29,7 +29,7 @@ use Rattle.regatta_scores.proofs.OneMore.{held_from, held_step, counts_by, count
 
 -- ---- what one more entry does in each race
 
-abbrev done_by : EntryParts → Effect
+abbrev pub done_by : EntryParts → Effect
 done_by entry = effect entry.command
 
 act_elsewhere : (race other : ℕ) (act : Act) → other ≢ race → act_in other (InRace race act) ≡ None
@@ -41,6 +41,12 @@ pub acts_more : (journal : Journal) (entry : EntryParts) (race : ℕ) →
 acts_more journal entry race =
     ap (filter_map (act_in race)) (map-append done_by journal (entry ∷ []))
     ∙ filter_map-append (act_in race) (map done_by journal) (effect entry.command ∷ [])
+
+pub acts_append : (journal later : Journal) (race : ℕ) →
+    acts (journal ++ later) race ≡ acts journal race ++ acts later race
+acts_append journal later race =
+    ap (filter_map (act_in race)) (map-append done_by journal later)
+    ∙ filter_map-append (act_in race) (map done_by journal) (map done_by later)
 
 pub one_act : (journal : Journal) (entry : EntryParts) (race : ℕ) (act : Act) →
     effect entry.command ≡ InRace race act →

@@ -333,7 +333,7 @@ flagged_is (x ∷ ys) d =
 
 -- ---- which are excluded
 
-enumerate_at : {X : Type 0} (n : ℕ) (xs : List X) (i j : ℕ) (x : X) → j ≡ n + i →
+pub enumerate_at : {X : Type 0} (n : ℕ) (xs : List X) (i j : ℕ) (x : X) → j ≡ n + i →
     slice_get xs i ≡ Some x → slice_get (enumerate_from n xs) i ≡ Some (j, x)
 enumerate_at n [] i j x index at = cc
 enumerate_at n (y ∷ ys) zero j x index at =

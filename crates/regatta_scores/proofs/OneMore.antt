@@ -81,7 +81,7 @@ count_more p xs x = sum_by_push (λ y. cond (p y) 1 0) xs x ∙ by (p x)
 -- ---- what a boat holds
 
 -- what she holds by the decisions in force
-abbrev held_by : List Decision → Held
+abbrev pub held_by : List Decision → Held
 held_by decisions = record {
   code = last_or None (filter_map code_marked decisions);
   zfp = count_by (is_penalty Zfp) decisions;

@@ -139,7 +139,7 @@ one_more_tied : (place tied : ℕ) → (tied + 2) * (10 * place + 5 * (tied + 1)
     ≡ 10 * place + (tied + 1) * (10 * (place + 1) + 5 * tied)
 one_more_tied place tied = omega arith
 
-tied_points : (place tied : ℕ) → tied * shared_points place tied ≡ points_of_places place tied
+pub tied_points : (place tied : ℕ) → tied * shared_points place tied ≡ points_of_places place tied
 tied_points place zero = omega arith
 tied_points place (suc zero) = omega arith
 tied_points place (suc (suc tied)) =
@@ -196,7 +196,7 @@ sum_constant p n (x ∷ xs) =
     by true rest = omega (arith, add-mul 1 (count_by p xs) n, rest)
     by false rest = omega (arith, add-mul 0 (count_by p xs) n, rest)
 
-all_by : {X : Type 0} (P Q : X → Type 0) → ((x : X) → P x → Q x) → (xs : List X) →
+pub all_by : {X : Type 0} (P Q : X → Type 0) → ((x : X) → P x → Q x) → (xs : List X) →
     AllByRecursion P xs → AllByRecursion Q xs
 all_by P Q f [] all = tt
 all_by P Q f (x ∷ xs) all = (f x all.0, all_by P Q f xs all.1)
@@ -206,7 +206,7 @@ all_by P Q f (x ∷ xs) all = (f x all.0, all_by P Q f xs all.1)
 same_itself : (boat : Sail) → same_sail boat boat ≡ true
 same_itself boat = (bytes_decides boat boat).1 refl
 
-members : (group : List Sail) → AllByRecursion (λ boat. in_group same_sail boat group ≡ true) group
+pub members : (group : List Sail) → AllByRecursion (λ boat. in_group same_sail boat group ≡ true) group
 members [] = tt
 members (first ∷ group) = (
   rw (same_itself first) refl,
@@ -218,7 +218,7 @@ members (first ∷ group) = (
 
 -- ---- a race
 
-finished_by : (o : Option Code) (b : Bool) → b ≡ true → is_finished (status_by o b) ≡ is_none o
+pub finished_by : (o : Option Code) (b : Bool) → b ≡ true → is_finished (status_by o b) ≡ is_none o
 finished_by (Some code) b e = refl
 finished_by None true e = refl
 finished_by None false e = cc

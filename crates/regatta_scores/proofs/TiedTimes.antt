@@ -28,7 +28,7 @@ abbrev pub Rises : List ℕ → Type 0
 Rises [] = Unit {0}
 Rises (x ∷ xs) = AllByRecursion (λ y. x < y) xs × Rises xs
 
-above : (x r : ℕ) (xs : List ℕ) → AllByRecursion (λ y. x < y) xs → among r xs ≡ true → x < r
+pub above : (x r : ℕ) (xs : List ℕ) → AllByRecursion (λ y. x < y) xs → among r xs ≡ true → x < r
 above x r [] all h = cc
 above x r (y ∷ ys) all h = by (nat_eq y r) refl (above x r ys all.1) h
   where

@@ -77,6 +77,20 @@ row sail rank tied net cells =
 abbrev pub table : List ℕ → List Row → Standing
 table races rows = record { races = races; rows = rows }
 
+-- the rules of a series, its commands, and the table that was worked out by hand
+pub record WorkedCase : Type 0 where
+  pub rules : RulesParts
+  pub entries : Journal
+  pub by_hand : Standing
+
+abbrev pub worked : RulesParts → List (Role × Command) → Standing → WorkedCase
+worked rules given by_hand =
+    record { rules = rules; entries = journal given; by_hand = by_hand }
+
+-- the table that was worked out by hand is the standing
+abbrev pub IsStanding : WorkedCase → Type 0
+IsStanding example = standing example.rules example.entries ≡ example.by_hand
+
 -- ---- one race
 
 -- of three boats A and B are tied for first
@@ -85,17 +99,24 @@ tie_for_first =
     scorer (Enter a) ∷ scorer (Enter b) ∷ scorer (Enter c)
     ∷ scorer (Finish 1 a) ∷ scorer (Tie 1 b a) ∷ scorer (Finish 1 c) ∷ scorer (Score 1) ∷ []
 
-pub tied_boats_share_a_rank : standing default_rules (journal tie_for_first)
-    ≡ table (1 ∷ []) (row a 1 true 15 (plain 15 ∷ []) ∷ row b 1 true 15 (plain 15 ∷ [])
-    ∷ row c 3 false 30 (plain 30 ∷ []) ∷ [])
-tied_boats_share_a_rank = refl
+abbrev pub tied_boats_share_a_rank : WorkedCase
+tied_boats_share_a_rank =
+    worked default_rules tie_for_first
+    (table (1 ∷ []) (row a 1 true 15 (plain 15 ∷ []) ∷ row b 1 true 15 (plain 15 ∷ [])
+    ∷ row c 3 false 30 (plain 30 ∷ []) ∷ []))
+
+pub tied_boats_share_a_rank_is : IsStanding tied_boats_share_a_rank
+tied_boats_share_a_rank_is = refl
 
 -- when A is then disqualified, she falls behind (A5.2, A6.1)
-pub disqualified_boats_fall_behind :
-    standing default_rules (journal (tie_for_first ++ jury (Mark 1 a code.Dsq) ∷ []))
-    ≡ table (1 ∷ []) (row b 1 false 10 (plain 10 ∷ []) ∷ row c 2 false 20 (plain 20 ∷ [])
-    ∷ row a 3 false 40 (marked 40 abbreviation.Dsq ∷ []) ∷ [])
-disqualified_boats_fall_behind = refl
+abbrev pub disqualified_boats_fall_behind : WorkedCase
+disqualified_boats_fall_behind =
+    worked default_rules (tie_for_first ++ jury (Mark 1 a code.Dsq) ∷ [])
+    (table (1 ∷ []) (row b 1 false 10 (plain 10 ∷ []) ∷ row c 2 false 20 (plain 20 ∷ [])
+    ∷ row a 3 false 40 (marked 40 abbreviation.Dsq ∷ []) ∷ []))
+
+pub disqualified_boats_fall_behind_is : IsStanding disqualified_boats_fall_behind
+disqualified_boats_fall_behind_is = refl
 
 -- two boats finish and the third doesn't
 abbrev pub two_of_three : List (Role × Command)
@@ -103,18 +124,25 @@ two_of_three =
     scorer (Enter a) ∷ scorer (Enter b) ∷ scorer (Enter c)
     ∷ scorer (Finish 1 a) ∷ scorer (Finish 1 b) ∷ scorer (Mark 1 c code.Dnf) ∷ scorer (Score 1) ∷ []
 
-pub boats_that_did_not_finish : standing default_rules (journal two_of_three)
-    ≡ table (1 ∷ []) (row a 1 false 10 (plain 10 ∷ []) ∷ row b 2 false 20 (plain 20 ∷ [])
-    ∷ row c 3 false 40 (marked 40 abbreviation.Dnf ∷ []) ∷ [])
-boats_that_did_not_finish = refl
+abbrev pub boats_that_did_not_finish : WorkedCase
+boats_that_did_not_finish =
+    worked default_rules two_of_three
+    (table (1 ∷ []) (row a 1 false 10 (plain 10 ∷ []) ∷ row b 2 false 20 (plain 20 ∷ [])
+    ∷ row c 3 false 40 (marked 40 abbreviation.Dnf ∷ []) ∷ []))
+
+pub boats_that_did_not_finish_is : IsStanding boats_that_did_not_finish
+boats_that_did_not_finish_is = refl
 
 -- a late entry is scored DNC in the race, and every code costs a point more (A2.2, A5.2)
-pub late_entries_change_earlier_races :
-    standing default_rules (journal (two_of_three ++ scorer (Enter d) ∷ []))
-    ≡ table (1 ∷ []) (row a 1 false 10 (plain 10 ∷ []) ∷ row b 2 false 20 (plain 20 ∷ [])
+abbrev pub late_entries_change_earlier_races : WorkedCase
+late_entries_change_earlier_races =
+    worked default_rules (two_of_three ++ scorer (Enter d) ∷ [])
+    (table (1 ∷ []) (row a 1 false 10 (plain 10 ∷ []) ∷ row b 2 false 20 (plain 20 ∷ [])
     ∷ row c 3 true 50 (marked 50 abbreviation.Dnf ∷ [])
-    ∷ row d 3 true 50 (marked 50 abbreviation.Dnc ∷ []) ∷ [])
-late_entries_change_earlier_races = refl
+    ∷ row d 3 true 50 (marked 50 abbreviation.Dnc ∷ []) ∷ []))
+
+pub late_entries_change_earlier_races_is : IsStanding late_entries_change_earlier_races
+late_entries_change_earlier_races_is = refl
 
 -- ---- two races, and redress as an average (A9)
 
@@ -130,16 +158,22 @@ average_in_the_second =
     two_races ++ jury (Redress 2 a AllRaces) ∷ scorer (Strike 1 a) ∷ scorer (Before 1 a b) ∷ []
 
 -- her average is her score in race 1, which is the earlier of equal ones, so it is excluded (A2.1)
-pub earlier_of_equal_scores_excluded : standing default_rules (journal average_in_the_second)
-    ≡ table (1 ∷ 2 ∷ []) (row a 1 false 10 (excluded 10 ∷ marked 10 abbreviation.Rdg ∷ [])
-    ∷ row b 2 false 10 (excluded 20 ∷ plain 10 ∷ []) ∷ [])
-earlier_of_equal_scores_excluded = refl
+abbrev pub earlier_of_equal_scores_excluded : WorkedCase
+earlier_of_equal_scores_excluded =
+    worked default_rules average_in_the_second
+    (table (1 ∷ 2 ∷ []) (row a 1 false 10 (excluded 10 ∷ marked 10 abbreviation.Rdg ∷ [])
+    ∷ row b 2 false 10 (excluded 20 ∷ plain 10 ∷ []) ∷ []))
+
+pub earlier_of_equal_scores_excluded_is : IsStanding earlier_of_equal_scores_excluded
+earlier_of_equal_scores_excluded_is = refl
 
 -- A's average in race 1 is over race 2 alone, in which a late entry costs her a point
-pub late_entries_change_averages :
-    standing no_exclusions
-    (journal (two_races ++ jury (Redress 1 a AllRaces) ∷ scorer (Enter c) ∷ []))
-    ≡ table (1 ∷ 2 ∷ []) (row b 1 false 30 (plain 20 ∷ plain 10 ∷ [])
+abbrev pub late_entries_change_averages : WorkedCase
+late_entries_change_averages =
+    worked no_exclusions (two_races ++ jury (Redress 1 a AllRaces) ∷ scorer (Enter c) ∷ [])
+    (table (1 ∷ 2 ∷ []) (row b 1 false 30 (plain 20 ∷ plain 10 ∷ [])
     ∷ row a 2 true 80 (marked 40 abbreviation.Rdg ∷ marked 40 abbreviation.Dnc ∷ [])
-    ∷ row c 2 true 80 (marked 40 abbreviation.Dnc ∷ marked 40 abbreviation.Dnc ∷ []) ∷ [])
-late_entries_change_averages = refl
+    ∷ row c 2 true 80 (marked 40 abbreviation.Dnc ∷ marked 40 abbreviation.Dnc ∷ []) ∷ []))
+
+pub late_entries_change_averages_is : IsStanding late_entries_change_averages
+late_entries_change_averages_is = refl

@@ -13,9 +13,9 @@ use Rattle.regatta_scores.specs.declared.table.Abbrev.TheVariants as abbreviatio
 use Rattle.regatta_scores.specs.Changes.{after}
 use Rattle.regatta_scores.specs.Journal.{order, time}
 use Rattle.regatta_scores.specs.Sheet.{Sheet, empty_sheet}
-use Rattle.regatta_scores.specs.Standing.{standing}
 use Rattle.regatta_scores.specs.WorkedStandings.{a, b, c, scorer, jury, journal, default_rules}
-use Rattle.regatta_scores.specs.WorkedStandings.{plain, marked, row, table}
+use Rattle.regatta_scores.specs.WorkedStandings.{plain, marked, row, table, WorkedCase, worked}
+use Rattle.regatta_scores.specs.WorkedStandings.{IsStanding}
 
 -- rules by which corrected times determine the places
 abbrev pub by_times : RulesParts
@@ -30,10 +30,14 @@ three_timed =
 
 -- ---- equal times
 
-pub equal_times_share_their_places : standing by_times (journal three_timed)
-    ≡ table (1 ∷ []) (row b 1 false 10 (plain 10 ∷ []) ∷ row a 2 true 25 (plain 25 ∷ [])
-    ∷ row c 2 true 25 (plain 25 ∷ []) ∷ [])
-equal_times_share_their_places = refl
+abbrev pub equal_times_share_their_places : WorkedCase
+equal_times_share_their_places =
+    worked by_times three_timed
+    (table (1 ∷ []) (row b 1 false 10 (plain 10 ∷ []) ∷ row a 2 true 25 (plain 25 ∷ [])
+    ∷ row c 2 true 25 (plain 25 ∷ []) ∷ []))
+
+pub equal_times_share_their_places_is : IsStanding equal_times_share_their_places
+equal_times_share_their_places_is = refl
 
 -- ---- a boat struck, and timed again
 
@@ -41,10 +45,14 @@ abbrev pub struck : List (Role × Command)
 struck = three_timed ++ scorer (Strike 1 a) ∷ []
 
 -- a boat that is struck has no time, and is scored DNC
-pub struck_boats_leave_the_order : standing by_times (journal struck)
-    ≡ table (1 ∷ []) (row b 1 false 10 (plain 10 ∷ []) ∷ row c 2 false 20 (plain 20 ∷ [])
-    ∷ row a 3 false 40 (marked 40 abbreviation.Dnc ∷ []) ∷ [])
-struck_boats_leave_the_order = refl
+abbrev pub struck_boats_leave_the_order : WorkedCase
+struck_boats_leave_the_order =
+    worked by_times struck
+    (table (1 ∷ []) (row b 1 false 10 (plain 10 ∷ []) ∷ row c 2 false 20 (plain 20 ∷ [])
+    ∷ row a 3 false 40 (marked 40 abbreviation.Dnc ∷ []) ∷ []))
+
+pub struck_boats_leave_the_order_is : IsStanding struck_boats_leave_the_order
+struck_boats_leave_the_order_is = refl
 
 -- A is timed again
 abbrev pub timed_again : List (Role × Command)
@@ -54,10 +62,14 @@ timed_again = struck ++ scorer (Time 1 a 3599) ∷ []
 pub boats_timed_again_have_the_new_time : time (journal timed_again) 1 a ≡ Some 3599
 boats_timed_again_have_the_new_time = refl
 
-pub boats_timed_again_are_placed_anew : standing by_times (journal timed_again)
-    ≡ table (1 ∷ []) (row a 1 false 10 (plain 10 ∷ []) ∷ row b 2 false 20 (plain 20 ∷ [])
-    ∷ row c 3 false 30 (plain 30 ∷ []) ∷ [])
-boats_timed_again_are_placed_anew = refl
+abbrev pub boats_timed_again_are_placed_anew : WorkedCase
+boats_timed_again_are_placed_anew =
+    worked by_times timed_again
+    (table (1 ∷ []) (row a 1 false 10 (plain 10 ∷ []) ∷ row b 2 false 20 (plain 20 ∷ [])
+    ∷ row c 3 false 30 (plain 30 ∷ []) ∷ []))
+
+pub boats_timed_again_are_placed_anew_is : IsStanding boats_timed_again_are_placed_anew
+boats_timed_again_are_placed_anew_is = refl
 
 -- equal times are in the order in which they were given: A's came last
 pub equal_times_are_in_the_order_of_hand_in :
@@ -88,11 +100,14 @@ pub coded_boats_keep_their_time :
     ≡ (b ∷ []) ∷ (a ∷ c ∷ []) ∷ []
 coded_boats_keep_their_time = refl
 
-pub coded_boats_with_a_time_leave_their_place :
-    standing by_times (journal (three_timed ++ jury (Mark 1 b code.Dsq) ∷ []))
-    ≡ table (1 ∷ []) (row a 1 true 15 (plain 15 ∷ []) ∷ row c 1 true 15 (plain 15 ∷ [])
-    ∷ row b 3 false 40 (marked 40 abbreviation.Dsq ∷ []) ∷ [])
-coded_boats_with_a_time_leave_their_place = refl
+abbrev pub coded_boats_with_a_time_leave_their_place : WorkedCase
+coded_boats_with_a_time_leave_their_place =
+    worked by_times (three_timed ++ jury (Mark 1 b code.Dsq) ∷ [])
+    (table (1 ∷ []) (row a 1 true 15 (plain 15 ∷ []) ∷ row c 1 true 15 (plain 15 ∷ [])
+    ∷ row b 3 false 40 (marked 40 abbreviation.Dsq ∷ []) ∷ []))
+
+pub coded_boats_with_a_time_leave_their_place_is : IsStanding coded_boats_with_a_time_leave_their_place
+coded_boats_with_a_time_leave_their_place_is = refl
 
 -- ---- which commands place boats
 

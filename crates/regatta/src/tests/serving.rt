@@ -100,9 +100,9 @@ fn two_clients_side_by_side(rt: HostRuntime) -> Result<(), Fail> {
         journal: b"2 1 SCORER ENTER B\n1 1 SCORER ENTER A\n",
     };
     let are_left = leaves(&rt, alloc, 2, &mut door, &gate, &left);
-    let are_sent = was_sent(alloc, &mut ends[0], b"OK 2 1= 0.0\n")
+    let are_sent = was_sent(alloc, &mut ends[0], b"OK 2 1= 0.0\nBYE\n")
         & was_sent(alloc, &mut ends[1], b"OK 1 1 0.0\n");
     assert!(rt; are_left & are_sent);
-    assert_eq!(rt; gate.ends(), 22, "each session ends as closed");
+    assert_eq!(rt; gate.ends(), 21, "the first has quit, the other has closed");
     Ok(())
 }

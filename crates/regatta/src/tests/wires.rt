@@ -56,10 +56,10 @@ pub(crate) fn door_of<R: Net>(
     Ok((Wires::new(clients), theirs))
 }
 
-/// A door that gives two clients, of whom the first enters A and the other B, and the clients' own
-/// ends.
+/// A door that gives two clients, and the clients' own ends. The first enters A and quits; the other
+/// enters B and closes the stream.
 pub(crate) fn door_of_two<R: Net>(rt: &R, alloc: Global) -> Result<(Wires, [UnixStream; 2]), Fail> {
-    let (one, first) = ends_of(rt, b"ENTER A\n")?;
+    let (one, first) = ends_of(rt, b"ENTER A\nQUIT\n")?;
     let (two, second) = ends_of(rt, b"ENTER B\n")?;
     let clients = vec![in alloc; Foreign::new(two), Foreign::new(one)]?;
     Ok((Wires::new(clients), [first, second]))

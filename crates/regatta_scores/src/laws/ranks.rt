@@ -5,6 +5,8 @@ ghost use Rattle.regatta_scores.specs.RankLaws.{CountingScoresRise, TiesAreCompl
 ghost use Rattle.regatta_scores.specs.RankLaws.{RowsTieCompletely};
 ghost use Rattle.regatta_scores.specs.RankLaws.{StandingHasTheEntered, RanksFollowEachOther};
 ghost use Rattle.regatta_scores.specs.RankLaws.{BeatsInThreeCases};
+ghost use Rattle.regatta_scores.specs.BeatingLaws.{LowestScoreWins, BeatingIsRanking};
+ghost use Rattle.regatta_scores.specs.BeatingLaws.{EntryOrderDoesntCount, LastDifferenceDecides};
 
 /// As many scores are excluded as the rules say, or all that may be excluded if those are fewer. No
 /// excludable score that counts is worse than an excluded one (RRS A2.1, 90.3(b)).
@@ -45,4 +47,22 @@ pub fn standing_has_the_entered()
 /// Ranks start at 1, and after k boats that share rank r the next rank is r + k.
 pub fn ranks_follow_each_other()
     ensures { RanksFollowEachOther }
+{}
+
+/// A boat with a lower series score than another's is ranked ahead of her (RRS A2.1). One boat beats
+/// another if and only if her rank is lower (RRS A8).
+pub fn lowest_score_wins()
+    ensures score { LowestScoreWins }
+    ensures beats { BeatingIsRanking }
+{}
+
+/// A boat's rank doesn't depend on the order in which boats were entered (RRS A8).
+pub fn entry_order_is_free()
+    ensures { EntryOrderDoesntCount }
+{}
+
+/// Of two boats with equal series scores and the same scores from best to worst, the one that is
+/// better in the last race in which they differ beats the other (RRS A8.2).
+pub fn last_difference_decides()
+    ensures { LastDifferenceDecides }
 {}

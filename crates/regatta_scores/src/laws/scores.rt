@@ -26,7 +26,8 @@ pub fn boats_of_a_journal_are_beaten_in_three_cases(journal: &[Entry])
     entries_are_in_range(journal);
 }
 
-fn entries_are_in_range(journal: &[Entry])
+/// The parts of the entries of a journal are in range.
+pub fn entries_are_in_range(journal: &[Entry])
     ensures { All IsEntry journal.now }
 {
     for entry in journal {

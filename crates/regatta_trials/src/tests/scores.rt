@@ -3,8 +3,8 @@
 use super::*;
 use regatta_fixtures::sheet_after;
 use regatta_scores::{
-    BoatLine, Change, Held, NOTHING_HELD, RaceScore, RaceSheet, RowItem, Scored, Work, averages,
-    better, excluded, net, race_points, race_scores, ranks,
+    BoatLine, Change, Held, MAX_RANKED, NOTHING_HELD, RaceScore, RaceSheet, RowItem, Scored, Work,
+    averages, better, excluded, net, race_points, race_scores, ranks,
 };
 use regatta_terms::{Code, Redress, Seconds, Tenths};
 use std::alloc::AllocError;
@@ -424,6 +424,23 @@ fn ranks_without_a_race(rt: HostRuntime) -> Result<(), Fail> {
     for place in places.as_slice() {
         assert!(rt; (place.rank, place.tied) == (1, true));
     }
+    Ok(())
+}
+
+/// The most lines that there may be, each with a point more than the one before.
+#[test]
+fn ranks_of_a_thousand(rt: HostRuntime) -> Result<(), Fail> {
+    let alloc = rt.alloc();
+    let mut lines = Vec::new(alloc);
+    for points in 0..1000u32 {
+        lines.push(line(alloc, &[(points, false)])?)?;
+    }
+    if lines.len() > MAX_RANKED {
+        return Err(Fail::new("too many lines"));
+    }
+    let places = ranks(alloc, &lines)?;
+    let ranked = places.as_slice().iter().map(|place| place.rank);
+    assert!(rt; ranked.eq(1..1001u16));
     Ok(())
 }
 

@@ -16,6 +16,7 @@ returns-clause-printed g c =
     (ap (λ (d : DeskValue). d.entries) (sym c.cover_note.ensures.same)
     ∙ sym (ap (λ (board : BoardValue). board.entries) c.board.ensures.board))
     c.cover_note.ensures.front) (rw (c.board.ensures.board) c.board.ensures.lawful)
+    c.print_final-printed.ensures.appendix_a
     c.print_final-printed.result c.print_final-printed.ensures.wrote
 
 pub returns-clause-at_most : goal.returns-clause-at_most
@@ -27,6 +28,7 @@ returns-clause-at_most g c =
     (ap (λ (d : DeskValue). d.entries) (sym c.cover_note.ensures.same)
     ∙ sym (ap (λ (board : BoardValue). board.entries) c.board.ensures.board))
     c.cover_note.ensures.front) (rw (c.board.ensures.board) c.board.ensures.lawful)
+    c.print_final-printed.ensures.appendix_a
     c.print_final-printed.result c.print_final-printed.ensures.wrote c.print_final-printed.ensures.cut
     c.print_final-printed.ensures.silent
 

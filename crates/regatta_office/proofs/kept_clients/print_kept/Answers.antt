@@ -1,8 +1,10 @@
-use Rattle.std.proofs.Common.{◌≡◌, ap, subst, sym, ◌∙◌}
+use Rattle.std.proofs.Common.{◌≡◌, refl, ap, subst, sym, ◌∙◌}
 use Rattle.std.specs.Io.KnownBytes.{Appends}
 use mathlib.Core.List.{IsPrefix}
 use Rattle.regatta_terms.specs.Rules.{RulesParts}
+use Rattle.regatta_scores.specs.AppendixA.{IsAppendixA}
 use Rattle.regatta_scores.specs.Journal.{Journal}
+use Rattle.regatta_scores.specs.Standing.{standing}
 use Rattle.regatta_board.specs.BoardFacts.{BoardValue}
 use Rattle.regatta_desk.specs.Desks.{DeskValue}
 use Rattle.regatta_office.specs.Transcript.{final_text}
@@ -26,6 +28,10 @@ returns-in-Ok-print_table-clause-printed g c =
           c.cover_note.ensures.front;
       lawful = rw (c.board.ensures.board) c.board.ensures.lawful;
       covered = subst (λ (j : Journal). IsPrefix j c.in-Some.kept) shown c.in-Some.ensures.begins;
+      table = standing g.N.OfficeName.rules c.board.result.now.entries;
+      appendix_a = subst (λ (rules : RulesParts). IsAppendixA rules c.board.result.now.entries
+          (standing rules c.board.result.now.entries)) same c.in-Ok-print_table.ensures.appendix_a;
+      computed = refl;
       wrote = subst (λ (rules : RulesParts). Appends (g.W.Device.contents c.args.output.now)
           (g.W.Device.contents c.print_table.new.self)
           (final_text rules Table c.board.result.now.entries)) same c.in-Ok-print_table.ensures.wrote;
@@ -42,7 +48,7 @@ returns-in-Ok-print_table-clause-at_most g c =
     (subst (IsPrefix c.args.start.journal)
     (ap (λ (d : DeskValue). d.entries) (sym c.cover_note.ensures.same) ∙ shown)
     c.cover_note.ensures.front) (rw (c.board.ensures.board) c.board.ensures.lawful)
-    c.print_table.result c.print_table.ensures.wrote c.print_table.ensures.cut
+    c.print_table.ensures.appendix_a c.print_table.result c.print_table.ensures.wrote c.print_table.ensures.cut
     c.print_table.ensures.silent
 
 pub returns-clause-at_most : goal.returns-clause-at_most
@@ -56,5 +62,5 @@ returns-clause-at_most g c =
     (subst (IsPrefix c.args.start.journal)
     (ap (λ (d : DeskValue). d.entries) (sym c.cover_note.ensures.same) ∙ shown)
     c.cover_note.ensures.front) (rw (c.board.ensures.board) c.board.ensures.lawful)
-    c.print_table.result c.print_table.ensures.wrote c.print_table.ensures.cut
+    c.print_table.ensures.appendix_a c.print_table.result c.print_table.ensures.wrote c.print_table.ensures.cut
     c.print_table.ensures.silent

@@ -1,6 +1,6 @@
 use Rattle.std.proofs.Common.{◌≡◌, ap, codes, rules, ◌∙◌}
 use Rattle.clap.specs.Words.{app_of, new_app, with_rule}
-use Rattle.regatta_office.specs.Words.{option, with_rules, with_seats, with_start}
+use Rattle.regatta_office.specs.Words.{with_rules, with_seats, with_start}
 use Rattle.regatta_office.proofs.options.serve.Goals as goal
 
 pub returns-clause-app : goal.returns-clause-app

@@ -9,7 +9,7 @@ use Rattle.regatta_office.proofs.Results.{writer_failed}
 use Rattle.regatta_office.proofs.Streams.{prefix-behind}
 use Rattle.regatta_streams.proofs.KnownBytes.{appends-then}
 use Rattle.regatta_streams.specs.Texts.{AppendsPrefix}
-use Rattle.regatta_office.proofs.Whole.{all_said, read_broken, whole_cut, whole_stop, whole_text}
+use Rattle.regatta_office.proofs.Whole.{all_said, read_broken, run_written, whole_cut, whole_stop, whole_text}
 use Rattle.regatta_office.proofs.Whole.{wrote_nothing, text_too_long, within_limit}
 use Rattle.regatta_office.proofs.run.replay.Goals as goal
 
@@ -33,6 +33,15 @@ returns-in-Ok-print_final-clause-answered g c =
     c.args.form c.board.result.now _
     (c.board.ensures.rules ∙ c.in_default.ensures.rules) c.board.ensures.journal
     c.in_default.ensures.wrote c.in_default.ensures.after c.in-Ok-print_final.ensures.wrote
+
+pub returns-in-Ok-print_final-clause-appendix_a : goal.returns-in-Ok-print_final-clause-appendix_a
+returns-in-Ok-print_final-clause-appendix_a g c =
+    run_written c.args.rules.now c.args.start.now c.in-Ok.board
+    (point c.new-scribe.result) c.in-Ok.ensures.board c.new-scribe.ensures
+    (g.R.Device.remaining c.args.input.now) _ _ c.args.form c.board.result.now _
+    (c.board.ensures.rules ∙ c.in_default.ensures.rules) c.board.ensures.journal
+    c.in_default.ensures.after c.print_final.ensures.appendix_a
+    (returns-in-Ok-print_final-clause-answered g c)
 
 pub returns-in-Ok-print_final-clause-within : goal.returns-in-Ok-print_final-clause-within
 returns-in-Ok-print_final-clause-within g c =
