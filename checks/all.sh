@@ -1,13 +1,17 @@
 #!/usr/bin/env bash
-# Tries a built program over the stored runs, the pages (their links, the statement), and the tools
-# over the program; and the program of corrected times, which is crates/times/out/times if TIMES
-# names no other.
+# Tries a built program over the stored runs, the pages (their links, the statement), the types of the
+# tools, and the tools over the program; and the program of corrected times, which is
+# crates/times/out/times if TIMES names no other.
 #   checks/all.sh PROGRAM
-# The last line is `N passed, M failed`, and the status is 1 if anything failed.
+# What can't be tried here is named in a line `not tried: ..` and counts as neither. The last line is
+# `N passed, M failed`, and the status is 1 if anything failed.
 set -uo pipefail
 program=$(realpath "${1:?checks/all.sh PROGRAM}")
 here=$(dirname "$(realpath "$0")")
-export PYTHONDONTWRITEBYTECODE=1
+room=$(mktemp -d)
+trap 'rm -rf "$room"' EXIT
+unset PYTHONDONTWRITEBYTECODE
+export PYTHONPYCACHEPREFIX=$room/compiled
 export TIMES=${TIMES:-$here/../crates/times/out/times}
 passed=0 failed=0
 
@@ -23,16 +27,25 @@ part() {
     fi
 }
 
+# The same if a program that it needs is there: part_with PROGRAM NAME COMMAND...
+part_with() {
+    if command -v "$1" > /dev/null; then
+        part "${@:2}"
+    else
+        echo "not tried: $2: there is no $1 here"
+    fi
+}
+
 part 'the stored runs of examples/' "$here/../examples/check.sh" "$program"
 part 'the links of the pages' "$here/../bench/links.py"
 part 'docs/STATEMENT.md as its script makes it' "$here/../bench/statement.py" --check
-part 'corrected times beside exact fractions' "$here/times_exact.py" "$TIMES"
-printed=$("$here/run.py" "$program" 2>&1)
-status=$?
-grep '^not tried: ' <<< "$printed"
-((status == 0)) || echo "$printed"
-wrong=1
-if [[ $(tail -n 1 <<< "$printed") =~ ^([0-9]+)\ passed,\ ([0-9]+)\ failed$ ]]; then
+part_with "$TIMES" 'corrected times beside exact fractions' "$here/times_exact.py" "$TIMES"
+part_with mypy 'the types of tools/' mypy --strict --python-version 3.10 --cache-dir "$room/types" \
+    "$here"/../tools/*.py
+part_with pyflakes3 'the names of tools/' pyflakes3 "$here"/../tools/*.py
+"$here/run.py" "$program" 2>&1 | tee "$room/printed"
+status=${PIPESTATUS[0]} wrong=1
+if [[ $(tail -n 1 "$room/printed") =~ ^([0-9]+)\ passed,\ ([0-9]+)\ failed$ ]]; then
     passed=$((passed + BASH_REMATCH[1]))
     wrong=${BASH_REMATCH[2]}
     if ((status != 0 && wrong == 0)); then

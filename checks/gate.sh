@@ -3,7 +3,7 @@
 #   checks/gate.sh
 # The last line is `N passed, M failed` of both, and the status is 1 if anything failed.
 set -uo pipefail
-cd "$(dirname "$(realpath "$0")")/.."
+cd "$(dirname "$(realpath "$0")")/.." || exit
 printed=$(mktemp)
 trap 'rm -f "$printed"' EXIT
 passed=0 failed=0

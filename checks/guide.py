@@ -24,7 +24,6 @@ import os
 import re
 import shlex
 import signal
-import socket
 import sys
 import tempfile
 import time
@@ -34,7 +33,7 @@ GUIDE = os.path.join(helpers.TOP, "docs", "GUIDE.md")
 STEP = re.compile(r"^```([^\n]*)\n(.*?)^```$|^<!-- kill (\S+) -->$", re.MULTILINE | re.DOTALL)
 COMMAND = re.compile(r"\$ python3 tools/(?:series|client|board|times)\.py ")
 # What varies from one play to the next, and what it is compared as.
-VARIES = [(re.compile(r"\b\d{4}-\d\d-\d\d-\d{6}\b"), "DATE"), (re.compile(r"\b\d\d:\d\d(:\d\d)?\b"), "TIME"),
+VARIES = [(re.compile(r"\b\d{4}-\d\d-\d\d-\d{6}Z?\b"), "DATE"), (re.compile(r"\b\d\d:\d\d(:\d\d)?\b"), "TIME"),
           (re.compile(r"http://[^/\s]+/(   \(or [^)]*\))?"), "ADDRESS")]
 # A question, or the prompt of those who type, and for how long nothing else comes then.
 ASKS, QUIET = re.compile(r"(> |[\]):?] )$"), 0.1
@@ -190,9 +189,8 @@ class Play:
     def __init__(self, folder: str, fill: bool) -> None:
         self.folder, self.fill = folder, fill
         self.windows: dict[str, Window] = {}
-        with socket.socket() as door:
-            door.bind(("", 0))
-            self.port = str(door.getsockname()[1])
+        self.holder = helpers.held_port()
+        self.port = str(self.holder.getsockname()[1])
 
     def run(self, guide: str) -> str:
         """The guide with what was printed; a Wrong at the first box that shows something else."""
@@ -246,6 +244,7 @@ class Play:
 
     def close(self) -> None:
         """Ends what is left, offices too."""
+        self.holder.close()
         for window in self.windows.values():
             if window.terminal:
                 window.terminal.close()

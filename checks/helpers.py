@@ -6,8 +6,10 @@ import fcntl
 import os
 import pty
 import re
+import resource
 import select
 import signal
+import socket
 import subprocess
 import sys
 import tempfile
@@ -21,6 +23,8 @@ TOOLS = os.path.join(TOP, "tools")
 PROGRAM = os.path.realpath(os.environ.get("REGATTA", os.path.join(TOP, "crates/regatta/out/regatta")))
 # The program of corrected times.
 TIMES = os.path.realpath(os.environ.get("TIMES", os.path.join(TOP, "crates/times/out/times")))
+# Skips what needs it if it isn't there.
+needs_times = unittest.skipUnless(os.access(TIMES, os.X_OK), f"there is no program of times at {TIMES}")
 # Seconds for what has to come about. A slow machine with other work gets there, too.
 PATIENCE = 120.0
 ENTRIES = """\
@@ -36,6 +40,11 @@ Dunlin,IRL 55,O. Roche,Howth
 sys.path.insert(0, TOOLS)
 
 
+def trials(usual: int) -> int:
+    """How many random trials a check makes: TRIALS, or those of the gate."""
+    return int(os.environ.get("TRIALS", usual))
+
+
 def until(what: str, holds: Callable[[], object], patience: float = PATIENCE) -> None:
     """Waits for what has to come about."""
     end = time.monotonic() + patience
@@ -45,12 +54,35 @@ def until(what: str, holds: Callable[[], object], patience: float = PATIENCE) ->
         time.sleep(0.02)
 
 
+def next_second() -> None:
+    """Waits until the clock shows another second: what comes then is later in a log, too."""
+    now = int(time.time())
+    until("another second", lambda: int(time.time()) > now)
+
+
 def run(tool: str, *words: str, lines: str = "", cwd: str | None = None) -> tuple[str, int]:
     """What a tool prints, fed by a pipe, and its status."""
     done = subprocess.run([sys.executable, os.path.join(TOOLS, tool), *words], cwd=cwd,
                           input=lines, encoding="utf-8", stdout=subprocess.PIPE,
                           stderr=subprocess.STDOUT, timeout=PATIENCE)
     return done.stdout, done.returncode
+
+
+def held_port() -> socket.socket:
+    """A port of this computer, taken in such a way that a board may listen there and no other
+    program is given it."""
+    holder = socket.socket()
+    holder.setsockopt(socket.SOL_SOCKET, socket.SO_REUSEADDR, 1)
+    # At all addresses: else a phone of another check, which has one of its own, could come to this port.
+    holder.bind(("", 0))
+    return holder
+
+
+def free_port(trial: unittest.TestCase) -> int:
+    """A port for a board, until the trial has ended."""
+    holder = held_port()
+    trial.addCleanup(holder.close)
+    return holder.getsockname()[1]
 
 
 def replayed(*words: str, lines: str | bytes = b"") -> tuple[str, str, int]:
@@ -240,7 +272,7 @@ class Series(unittest.TestCase):
         window.read("> $")
         return window
 
-    def play(self, window: helpers.Terminal, talk: str) -> None:
+    def play(self, window: Terminal, talk: str) -> None:
         """Each line of a talk that begins with > is typed; the others have to come, in order."""
         for step in talk.strip("\n").split("\n> "):
             line, _, wanted = step.removeprefix("> ").partition("\n")
@@ -261,6 +293,17 @@ class Series(unittest.TestCase):
     def write(self, text: str, *names: str) -> None:
         with open(os.path.join(self.here, *names), "w", encoding="utf-8") as file:
             file.write(text)
+
+
+@contextlib.contextmanager
+def file_size(most: int) -> Iterator[None]:
+    """A limit of the size of files, as on a full disk: Python is told of it, and isn't ended."""
+    before = resource.getrlimit(resource.RLIMIT_FSIZE)
+    resource.setrlimit(resource.RLIMIT_FSIZE, (most, before[1]))
+    try:
+        yield
+    finally:
+        resource.setrlimit(resource.RLIMIT_FSIZE, before)
 
 
 @contextlib.contextmanager

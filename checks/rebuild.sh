@@ -4,7 +4,7 @@
 # Each folder makes its own libraries. The first proves all that the program uses, in about an hour of
 # processor time; the second begins with its proofs. The last line is `N passed, M failed`.
 set -uo pipefail
-cd "$(dirname "$(realpath "$0")")/.."
+cd "$(dirname "$(realpath "$0")")/.." || exit
 crate=${1:-regatta}
 room=$(mktemp -d)
 trap 'rm -rf "$room"' EXIT

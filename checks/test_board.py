@@ -2,6 +2,7 @@
 from __future__ import annotations
 
 import base64
+import contextlib
 import csv
 import datetime
 import gzip
@@ -39,12 +40,6 @@ REFUSED = {
 }
 
 
-def free_port() -> int:
-    with socket.socket() as probe:
-        probe.bind(("127.0.0.1", 0))
-        return probe.getsockname()[1]
-
-
 class Relay:
     """A relay of the board to an office, which counts the lines that the board sends."""
 
@@ -65,17 +60,18 @@ class Relay:
             threading.Thread(target=self.carry, args=(office, client, False), daemon=True).start()
 
     def carry(self, source: socket.socket, to: socket.socket, is_asked: bool) -> None:
-        while data := source.recv(65536):
-            if is_asked:
-                self.lines += data.decode().splitlines()
-            to.sendall(data)
-        to.close()
+        # The board may be killed while it is answered.
+        with to, contextlib.suppress(ConnectionError):
+            while data := source.recv(65536):
+                if is_asked:
+                    self.lines += data.decode().splitlines()
+                to.sendall(data)
 
 
 class Boards(helpers.Series):
     def board(self, *folders: str, **values: str) -> tuple[helpers.Window, str]:
         """A board for phones, and what it says before it waits."""
-        self.port = free_port()
+        self.port = helpers.free_port(self)
         window = self.window("board.py", *(folders or ("cup",)), "--http", str(self.port))
         return window, window.read("try one phone")
 
@@ -116,7 +112,7 @@ class Boards(helpers.Series):
     # Phones
 
     def test_many_phones(self) -> None:
-        self.make("fast", every="2")
+        self.make("fast", every="1")
         self.open("fast")
         self.send(*RACE, name="fast")
         relay = Relay(os.path.join(self.here, "fast", "office", "race.sock"))
@@ -133,12 +129,11 @@ class Boards(helpers.Series):
         with ThreadPoolExecutor(50) as phones:
             answered = list(phones.map(phone, range(300)))
         self.assertEqual(answered, [[200, 200, 304]] * 300)
-        time.sleep(4.5)
+        helpers.until("two more questions", lambda: len(relay.lines) >= before + 2)
         took = time.monotonic() - begun
         asked = relay.lines[before:]
         self.assertEqual(set(asked), {"SHOW"})
-        self.assertLessEqual(len(asked), took / 2 + 1)
-        self.assertGreaterEqual(len(asked), 2)
+        self.assertLessEqual(len(asked), took + 1)
 
     def test_headers(self) -> None:
         self.journal(*RACE)
@@ -209,10 +204,10 @@ class Boards(helpers.Series):
 
         with ThreadPoolExecutor(71) as others:
             ends = [others.submit(drip, link) for link in links]
-            # 64 requests are answered at a time, and each of the slow ones has five seconds.
             self.assertEqual(self.get("/cup/now.json").status, 200)
-            self.assertLess(time.monotonic() - begun, 12)
-            self.assertLess(max(end.result() for end in ends), 14)
+            self.assertLess(time.monotonic() - begun, 2)
+            # Sixteen have five seconds, the others one.
+            self.assertLess(max(end.result() for end in ends), 8)
         for link in links:
             link.close()
         deaf = socket.create_connection(("127.0.0.1", self.port), 15)
@@ -311,7 +306,7 @@ class Boards(helpers.Series):
         window.say("y", r"OK \d+")
         logged = [line.split("\t") for line in self.text("fast", "office.log").splitlines()]
         scored = [row[0] for row in logged if row[5] == "SCORE 1" and row[6].startswith("OK")]
-        time.sleep(1.1)
+        helpers.next_second()
         self.send("FINISH 2 NED12", name="fast")
         self.board("fast")
         changed = json.loads(self.get("/fast/results.json").data)["changed"]
@@ -406,7 +401,10 @@ class Boards(helpers.Series):
             *(f"fleet/{name}" for name in ("index.html", "now.json", "results.csv",
                                            "results.json"))]))
         page = self.text("out", "cup", "index.html")
-        self.assertIn('<a href="../fleet/index.html">Folk boat</a>', page)
+        self.assertIn('<a href="../index.html">All classes</a>', page)
+        self.assertIn('<a href="fleet/index.html">Folk boat</a>', self.text("out", "index.html"))
+        self.assertEqual(json.loads(self.text("out", "now.json"))["classes"], [
+            {"name": "Autumn Cup", "address": "cup"}, {"name": "Folk boat", "address": "fleet"}])
         self.assertIn('data-office="once"', page)
         now = json.loads(self.text("out", "cup", "now.json"))
         self.assertIn(f'data-version="{now["version"]}"', page)

@@ -3,10 +3,12 @@ from __future__ import annotations
 
 import os
 import signal
-import time
 import unittest
+import unittest.mock
 
 import helpers
+import watcher
+from folder import Folder
 
 FLEET = "Boat,Sail\nFulmar,GBR 33\nSterna,NED 80\nPetrel,NED 84\n"
 
@@ -37,10 +39,15 @@ OK 8   cup: 1st in race 3
 > f at 2
 cup 3, fleet 2> 
 > 33
-33 may be GBR 33 Turnstone (cup) or GBR 33 Fulmar (fleet): type her class first.
+   33 may be GBR 33 Turnstone (cup) or GBR 33 Fulmar (fleet).
+   cup: 33? keeps her place.
+   fleet: 33? keeps her place.
 > c 33
    33 is GBR 33 Turnstone
+   cup: 33? keeps a place. Is she GBR 33 Turnstone? [y/N]
+> y
    cup: 1st in race 3
+   fleet: 33? is dropped.
 > 80
    fleet: 1st in race 2
 > tie 3 gbr 7 gbr 33
@@ -134,23 +141,68 @@ ROLE JURY   fleet: your lines are now those of the jury
         self.play(window, """
 > c at 1
 > ?
-   ?1 keeps her place.
+   cup: ?1 keeps her place.
 > ?
-   ?2 keeps her place.
+   cup: ?2 keeps her place.
+> 412
+   cup: 412 isn't entered. 412? keeps her place.
 > f at 1
-> ?
-Not sent: ? is for one class: type c ? (cup) or f ? (fleet).
 > f ?
-   ?1 keeps her place.
+   fleet: ?1 keeps her place.
 > ?1 none
-Not sent: ?1 is for one class
+Not sent: ?1 is for one class: type c ?1 none (cup) or f ?1 none (fleet).
 > ?2 none
-   ?2 is dropped.
+   cup: ?2 is dropped.
 > ?1 80
 OK 4   fleet: 1st in race 1
 > ?1 7
 OK 8   cup: 1st in race 1
+> 412? none
+   cup: 412? is dropped.
 """)
+
+    def test_class_that_is_not_clear(self) -> None:
+        """Who may be in either class keeps her place in both, until she is known in one."""
+        self.open()
+        self.open("fleet")
+        window = self.client("cup", "fleet", "--role", "finish")
+        self.play(window, """
+> c at 1
+> f at 1
+> ?
+   ? is for one class.
+   cup: ?1 keeps her place. Once she is known, type: ?1 and her sail (or none)
+   fleet: ?1 keeps her place. Once she is known, type: ?1 and her sail (or none)
+> 80
+OK 4   fleet: 2nd in race 1, with 1 unread finisher ahead
+> 412
+   It isn't clear for which class this is.
+   cup: 412? keeps her place.
+   fleet: 412? keeps her place.
+> 412
+   cup: 412?2 keeps her place.
+   fleet: 412?2 keeps her place.
+> ?1 7
+OK 8   cup: 1st in race 1
+   fleet: ?1 is dropped.
+> c 412? none
+   cup: 412? is dropped.
+> f 412? 84
+OK 5   fleet: 2nd in race 1
+> strike 84
+OK 6   fleet: out of the order of race 1
+> undo
+   fleet: STRIKE 1 NED84 is taken back by FINISH 1 NED84. Send it? [y/N]
+> y
+OK 7   fleet: 2nd in race 1
+> 9 dnf
+OK 9   cup: DNF in race 1
+> c race 1
+ 412?2  2nd on the water
+""")
+        window.type("quit")
+        self.assertEqual(window.rest(), ("Kept without a sail of cup: 412?2 in race 1.\nKept without a sail of fleet: "
+                                         "412?2 in race 1.\n", 0))
 
     def test_orderly_closing(self) -> None:
         """A class whose office is closed is gone once, and isn't back while it is being closed."""
@@ -176,10 +228,10 @@ OK 8   cup: 1st in race 1
         window = self.client("cup", "fleet", "--role", "finish")
         self.write("", "cup", "office", "closing")
         window.read("Beware: the office is being closed, that of cup. The others go on.\n")
-        time.sleep(2)
-        window.more(0.1)
-        self.assertNotIn("is back", window.text)
+        cup = unittest.mock.Mock(folder=Folder(os.path.join(self.here, "cup")))
+        self.assertFalse(watcher.is_open(cup))
         os.remove(os.path.join(self.here, "cup", "office", "closing"))
+        self.assertTrue(watcher.is_open(cup))
         window.read("The office of cup is back with 7 entries.\n")
 
     def test_a_class_that_opens_later(self) -> None:

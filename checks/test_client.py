@@ -1,20 +1,28 @@
 """The windows of those who type, in terminals: what they ask, say, and do when an office goes."""
 from __future__ import annotations
 
+import contextlib
 import os
 import signal
 import socket
 import threading
 import unittest
+from unittest import mock
 
 import helpers
 from desk import Desk
 from folder import Folder
 from office import Trouble
+from places import Note
+from spoken import NotSent
 from watcher import News, Watcher
 
 
 class Client(helpers.Series):
+    def setUp(self) -> None:
+        super().setUp()
+        self.said: list[str] = []
+
     def typist(self, role: str = "finish", *more: str) -> helpers.Terminal:
         return self.client("cup", "--role", role, *more)
 
@@ -35,7 +43,7 @@ OK 9   1st in race 1; 1 finished, 1 coded, 5 to come of 7
 OK 10   2nd in race 1; 2 finished, 1 coded, 4 to come of 7
 > tie 1 gbr 7 ned 12
 OK 11   2nd (tied) in race 1; 3 finished, 1 coded, 3 to come of 7
-> gbr 110
+> strike 1 gbr 110
    Not sent: GBR110 isn't entered. Do you mean GBR 101 Kestrel?
 > mark 1 fra 9 dsq
 NO 4   Refused: your role doesn't send this line. Nothing has changed.
@@ -78,13 +86,9 @@ Race 1 doesn't count yet: 5 finished, 1 coded, 1 not recorded, 7 boats
 > at 2
 > ?
    ?1 keeps her place.
-> quit
-   1 finisher without a sail (?) would be forgotten. Leave? [y/N]
-> n
-> ?1 none
 """)
         window.type("quit")
-        self.assertEqual(window.rest()[1], 0)
+        self.assertEqual(window.rest(), ("Kept without a sail: ?1 in race 2.\n", 0))
 
     def test_numbers_that_stay(self) -> None:
         """A number that was written on paper is that of one finisher for the whole race."""
@@ -104,9 +108,9 @@ OK 9   5th in race 1, with 3 unread finishers ahead
 > score 1
 NO 4
 > race 1
-    ?1  1st on the water, but her sail wasn't read
-    ?2  3rd on the water, but her sail wasn't read
-    ?3  4th on the water, but her sail wasn't read
+    ?1  1st on the water, but her sail isn't known
+    ?2  3rd on the water, but her sail isn't known
+    ?3  4th on the water, but her sail isn't known
 > ? 9
    Not sent: more than one place is kept: type ?1, ?2 or ?3 and her sail.
 > ?1 7
@@ -125,24 +129,38 @@ OK 12   5th in race 1
 """)
 
     def test_places_of_another_window(self) -> None:
-        """The scorer is told of places that the finish keeps, and the finish of a race that has gone."""
+        """A place belongs to the class: each window knows it, and may say who she is or drop her."""
         self.open()
-        finish, scorer = self.typist(), self.typist("scorer")
+        finish, scorer = self.typist("finish", "--name", "Ann"), self.typist("scorer")
         self.play(finish, "> at 1\n> 101\n> ?\n> ?\n> 12\n> ?1 none\n> at 2\n> ?")
-        self.assertIn("\t?2 in race 1\tkept after 1 finisher\n", self.text("cup", "office.log"))
-        self.assertRegex(scorer.say("score 1", r"\[y/N\] $"), r"   \?2 \(kept by finish since \d\d:\d\d\): a "
+        self.assertRegex(scorer.say("score 1", r"\[y/N\] $"), r"   \?2 \(kept by Ann at \d\d:\d\d\): a "
                          r"finisher without a sail would be left out\. Score it all the same\? \[y/N\] $")
-        scorer.say("n", "Not sent.\n> $")
-        scorer.say("abandon 1", r"Send them\? \[y/N\] $")
-        scorer.say("y", "all taken.\n> $")
-        self.assertIn("Still kept: ?1 (kept by finish", scorer.say("abandon 2", "none\n> $"))
+        self.play(scorer, """
+> n
+> abandon 1
+To take race 1 away 2 lines are sent:
+  Places that are dropped: ?2
+> y
+Race 1 is taken away: 2 lines, all taken.
+> abandon 2
+To take race 2 away no lines are sent:
+  Places that are dropped: ?1
+   Drop the places? [y/N]
+> n
+   Not sent.
+""")
         said = finish.say("race 1", "2> $")
-        self.assertIn("   The scorer has taken race 1 away: ?2 is dropped.\nRace 1 doesn't count yet: 0 "
-                      "finished", said)
-        finish.say("?", r"   \?2 keeps her place")
-        finish.say("?1 none", r"   \?1 is dropped")
+        self.assertRegex(said, r"^   \?2 of race 1 is dropped by scorer at \d\d:\d\d: race 1 was taken away\.\n"
+                         "Race 1 doesn't count yet: 0 finished")
+        finish.say("?", r"   \?2 keeps her place.*\n2> $")
+        self.assertIn("OK 12   1st in race 2", scorer.say("?1 33", "> $"))
+        self.assertRegex(finish.say("race 2", "2> $"), r"   \?1 of race 2 is GBR33, by scorer at \d\d:\d\d: "
+                         r"entry 12, FINISH 2 GBR33\.\n")
         self.play(scorer, "> finish 1 7\n> finish 1 9\n> score 1\nRace 1 is to count: 2 finished")
         self.assertNotIn("without a sail", scorer.say("n", "> $"))
+        jury = self.typist("jury")
+        self.assertIn("Not sent: the places of finishers are for the finish", jury.say("?2 7", "> $"))
+        self.assertIn("Not sent: abandon 2 needs STRIKE", jury.say("abandon 2", "> $"))
 
     def test_numbers_of_boats(self) -> None:
         """A whole number is hers if one boat has it; other sails that end so are named."""
@@ -155,11 +173,11 @@ OK 12   5th in race 1
 > 12
    12 is SWE 12 Iris; NED 112 Windhover ends so too
 OK 7   1st in race 1
-> 42
+> strike 1 42
    Not sent: 42 may be GBR 42 Kestrel or FRA 42 Plover: type more of her sail.
 > 1042
    1042 is GBR 1042 Osprey
-> 2
+> strike 1 2
    Not sent: 2 may be SWE 12 Iris, NED 112 Windhover, GBR 1042 Osprey, GBR 42 Kestrel, FRA 42 Plover or
 > before 1 342 gbr 1042
    342 is IRL 342 Dunlin
@@ -197,8 +215,10 @@ OK 12   3rd in race 1
 > n
    Not sent.
 > mark 1 7 dnf
+   RACE 1 COUNTS ALREADY. Is this a correction? [y/N]
+> y
 > clear 1 7
-   DNF and ZFP both go; type again what stays. Clear her? [y/N]
+   RACE 1 COUNTS ALREADY. DNF and ZFP both go; type again what stays. Clear her? [y/N]
 > n
    Not sent.
 > before 1 5 33
@@ -247,6 +267,200 @@ OK 11   DNF and redress ALL in race 2
         scorer.say("y", "OK 10 .*(\n .*)*\n> $")
         finish.say("finish 2 7", "7 may be GBR 7 Sea Pink or USA7: type more of her sail.\n> $")
         finish.say("finish gbr 7", "GBR is no race: the number of the race comes after FINISH.\n> $")
+
+    def test_short_lines(self) -> None:
+        """After `at 3` the race may be left out, and a code is a line. What may be two things is asked."""
+        self.open()
+        window = self.typist()
+        self.play(window, """
+> at 3
+> mark 33 ocs
+   33 is GBR 33 Turnstone
+OK 8   OCS in race 3
+> 12
+> 101
+> before 9 12
+OK 11   1st in race 3
+> tie 7 101
+OK 12   3rd (tied) in race 3
+> 55 dnf
+OK 13   DNF in race 3
+> strike 9
+OK 14   out of the order of race 3
+> zfp 7
+OK 15   ZFP in race 3
+> mark 3 ocs
+   3 may be a race or a boat. Is MARK 3 GBR33 OCS meant? [y/N]
+> n
+   Not sent: type the race and all of her sail: MARK race sail code.
+> 101,12
+   Not sent: 101,12 has a comma, which no sail has: type one boat in a line.
+> race
+Race 3 doesn't count yet
+""")
+
+    def test_help_of_a_word(self) -> None:
+        self.open()
+        window = self.typist()
+        self.play(window, """
+> help mark
+   MARK race sail code       DNC DNS OCS UFD BFD DNF RET; the jury: DSQ DNE
+   After at 3: mark 33 ocs, or ocs 33, or 33 ocs.
+> help ocs
+   MARK race sail code
+> help undo
+   It shows the line that reverses yours, and asks.
+> help 101?
+   ?1 sail                   she is known now; or ?1 none
+> help xyz
+   xyz is no line: help lists them
+""")
+
+    def test_number_that_is_not_clear(self) -> None:
+        """Who crossed the line keeps her place also if her number is that of two boats, or of none. A sail
+        that is like it is asked."""
+        self.make("two", entries="Sail,Boat\nGBR 101,Kestrel\nGER 101,Adler\nNED 12,Windhover\nGBR 33,Plover\n")
+        self.open("two")
+        window = self.client("two", "--role", "finish")
+        self.play(window, """
+> at 1
+> 101
+   101 may be GBR 101 Kestrel or GER 101 Adler. 101? keeps her place.
+> 12
+OK 5   2nd in race 1, with 1 unread finisher ahead
+> ger 101
+   101? keeps a place. Is she GER 101 Adler? [y/N]
+> n
+OK 6   3rd in race 1, with 1 unread finisher ahead
+> 412
+   412 isn't entered. 412? keeps her place.
+> 412
+   412 isn't entered. 412?2 keeps her place.
+> ned 13
+   NED13 isn't entered. Do you mean NED 12 Windhover? NED13? keeps her place.
+> gbr 101
+   101? keeps a place. Is she GBR 101 Kestrel? [y/N]
+> y
+   BEFORE 1 GBR101 NED12
+OK 7   1st in race 1
+> 412? none
+   412? is dropped.
+> 412?2 gbr 33
+   FINISH 1 GBR33
+> ned 13? none
+> 33
+NO 8   Refused: she is in the finishing order of this race already
+   If another boat crossed the line, type ? for her now.
+> ?
+   ?1 keeps her place.
+> ?1 33
+NO 8   Refused: she is in the finishing order of this race already
+> race 1
+    ?1  5th on the water, but her sail isn't known
+> ?1 none
+> mark 1 101 ocs
+   Not sent: 101 may be GBR 101 Kestrel or GER 101 Adler: type more of her sail.
+> hello
+   Not sent: HELLO isn't entered.
+> at3
+   Not sent: AT3 isn't entered.
+> 33?
+   33? keeps her place.
+> 33?
+   Not sent: type 33? and her sail, or 33? none.
+> what?
+   Not sent
+""")
+
+    def test_signs_of_a_terminal(self) -> None:
+        """Of a name and of who types the terminal obeys no sign, whoever wrote it into a file."""
+        self.make("odd", entries="Sail,Boat\nGBR 7,Wind\x1b[2K\x1b[1Ahover\nGBR 12,\u202eevil\u200b\nGBR 112,\x9bA\n")
+        self.open("odd")
+        with open(os.path.join(self.here, "odd", "office", "places"), "wb") as file:
+            file.write(Note("kept", 1, "?1", "Eve\x1b[2K", time="\u202e" * 20).text())
+        window = self.window("client.py", "odd", "--role", "scorer", "--name", "Eve\x1b[2K")
+        said = window.read("> $")
+        for line, end in [("at 1", "> $"), ("gbr 7", "OK 4 .*\n1> $"), ("12", "OK 5 .*\n1> $"), ("race 1", "1> $"),
+                          ("score 1", r"\] $"), ("y", r"\] $"), ("y", "1> $"), ("standing", "1> $"), ("rank 7", "1> $"),
+                          ("2", "1> $"), ("strike 1 7", r"\] $"), ("y", "1> $")]:
+            said += window.say(line, end)
+        for text in ("Wind[2K[1Ahover", "GBR 12 evil", "kept by Eve\\x1b[2K at \\u202e"):
+            self.assertIn(text, said)
+        self.assertEqual({letter for letter in said if not letter.isprintable()}, {"\n"})
+        other = self.client("odd", "--role", "finish")
+        window.say("?1 none", "is dropped.\n1> $")
+        said = other.say("race 1", "> $")
+        self.assertIn("   ?1 of race 1 is dropped by Eve[2K at ", said)
+        self.assertEqual({letter for letter in said if not letter.isprintable()}, {"\n"})
+
+    def test_long_numbers(self) -> None:
+        """A number of more digits than Python reads is no number of a race, at the prompt and in a file."""
+        long = "1" * 4301
+        self.open()
+        desk = Desk(Folder(os.path.join(self.here, "cup")), "SCORER", "", self.said.append, lambda _: True)
+        desk.connect()
+        self.addCleanup(desk.disconnect)
+        for line in (f"at {long}", f"race {long}", f"abandon {long}", f"finish {long} 7", f"mark 1 {long} ocs", long,
+                     f"ocs {long} 7", f"time {long} 7 9", f"?{long} 7", f"{long}?", f"tie {long} 7 12"):
+            for desk.at in (None, 1):
+                with self.assertRaises(NotSent) as caught:
+                    desk.do(line)
+                self.assertLess(len(str(caught.exception)), 200)
+        for line in (f"score {long}", f"unscore {long}"):
+            self.assertFalse(desk.do(line))
+        desk.do(f"help {long}")
+        for line in (f"FINISH {long} GBR7", f"SCORE {long}", f"ABANDON {long}"):
+            said, status = helpers.run("client.py", "cup", "--role", "scorer", lines=line, cwd=self.here)
+            self.assertIn("NO 20   Refused: the line is longer than 80 letters.", said)
+            self.assertEqual(status, 1)
+
+    def test_places_that_cannot_be_written(self) -> None:
+        """If the file of places can't be written, that is said, nothing ends, and what was kept stays."""
+        self.open()
+        window = self.typist("scorer")
+        self.play(window, "> at 1\n> 101\n> ?\n> 12")
+        path = os.path.join(self.here, "cup", "office", "places")
+        os.rename(path, f"{path}.good")
+        os.mkdir(path)
+        self.play(window, """
+> ?
+   Beware: """ + path + """ can't be read: Is a directory. A finisher without a sail may be missing.
+   Not sent: """ + path + """ can't be written: Is a directory. Write her down on paper.
+> ?1 none
+   Not sent: """ + path + """ can't be written: Is a directory.
+> 7
+OK 10   4th in race 1, with 1 unread finisher ahead
+> score 1
+   ?1 (kept by scorer at
+> n
+> abandon 1
+> y
+   Beware: """ + path + """ can't be written: Is a directory. Still kept: ?1.
+Race 1 is taken away: 3 lines, all taken.
+""")
+        os.rmdir(path)
+        os.rename(f"{path}.good", path)
+        window.say("?1 33", "OK 14 .*\n1> $")
+
+    def test_struck_at_once(self) -> None:
+        """A boat that another window strikes before this one has looked is out of the order again."""
+        self.open()
+        desk = Desk(Folder(os.path.join(self.here, "cup")), "FINISH", "", self.said.append, lambda _: True)
+        desk.connect()
+        self.addCleanup(desk.disconnect)
+        ask = desk.link.ask
+
+        def asked(line: str) -> str:
+            """The office's answer, after which a scorer strikes her."""
+            answer = ask(line)
+            if line.startswith("FINISH"):
+                with contextlib.closing(desk.folder.link()) as scorer:
+                    scorer.ask("ROLE SCORER")
+                    scorer.ask("STRIKE 1 GBR7")
+            return answer
+        with mock.patch.object(desk.link, "ask", asked):
+            self.assertTrue(desk.do("finish 1 7"))
+        self.assertIn("OK 8   she is out of the order of race 1 again; 0 finished", self.said[-1])
 
     def test_abandon(self) -> None:
         self.open()
@@ -338,7 +552,7 @@ NO 14
 """)
 
     def test_each_correction_is_asked(self) -> None:
-        """In a race that counts each line for its order is questioned, also after another was."""
+        """In a race that counts each line is questioned, also after another was."""
         self.open()
         window = self.typist("scorer")
         self.play(window, """
@@ -350,6 +564,21 @@ NO 14
    RACE 1 COUNTS ALREADY. Is this a correction? [y/N]
 > y
 > before 1 7 101
+   RACE 1 COUNTS ALREADY. Is this a correction? [y/N]
+> n
+   Not sent.
+> mark 1 7 dnf
+   RACE 1 COUNTS ALREADY. Is this a correction? [y/N]
+> n
+   Not sent.
+> penalty 1 101 zfp
+   RACE 1 COUNTS ALREADY. Is this a correction? [y/N]
+> n
+   Not sent.
+> mark 2 7 dnf
+OK 12   DNF in race 2
+> role jury
+> redress 1 101 all
    RACE 1 COUNTS ALREADY. Is this a correction? [y/N]
 > n
    Not sent.

@@ -293,6 +293,10 @@ class Worked(unittest.TestCase):
             found, wrong = rulings.rulings_of(f"# a note\n{line}")
             self.assertEqual(found, [], line)
             self.assertRegex(wrong[0], f"decisions.txt, line 2: .*{re.escape(why)}")
+        for sign in ("\x0b", "\x0c", "\x85", "\u2028"):
+            self.assertEqual(rulings.rulings_of(f"# a note{sign}race 3 GBR7 NSC\r\n"), ([], []))
+        self.assertIn("is no race", rulings.rulings_of(f"race {'3' * 5000} GBR7 NSC")[1][0])
+        self.assertIn("\u017f", rulings.rulings_of("race 3 GBR\u017f NSC")[1][0])
         found, wrong = rulings.rulings_of("race 03 gbr 7 prp  # hearing 4\nrace 3 GBR7 NSC")
         self.assertEqual([str(ruling) for ruling in found], ["race 3 GBR7 PRP 30%"])
         self.assertRegex(wrong[0], "line 2: line 1 decides about GBR7 in race 3 already")
@@ -344,6 +348,25 @@ class Sent(helpers.Series):
                    "decisions.txt")
         self.assertEqual(self.decisions("send", lines="y\n")[1], 0)
         self.late()
+
+    def test_typed_meanwhile(self) -> None:
+        """Nothing is sent if somebody types what changes a decision's points before the answer."""
+        self.open()
+        self.typed(*(f"FINISH 1 {sail}" for sail in ("GBR101", "GBR7", "NED12")), "SCORE 1")
+        self.write("race 1 GBR7 PRP 30%\n", "cup", "decisions.txt")
+        window = self.window("decisions.py", "cup", "send")
+        # DNF has 8 points with seven boats and 11 with ten: 30% of it are 2.4, rounded to 2, and 3.3, to 3.
+        self.assertIn("REDRESS 1 GBR7 4.0 ", window.read(r"\[y/N\] $"))
+        self.typed("ENTER ITA1", "ENTER ITA2", "ENTER ITA3")
+        window.type("y")
+        said, status = window.rest()
+        self.assertIn("Somebody else has typed meanwhile", said)
+        self.assertEqual((status, "REDRESS" in self.text("cup", "journal.txt")), (1, False))
+        window = self.window("decisions.py", "cup", "send")
+        self.assertIn("REDRESS 1 GBR7 5.0 ", window.read(r"\[y/N\] $"))
+        window.type("y")
+        self.assertEqual(window.rest()[1], 0)
+        self.assertIn("REDRESS 1 GBR7 5.0\n", self.text("cup", "journal.txt"))
 
     def late(self) -> None:
         """A late entry makes three of the five stale, and nobody shows that without saying so."""

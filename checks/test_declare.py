@@ -4,7 +4,6 @@ from __future__ import annotations
 import datetime
 import json
 import os
-import time
 import unittest
 
 import helpers
@@ -50,6 +49,19 @@ class Declared(helpers.Series):
         self.assertEqual(helpers.run("series.py", "final", "cup", cwd=self.here),
                          ("The results of cup are final.\n", 0))
 
+    def test_without_a_name(self) -> None:
+        """A late boat that the list lacks is named before the results are final; in a list of sails alone
+        nobody has a name."""
+        self.open()
+        self.send("ENTER USA4", "ENTER FRA77", *RACES)
+        named = "Shown without a name: {}. Add the {} to entries.csv.\nThe results of cup are final.\n"
+        for listed, wanted in [(helpers.ENTRIES, named.format("USA4 and FRA77", "boats")),
+                               (helpers.ENTRIES + ",USA 4,,Club\nTern,FRA 77,,\n", named.format("USA4", "boat")),
+                               (helpers.ENTRIES + ",USA 4,J. Doe,\nTern,FRA 77,,\n", named[named.index("The results"):]),
+                               ("Sail\nGBR7\n", named[named.index("The results"):])]:
+            self.write(listed, "cup", "entries.csv")
+            self.assertEqual(helpers.run("series.py", "final", "cup", cwd=self.here), (wanted, 0))
+
     def test_reason(self) -> None:
         """Amended results say why."""
         window = self.window("series.py", "amended", "cup")
@@ -61,6 +73,11 @@ class Declared(helpers.Series):
         said, status = helpers.run("series.py", "amended", "cup", cwd=self.here)
         self.assertIn("amended results need a reason. Nothing was announced.", said)
         self.assertEqual((status, "state = provisional\n" in self.text("cup", "series.ini")), (1, True))
+
+    def correction(self, window: helpers.Terminal, line: str) -> str:
+        """What is said of a line in a race that counts, after the question."""
+        window.say(line, r"COUNTS ALREADY\. .*\[y/N\] $")
+        return window.say("y", "> $")
 
     def test_changed_since(self) -> None:
         """A window says that the results were final, and the board that they have changed since."""
@@ -75,18 +92,18 @@ class Declared(helpers.Series):
         self.assertNotIn("declared", window.say("finish 2 7", "OK .*\n> $"))
         self.assertNotIn(SINCE, self.shown()[0])
         window.say("strike 2 7", "OK .*\n> $")
-        said = window.say("clear 1 7", "> $") + window.say("penalty 1 12 zfp", "> $")
+        said = self.correction(window, "clear 1 7") + self.correction(window, "penalty 1 12 zfp")
         self.assertEqual(said.count('       The results were declared final. Next: python3 '
                                     'tools/series.py amended cup "the reason"\n'), 1)
         page = self.shown()[0]
-        self.assertIn(SINCE, page)
+        self.assertIn(f'<p class="reason changed">{SINCE}</p>', page)
         self.assertIn('<span class="word final">Final</span>', page)
         said, status = helpers.run("verify.py", "out/cup/index.html", "--program", helpers.PROGRAM,
                                    cwd=self.here)
         self.assertEqual(status, 0, said)
-        self.assertNotIn("declared", window.say("clear 1 12", "> $").partition("Next")[2])
+        self.assertNotIn("declared", self.correction(window, "clear 1 12").partition("Next")[2])
         self.assertNotIn(SINCE, self.shown()[0])
-        window.say("penalty 1 12 zfp", "declared final(.|\n)*> $")
+        self.assertIn("declared final", self.correction(window, "penalty 1 12 zfp"))
         self.announce("amended", "cup", "NED 12 was in the triangle")
         self.assertNotIn("have changed since", self.shown()[0])
 
@@ -98,7 +115,7 @@ class Declared(helpers.Series):
         office.rest()
         board = self.window("board.py", "cup", "--page", "running")
         board.read("Pages are in")
-        time.sleep(2.1)
+        helpers.next_second()
         asking = self.window("series.py", "remove", "cup", "den", "16")
         asking.read(r"\[y/N\] $")
         asking.type("y")
@@ -165,10 +182,28 @@ class Moments(unittest.TestCase):
 
     def test_entry(self) -> None:
         logged = self.log(("FINISH 1 A", "OK 3"), ("SCORE 1", "OK 4"), ("SCORE 1", "OK 4"),
-                          ("removed B", "3 entries"), ("FINISH 2 A", "OK 4"))
-        for upto, number, wanted in [(2, 3, 0), (2, 4, 1), (3, 4, 2), (3, 5, None), (4, 3, 3),
-                                     (4, 4, None), (5, 4, 4), (5, 3, 3), (5, 2, 3)]:
-            self.assertEqual(self.minute(time_of_entry(logged[:upto], number)), wanted, (upto, number))
+                          ("removed B", "3 entries 0123456789abcdef"), ("FINISH 2 A", "OK 4"))
+        first = self.journal("ENTER B", "ENTER A", "FINISH 1 A", "SCORE 1", "FINISH 3 A")
+        left = self.journal("ENTER A", "FINISH 1 A", "SCORE 1", "FINISH 2 A")
+        for upto, journal, number, wanted in [
+                (2, first, 3, 0), (2, first, 4, 1), (3, first, 4, 2), (3, first, 5, None), (3, first, 6, None),
+                (3, first, 0, None), (4, left, 3, 3), (4, left, 4, None), (5, left, 4, 4), (5, left, 3, 3),
+                (5, left, 2, 3)]:
+            self.assertEqual(self.minute(time_of_entry(logged[:upto], journal, number)), wanted,
+                             (upto, number))
+
+    def journal(self, *lines: str) -> list[str]:
+        return [f"1 {at} SCORER {line}" for at, line in enumerate(lines, 1)]
+
+    def test_entry_of_another_journal(self) -> None:
+        """A number that another journal had, too, is known by its line."""
+        logged = self.log(("redress 01 a 2", "OK 1 1 1.0"), ("SCORE 1", "OK 2"), ("restored", "1 entry"),
+                          ("FINISH 2 A", "OK 2 1 1.0"), ("TIME 1 A 0042", "OK 3 1= 1.0"), ("SCORE 1", "NO 13"))
+        for line, number, wanted in [("REDRESS 1 A 2.0", 1, 0), ("REDRESS 1 A 2.5", 1, None),
+                                     ("SCORE 1", 2, 1), ("FINISH 2 A", 2, 3), ("FINISH 2 B", 2, None),
+                                     ("TIME 1 A 42", 3, 4), ("SCORE 1", 13, None)]:
+            journal = self.journal(*["ENTER A"] * (number - 1), line)
+            self.assertEqual(self.minute(time_of_entry(logged, journal, number)), wanted, line)
 
     def test_rules(self) -> None:
         logged = [Logged(f"2026-11-28T10:{at:02}:00+0000", "", "", "", rules, "opened", "")

@@ -22,6 +22,7 @@ class Guide(unittest.TestCase):
     def setUpClass(cls) -> None:
         cls.text = guide.read()
 
+    @helpers.needs_times
     def test_boxes(self) -> None:
         guide.play(self.text)
 

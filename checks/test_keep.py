@@ -6,16 +6,12 @@ import contextlib
 import os
 import signal
 import socket
-import subprocess
-import tempfile
-import unittest
+import stat
 
-import helpers
-from office import Link
+from kept import DEVICE, FAULT, VERSION, Kept
 
-DEVICE, NOWHERE = "regatta: device fault\n", "/no/such/folder/race.sock"
 A, B, C = (f"1 {at} SCORER ENTER {sail}\n" for at, sail in enumerate("ABC", 1))
-VERSION = "REGATTA 2\n"
+MANY = range(100, 200)
 # What a file has, the journal file and the entry list; what the file has once the office serves.
 STARTS = [
     ("", "", "Sail\nA\nB\n", VERSION + A + B),
@@ -26,6 +22,9 @@ STARTS = [
     ("", VERSION + A, "Sail\na\nb\n", VERSION + A + B),
     (VERSION + A, VERSION + A + B, "Sail\nC\n", VERSION + A + B + C),
     (VERSION + A + B, VERSION + A, "Sail\nC\n", VERSION + A + B + C),
+    # More boats than are kept at a time.
+    ("", "", "Sail\n" + "".join(f"{sail}\n" for sail in MANY),
+     VERSION + "".join(f"1 {at} SCORER ENTER {sail}\n" for at, sail in enumerate(MANY, 1))),
     # An older journal, and one that was written by hand, go on as they are.
     (A, "", "Sail\nB\n", A + B),
     ("regatta 2\r\n1 1 scorer enter a\r\n", "", "Sail\nB\n", "regatta 2\r\n1 1 scorer enter a\r\n" + B),
@@ -43,48 +42,14 @@ FAULTS = [
     (VERSION + A, VERSION + "1 1 SCORER ENTER X\n", "keep differs at 1"),
     (VERSION + A + B + "1 3 SC", VERSION + A + "1 2 SCORER ENTER X\n" + C, "keep differs at 2"),
     (VERSION + "1 1 SCORER FINISH 1 A\n", "", "start refused 7 at 1"),
+    (VERSION + "1 1 SCORER FINISH 1 A\n1 2 SC", "", "start refused 7 at 1"),
     ("\n" * 1_048_577, "", "keep too long"),
 ]
 # The end of a file, and how it is shown.
 CUTS = [("1 2 SCORER ENTER B", "1 2 SCORER ENTER B"), ("1 2 SC\0\n", "1 2 SC??"), ("\0\0", "??")]
 
 
-class Keeping(unittest.TestCase):
-    def setUp(self) -> None:
-        holder = tempfile.TemporaryDirectory()
-        self.addCleanup(holder.cleanup)
-        self.kept, self.journal, self.boats, self.path = (
-            os.path.join(holder.name, name) for name in ("kept", "journal", "boats.csv", "race.sock"))
-        self.write(self.boats, "Sail\n")
-
-    def write(self, path: str, text: str) -> None:
-        with open(path, "w", encoding="ascii", newline="") as file:
-            file.write(text)
-
-    def text(self, end: str = "") -> str:
-        with open(self.kept + end, encoding="ascii", newline="") as file:
-            return file.read()
-
-    def said(self, *words: str, path: str = NOWHERE) -> tuple[str, str, int]:
-        """What an office says that can't make its socket."""
-        return helpers.ran("serve", "--keep", self.kept, "--socket", path, *words)
-
-    def opened(self, *words: str) -> tuple[subprocess.Popen, Link]:
-        """An office that serves, and a client of it."""
-        office = subprocess.Popen([helpers.PROGRAM, "serve", "--keep", self.kept, "--socket", self.path, *words])
-        self.addCleanup(office.wait)
-        self.addCleanup(office.kill)
-        helpers.until("an office", lambda: helpers.is_listening(self.path))
-        link = Link(self.path)
-        self.addCleanup(link.close)
-        return office, link
-
-    def killed(self, office: subprocess.Popen) -> None:
-        """Kills an office, and removes the file of its socket."""
-        office.send_signal(signal.SIGKILL)
-        office.wait()
-        os.unlink(self.path)
-
+class Keeping(Kept):
     def test_starts(self) -> None:
         for kept, journal, boats, wanted in STARTS:
             self.write(self.kept, kept)
@@ -124,7 +89,7 @@ class Keeping(unittest.TestCase):
         """A file that can't be opened or made, or is no plain file, is a fault."""
         for path in ("/no/such/folder/kept", "/dev/null", os.path.dirname(self.kept)):
             self.kept = path
-            self.assertEqual(self.said(), ("", "regatta: keep fault\n", 3))
+            self.assertEqual(self.said(), ("", FAULT, 3))
 
     def test_pipes(self) -> None:
         """A pipe under a name that the opening of a torn file wants is refused, and left."""
@@ -132,7 +97,7 @@ class Keeping(unittest.TestCase):
             self.write(self.kept, VERSION + A + "1 2 SC")
             os.mkfifo(self.kept + end)
             with self.subTest(end):
-                self.assertEqual(self.said()[1:], ("regatta: keep fault\n", 3))
+                self.assertEqual(self.said()[1:], (FAULT, 3))
                 self.assertEqual(self.text(), VERSION + A + "1 2 SC")
             os.remove(self.kept + end)
 
@@ -145,12 +110,42 @@ class Keeping(unittest.TestCase):
             self.assertEqual(self.said(*words), ("", f"regatta: {said}\n", status))
             self.assertFalse(os.path.exists(self.kept))
 
+    def test_links_beside(self) -> None:
+        """What is cut off goes into a plain file beside, and never where a link or a second name of it
+        leads. The file stays as it was."""
+        other, torn = self.kept + "-other", VERSION + A + "1 2 SC"
+        self.write(self.kept, torn)
+        os.symlink(other, self.kept + ".cut")
+        self.assertEqual(self.said(), ("", FAULT, 3))
+        self.assertFalse(os.path.exists(other))
+        self.write(other, "mine\n")
+        for is_link in (True, False):
+            os.remove(self.kept + ".cut")
+            if is_link:
+                os.symlink(other, self.kept + ".cut")
+            else:
+                os.link(other, self.kept + ".cut")
+            with self.subTest(is_link=is_link):
+                self.assertEqual(self.said(), ("", FAULT, 3))
+                self.assertEqual((self.text("-other"), self.text()), ("mine\n", torn))
+
+    def test_permissions(self) -> None:
+        """The file keeps its permissions, and what is cut off has the same, whatever is usual here."""
+        for mode in (0o600, 0o640, 0o606):
+            self.write(self.kept, VERSION + A + "1 2 SC")
+            os.chmod(self.kept, mode)
+            with self.subTest(oct(mode)):
+                self.assertEqual(self.said()[2], 3)
+                for end in ("", ".cut"):
+                    self.assertEqual(stat.S_IMODE(os.stat(self.kept + end).st_mode), mode)
+            os.remove(self.kept + ".cut")
+
     def test_two_names(self) -> None:
         """A file with a second name is refused; a link to one isn't."""
         self.write(self.kept, VERSION + A)
         other = self.kept + "-link"
         os.link(self.kept, other)
-        self.assertEqual(self.said(), ("", "regatta: keep fault\n", 3))
+        self.assertEqual(self.said(), ("", FAULT, 3))
         os.unlink(other)
         os.symlink(self.kept, other)
         self.kept = other

@@ -3,6 +3,7 @@ editor or another office may have left it."""
 from __future__ import annotations
 
 import os
+import shutil
 import unittest
 
 import helpers
@@ -20,6 +21,12 @@ class Kept(helpers.Series):
     def put(self, text: str) -> None:
         with open(self.journal(), "w", encoding="ascii", newline="") as file:
             file.write(text)
+
+    def forget(self) -> None:
+        """Removes what the tools know of the journal."""
+        shutil.rmtree(os.path.join(self.here, "cup", "kept"), ignore_errors=True)
+        with open(os.path.join(self.here, "cup", "office.log"), "w"):
+            pass
 
     def send(self, line: str) -> str:
         link = Link(os.path.join(self.here, "cup", "office", "race.sock"))
@@ -43,6 +50,7 @@ class Kept(helpers.Series):
     def test_older_journals(self) -> None:
         """A journal without a version, or written by hand, goes on as it is."""
         for text in (GOOD, "regatta 2\r\n01 1 scorer  enter gbr7\r\n1 2 SCORER ENTER GBR101\r\n"):
+            self.forget()
             self.put(text)
             window = self.open()
             self.assertEqual(self.send("FINISH 1 GBR7"), "OK 3 1= 0.0")
@@ -53,6 +61,15 @@ class Kept(helpers.Series):
             with open(self.journal(), encoding="ascii", newline="") as file:
                 # The office's window has the first seat.
                 self.assertEqual(file.read(), text + "2 1 SCORER FINISH 1 GBR7\n")
+            said, status = self.run_series("check", "cup")
+            self.assertIn("On the entry list, but not entered: NED 12 Windhover, FRA 9 Plover, GBR 33", said)
+            self.assertEqual(status, 0)
+            said, status = helpers.run("series.py", "remove", "cup", "GBR", "101", lines="y\n", cwd=self.here)
+            self.assertIn("GBR101 is taken out. journal.txt has 2 entries", said)
+            with open(self.journal(), encoding="ascii", newline="") as file:
+                left = [line for line in text.splitlines(keepends=True) if "GBR101" not in line]
+                self.assertEqual(file.read(), "".join(left) + "2 1 SCORER FINISH 1 GBR7\n")
+            self.assertIn("can be opened: ", self.run_series("check", "cup")[0])
 
     def test_torn_end(self) -> None:
         """A torn line isn't counted. The office cuts it off, and its window shows it."""

@@ -11,8 +11,8 @@ BOATS, FULL, RACES = 500, 8192, 40
 SAILS = range(100, 100 + BOATS)
 ENTRIES = [f"1 {nth} SCORER ENTER {sail}" for nth, sail in enumerate(SAILS, 1)]
 TABLE = [f"TABLE {BOATS} RACES", *(f"1= {sail} 0.0" for sail in SAILS)]
-# How many boats finish in each race of the season.
-FINISHERS = 189
+# How many boats finish in each race of the season, and the longest time in seconds.
+FINISHERS, LONGEST = 189, 999_999
 
 
 def by_turns(count: int) -> list[str]:
@@ -37,6 +37,22 @@ def season() -> list[str]:
     return [*lines, "ROLE JURY", *(f"MARK 1 {sail(boat)} DSQ" for boat in range(480, 492)), "ROLE SCORER"]
 
 
+def timed_season() -> tuple[list[str], dict[str, int]]:
+    """The lines of a season by times, all of which are accepted, up to the longest time that there is:
+    the boats that are handed in first took longest. And the net points of each boat, whose four worst
+    scores of 40 are excluded."""
+    boats, finishers = 60, 50
+    lines = [f"ENTER {sail(boat)}" for boat in range(boats)]
+    points = {sail(boat): [boats + 1] * RACES for boat in range(boats)}
+    for race in range(1, RACES + 1):
+        for nth in range(finishers):
+            boat = sail((race * 7 + nth) % boats)
+            lines.append(f"TIME {race} {boat} {LONGEST - 19_000 * nth}")
+            points[boat][race - 1] = finishers - nth
+        lines.append(f"SCORE {race}")
+    return lines, {boat: sum(sorted(scores)[:-4]) for boat, scores in points.items()}
+
+
 class Limits(unittest.TestCase):
     def printed(self, *words: str, lines: list[str] = [], journal: list[str] = []) -> list[str]:
         """What a replay that starts with a journal prints of these lines."""
@@ -56,6 +72,34 @@ class Limits(unittest.TestCase):
                          ["NO 5", "NO 6", f"JOURNAL {BOATS}", *ENTRIES, *TABLE, "END", *TABLE])
         results = ["rank,sail,net", *(f"1=,{sail},0.0" for sail in SAILS)]
         self.assertEqual(self.printed("--print", "csv", journal=ENTRIES), results)
+
+    def test_all_finish(self) -> None:
+        """All of 500 boats finish one race, and each has the points of her place."""
+        lines = [*(f"FINISH 1 {sail}" for sail in SAILS), "SCORE 1"]
+        found = self.printed(lines=lines, journal=ENTRIES)
+        self.assertEqual(found[:BOATS], [f"OK {nth} 1= 0.0" for nth in range(BOATS + 1, 2 * BOATS + 1)])
+        points = [f"{place} {sail} {place}.0 {place}.0" for place, sail in enumerate(SAILS, 1)]
+        self.assertEqual(found[BOATS:], [f"OK {2 * BOATS + 1}", f"TABLE {BOATS} RACES 1", *points])
+
+    def test_timed_season(self) -> None:
+        """A season by times, up to the longest there is."""
+        lines, nets = timed_season()
+        found = self.printed("--handicap", "--exclude", "4,8,16,30", lines=lines)
+        replies, table = found[:len(lines)], found[len(lines):]
+        self.assertEqual([reply for reply in replies if not reply.startswith("OK ")], [])
+        self.assertEqual({row.split()[1]: row.split()[2] for row in table[1:]},
+                         {boat: f"{net}.0" for boat, net in nets.items()})
+        by_net = sorted(nets.values())
+        self.assertEqual([row.split()[2] for row in table[1:]], [f"{net}.0" for net in by_net])
+
+    def test_many_fields(self) -> None:
+        """An entry list may have many columns, and long ones."""
+        with tempfile.TemporaryDirectory() as folder:
+            path = os.path.join(folder, "boats.csv")
+            with open(path, "w", encoding="ascii") as file:
+                file.write(",".join([*map(str, range(2000)), "Sail"]) + "\n")
+                file.write(",".join([*["x" * 50] * 2000, "A"]) + "\n")
+            self.assertEqual(self.printed("--entries", path), ["TABLE 1 RACES", "1 A 0.0"])
 
     def test_nine_penalties(self) -> None:
         """A boat has at most nine penalties of a kind in a race."""

@@ -210,8 +210,9 @@ class Ways(unittest.TestCase):
         """Another client is served once the first has gone; if the door then fails, the table comes."""
 
         def is_served() -> bool:
-            # Until the office has parted with the first client it may have no room for another.
-            with contextlib.closing(Link(path)) as again, contextlib.suppress(NoSeat):
+            # Until the office has parted with the first client it may have no room for another, who gets
+            # BUSY, or is left without an answer.
+            with contextlib.closing(Link(path)) as again, contextlib.suppress(Trouble):
                 return again.ask("RANK A") == "RANK 1= 0.0"
             return False
 
@@ -230,14 +231,34 @@ class Ways(unittest.TestCase):
                 link.ask("ENTER A")
                 most = 1 + max(map(int, os.listdir(f"/proc/{serving.pid}/fd")))
                 resource.prlimit(serving.pid, resource.RLIMIT_NOFILE, (most, most))
-                with socket.socket(socket.AF_UNIX, socket.SOCK_STREAM) as turned_away:
-                    turned_away.settimeout(helpers.PATIENCE)
-                    turned_away.connect(path)
-                    self.assertEqual(turned_away.recv(100), b"BUSY\n")
+                # The office has a descriptor at hand for the first, and has to find one for each other.
+                for _ in range(3):
+                    with socket.socket(socket.AF_UNIX, socket.SOCK_STREAM) as turned_away:
+                        turned_away.settimeout(helpers.PATIENCE)
+                        turned_away.connect(path)
+                        self.assertEqual(turned_away.recv(100), b"BUSY\n")
                 self.assertTrue(helpers.is_listening(path))
                 self.assertEqual(link.ask("ENTER B"), "OK 2 1= 0.0")
                 self.assertEqual(link.ask("QUIT"), "BYE")
             self.goes_on(path, serving)
+
+    def test_few_descriptors(self) -> None:
+        """However many descriptors there are, a client has a seat or gets BUSY, as often as clients come."""
+        with helpers.served("--clients", "16", folder=self.here) as (path, serving):
+            opened = f"/proc/{serving.pid}/fd"
+            held = len(os.listdir(opened))
+            hard = resource.prlimit(serving.pid, resource.RLIMIT_NOFILE)[1]
+            for most in [*range(held + 4, held + 9), *range(held + 9, held + 4, -1)]:
+                resource.prlimit(serving.pid, resource.RLIMIT_NOFILE, (most, hard))
+                with contextlib.ExitStack() as stack, self.subTest(most):
+                    turned_away = 0
+                    while turned_away < 3:
+                        link = stack.enter_context(contextlib.closing(Link(path)))
+                        try:
+                            self.assertEqual(link.ask("RANK A"), "NO 7")
+                        except NoSeat:
+                            turned_away += 1
+                helpers.until("descriptors that are free", lambda: len(os.listdir(opened)) <= held)
 
     def test_no_thread(self) -> None:
         """A client for whom no thread can be started gets BUSY, and the office goes on."""

@@ -7,14 +7,12 @@ import re
 import shutil
 import signal
 import subprocess
-import sys
-import time
 import unittest
 
 import browser
 import helpers
 from office import Link
-from test_board import RACE, SECOND, free_port
+from test_board import RACE, SECOND
 
 WEEK = os.path.join(helpers.TOP, "checks", "week")
 SIZES = [390, 768, 1280]
@@ -91,24 +89,48 @@ IN_VIEW = """
   }).map(part => part.textContent);
 })()
 """
-# The clock of the phone is an hour fast, and can be turned on.
-CLOCK = "const real = Date.now; window.turned = 3600e3; Date.now = () => real.call(Date) + turned;"
+# The races that are partly below the columns that stay, and the newest race.
+HALF_HIDDEN = """
+(() => {
+  const edge = document.querySelector("thead .net").getBoundingClientRect().right;
+  return [...document.querySelectorAll(".scroll thead .r")].filter(part => {
+    const box = part.getBoundingClientRect();
+    return box.left < edge - 1 && box.right > edge + 1;
+  }).map(part => part.textContent);
+})()
+"""
+NEWEST = "[...document.querySelectorAll('.scroll thead .r')].at(-1).textContent"
+# The clock of the phone is an hour fast, and can be turned on. The page's questions are counted shortly
+# after their answers.
+PHONE = """
+const real = Date.now, send = fetch;
+window.turned = 3600e3;
+Date.now = () => real.call(Date) + turned;
+window.answered = 0;
+window.fetch = (...words) => {
+  const answer = send(...words);
+  answer.catch(() => {}).finally(() => setTimeout(() => window.answered++, 50));
+  return answer;
+};
+"""
 IS_RED = "!document.getElementById('alarm').hidden"
 
 
-def season(races: int, seed: int) -> list[str]:
-    """The lines of a number of races of the week's boats, with ties, codes, penalties and redress."""
-    dice = random.Random(seed)
-    with open(os.path.join(WEEK, "entries.csv"), encoding="utf-8") as file:
-        boats = [line.split(",")[0].replace(" ", "") for line in file.readlines()[1:]]
+def season(races: int, seed: int, sails: list[str] | None = None) -> list[str]:
+    """The lines of a number of races of these boats, or the week's, with ties, codes, penalties and
+    redress."""
+    if sails is None:
+        with open(os.path.join(WEEK, "entries.csv"), encoding="utf-8") as file:
+            sails = [line.split(",")[0].replace(" ", "") for line in file.readlines()[1:]]
+    dice, last = random.Random(seed), len(sails) - 5
     codes = ["DNS", "OCS", "UFD", "BFD", "DNF", "RET"]
     lines = []
     for race in range(1, races + 1):
-        order = dice.sample(boats, len(boats))
-        lines += [f"FINISH {race} {boat}" for boat in order[:40]]
-        lines += [f"TIE {race} {order[40]} {order[12]}", f"PENALTY {race} {order[2]} ZFP",
+        order = dice.sample(sails, len(sails))
+        lines += [f"FINISH {race} {boat}" for boat in order[:last]]
+        lines += [f"TIE {race} {order[last]} {order[12]}", f"PENALTY {race} {order[2]} ZFP",
                   f"PENALTY {race} {order[2]} ZFP", f"PENALTY {race} {order[4]} SCP",
-                  *(f"MARK {race} {boat} {dice.choice(codes)}" for boat in order[41:44]),
+                  *(f"MARK {race} {boat} {dice.choice(codes)}" for boat in order[last + 1:last + 4]),
                   f"SCORE {race}", "ROLE JURY", f"REDRESS {race} {order[9]} ALL", "ROLE SCORER"]
     return lines
 
@@ -130,15 +152,19 @@ class Pages(helpers.Series):
         text = self.text("dragon", "series.ini").replace("provisional", state)
         self.write(text, "dragon", "series.ini")
 
-    def raced(self, races: int) -> str:
-        """A series with this number of races, and the address of its page."""
-        name = f"races-{races}"
+    def raced(self, races: int, boats: int = 45, exclude: str = "4,8") -> str:
+        """A series of this size, with names of the week's, and the address of its page."""
+        name = f"{boats}-boats-{races}-races"
         with open(os.path.join(WEEK, "entries.csv"), encoding="utf-8") as file:
-            self.make(name, file.read(), exclude="4,8", title="Winter Series")
+            head, *rows = file.read().splitlines()
+        rows += [f"NOR {at},{row.partition(',')[2]}" for at, row in enumerate(rows * 2, 1000)]
+        rows = rows[:boats]
+        self.make(name, "\n".join([head, *rows, ""]), exclude=exclude, title="Winter Series")
+        sails = [row.partition(",")[0].replace(" ", "") for row in rows]
         done = subprocess.run(
             [helpers.PROGRAM, "replay", "--print", "journal", "--entries",
              os.path.join(self.here, name, "entries.csv")],
-            input="\n".join([*season(races, races), "QUIT", ""]), capture_output=True, text=True)
+            input="\n".join([*season(races, races, sails), "QUIT", ""]), capture_output=True, text=True)
         self.assertNotIn("NO ", done.stdout)
         self.write(done.stdout.partition("BYE\n")[2], name, "journal.txt")
         return self.made(name)
@@ -188,7 +214,8 @@ class Pages(helpers.Series):
                 self.assertEqual(self.browser.run(PARTLY), [], f"{page[-20:]}, {width} px")
 
     def test_newest(self) -> None:
-        """A phone shows the newest race first, beside rank, sail and net; Total is a swipe away."""
+        """A phone shows the newest race first, beside rank, sail and net; Total is a swipe away. A window
+        with more room shows Total, too."""
         self.week()
         page = self.made("dragon")
         self.browser.size(390)
@@ -196,6 +223,50 @@ class Pages(helpers.Series):
         self.assertEqual(self.browser.run(IN_VIEW), ["Rank", "Sail", "Net", "R10", "R11", "R12"])
         self.browser.run("document.querySelector('.scroll').scrollTo(9999, 0)")
         self.assertEqual(self.browser.run(IN_VIEW)[-2:], ["R12", "Total"])
+        self.browser.size(768)
+        self.browser.open(page)
+        self.assertEqual(self.browser.run(IN_VIEW), [
+            "Rank", "Sail", "Net", "R6", "R7", "R8", "R9", "R10", "R11", "R12", "Total"])
+        names = "[...document.querySelectorAll('tbody tr:first-child :is(.helm, .who)')].map(" \
+                "part => [part.getClientRects().length > 0, part.innerText])"
+        self.assertEqual(self.browser.run(names)[0], [True, "Jürgen Albrecht"])
+        self.assertEqual(self.browser.run(names)[1][0], False)
+        self.browser.run("document.getElementById('more').click()")
+        self.assertEqual(self.browser.run(names)[1], [True, "Jürgen Albrecht\nSeebär · Alsterring SV"])
+
+    def test_none_half_hidden(self) -> None:
+        """In no window is a race half below the columns that stay, and the newest is always whole."""
+        self.week()
+        pages = [self.made("dragon"), self.raced(10, 120, "none"), self.raced(7, 22, "3,6")]
+        for page in pages:
+            for width in (320, 360, 390, 412, 600, 768, 1024):
+                self.browser.size(width)
+                self.browser.open(page)
+                where = f"{page[-24:]}, {width} px"
+                self.assertEqual(self.browser.run(HALF_HIDDEN), [], where)
+                newest = [head for head in self.browser.run(IN_VIEW) if head.startswith("R") and head != "Rank"]
+                self.assertEqual(newest[-1], self.browser.run(NEWEST), where)
+                if width >= 768:
+                    self.assertEqual(self.browser.run("document.querySelector('.total')") is None,
+                                     "Total" not in self.browser.run(IN_VIEW), where)
+
+    def test_changed_since(self) -> None:
+        """That results aren't those that were declared has the colour of alarm, and they aren't green."""
+        self.week("final\nreason = Time is up. The results have changed since they were declared final.")
+        self.make("cup-two")
+        page = self.made("dragon", "cup-two")
+        for address, word in ((page, ".state .word"), (page.replace("dragon/", ""), ".list li .word")):
+            for dark in (False, True):
+                self.browser.size(390, dark=dark)
+                self.browser.open(address)
+                ground = "getComputedStyle({}).backgroundColor"
+                alarm, changed, state = [self.browser.run(ground.format(part)) for part in (
+                    "document.getElementById('alarm')", "document.querySelector('.reason.changed')",
+                    f"document.querySelector('{word}')")]
+                self.assertEqual(changed, alarm)
+                self.assertEqual(state, self.browser.run(ground.format("document.body")))
+        self.browser.open(page)
+        self.assertEqual(self.browser.run("document.querySelector('.reason.final').innerText"), "Time is up.")
 
     def test_corrected(self) -> None:
         """On a phone the helm's column is the widest, also with corrected times, which are below the
@@ -215,7 +286,7 @@ class Pages(helpers.Series):
                                           "cell => cell.innerText)"), ["1.0\n1:00:00", "2.0\n1:06:45"])
 
     def test_scrolled(self) -> None:
-        """Rank, sail and headings stay where they are while the table moves; on a phone net does, too."""
+        """Rank, sail, net and headings stay where they are while the table moves."""
         self.week()
         page = self.made("dragon")
         for width in SIZES[:2]:
@@ -231,8 +302,25 @@ class Pages(helpers.Series):
             self.assertEqual(after[:2], before[:2])
             for at in (2, 3):
                 self.assertEqual(after[at], [before[at][0], before[at][1] - 200])
-            stays = 0 if width == 390 else moved
-            self.assertEqual(after[4], [before[4][0] - stays, before[4][1] - 200])
+            self.assertEqual(after[4], [before[4][0], before[4][1] - 200])
+
+    def test_classes(self) -> None:
+        """The ways to the other classes are on the page of each; as a file it has that to their list."""
+        self.make("b & c", title="<b>Folk</b> & co")
+        self.made("cup", "b & c")
+        ways = """[...document.querySelectorAll(".classes a")].map(way =>
+            [way.textContent, way.getAttribute("href"), way.getAttribute("aria-current")])"""
+        self.browser.open(f"file://{self.here}/out/cup/index.html")
+        self.assertEqual(self.browser.run(ways), [["All classes", "../index.html", None],
+                                                  ["Autumn Cup", "../cup/index.html", "true"]])
+        port = helpers.free_port(self)
+        window = self.window("board.py", "cup", "b & c", "--http", str(port))
+        window.read("try one phone")
+        named = [["Autumn Cup", "../cup/index.html"], ["<b>Folk</b> & co", "../b%20%26%20c/index.html"]]
+        for at, address in enumerate(("cup", "b%20%26%20c")):
+            self.browser.open(f"http://127.0.0.1:{port}/{address}/")
+            wanted = [[*way, "true" if at == here else None] for here, way in enumerate(named)]
+            helpers.until("the ways", lambda: self.browser.run(ways) == wanted, 15)
 
     def test_find(self) -> None:
         self.week()
@@ -296,6 +384,21 @@ class Pages(helpers.Series):
         self.assertEqual(set(heads) - set(seen), set())
 
     @unittest.skipUnless(shutil.which("pdftotext"), "pdftotext isn't installed")
+    def test_print_of_club(self) -> None:
+        """22 boats are on one sheet, with all notes: upright if there are few races."""
+        for races, size in ((3, (595, 842)), (7, (595, 842)), (8, (595, 842)), (9, (842, 595)), (12, (842, 595))):
+            page = self.raced(races, 22, "3,6")
+            self.browser.size(1280)
+            self.browser.open(page)
+            printed = self.printed()
+            self.assertEqual([(round(width), round(height)) for width, height in self.sizes], [size], races)
+            margin, words = 9 / 25.4 * 72, [word for _, _, word in printed[0]]
+            self.assertGreaterEqual(min(left for left, _, _ in printed[0]), margin - 1)
+            self.assertLessEqual(max(right for _, right, _ in printed[0]), size[0] - margin + 1)
+            self.assertEqual(words.count("redress,"), races)
+            self.assertEqual({"Total", "Key", "Redress", f"R{races}"} - set(words), set())
+
+    @unittest.skipUnless(shutil.which("pdftotext"), "pdftotext isn't installed")
     def test_print_of_week(self) -> None:
         """45 boats in 12 races are two pages, with all notes; one race is one page, upright."""
         self.week()
@@ -318,37 +421,24 @@ class Pages(helpers.Series):
             for text in texts:
                 self.assertIn(text, " ".join(printed.split()))
 
-    @unittest.skipUnless(shutil.which("pdftoppm"), "pdftoppm isn't installed")
-    def test_pictures(self) -> None:
-        """The pictures in docs/ can be made again, and none is large."""
-        screens = os.path.join(helpers.TOP, "checks", "screens.py")
-        subprocess.run([sys.executable, screens, helpers.PROGRAM, self.here], check=True,
-                       stdout=subprocess.DEVNULL)
-        for name in ("board-phone.png", "board-desktop.png", "board-print.png"):
-            heads = []
-            for folder in (self.here, os.path.join(helpers.TOP, "docs")):
-                with open(os.path.join(folder, name), "rb") as file:
-                    data = file.read()
-                self.assertLess(len(data), 150_000, name)
-                heads.append(data[:24])
-            self.assertEqual(heads[0], heads[1], f"{name} has another size than in docs/")
-
     # Out of date
 
     def served(self, name: str) -> helpers.Window:
         """A board, and its page open in the browser of a phone with a wrong clock."""
-        port = free_port()
+        port = helpers.free_port(self)
         window = self.window("board.py", name, "--http", str(port))
         window.read("try one phone")
-        script = self.browser.ask("Page.addScriptToEvaluateOnNewDocument", source=CLOCK)
+        script = self.browser.ask("Page.addScriptToEvaluateOnNewDocument", source=PHONE)
         self.addCleanup(self.browser.ask, "Page.removeScriptToEvaluateOnNewDocument", **script)
         self.browser.size(390)
         self.browser.open(f"http://127.0.0.1:{port}/{name}/")
         return window
 
     def look_again(self) -> None:
-        """As when somebody takes the phone out of a pocket."""
+        """As when somebody takes the phone out of a pocket: the page asks how old it is."""
+        before = self.browser.run("answered")
         self.browser.run("document.dispatchEvent(new Event('visibilitychange'))")
+        helpers.until("an answer", lambda: self.browser.run("answered") > before)
 
     def send(self, *lines: str) -> None:
         link = Link(os.path.join(self.here, "fast", "office", "race.sock"))
@@ -361,7 +451,7 @@ class Pages(helpers.Series):
         office = self.open("fast")
         self.send(*RACE)
         window = self.served("fast")
-        time.sleep(2.5)
+        self.look_again()
         self.assertFalse(self.browser.run(IS_RED))
         with open(os.path.join(self.here, "fast", "office", "pid")) as file:
             os.kill(int(file.read().split()[0]), signal.SIGKILL)
@@ -377,7 +467,6 @@ class Pages(helpers.Series):
         window.process.send_signal(signal.SIGKILL)
         window.process.wait()
         self.look_again()
-        time.sleep(1.5)
         self.assertFalse(self.browser.run(IS_RED))
         self.browser.run("turned += 61e3")
         self.red(True)
@@ -451,7 +540,6 @@ class Pages(helpers.Series):
             with open(name, "w", encoding="utf-8") as opened:
                 opened.write(text)
             self.browser.open(f"file://{name}")
-            time.sleep(2.5)
             self.assertFalse(self.browser.run(IS_RED))
             self.assertIn("Thu 1 Jan", self.browser.run("once.innerText").replace(",", ""))
             self.assertIn("not kept up to date", self.browser.run("once.innerText"))

@@ -168,6 +168,11 @@ class Arguments(unittest.TestCase):
                 printed, said, status = ran(*shlex.split(words), lines="ENTER A\n")
                 self.assertEqual((printed, bool(said), status), ("", True, 2))
 
+    def test_no_text(self) -> None:
+        """A word that is no text, as a shell may pass it."""
+        for words in (["\udcff"], ["replay", "--scp", "\udcff"], ["serve", "--socket", "a\udcc3"]):
+            self.assertEqual(ran(*words), ("", "error: a word isn't UTF-8\n", 2))
+
     def test_help(self) -> None:
         for words, names in HELP.items():
             printed, said, status = ran(*shlex.split(words), lines="ENTER A\n")

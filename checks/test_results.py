@@ -16,7 +16,8 @@ import chart
 import record
 import replay
 from test_page import APART, PALE, SIZES, SMALL, WEEK, season
-from test_verify import LINES, journal_of
+from forger import journal_of
+from test_verify import LINES
 
 OPTIONS = ["--exclude", "3"]
 

@@ -8,7 +8,7 @@ import tempfile
 import unittest
 
 import helpers
-import keeper
+import second
 from office import Link, Trouble
 
 TIME = r"\d\d:\d\d:\d\d "
@@ -42,11 +42,10 @@ class Opening(helpers.Series):
         self.answer(window, [("Title: ", ""), ("a title, as Autumn Cup.\nTitle: ", "Winter"),
                              ("Class .*: ", "Dragon"), ("Club .*: ", ""),
                              (r"Entry list \[dragon/entries.csv\]: ", ""),
-                             (r"slash(.|\n)*Look again\? \[Y/n\] ", None)])
+                             (r"slash(.|\n)*Look again\? \[Y/n, or .*\] ", None)])
         self.write(helpers.ENTRIES.replace(",", ";"), "dragon", "entries.csv")
         window.type("")
         self.answer(window, [(r"Entry list .*: ", ""),
-                             (r"separated by semicolons(.|\n)*stays as entries-old\.csv\. \[Y/n\] ", ""),
                              (r"   7 boats, from GBR 101 to IRL 55, with helm, boat and club\n"
                               r"(.|\n)*Which\? \[1\] ", "3"), ("One is .*\\? ", "4"),
                              ("Two.*\\) ", "3"), ("Two.*\\) ", "8"), ("Three.*\\) ", ""),
@@ -72,16 +71,19 @@ class Opening(helpers.Series):
                              (r"Entry list \[dragon/entries.csv\]: ", "lst.csv"),
                              (r"lst\.csv isn't there\. Type the name of the list, or make it now\. "
                               r"Ctrl-C ends this\.\nEntry list \[dragon/entries.csv\]: ", "list.csv"),
-                             (r"slash(.|\n)*Look again\? \[Y/n\] ", None)])
-        self.write(helpers.ENTRIES, "list.csv")
+                             (r"slash(.|\n)*Look again\? \[Y/n, or .*\] ", "right.csv"),
+                             (r"right\.csv isn't there(.|\n)*Entry list \[list\.csv\]: ", None)])
+        self.write(helpers.ENTRIES, "right.csv")
         window.type("")
-        self.answer(window, [(r"Entry list \[list\.csv\]: ", ""), ("7 boats(.|\n)*Which\\? .*", "1"),
-                             ("A5.3 apply .*] ", ""), ("Scoring Penalty.*\\) ", "20%"),
+        self.answer(window, [(r"slash(.|\n)*Look again\? \[Y/n, or .*\] ", "right.csv"),
+                             ("7 boats(.|\n)*Which\\? .*", "1"), ("A5.3 apply .*] ", "ja"),
+                             (r"Type y for yes, or n for no\.\n.*A5.3 apply .*] ", ""),
+                             ("Scoring Penalty.*\\) ", "20%"),
                              ("corrected time.*] ", ""), ("stick.*\\) ", "stik"),
                              (r"/stik isn't there\. Take it all the same\? \[y/N\] ", ""),
                              ("stick.*\\) ", "stick"), (r"\[y/N\] ", "y")])
         self.assertEqual(window.rest(), (
-            "Copied list.csv to dragon/entries.csv: from now on change that one.\n"
+            "Copied right.csv to dragon/entries.csv: from now on change that one.\n"
             "Wrote dragon/series.ini. Next: python3 tools/series.py open dragon\n", 0))
         self.assertIn(f"copy = {self.here}/stick\n", self.text("dragon", "series.ini"))
         self.assertIn("scp = \n", self.text("dragon", "series.ini"))
@@ -97,6 +99,18 @@ class Opening(helpers.Series):
         window.press()
         self.assertEqual(window.rest(), ("\nno answer came. Nothing was written.\n", 1))
         self.assertFalse(os.path.exists(os.path.join(self.here, "dragon")))
+
+    def test_new_nowhere(self) -> None:
+        """What keeps a folder from being made is said before the first question."""
+        self.write("", "file")
+        for folder, why in [("file", "file can't be made: File exists.\n"),
+                            ("file/cup", "file/cup can't be made: Not a directory.\n"),
+                            ("/proc/cup", "/proc/cup can't be made: No such file or directory.\n"),
+                            ("/proc/self", "nothing can be written in /proc/self: No such file or "
+                             "directory.\n")]:
+            self.assertEqual(helpers.run("series.py", "new", folder, cwd=self.here), (why, 1))
+        self.window("series.py", "new", "deep/er/cup").read("Title: ")
+        self.assertFalse(os.path.exists(os.path.join(self.here, "deep")))
 
     def test_open_and_close(self) -> None:
         window = self.open()
@@ -149,7 +163,13 @@ class Opening(helpers.Series):
         self.send("FINISH 2 GBR7")
         second = self.window("series.py", "open", "cup")
         second.read(r"its window has gone\. Take it over\? \[Y/n\] ")
+        second.press()
+        self.assertEqual(second.rest(), ("\nthe office goes on without a window.\n", 1))
+        self.write("what the first window said", "cup", "office", "beware")
+        second = self.window("series.py", "open", "cup")
+        second.read(r"its window has gone\. Take it over\? \[Y/n\] ")
         second.say("", "The office is open")
+        self.assertFalse(os.path.exists(os.path.join(self.here, "cup", "office", "beware")))
         self.assertEqual(self.held(), 11)
         second.press()
         said, status = second.rest()
@@ -195,7 +215,7 @@ class Opening(helpers.Series):
         self.assertFalse(os.path.exists(os.path.join(self.here, "cup", "office", "race.sock")))
 
     def test_closed_properly(self) -> None:
-        """After an orderly end nothing is lost, also if somebody has made the journal shorter."""
+        """After an orderly end nothing is lost. If somebody has made the journal shorter, it is asked."""
         window = self.open()
         self.send(*LINES)
         with open(os.path.join(self.here, "cup", "office.log"), "a") as file:
@@ -206,12 +226,14 @@ class Opening(helpers.Series):
         self.write("".join(kept[:10]), "cup", "journal.txt")
         self.write("", "cup", "journal (conflicted copy).txt")
         said, status = helpers.run("series.py", "check", "cup", cwd=self.here)
-        self.assertIn("journal.txt has 9 entries, but had 10 when the office was closed. Compare it "
-                      "with the copies in kept/.\nBeside journal.txt there is journal (conflicted "
-                      "copy).txt.", said)
-        self.assertEqual(status, 0)
+        self.assertIn("Beside journal.txt there is journal (conflicted copy).txt.", said)
+        self.assertRegex(said, r"journal\.txt isn't what the office had\. It has 9 entries, and "
+                         r"kept/.*Z(-[0-9]+)?\.txt has 10\. One of these isn't in journal\.txt at its place, entry 10:\n"
+                         r"   2 3 SCORER SCORE 1   in the copy\n   nothing   in journal\.txt\n")
+        self.assertEqual(status, 1)
         again = self.window("series.py", "open", "cup")
-        said = again.read("The office is open")
+        again.read(r"at its place, entry 10:(.|\n)*Open the office all the same\? \[y/N\] $")
+        said = again.say("y", "The office is open")
         self.addCleanup(self.stop, "cup")
         self.assertNotIn("lost", said)
 
@@ -261,7 +283,8 @@ class Opening(helpers.Series):
                                 "boat beside her.\n", 1))
         self.write("\n".join(before.splitlines()[:10] + ["1 10 SCORER SCORE 1", ""]), "cup", "journal.txt")
         said, status = helpers.run("series.py", "remove", "cup", "DEN16", cwd=self.here)
-        self.assertIn("DEN16 can't be taken out: a race that counts would have no finisher", said)
+        self.assertIn("DEN16 can't be taken out: SCORE 1 would be refused without her: nobody has finished "
+                      "in this race.\n", said)
         self.assertEqual((self.held(), status), (10, 1))
 
     def test_long_path(self) -> None:
@@ -326,29 +349,28 @@ class Keeping(unittest.TestCase):
         for held, text in [("", self.HELD), (self.HELD, more), ("REGATTA 2\n" + self.HELD, more)]:
             with open(self.path, "w", encoding="ascii") as file:
                 file.write(held)
-            keeper.save_to(self.path, text)
+            second.save_to(self.path, text)
             self.assertEqual(self.text(), text)
 
     def test_another_journal(self) -> None:
         """A file is never replaced by a journal that lacks one of its entries."""
-        keeper.save_to(self.path, self.HELD)
+        second.save_to(self.path, self.HELD)
         for text in ["", self.HELD[:19], self.HELD.replace("B", "C") + "2 1 SCORER ENTER D\n"]:
             with self.assertRaises(Trouble) as raised:
-                keeper.save_to(self.path, text)
+                second.save_to(self.path, text)
             self.assertIn("holds entries that the office doesn't have", str(raised.exception))
             self.assertEqual(self.text(), self.HELD)
 
     def test_no_folder(self) -> None:
         with self.assertRaises(Trouble) as raised:
-            keeper.save_to(os.path.join(self.path, "none"), self.HELD)
+            second.save_to(os.path.join(self.path, "none"), self.HELD)
         self.assertIn("can't be written", str(raised.exception))
 
-    @unittest.skipUnless(os.path.exists("/dev/full"), "there is no /dev/full")
     def test_full_disk(self) -> None:
         """A file that can't be written whole stays as it was, and nothing else is left."""
-        keeper.save_to(self.path, self.HELD)
-        os.symlink("/dev/full", f"{self.path}.{os.getpid()}.new")
-        self.assertRaises(Trouble, keeper.save_to, self.path, self.HELD * 2)
+        second.save_to(self.path, self.HELD)
+        with helpers.file_size(len(self.HELD) + 5):
+            self.assertRaises(Trouble, second.save_to, self.path, self.HELD * 2)
         self.assertEqual(self.text(), self.HELD)
         self.assertEqual(os.listdir(os.path.dirname(self.path)), ["journal.txt"])
 
@@ -380,20 +402,25 @@ class Faults(helpers.Series):
         self.assertEqual(self.fault(), 'entries.csv, row 4 (P. de Wit): the sail "NED/12" has a slash. '
                          "A sail has 1 to 12 letters, digits and dashes.\nNothing was opened.\n")
         self.write(helpers.ENTRIES.replace("A. Moss", "A" * (1 << 20)), "cup", "entries.csv")
-        self.assertEqual(self.fault(), "journal.txt or entries.csv is longer than 1,048,576 bytes.\n"
-                         "Nothing was opened.\n")
+        self.assertIn("entries.csv is longer than 1,048,576 bytes.\nNothing was opened.\n", self.fault())
         os.remove(os.path.join(self.here, "cup", "entries.csv"))
         self.assertIn("entries.csv isn't there", self.fault())
 
-    def test_semicolons(self) -> None:
-        self.write(helpers.ENTRIES.replace(",", ";"), "cup", "entries.csv")
-        window = self.window("series.py", "open", "cup")
-        window.read(r"The old one stays as entries-old\.csv\. \[Y/n\] ")
-        window.say("", "The office is open")
-        self.addCleanup(self.stop, "cup")
-        self.assertEqual(self.text("cup", "entries.csv"), helpers.ENTRIES)
+    def test_forms(self) -> None:
+        """A list in another form is opened as it is, and what it has beside is named."""
+        heads = "Bootsname;Segelnummer;Steuermann;Verein;Klasse;PY"
+        listed = helpers.ENTRIES.replace("Boat,Sail,Helm,Club\n", f"{heads}\n").replace(",", ";")
+        listed = f"\ufeff{listed}".replace("\n", ";J24;1100\n").replace(f"{heads};J24;1100", heads)
+        with open(os.path.join(self.here, "cup", "entries.csv"), "wb") as file:
+            file.write(listed.encode("utf-16-le"))
+        said, status = helpers.run("series.py", "check", "cup", cwd=self.here)
+        self.assertIn("Not read: Klasse.\nRead in a series by corrected time alone: PY.\ncup can be opened: Autumn "
+                      "Cup: 7 boats", said)
+        self.assertEqual(status, 0)
+        window = self.open()
+        self.assertIn("1 2 SCORER ENTER GBR7\n", self.text("cup", "journal.txt"))
+        self.assertIn("GBR 7 Sea Pink", self.client("cup", "--role", "finish").say("race 1", "> $"))
         window.press()
-        self.assertEqual(window.rest()[1], 0)
 
     def test_journal(self) -> None:
         good = "1 1 SCORER ENTER GBR101\n1 2 FINISH FINISH 1 GBR101\n"
@@ -454,6 +481,9 @@ class Faults(helpers.Series):
         helpers.run("series.py", "final", "cup", cwd=self.here)
         self.assertIn("state = final\n# shown below the title\nreason = \n",
                       self.text("cup", "series.ini"))
+        self.write(self.text("cup", "series.ini").replace("[notice]", "[ notice ]"), "cup", "series.ini")
+        helpers.run("series.py", "provisional", "cup", cwd=self.here)
+        self.assertIn("can be opened", helpers.run("series.py", "check", "cup", cwd=self.here)[0])
 
 
 if __name__ == "__main__":

@@ -8,8 +8,10 @@ from unittest import mock
 
 import helpers
 import survey
+from copies import best_copy
 from folder import Folder
-from keeper import fullest_copy
+from office import Trouble
+from second import second_of
 
 
 class Survey(helpers.Series):
@@ -91,8 +93,8 @@ class Survey(helpers.Series):
         typist = self.client("cup", "--role", "finish")
         other = self.text("cup", "journal.txt").replace("GBR101", "GBR102")
         self.write(other, "other")
-        os.replace(os.path.join(self.here, "other"), os.path.join(self.here, "cup", "journal.txt"))
         typist.say("finish 1 7", r"OK 8 .*\n> $")
+        os.replace(os.path.join(self.here, "other"), os.path.join(self.here, "cup", "journal.txt"))
         typist.type("quit")
         typist.rest()
         window.read("Beware: journal.txt isn't what the office keeps: somebody has changed or replaced it")
@@ -103,17 +105,64 @@ class Survey(helpers.Series):
         self.assertEqual(self.held("cup", kept), 8)
         self.assertIn("FINISH 1 GBR7\n", self.text("cup", kept))
 
-    def test_fullest_copy(self) -> None:
-        os.mkdir(os.path.join(self.here, "stick"))
-        self.make("copied", copy=os.path.join(self.here, "stick"))
+    def test_what_cannot_be_used(self) -> None:
+        """Files of a series that are something else, or another account's, are said to be so."""
+        folder = self.folder()
+        os.mkdir(folder.journal)
+        self.assertEqual(survey.journal_fault(folder), "journal.txt is no plain file.")
+        with self.assertRaises(Trouble) as raised:
+            folder.parts()
+        self.assertEqual(str(raised.exception), "journal.txt can't be read: Is a directory")
+        os.rmdir(folder.journal)
+        self.write("REGATTA 2\n1 1 SCORER ENT", folder.journal)
+        with mock.patch("os.access", return_value=False):
+            self.assertIn("This account may not write ", survey.journal_fault(folder))
+        with mock.patch("os.stat", side_effect=PermissionError(13, "Permission denied")):
+            self.assertEqual(survey.journal_fault(folder), "journal.txt can't be read: Permission denied.")
+        os.mkdir(folder.journal + ".cut")
+        with self.assertRaises(Trouble) as raised:
+            folder.save_torn()
+        self.assertEqual(str(raised.exception), "journal.txt.cut can't be written: Is a directory")
+
+    def test_private_folder(self) -> None:
+        """The socket's folder has to be this account's."""
+        folder = self.folder()
+        os.rmdir(folder.file("office"))
+        for made, why in [(lambda path: self.write("", path), "can't be made: File exists"),
+                          (lambda path: os.symlink(self.here, path), "isn't a folder of this account")]:
+            made(folder.file("office"))
+            with self.assertRaises(Trouble) as raised:
+                folder.make_private()
+            self.assertIn(why, str(raised.exception))
+            os.remove(folder.file("office"))
+        with mock.patch("os.geteuid", return_value=os.geteuid() + 1), self.assertRaises(Trouble) as raised:
+            folder.make_private()
+        self.assertIn("isn't a folder of this account", str(raised.exception))
+
+    def best(self, folder: Folder) -> tuple[str, bytes]:
+        with second_of(folder) as second:
+            return best_copy(folder, second)
+
+    def test_best_copy(self) -> None:
+        """The newest dated copy, or that in the second folder if it goes on from the newest."""
+        stick = os.path.join(self.here, "stick")
+        os.mkdir(stick)
+        self.make("copied", copy=stick)
         folder = self.folder("copied")
-        self.assertEqual(fullest_copy(folder), ("", 0))
+        self.assertEqual(self.best(folder), ("", b""))
         os.mkdir(folder.file("kept"))
-        for name, entries in [("a.txt", 2), ("b.txt", 3), ("c.txt", 3), ("d.txt", 1), ("e.txt", 0)]:
-            self.write("1 1 SCORER ENTER A\n" * entries, "copied", "kept", name)
-        self.assertEqual(fullest_copy(folder), (folder.file("kept", "c.txt"), 3))
-        self.write("REGATTA 2\n" + "1 1 SCORER ENTER A\n" * 4, "stick", "copied-journal.txt")
-        self.assertEqual(fullest_copy(folder), (os.path.join(self.here, "stick", "copied-journal.txt"), 4))
+        entry = "1 1 SCORER ENTER A\n"
+        for name, entries in [("2026-11-27-120000.txt", 4), ("2026-11-28-120000Z.txt", 2), ("mine.txt", 9),
+                              ("2026-11-28-120000Z-2-office.txt", 3), ("2026-13-28-120000Z.txt", 9)]:
+            self.write(entry * entries, "copied", "kept", name)
+        newest = folder.file("kept", "2026-11-28-120000Z-2-office.txt")
+        self.assertEqual(self.best(folder), (newest, 3 * entry.encode()))
+        path = os.path.join(stick, "copied-journal.txt")
+        for text in (entry * 2, entry * 3, "REGATTA 2\n" + entry * 2 + entry.replace("A", "B") * 2):
+            self.write(text, path)
+            self.assertEqual(self.best(folder)[0], newest)
+        self.write("REGATTA 2\n" + entry * 4, path)
+        self.assertEqual(self.best(folder), (path, b"REGATTA 2\n" + 4 * entry.encode()))
 
 
 if __name__ == "__main__":

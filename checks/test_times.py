@@ -1,15 +1,19 @@
 """Corrected times: the tool over the program, beside the journal and its office."""
 from __future__ import annotations
 
+import contextlib
 import os
 import re
 import unittest
-import unittest.mock
+from collections.abc import Iterator
+from unittest import mock
 
 import helpers
 
 import times
+from folder import Folder
 from office import Trouble
+from programs import found_program
 
 RATED = """\
 Boat,Sail,Rating,Rating from 3
@@ -22,6 +26,15 @@ SHEET = "Sail,Start,Finish\nGBR 101,14:05:00,15:07:31\nGBR 7,,15:03:12\nNED 12,,
 RULES = "[times]\nsystem = py\n"
 
 
+@contextlib.contextmanager
+def only_file(there: str) -> Iterator[None]:
+    """As if this were the only file, and could be run."""
+    with mock.patch("os.path.isfile", lambda path: os.path.normpath(path) == there), \
+            mock.patch("os.access", return_value=True), mock.patch("shutil.which", return_value=None):
+        yield
+
+
+@helpers.needs_times
 class Times(helpers.Series):
     """A series `club` by corrected time, with a sheet of race 1."""
 
@@ -95,33 +108,135 @@ class Times(helpers.Series):
         self.assertRegex(said, r"3751 \* 1000 / 1103(.|\n)*3751 \* 1000 / 1100")
         self.assertRegex(said, "TIME 1 GBR101 3401\n(.|\n)*TIME 3 GBR101 3410\n")
 
-    def test_faults(self) -> None:
-        """A fault of a list, a sheet or the rules is said with its place."""
-        for sheet, wanted in [
-                ("Sail,Elapsed\nFRA 9,3600\n", "times/race-1.csv, row 2: FRA9 has no rating"),
-                ("Sail,Start,Finish\nGBR 7,14:00:00,13:00:00\n", "row 2: GBR7 finishes before she starts"),
-                ("Sail,Elapsed\nGBR 7,3600\nGBR7,3600\n", "row 3: sail for the second time"),
-                ("Boat,Elapsed\nX,3600\n", "row 1: no column of sails"),
-                ("Sail,Elapsed\nGBR 7,999999\nNED 12,1:99\n", "row 3: a time can't be read")]:
+    def test_codes(self) -> None:
+        """A code in the column of a time is a line of its own, or the jury's; an empty row is named."""
+        self.write(RATED + "Curlew,IRL 5,1000,1000\nDunlin,IRL 55,1000,1000\n", "club", "entries.csv")
+        self.journal("ENTER IRL5", "ENTER IRL55", "TIME 1 FRA9 4000", "MARK 1 NED12 RET", "MARK 1 IRL55 DSQ")
+        self.write(self.text("club", "journal.txt").replace("SCORER MARK 1 IRL55", "JURY MARK 1 IRL55"),
+                   "club", "journal.txt")
+        self.sheet(1, "Sail;Start;Finish;Elapsed\nIRL 5;14:05;dnf;\nGBR 101;;15:07:31;\nFRA 9;;;OCS\n"
+                      "NED 12;;RET;\nGBR 7;;;\nIRL 55;;DNF;\n")
+        said = self.said("1")
+        for line in [r"GBR101 +3751 \* 1000 / 1103 +3400\.7252 +3401 .* new", "IRL5 +DNF +new", "FRA9 +OCS +new",
+                     "NED12 +RET +stands", "GBR7 +- +no time and no code in the sheet",
+                     "IRL55 +DNF +the jury gave DSQ", "6 boats, 4 lines.",
+                     "TIME 1 GBR101 3401\nMARK 1 IRL5 DNF\nMARK 1 FRA9 OCS\nSTRIKE 1 FRA9\n$"]:
+            self.assertRegex(said, line)
+        self.sheet(1, "Sail,Elapsed,Code\nGBR 7,3600,ret\nNED 12,3700,\nFRA 9,,DSQ\n")
+        said = self.said("1")
+        for line in ["NED12 .*new; she holds RET", "GBR7 +RET +new", "FRA9 +DSQ +the jury types this code",
+                     "TIME 1 NED12 3217\nMARK 1 GBR7 RET\n$"]:
+            self.assertRegex(said, line)
+
+    def test_codes_sent(self) -> None:
+        """A boat that has no time any more has a code, and never neither of both."""
+        self.open("club")
+        self.said("1", "--send", lines="y\n")
+        self.sheet(1, SHEET.replace("15:03:12", "DNF"))
+        said = self.said("1", "--send", lines="y\n")
+        self.assertRegex(said, r"MARK 1 GBR7 DNF +OK 8 (.|\n)*STRIKE 1 GBR7 +OK 9 ")
+        self.assertIn("3 boats, no lines.", self.said("1", "--send"))
+
+    def test_forms(self) -> None:
+        """Semicolons, tabs, decimal commas, headings of other languages, and starts without seconds."""
+        wanted = self.said("1").partition("sail")[2]
+        for sheet in (SHEET.replace(",", ";"), SHEET.replace(",", "\t"), SHEET.replace("14:05:00", "14:05"),
+                      SHEET.replace("Sail,Start,Finish", "Segelnummer,Startzeit,Zielzeit"),
+                      SHEET.replace("Sail,Start,Finish", "N° de voile,Heure de départ,Heure d'arrivée")):
             self.sheet(1, sheet)
-            self.assertRegex(self.said("1", status=1), wanted)
-        self.write(RATED.replace("985,", "9.85,"), "club", "entries.csv")
-        self.assertIn("entries.csv, row 3: the rating isn't one of the system", self.said("1", status=1))
+            self.assertEqual(self.said("1").partition("sail")[2], wanted, sheet)
+        self.write(RATED.replace("Rating,", "PY,").replace("Rating from 3", "PY from 3").replace(",", ";"),
+                   "club", "entries.csv")
+        self.assertEqual(self.said("1").partition("sail")[2], wanted)
+        self.rules("[times]\nsystem = tcf\n")
+        self.write("Sail;TCF\nGBR 101;1,103\nGBR 7;0,985\nNED 12;1,150\n", "club", "entries.csv")
+        self.assertIn("3751 * 11030 / 10000", self.said("1"))
+        self.rules("[times]\nsystem = tod\n")
+        self.write("Sail;Rating\nGBR 101;12,5\n", "club", "entries.csv")
+        self.sheet(1, "Sail;Elapsed;Distance\nGBR 101;1:02:31;6,25\n")
+        self.assertIn("3751 - 1250 * 625 / 10000", self.said("1"))
+
+    def test_carried(self) -> None:
+        """What is empty is that of the row above, also of a boat without a time."""
+        self.sheet(1, "Sail,Start,Finish,Laps\nGBR 101,14:05:00,DNF,2\nGBR 7,,15:03:12,\n")
+        self.assertRegex(self.said("1"), r"GBR7 +3492 \* 2 \* 1000 / 2 / 985 ")
+
+    def test_faults(self) -> None:
+        """A fault of a list, a sheet or the rules is said with its row, and with its column."""
+        for sheet, wanted in [
+                ("Sail,Elapsed\nGBR 7,RET\n\nFRA 9,3600\n", "times/race-1.csv, row 4: FRA9 has no rating"),
+                ("Sail,Start,Finish\nGBR 7,14:00:00,13:00:00\n", "row 2: GBR7 finishes before she starts"),
+                ("Sail,Elapsed\nGBR 7,3600\nGBR7,DNF\n", "row 3: GBR7 is in row 2, too"),
+                ("Boat,Elapsed\nX,3600\n", "row 1: no column of sails"),
+                ("Sail,Time\nX,3600\n", "row 1: no column of times, as Elapsed, or Start and Finish"),
+                (";;\n", "race-1.csv is empty"),
+                ("Sail,Elapsed\nGBR 7,999999\nNED 12,1:99\n", "row 3, column Elapsed: '1:99' isn't an elapsed"),
+                ("Sail;Start;Ziel\nGBR 7;14:05;15:07\n",
+                 "row 2, column Ziel: '15:07' isn't a time of the clock with its seconds, as 15:07:31"),
+                ("Sail,Start,Finish\nGBR 7,24:00:00,15:07:00\n", "row 2, column Start: '24:00:00' isn't"),
+                ("Sail,Elapsed,Laps\nGBR 7,3600,0\n", "row 2, column Laps: '0' isn't laps from 1 to 99"),
+                ("Sail,Elapsed,Distance\nGBR 7,3600,1.234\n", "row 2, column Distance: '1.234' isn't"),
+                ("Sail,Elapsed\nGBR/7,3600\n", 'row 2: the sail "GBR/7" has a slash'),
+                ("Sail,Elapsed\nGBR 7,RAF\n", "row 2: RAF is neither a time nor a code"),
+                ("Sail,Elapsed\nGBR 7,TLE\n", "row 2: TLE isn't for a sheet of times")]:
+            self.sheet(1, sheet)
+            self.assertIn(wanted, self.said("1", status=1))
+        self.sheet(1, "Sail,Elapsed\nGBR 101,3600\n")
+        for listed, wanted in [(RATED.replace("985,", "9.85,"), "entries.csv, row 3: the rating isn't one of"),
+                               ("Sail,TCF\nGBR 101,1\n", "entries.csv, row 1: no column of ratings. It is headed "
+                                                         "Rating or PY"),
+                               (";\n", "entries.csv is empty")]:
+            self.write(listed, "club", "entries.csv")
+            self.assertIn(wanted, self.said("1", status=1))
 
     def test_rules(self) -> None:
-        """Every rule is checked, and reaches the program."""
+        """Every rule is checked, by the parser of series.ini, and reaches the program."""
         for text, wanted in [("[times]\nsystem = yardstick\n", "system has to be tcf, py or tod"),
                              ("[times]\nsystem = py\nrounding = near\n", "rounding has to be"),
                              ("[times]\nsystem = py\novernight = yes\n", "overnight has to be"),
-                             ("[times]\nsystem = py\nlaps = 3\n", "has a key 'laps'"),
-                             ("[rules]\nsystem = py\n", r"one section, \[times\]")]:
+                             (f"[times]\nsystem = py\novernight = {'1' * 5000}\n", "overnight has to be"),
+                             ("[times]\nsystem = py\nlaps = 3\n", "times/rules.ini, line 3: [times] has no key 'laps'"),
+                             ("[times]\nsystem : py\n", "times/rules.ini, line 2: 'system : py' has no =."),
+                             ("[times]\nsystem = py\nsystem = tcf\n", "line 3: system is in line 2 already."),
+                             ("[DEFAULT]\nsystem = py\n", "line 1: no section is called [DEFAULT]."),
+                             ("[rules]\nsystem = py\n", "no section is called [rules]")]:
             self.rules(text)
-            self.assertRegex(self.said("1", status=1), wanted)
-        self.rules("[times]\nsystem = py\nrounding = down\novernight = 1\n")
+            self.assertIn(wanted, self.said("1", status=1))
+        self.rules("# ours\n[ times ]\n; system = tcf\nsystem = py\nrounding = down\novernight = 1\n")
         self.sheet(1, "Sail,Start,Finish\nGBR 101,23:30:00,0:32:31\n")
         said = self.said("1")
         self.assertIn("Race 1, Portsmouth Yardstick, rounded down, past midnight", said)
         self.assertIn("TIME 1 GBR101 3400", said)
+
+    def test_places(self) -> None:
+        """The program is found beside that of the series, above the series, or where it is built."""
+        self.write(RULES, "club", "times", "rules.ini")
+        folder = Folder(os.path.join(self.here, "club"))
+        beside = os.path.join(os.path.dirname(helpers.PROGRAM), "times")
+        built = os.path.join(helpers.TOP, "crates", "times", "out", "times")
+        for place in (beside, os.path.join(self.here, "times"), os.path.join(helpers.TOP, "times"),
+                      os.path.join(helpers.TOOLS, "times"), built):
+            with only_file(place):
+                self.assertEqual(os.path.normpath(times.Rules.read(folder).program), place)
+        for place in (os.path.join(helpers.TOP, "times"), built):
+            with only_file(place):
+                self.assertEqual(found_program("times"), place)
+        with only_file(""):
+            self.assertEqual(found_program("times"), "")
+            self.assertEqual(times.Rules.read(folder).program, beside)
+        self.rules(RULES)
+        self.assertEqual(times.Rules.read(folder).program, helpers.TIMES)
+
+    def test_no_times(self) -> None:
+        """A program that can't be run, or is another, is said in a sentence."""
+        for script, wanted in [("exit 0", "doesn't show sums: is it times?"), ("echo x", "is it times?"),
+                               (f"echo RACE 1 half-up; echo 'A 1 -> {'9' * 5000}'", "is it times?")]:
+            self.write(f"#!/bin/sh\n{script}\n", "other")
+            os.chmod(os.path.join(self.here, "other"), 0o755)
+            self.write(f"{RULES}program = ../other\n", "club", "times", "rules.ini")
+            self.assertIn(wanted, self.said("1", status=1))
+        self.write(f"{RULES}program = ../none\n", "club", "times", "rules.ini")
+        self.assertIn("none can't be run: No such file or directory.", self.said("1", status=1))
 
     def test_other_series(self) -> None:
         """A series by finishing order has no corrected times, and a race is a number."""
@@ -140,15 +255,25 @@ class Sums(unittest.TestCase):
             self.assertEqual(f"{float(times.Time('A', text, 0).exact):.4f}", wanted)
 
     def test_headings(self) -> None:
-        data = b"Sail,Rating,Rating from 5,RATING FROM 8\n"
-        found = [times.heading_for(race, data) for race in (1, 4, 5, 7, 8, 40)]
-        self.assertEqual(found, ["Rating", "Rating", "Rating from 5", "Rating from 5", "RATING FROM 8",
-                                 "RATING FROM 8"])
+        data = b"Sail,Rating,Rating from 5,RATING FROM 8\nA,1,5,8\n"
+        found = [times.rated(data, "list.csv", race, "py").data for race in (1, 4, 5, 7, 8, 40)]
+        self.assertEqual(found, [b"Sail,Rating\nA,%d\n" % rating for rating in (1, 1, 5, 5, 8, 8)])
+        both = b"Sail,TCF,PY\nA,1,1100\n"
+        self.assertEqual(times.rated(both, "list.csv", 1, "py").data, b"Sail,Rating\nA,1100\n")
+        self.assertEqual(times.rated(both, "list.csv", 1, "tcf").data, b"Sail,Rating\nA,1\n")
+        self.assertRaisesRegex(Trouble, "no column of ratings", times.rated, both, "list.csv", 1, "tod")
 
     def test_program(self) -> None:
         """Another program is no program of sums."""
-        self.assertIn("nothing", times.in_words("", "a", "b"))
-        self.assertEqual(times.in_words("times: ratings fault 8 row 3: bad", "a", "b"), "b, row 3: bad")
+        self.assertIn("nothing", times.in_words("", "a", "b", {}))
+        rows = {"ratings": [2, 4], "sheet": [7]}
+        for row, wanted in [(2, 2), (3, 4), (1, 1), (9, 9)]:
+            self.assertEqual(times.in_words(f"times: ratings fault 8 row {row}: bad", "a", "b", rows),
+                             f"b, row {wanted}: bad")
         self.assertTrue(re.fullmatch(times.SUM, "A 1 * 2 / 3 -> 4"))
         with self.assertRaises(Trouble):
-            times.Rules.read(unittest.mock.Mock(file=lambda *names: "/nowhere"))
+            times.Rules.read(mock.Mock(file=lambda *names: "/nowhere"))
+
+
+if __name__ == "__main__":
+    unittest.main()

@@ -1,13 +1,13 @@
-"""Finishers whose sails weren't read: where each stands once she is known."""
+"""Finishers whose sails aren't known: where each stands once she is."""
 from __future__ import annotations
 
 import unittest
 
 import helpers  # noqa: F401
-from folder import Logged
+from places import History, Note
 from record import Race
 from spoken import NotSent
-from unread import GONE, Waiting, kept_by_window
+from unread import Waiting, in_words
 
 
 def race_of(*groups: str) -> Race:
@@ -15,10 +15,28 @@ def race_of(*groups: str) -> Race:
     return Race(1, [list(group) for group in groups])
 
 
+def kept(mark: str, behind: str = "", race: int = 1) -> Note:
+    """A place that was kept behind these boats; each letter is one."""
+    return Note("kept", race, mark, "Ann", typed=mark.partition("?")[0], behind=tuple(behind))
+
+
+def known(mark: str, sail: str) -> Note:
+    return Note("resolved", 1, mark, line=f"FINISH 1 {sail}", entry=9)
+
+
+def dropped(mark: str, race: int = 1) -> Note:
+    return Note("dropped", race, mark, why="none")
+
+
+def waiting(*notes: Note) -> Waiting:
+    """Who is kept after these notes."""
+    return History.read(b"".join(note.text() for note in notes)).waiting
+
+
 class Unread(unittest.TestCase):
     def test_place(self) -> None:
         """She was seen after A and B. Whatever happens to the order, she finished behind both."""
-        meant = Waiting().added(race_of("A", "B")).all[0]
+        meant = waiting(kept("?1", "AB")).all[0]
         for order, line in [(("A", "B"), "FINISH 1 X"), (("A", "B", "C"), "BEFORE 1 X C"),
                             (("C", "A", "B", "D"), "BEFORE 1 X D"), (("A", "BC", "D"), "BEFORE 1 X D"),
                             (("A", "C"), "BEFORE 1 X C"), (("C", "D"), "BEFORE 1 X C"),
@@ -27,73 +45,62 @@ class Unread(unittest.TestCase):
 
     def test_two(self) -> None:
         """The order is A, ?1, B, ?2, C. The second is known first, and finishes behind ?1."""
-        waiting = Waiting().added(race_of("A")).added(race_of("A", "B"))
+        both = [kept("?1", "A"), kept("?2", "AB")]
         order = race_of("A", "B", "C")
-        self.assertEqual([waiting.ahead_of(order, sail) for sail in "ABC"], [0, 1, 2])
-        self.assertEqual(waiting.places(order), {"?1": "2nd", "?2": "4th"})
-        self.assertEqual(waiting.one(1, "?2").line("Y", order), "BEFORE 1 Y C")
-        left = waiting.without(waiting.one(1, "?2"), "Y")
+        self.assertEqual([waiting(*both).ahead_of(order, sail) for sail in "ABC"], [0, 1, 2])
+        self.assertEqual(waiting(*both).places(order), {"?1": "2nd", "?2": "4th"})
+        self.assertEqual(waiting(*both).one(1, "?2").line("Y", order), "BEFORE 1 Y C")
+        left = waiting(*both, known("?2", "Y"))
         self.assertEqual(left.one(1, "?1").line("X", race_of("A", "B", "Y", "C")), "BEFORE 1 X B")
-        left = waiting.without(waiting.one(1, "?1"), "X")
+        left = waiting(*both, known("?1", "X"))
         self.assertEqual(left.one(1, "?2").line("Y", race_of("A", "X", "B", "C")), "BEFORE 1 Y C")
 
-    def test_numbers(self) -> None:
-        """A number that was given in a race stays hers, and is never another's."""
-        waiting = Waiting().added(race_of("A")).added(race_of("A")).added(Race(2)).added(race_of("A"))
-        self.assertEqual((waiting.marks(1), waiting.marks(2)), (["?1", "?2", "?3"], ["?1"]))
-        self.assertRaisesRegex(NotSent, r"type \?1, \?2 or \?3 and her sail", waiting.one, 1, "?")
-        for left in (waiting.without(waiting.one(1, "?1"), "X"), waiting.without(waiting.one(1, "?1"))):
+    def test_side_by_side(self) -> None:
+        """The order is A, ?1, ?2, and nobody finished between those two."""
+        both = [kept("?1", "A"), kept("?2", "A")]
+        left = waiting(*both, known("?1", "X"))
+        self.assertEqual(left.one(1, "?2").line("Y", race_of("A", "X", "B")), "BEFORE 1 Y B")
+        left = waiting(*both, dropped("?1"))
+        self.assertEqual(left.one(1, "?2").line("Y", race_of("A", "X", "B")), "BEFORE 1 Y X")
+
+    def test_kept_again(self) -> None:
+        """The order is A, ?1, ?2. She wasn't X, so her old place is kept again, and X may be behind ?2."""
+        notes = [kept("?1", "A"), kept("?2", "A"), known("?1", "X"), kept("?1", "A")]
+        self.assertEqual(waiting(*notes).marks(1), ["?1", "?2"])
+        self.assertEqual(waiting(*notes).one(1, "?2").line("Y", race_of("A", "B", "X")), "BEFORE 1 Y B")
+
+    def test_marks(self) -> None:
+        """A mark that was given in a race stays hers, and is never another's."""
+        three = [kept("?1", "A"), kept("?2", "A"), kept("?1", "", 2), kept("?3", "A")]
+        found = waiting(*three)
+        self.assertEqual((found.marks(1), found.marks(2)), (["?1", "?2", "?3"], ["?1"]))
+        self.assertRaisesRegex(NotSent, r"type \?1, \?2 or \?3 and her sail", found.one, 1, "?")
+        for ended in (known("?1", "X"), dropped("?1")):
+            left = waiting(*three, ended)
             self.assertEqual(left.marks(1), ["?2", "?3"])
-            self.assertRaisesRegex(NotSent, r"no finisher \?1 is kept in race 1, only \?2 and \?3",
-                                   left.one, 1, "?1")
-            self.assertEqual(left.added(race_of("A")).marks(1), ["?2", "?3", "?4"])
-        left = waiting.without_race(1)
-        self.assertEqual((left.marks(1), left.one(2, "?").mark), ([], "?1"))
+            self.assertRaisesRegex(NotSent, r"no finisher \?1 is kept in race 1, only \?2 and \?3\. Race 2 has "
+                                   "one: type at 2 first", left.one, 1, "?1")
+            self.assertEqual((left.next_mark(1), left.next_mark(2), left.next_mark(3)), ("?4", "?2", "?1"))
+        left = waiting(*three, *map(dropped, ("?1", "?2", "?3")))
+        self.assertEqual((left.marks(1), left.one(2, "?").mark, left.next_mark(1)), ([], "?1", "?4"))
         self.assertRaises(NotSent, left.one, 1, "?0")
-        self.assertEqual(left.added(race_of("A")).marks(1), ["?4"])
+
+    def test_marks_of_numbers(self) -> None:
+        """What was typed of a sail is in her mark; the second of a number has a number of her own."""
+        found = waiting(kept("?1"), kept("101?"), kept("101?2"), kept("?2"), dropped("101?"))
+        self.assertEqual((found.next_mark(1, "101"), found.next_mark(1, "1"), found.next_mark(1)),
+                         ("101?3", "1?", "?3"))
+        self.assertEqual(found.one(1, "101?2").typed, "101")
+        self.assertRaises(NotSent, found.one, 1, "101?")
+        self.assertEqual(in_words(found.all), "?1, 101?2 and ?2 in race 1")
 
     def test_place_on_the_water(self) -> None:
         """Boats with a code have no place, and a finisher ahead of her has one, read or not."""
         race = race_of("A", "BC", "D")
-        waiting = Waiting().added(race_of()).added(race_of("A", "BC")).added(race_of("A", "BC"))
-        self.assertEqual(waiting.places(race), {"?1": "1st", "?2": "5th", "?3": "6th"})
+        found = waiting(kept("?1"), kept("101?", "ABC"), kept("?2", "ABC"))
+        self.assertEqual(found.places(race), {"?1": "1st", "101?": "5th", "?2": "6th"})
         race.codes["B"] = "OCS"
-        self.assertEqual(waiting.places(race), {"?1": "1st", "?2": "4th", "?3": "5th"})
-
-    def test_taken_away(self) -> None:
-        """A race has gone once a scorer elsewhere has struck out all its finishers."""
-        journal = ["1 1 SCORER ENTER A", "1 2 SCORER ENTER B", "2 1 FINISH FINISH 1 A",
-                   "2 2 FINISH FINISH 1 B", "2 3 FINISH FINISH 2 A"]
-        meant = Waiting().added(race_of("A"), 3).all[0]
-        for more, own, is_gone in [
-                ([], (), False), (["3 1 SCORER STRIKE 1 A"], (), False),
-                (["3 1 SCORER STRIKE 1 A", "3 2 SCORER STRIKE 1 B"], (), True),
-                (["3 1 SCORER STRIKE 1 A", "3 2 SCORER STRIKE 1 B"], (6, 7), False),
-                (["2 4 FINISH STRIKE 1 A", "2 5 FINISH STRIKE 1 B"], (), False),
-                (["3 1 SCORER STRIKE 1 A", "3 2 SCORER STRIKE 1 B", "2 4 FINISH FINISH 1 A"], (), True),
-                (["3 1 SCORER STRIKE 2 A"], (), False)]:
-            self.assertEqual(meant.is_taken_away((*journal, *more), set(own)), is_gone, more)
-        before = journal[:2] + ["2 1 FINISH FINISH 1 A", "3 1 SCORER STRIKE 1 A"]
-        self.assertFalse(Waiting().added(race_of(), 4).all[0].is_taken_away(tuple(before), set()))
-
-    def test_log(self) -> None:
-        """What the windows keep follows from the log; a window that came again keeps nothing."""
-        logged = [Logged("", window, "", "", "", line, answer) for window, line, answer in [
-            ("7", "came", ""), ("7", "?1 in race 1", "kept after 2 finishers"),
-            ("7", "?2 in race 1", "kept after 2 finishers"), ("8", "?1 in race 1", "kept after no finishers"),
-            ("7", "?1 in race 2", "kept after 1 finisher"), ("7", "?1 in race 1", GONE),
-            ("7", "FINISH 1 A", "OK 9 1 1.0")]]
-        self.assertEqual(kept_by_window(logged, 1), {"7": ["?2"], "8": ["?1"]})
-        logged.append(Logged("", "7", "", "", "", "left", ""))
-        self.assertEqual(kept_by_window(logged, 1), {"8": ["?1"]})
-
-    def test_side_by_side(self) -> None:
-        """The order is A, ?1, ?2, and nobody finished between those two."""
-        waiting = Waiting().added(race_of("A")).added(race_of("A"))
-        left = waiting.without(waiting.one(1, "?1"), "X")
-        self.assertEqual(left.one(1, "?2").line("Y", race_of("A", "X", "B")), "BEFORE 1 Y B")
-        left = waiting.without(waiting.one(1, "?1"))
-        self.assertEqual(left.one(1, "?2").line("Y", race_of("A", "X", "B")), "BEFORE 1 Y X")
+        self.assertEqual(found.places(race), {"?1": "1st", "101?": "4th", "?2": "5th"})
 
 
 if __name__ == "__main__":

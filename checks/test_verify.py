@@ -4,25 +4,31 @@
 """
 from __future__ import annotations
 
+import contextlib
+import io
 import json
 import os
 import random
 import re
 import stat
-import subprocess
+import time
 import unittest
 import unittest.mock
+from collections.abc import Callable
 
 import helpers
 
 import notice
-import page as pages
-import proof
+import overall
+import reading
 import record
 import results
 import verify
-import view
-from proof import Odd
+from forger import block_in, journal_of, resealed
+from markup import Markup, tag
+from page import confirmed
+from reading import Odd, Unsure
+from view import View
 
 COUNT = int(os.environ.get("CHANGES", "1000"))
 SIGNS = "0123456789ABCXYZabcxyz .,-=/()<>&\"'\\éß"
@@ -44,31 +50,6 @@ LINES = ["FINISH 1 GBR101", "FINISH 1 GBR7", "TIE 1 NED12 GBR7", "FINISH 1 FRA9"
          "ROLE JURY", "REDRESS 3 GBR101 5.0", "ROLE SCORER", "FINISH 4 GBR7"]
 
 
-def journal_of(folder: str, *lines: str) -> str:
-    """The journal of these lines, as the program writes it."""
-    done = subprocess.run(
-        [helpers.PROGRAM, "replay", "--print", "journal", "--entries",
-         os.path.join(folder, "entries.csv")], input="\n".join([*lines, "QUIT", ""]),
-        capture_output=True, text=True, check=True)
-    assert "NO " not in done.stdout, done.stdout
-    return done.stdout.partition("BYE\n")[2]
-
-
-def resealed(page: str, change: object, old_seal: str = "") -> str:
-    """The page with its data changed, and with marks and seals that are right for them."""
-    whole = json.loads(proof.BLOCK.search(page)[1])
-    change(whole["series"][0])  # type: ignore
-    whole["marks"] = [proof.marks(*each) for each in zip(whole["series"], whole["stamps"])]
-    del whole["seal"]
-    text = proof.text_of(whole).removesuffix("\n}")
-    block = f'{text},\n"seal": "{proof.digest(text)}"\n}}\n'
-    fresh = proof.BLOCK.sub(lambda _: f'<script type="application/json" id="proof">\n{block}</script>',
-                            page)
-    seal = proof.digest(proof.text_of(whole["series"][0]))
-    words = " ".join(seal[at:at + 4] for at in range(0, 32, 4))
-    return fresh.replace(old_seal, words) if old_seal else fresh
-
-
 class Pages(helpers.Series):
     def setUp(self) -> None:
         super().setUp()
@@ -82,7 +63,7 @@ class Pages(helpers.Series):
     def page(self, *names: str) -> str:
         return notice.results([self.view(name) for name in names or ("tide",)])
 
-    def view(self, name: str = "tide") -> view.View:
+    def view(self, name: str = "tide") -> View:
         return results.view_of(os.path.join(self.here, name), lambda _: None)
 
     def odd(self, page: str) -> str:
@@ -95,10 +76,9 @@ class Pages(helpers.Series):
         """Each one-character change of settings, journal or table is found."""
         dice, page = random.Random(8), self.page()
         self.verifier.verified(page)
-        block = proof.BLOCK.search(page)
-        spans = {"settings": (block.start(1) + block[1].index('"settings"'),
-                              block.start(1) + block[1].index('"decisions"')),
-                 "journal": (block.start(1) + block[1].index('"journal"'), block.end(1)),
+        begin = page.index(reading.START)
+        spans = {"settings": (page.index('"settings"', begin), page.index('"decisions"', begin)),
+                 "journal": (page.index('"journal"', begin), page.index("</script>", begin)),
                  "table": (page.index("<table>"), page.index("</table>")),
                  "chart": (page.index("<svg"), page.index("</details>"))}
         unfound, why = [], []
@@ -140,15 +120,16 @@ class Pages(helpers.Series):
     def test_forged(self) -> None:
         """Data with seals that are right for them are scored: what the table has not is named."""
         page = self.page()
-        old = proof.seal_words(self.view())
 
-        def settings(name: str, value: str) -> object:
-            return lambda series: series["settings"].update({name: value})
+        def settings(name: str, value: str) -> Callable[[dict], None]:
+            return lambda whole: whole["series"][0]["settings"].update({name: value})
 
-        def entry(was: str, now: str) -> object:
-            return lambda series: series["journal"].__setitem__(
-                [line.split(maxsplit=3)[3] for line in series["journal"]].index(was),
-                next(line for line in series["journal"] if line.endswith(was)).replace(was, now))
+        def entry(was: str, now: str) -> Callable[[dict], None]:
+            def change(whole: dict) -> None:
+                journal = whole["series"][0]["journal"]
+                at = [line.split(maxsplit=3)[3] for line in journal].index(was)
+                journal[at] = journal[at].replace(was, now)
+            return change
 
         for change, why in [
                 (settings("exclude", "none"), "Overall results, A <b>"),
@@ -161,18 +142,8 @@ class Pages(helpers.Series):
                 (entry("FINISH 3 FRA9", "FINISH 3 IRL6"), "entry 23 of the journal is refused: a boat"),
                 (entry("SCORE 3", "SCORED 3"), "can't be read"),
                 (entry("SCORE 3", "score 3"), "isn't written as the program writes it"),
-                (lambda series: series["decisions"].pop(0), "DPI"),
-                (lambda series: series.update(program="x"), "")]:
-            forged = resealed(page, change, old)
-            if why:
-                self.assertIn(why, self.odd(forged))
-            else:
-                self.verifier.verified(forged)
-        # Another seat changes no score: the page is right for that journal, whose seal is another.
-        other = resealed(page, lambda series: series["journal"].__setitem__(
-            -1, series["journal"][-1].replace("1 ", "3 ", 1)), old)
-        self.assertNotEqual(old, re.search(r"Seal ([0-9a-f ]*):", other)[1])
-        self.verifier.verified(other)
+                (lambda whole: whole["series"][0]["decisions"].pop(0), "DPI")]:
+            self.assertIn(why, self.odd(resealed(page, change)))
 
     def test_every_page(self) -> None:
         """All pages of the board and of the results are verified, as files and from a terminal."""
@@ -200,7 +171,7 @@ class Pages(helpers.Series):
         page = self.page()
         self.assertEqual(page.count("<script"), 2)
         self.assertEqual(page.count("</script"), 2)
-        block = proof.BLOCK.search(page)[1]
+        block = block_in(page)
         self.assertEqual([sign for sign in "<>&\u2028\u2029" if sign in block], [])
         series = json.loads(block)["series"][0]
         self.assertEqual(series["boats"][0][3], "</script><script>alert(1)</script>")
@@ -212,32 +183,41 @@ class Pages(helpers.Series):
     def test_blocks(self) -> None:
         """A page without a block, with two, or with one that isn't one, is no page to verify."""
         page = self.page()
-        block = proof.BLOCK.search(page)[0]
-        for text, why in [(page.replace(block, ""), "no block"),
-                          (page.replace(block, block * 2), "2 blocks"),
-                          (page.replace('"regatta": 1', '"regatta": 2'), "another version"),
+        block = f"{reading.START}{block_in(page)}</script>"
+        for text, why in [(page.replace(block, block * 2), "2 blocks"),
+                          (page.replace(block, block.removesuffix("</script>")), "isn't JSON at its"),
+                          (page[:page.index("</script>")], "the block has no end"),
                           (page.replace('"marks"', '"mark"'), "the parts of one"),
                           (page.replace('"journal": [', '"journal": [1,'), "the parts of one"),
-                          (page.replace('"kind": "results"', '"kind": "x"'), "seal"),
+                          (page.replace('"kind": "results"', '"kind": "list"'), "seal"),
+                          (page.replace('"kind": "results"', '"kind": "x"'), "the parts of one"),
                           (page.replace('"settings": {', '"settings": ['), "isn't JSON at its line"),
                           (page.replace(block, block.replace('": "', '":  "', 1)), "seal"),
                           (page.replace("</body>", "<p>More</p></body>"), "the text 'More'"),
                           (page.replace("</style>", ".r { display: none }</style>"), "all that is seen")]:
             self.assertIn(why, self.odd(text))
+        for text, why in [(page.replace(block, ""), "it has no block"),
+                          (page.replace('"regatta": "2-', '"regatta": "1-'), "an older version"),
+                          (page.replace('"regatta": "2-', '"regatta": "3-'), "a newer version"),
+                          (re.sub('"regatta": "2-[0-9a-f]{8}"', '"regatta": "2-00000000"', page),
+                           "another version"),
+                          (re.sub('"regatta": "[^"]*"', '"regatta": 1', page), "an older version")]:
+            with self.assertRaisesRegex(Unsure, why):
+                self.verifier.verified(text)
 
     def test_wrong_tools(self) -> None:
         """If the tools themselves wrote a cell wrongly, and would do so again, the cell is named."""
-        right = pages.cell
+        right = overall.cell
         for was, now, why in [("3<i>.0", "4<i>.0", "(GBR 101 A. Moss)"), ("DNE", "DSQ", "(GBR 33 "),
                               ("<s>)", "<s>", "")]:
-            def wrong(score: record.Score) -> str:
-                return right(score).replace(was, now)
+            def wrong(score: record.Score) -> Markup:
+                return Markup(right(score).html.replace(was, now))
 
-            with unittest.mock.patch("page.cell", wrong):
+            with unittest.mock.patch("overall.cell", wrong):
                 written = self.page()
                 self.verifier = verify.Verifier(helpers.PROGRAM)
                 self.assertIn(why, self.odd(written))
-        with unittest.mock.patch("page.rank", lambda *_: '<td class="rank"><span>1</span></td>'):
+        with unittest.mock.patch("overall.rank", lambda *_: tag("td", tag("span", 1), class_="rank")):
             written = self.page()
             self.verifier = verify.Verifier(helpers.PROGRAM)
             self.assertIn("row 2 (", self.odd(written))
@@ -251,18 +231,77 @@ class Pages(helpers.Series):
         said, status = helpers.run("verify.py", "page.html", "--program", other, cwd=self.here)
         self.assertEqual(status, 0)
         self.assertIn("Program: another than that which scored the page, and both agree.", said)
+        os.mkdir(os.path.join(self.here, "beside"))
+        os.symlink(helpers.PROGRAM, os.path.join(self.here, "beside", "regatta"))
+        with unittest.mock.patch.dict(os.environ, {"PATH": os.path.join(self.here, "beside")}):
+            for words in ([], ["--program", "regatta"]):
+                said, status = helpers.run("verify.py", "page.html", *words, cwd=self.here)
+                self.assertEqual((status, "verified. " in said or ": verified." in said), (0, True), said)
         for program, why in (("nowhere", "There is no program at nowhere"),
                              ("/bin/true", "not verified: the program doesn't show its journal")):
             said, status = helpers.run("verify.py", "page.html", "--program", program, cwd=self.here)
-            self.assertEqual(status, 1)
+            self.assertEqual(status, 2)
             self.assertIn(why, said)
-        with open(os.path.join(self.here, "page.html"), "ab") as file:
-            file.write(b"\xff")
-        said, status = helpers.run("verify.py", "page.html", "no.html", "--program", helpers.PROGRAM,
-                                   cwd=self.here)
-        self.assertEqual(status, 1)
-        self.assertIn("page.html: NOT VERIFIED: byte ", said)
-        self.assertIn("no.html: not verified: it can't be read: No such file", said)
+
+    def test_decisions(self) -> None:
+        """Notes, blank lines and other ends of lines in decisions.txt are no hindrance."""
+        for text in ("race 1 GBR7 PRP 30%\r\n# a note\r\n", "\n\n# a note", "x\x0b\x85y\u2028# z\n\n \n"):
+            self.write(text, "tide", "decisions.txt")
+            with self.subTest(text=text):
+                self.verifier.verified(self.page())
+
+    def test_patience(self) -> None:
+        """A program that doesn't end leaves nothing to say, also if it does so with the decisions."""
+        # Nothing is excluded: the program is asked for the results, and then for the decisions alone.
+        folder = self.make("simple", exclude="none")
+        self.write(journal_of(folder, "FINISH 1 GBR7", "SCORE 1"), "simple", "journal.txt")
+        self.write("race 1 GBR7 PRP 30%\n", "simple", "decisions.txt")
+        self.write(confirmed(overall.overall(self.view("simple")), "2026-03-01T10:00:00+00:00", "once"),
+                   "page.html")
+        for name, text in [("slow", "exec sleep 60"), ("later", f"""if test -e {self.here}/once
+then exec sleep 60; fi\n: > {self.here}/once\nexec {helpers.PROGRAM} "$@\"""")]:
+            self.write(f"#!/bin/sh\n{text}\n", name)
+            os.chmod(os.path.join(self.here, name), stat.S_IRWXU)
+            told = io.StringIO()
+            with unittest.mock.patch("replay.PATIENCE", 3.0), contextlib.redirect_stdout(told):
+                status = verify.verify([os.path.join(self.here, "page.html")], os.path.join(self.here, name))
+            self.assertEqual(status, 2, told.getvalue())
+            self.assertIn("can't be run: it does not end", told.getvalue())
+
+    def test_zones(self) -> None:
+        """A page whose series names no zone is verified on a computer of another zone."""
+        self.make("home", zone="")
+        for zone, words in [("Europe/Lisbon", r"WES?T \(UTC\+[01]\)"), ("Asia/Kolkata", r"IST \(UTC\+5:30\)"),
+                            ("America/St_Johns", r"N[SD]T \(UTC-[23]:30\)"), ("UTC0", "UTC"),
+                            ("Race-3", r"UTC\+3"), ("Asia/Dubai", r"UTC\+4")]:
+            with unittest.mock.patch.dict(os.environ, TZ=zone):
+                time.tzset()
+                page = self.page("home")
+            with unittest.mock.patch.dict(os.environ, TZ="Asia/Tokyo"):
+                time.tzset()
+                self.verifier.verified(page)
+            time.tzset()
+            self.assertRegex(page, rf"<time [^>]*>[^<]*, [0-9:]{{5}} {words}</time>")
+
+    def test_statuses(self) -> None:
+        """1 is for what differs, and 2 for what nothing can be said of; 1 counts more."""
+        page = self.page()
+        self.write(page, "good.html")
+        self.write(page.replace(">M. Byrne<", ">M. Burne<"), "other.html")
+        self.write("<p>Results</p>", "note.html")
+        with open(os.path.join(self.here, "byte.html"), "wb") as file:
+            file.write(page.encode() + b"\xff")
+        with open(os.path.join(self.here, "picture.html"), "wb") as file:
+            file.write(b"\x89PNG\r\n")
+        for names, wanted, why in [
+                (["good"], 0, "good.html: verified."), (["other"], 1, "NOT VERIFIED: Overall results, "),
+                (["note"], 2, "not verified: it has no block"), (["byte"], 1, "NOT VERIFIED: byte "),
+                (["picture"], 2, "it is no page of "), (["no"], 2, "can't be read: No such file"),
+                (["good", "note"], 2, "good.html: verified."), (["note", "other", "good"], 1, "NOT ")]:
+            said, status = helpers.run("verify.py", *(f"{name}.html" for name in names), "--program",
+                                       helpers.PROGRAM, cwd=self.here)
+            self.assertEqual(status, wanted, said)
+            self.assertIn(why, said)
 
 
 if __name__ == "__main__":

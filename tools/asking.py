@@ -4,7 +4,7 @@ from __future__ import annotations
 import entries
 from book import Book
 from record import Race
-from spoken import FINISHING, MAY
+from spoken import MAY, SAILS, race_number
 from words import count, joined
 
 
@@ -17,18 +17,19 @@ def questions(book: Book, role: str, line: str, unread: list[str]) -> list[str]:
         return []
     if command == "ENTER":
         return [before_entry(book, rest[0])]
-    race = book.series.races.get(int(rest[0]) if rest[0].isdecimal() else 0)
+    race = book.series.races.get(race_number(rest[0]))
     if command == "SCORE" and len(rest) == 1 and race and not race.counts:
         return before_score(book, race, unread)
     if command == "UNSCORE" and len(rest) == 1 and race and race.counts:
         return [f"Race {race.number} counts. Take it out of the results?"]
-    if command in FINISHING and race and race.counts:
-        return [f"RACE {race.number} COUNTS ALREADY. Is this a correction?"]
+    asked = []
     if command == "CLEAR" and race and len(rest) == 2:
-        return before_clear(race, rest[1])
+        asked = before_clear(race, rest[1])
     if command == "REDRESS" and len(rest) == 3 and rest[1] in book.boats:
-        return before_redress(book, race or Race(0), rest[0], rest[1])
-    return []
+        asked = before_redress(book, race or Race(0), rest[0], rest[1])
+    if command in SAILS and race and race.counts:
+        return [f"RACE {race.number} COUNTS ALREADY. {' '.join(asked) or 'Is this a correction?'}"]
+    return asked
 
 
 def before_entry(book: Book, sail: str) -> str:

@@ -7,6 +7,7 @@ from dataclasses import dataclass
 from desk import Desk
 from office import Trouble
 from prompt import say
+from settings import rows_of
 from words import count
 
 LARGEST = 4 << 20
@@ -16,7 +17,7 @@ ODD = re.compile(r"[^\x20-\x7e]")
 def lines_of(data: bytes) -> list[str]:
     """The lines of a file; a Trouble at a sign that no line has, before any is sent."""
     text = data.decode("utf-8", "replace").removeprefix("\ufeff")
-    lines = [re.sub("[\t\u00a0]", " ", line).strip() for line in text.splitlines()]
+    lines = [re.sub("[\t\u00a0]", " ", line).strip() for line in rows_of(text)]
     for at, line in enumerate(lines, 1):
         if found := ODD.search(line):
             raise Trouble(f"line {at} has the sign {found[0]!r}: {line[:60]!r}. Nothing was sent")

@@ -1,15 +1,16 @@
 #!/usr/bin/env python3
 """Shows the results of one or more series, to phones in the same network and as files.
 
-    board.py FOLDER [FOLDER ...] [--http [PORT]] [--page OUT] [--once]
+    board.py FOLDER [FOLDER ...] [--http [PORT] [--address ADDRESS]] [--page OUT] [--once]
 
 The results are those of the open office, or else of journal.txt. An office is asked as often as
 series.ini says, however many phones look. The board only reads: nothing that a phone
-sends reaches an office or a file.
+sends reaches an office or a file. To stop the board by Ctrl-C is its usual end, with status 0.
 """
 from __future__ import annotations
 
 import argparse
+import functools
 import shutil
 import signal
 import subprocess
@@ -17,10 +18,12 @@ import sys
 import time
 
 from folder import clock
+from guard import WRITTEN, guarded, status_of, written
+from listener import Listener
 from office import Trouble
 from prompt import say, sentence
-from serve import Board, Server, addresses
-from settings import is_between
+from serve import Board, addresses
+from settings import is_address, is_between
 from sites import Files, Site, served
 from source import Source
 from words import count
@@ -60,16 +63,20 @@ class Shown:
 
     def publish(self) -> bool:
         """Shows what was found, to phones and in files; whether all files were written."""
+        wrong = []
+        for show in [self.put, *(files.write for files in self.files)]:
+            try:
+                with guarded(self.sources[0].folder.path):
+                    show()
+            except Trouble as trouble:
+                wrong.append(sentence(trouble))
+        self.tell("files", f"Not all pages were written: {' '.join(wrong)}" if wrong else "", f"{clock()} ")
+        return not wrong
+
+    def put(self) -> None:
+        """Gives the pages to the server of the phones, if there is one."""
         if self.board is not None:
             self.board.put(served(self.site.texts()))
-        wrong = ""
-        for files in self.files:
-            try:
-                files.write()
-            except Trouble as trouble:
-                wrong = f"{wrong} {sentence(trouble)}".strip()
-        self.tell("files", wrong and f"Not all pages were written: {wrong}", f"{clock()} ")
-        return not wrong
 
     def round(self) -> None:
         """Looks at the series whose time has come."""
@@ -85,11 +92,20 @@ class Shown:
             source.leave()
 
 
+def note(folder: str, trace: str) -> None:
+    """Notes what went wrong in answering a phone, and says so, once for each trace."""
+    if trace not in WRITTEN:
+        path = written(folder, trace)
+        say(f"{clock()} Beware: a phone wasn't answered, by a fault of this tool. "
+            + (f"Its trace is in {path}." if path else "Its trace couldn't be written."))
+
+
 def trouble_of(source: Source) -> str:
     """Looks at one series; why its page stays as it was, or nothing."""
     source.due = time.monotonic() + source.settings.every
     try:
-        source.look()
+        with guarded(source.folder.path):
+            source.look()
     except Trouble as trouble:
         return sentence(trouble)
     return ""
@@ -120,17 +136,27 @@ def port(text: str) -> int:
     return int(text)
 
 
+def address(text: str) -> str:
+    if not is_address(text):
+        raise argparse.ArgumentTypeError(f"{text!r} is no address of a computer, as 192.168.1.20")
+    return text
+
+
 def asked_of(words: list[str] | None = None) -> argparse.Namespace:
     parser = argparse.ArgumentParser(
         description="Shows the results of series, to phones in the same network and as files.")
     parser.add_argument("folder", nargs="+", help="the folder of a series")
     parser.add_argument("--http", nargs="?", type=port, const=0, metavar="PORT",
                         help="show them to phones, at this port or at that of series.ini")
+    parser.add_argument("--address", type=address,
+                        help="show them at this address of this computer alone")
     parser.add_argument("--page", metavar="OUT", help="write the pages into this folder")
     parser.add_argument("--once", action="store_true", help="write the pages once, and end")
     asked = parser.parse_args(words)
     if asked.once and asked.http is not None:
         parser.error("--once writes files: it goes with --page, and not with --http")
+    if asked.address and asked.http is None:
+        parser.error("--address is for phones: it goes with --http")
     return asked
 
 
@@ -139,6 +165,8 @@ def sources_of(folders: list[str]) -> list[Source]:
     found = list(map(Source, folders))
     names = [source.folder.name for source in found]
     for name in names:
+        if name in ("index.html", "now.json"):
+            raise Trouble(f"a page is called {name}, too: give that folder another name")
         if names.count(name) > 1:
             raise Trouble(f"two of the folders are called {name}, and each needs a name of its own")
     return found
@@ -152,9 +180,9 @@ def files_of(asked: argparse.Namespace, sources: list[Source]) -> list[Files]:
             for source in sources if source.settings.page]
 
 
-def say_address(number: int) -> None:
+def say_address(own: str, number: int) -> None:
     """Says what phones open, with a code for their cameras if qrencode is installed."""
-    first, *others = [f"http://{address}:{number}/" for address in addresses()]
+    first, *others = [f"http://{text}:{number}/" for text in ([own] if own else addresses())]
     say(f"Phones open   {first}" + (f"   (or {', '.join(others)})" if others else ""))
     if sys.stdout.isatty() and shutil.which("qrencode"):
         subprocess.run(["qrencode", "-t", "UTF8", "-m", "2", first], check=False)
@@ -169,14 +197,19 @@ def show(asked: argparse.Namespace) -> int:
     if asked.http is None and not files:
         raise Trouble("nothing is shown: add --http for phones, or --page OUT for files")
     board = None if asked.http is None else Board()
-    number = asked.http or sources[0].settings.port
-    server = Server(("0.0.0.0", number), board) if board is not None else None
-    shown = Shown(sources, files, board, asked.once)
+    first = sources[0].settings
+    own, number = asked.address or first.address, asked.http or first.port
+    server = None
+    if board is not None:
+        noted = functools.partial(note, sources[0].folder.path)
+        server = Listener(own or "0.0.0.0", number, board, noted)
+    shown, is_shown = Shown(sources, files, board, asked.once), False
     try:
         well = shown.look(sources)
+        is_shown = True
         if server:
             server.start()
-            say_address(number)
+            say_address(own, number)
         for place in files if well or not asked.once else []:
             say(f"Pages are in  {place.folder}")
         if asked.once:
@@ -184,29 +217,32 @@ def show(asked: argparse.Namespace) -> int:
         while True:
             time.sleep(TICK)
             shown.round()
-    except KeyboardInterrupt:
+    except Stopped:
+        if not is_shown or asked.once:
+            raise
         say("\nStopped. Pages that are provisional turn red in a minute.")
         return 0
     finally:
         shown.leave()
 
 
-def stop(_number: int, _frame: object) -> None:
-    raise KeyboardInterrupt
+class Stopped(BaseException):
+    """A signal came that ends the board; its argument is the signal's number."""
+
+
+def stop(number: int, _frame: object) -> None:
+    raise Stopped(number)
 
 
 def main() -> int:
     asked = asked_of()
-    sys.stdout.reconfigure(errors="replace")
-    for number in (signal.SIGTERM, signal.SIGHUP):
+    for number in (signal.SIGINT, signal.SIGTERM, signal.SIGHUP):
         signal.signal(number, stop)
     try:
-        return show(asked)
-    except Trouble as trouble:
-        say(sentence(trouble))
-        return 1
-    except KeyboardInterrupt:
-        return 1
+        return status_of(lambda: show(asked), asked.folder[0])
+    except Stopped as stopped:
+        # What a shell says of a command that a signal has ended.
+        return 128 + int(stopped.args[0])
 
 
 if __name__ == "__main__":

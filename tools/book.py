@@ -8,7 +8,7 @@ import entries
 from folder import Folder
 from office import Sheet
 from record import Race, Series, Standing
-from spoken import NotSent
+from spoken import NotSent, race_number, short
 
 
 class Book:
@@ -42,9 +42,9 @@ class Book:
 
     def race(self, text: str) -> Race:
         """A race by its number, also one of which nothing is recorded."""
-        if not text.isdecimal() or not 1 <= int(text) <= 40:
-            raise NotSent(f"{text} is no race: a number from 1 to 40")
-        return self.series.races.get(int(text)) or Race(int(text))
+        if not (number := race_number(text)):
+            raise NotSent(f"{short(text)} is no race: a number from 1 to 40")
+        return self.series.races.get(number) or Race(number)
 
     def called(self, sail: str) -> str:
         """A boat by her sail and name."""

@@ -1,14 +1,20 @@
 """Which class a line is for, when one window types for several."""
 from __future__ import annotations
 
-from desk import Desk
-from spoken import OTHERS, SAILS, NotSent, boats_meant
+from desk import Desk, marked
+from spoken import COMMANDS, FIRST, OTHERS, SAILS, NotSent, boats_meant
 from words import ROLES, joined
 
-# First words that are the window's own.
-OWN = ("at", "race", "abandon", "standing", "help")
-# All first words of lines, and of what the window does by itself.
-FIRST = SAILS.keys() | OTHERS | {word.upper() for word in OWN}
+
+class Unsure(NotSent):
+    """Somebody crossed the line, and it isn't clear in which class. `desks` can keep her place; `sail` is
+    what was typed of her sail."""
+
+    def __init__(self, what: str, advice: str, desks: list[Desk], sail: str) -> None:
+        super().__init__(what + advice)
+        self.what, self.desks, self.sail = what, desks, sail
+
+
 # Lines about a whole class: a number in them is that of a race, or of a new boat.
 WHOLE = {"SCORE", "UNSCORE", "AT", "RACE", "ABANDON", "STANDING", "SHOW", "ENTER"}
 
@@ -23,19 +29,43 @@ def desk_meant(desks: list[Desk], typed: str) -> tuple[Desk, str]:
     first = words[0].upper()
     if first in WHOLE:
         raise NotSent(f"{typed.strip()} is for one class: type {ways(desks, typed.strip())}")
-    if first.startswith("?"):
-        return desk_keeping(desks, words), typed
-    rest = words[2:] if first in SAILS else words[first in OTHERS:]
-    found = [(desk, boat) for desk in desks for boat in first_meant(rest, desk)]
-    if first not in FIRST:
-        # A bare sail is a finish, in a class that is at a race.
-        found = [(desk, boat) for desk, boat in found if desk.at] or found
+    if first == "UNDO":
+        return last_used(desks), typed
+    if meant := marked(words):
+        return desk_keeping(desks, *meant), typed
+    rest, found = boats_of_line(desks, words)
+    keepers = [desk for desk in desks if desk.crossed(typed)]
     if len({id(desk) for desk, _ in found}) == 1:
         return found[0][0], typed
+    if not found and len(keepers) == 1:
+        return keepers[0], typed
+    sail = keepers[0].crossed(typed) if keepers else ""
     if found:
         boats = [f"{desk.book.called(boat)} ({desk.folder.name})" for desk, boat in found]
-        raise NotSent(f"{' '.join(rest).upper()} may be {joined(boats, 'or')}: type her class first")
-    raise NotSent(f"it isn't clear for which class this is: type {ways(desks, typed.strip())}")
+        raise Unsure(f"{' '.join(rest).upper()} may be {joined(boats, 'or')}", ": type her class first",
+                     keepers, sail)
+    raise Unsure("it isn't clear for which class this is", f": type {ways(desks, typed.strip())}", keepers,
+                 sail)
+
+
+def boats_of_line(desks: list[Desk], words: list[str]) -> tuple[list[str], list[tuple[Desk, str]]]:
+    """The words of a line from its sail on, and the boats that they may mean, of all classes."""
+    first = words[0].upper()
+    starts = [2, 1] if first in SAILS else [1] if first in OTHERS | COMMANDS.keys() else [0]
+    for start in starts:
+        rest = words[start:]
+        found = [(desk, boat) for desk in desks for boat in first_meant(rest, desk)]
+        if start < 2 and first not in OTHERS:
+            # A line without its race is for a class that is at one.
+            found = [(desk, boat) for desk, boat in found if desk.at] or found
+        if found:
+            return rest, found
+    return rest, []
+
+
+def last_used(desks: list[Desk]) -> Desk:
+    """The class in which something was done last."""
+    return max(desks, key=lambda desk: desk.done.time if desk.done else 0.0)
 
 
 def ways(desks: list[Desk], line: str) -> str:
@@ -43,18 +73,21 @@ def ways(desks: list[Desk], line: str) -> str:
     return joined([f"{short(desk, desks)} {line} ({desk.folder.name})" for desk in desks], "or")
 
 
-def desk_keeping(desks: list[Desk], words: list[str]) -> Desk:
-    """The class that a place kept by ? is in: the one at a race, that of the sail, or the one that
-    keeps this number."""
+def desk_keeping(desks: list[Desk], mark: str, sail: list[str]) -> Desk:
+    """The class that the place of a finisher without a sail is in: the one at a race, that of the sail,
+    or the one in which somebody is called so."""
     there = [desk for desk in desks if desk.at]
     if len(there) < 2:
         return (there or desks)[0]
-    of_sail = [desk for desk in there if first_meant(words[1:], desk)]
-    keeping = [desk for desk in there if words[0] in desk.unread.marks(desk.at or 0)]
-    found = next((some for some in (of_sail, keeping) if len(some) == 1), [])
-    if len(words) == 1 or not found:
-        raise NotSent(f"{words[0]} is for one class: type {ways(there, ' '.join(words))}")
-    return found[0]
+    of_sail = [desk for desk in there if first_meant(sail, desk)]
+    keeping = [desk for desk in there if mark in desk.unread.marks(desk.at or 0)]
+    found: list[Desk] = next((some for some in (of_sail, keeping) if len(some) == 1), [])
+    if sail and found:
+        return found[0]
+    way = ways(there, " ".join([mark.lower(), *sail]))
+    is_new = not sail and (mark == "?" or not keeping and there[0].crossed(mark.removesuffix("?")))
+    keepers = [desk for desk in there if desk.may_keep and is_new]
+    raise Unsure(f"{mark} is for one class", f": type {way}", keepers, mark.removesuffix("?"))
 
 
 def desk_named(desks: list[Desk], words: list[str]) -> Desk | None:

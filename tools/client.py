@@ -16,15 +16,16 @@ the office was kept: look there before you send it again.
 from __future__ import annotations
 
 import argparse
-import os
 import sys
 
 from batch import LARGEST, Batch, lines_of
 from desk import Desk
 from folder import Folder
+from guard import status_of
 from office import Trouble
-from prompt import answer, say, sentence
+from prompt import answer, say
 from window import Window
+from words import on_one_line
 
 ROLES = ["FINISH", "JURY", "SCORER"]
 
@@ -63,37 +64,37 @@ def send_file(asked: argparse.Namespace) -> int:
     return Batch(desk, lines, again).send(asked.start, asked.go_on)
 
 
+def in_utf8(text: str) -> str:
+    """A word of the command line that goes into a file."""
+    if text.encode("utf-8", "replace").decode() != text:
+        raise argparse.ArgumentTypeError("it isn't UTF-8 text")
+    return on_one_line(text)
+
+
 def arguments() -> argparse.Namespace:
     """What the command line says."""
     words = argparse.ArgumentParser(description="A window for those who type.")
     words.add_argument("folders", nargs="+", metavar="FOLDER", help="the folder of a series")
     words.add_argument("--role", help="whose lines these are: finish, jury or scorer; it is asked for "
                        "if it isn't given")
-    words.add_argument("--name", default="", help="who types, for office.log")
+    words.add_argument("--name", type=in_utf8, default="", help="who types, for office.log")
     words.add_argument("--from", dest="start", type=int, default=1, metavar="N",
                        help="the first line of a file that is sent")
     words.add_argument("--go-on", action="store_true", help="go on after a refused line of a file")
     return words.parse_args()
 
 
+def done(asked: argparse.Namespace) -> int:
+    """Sends a file's lines, or is a window; the status."""
+    if not sys.stdin.isatty():
+        return send_file(asked)
+    folders = [Folder(path) for path in asked.folders]
+    return Window(folders, role_of(asked), asked.name).run()
+
+
 def main() -> int:
     asked = arguments()
-    sys.stdout.reconfigure(errors="replace")
-    try:
-        if not sys.stdin.isatty():
-            return send_file(asked)
-        folders = [Folder(path) for path in asked.folders]
-        return Window(folders, role_of(asked), asked.name).run()
-    except Trouble as trouble:
-        say(f"Stopped: {sentence(trouble)}")
-        return 1
-    except KeyboardInterrupt:
-        say("")
-        return 1
-    except BrokenPipeError:
-        # Nobody reads what is said here any more.
-        os.dup2(os.open(os.devnull, os.O_WRONLY), 1)
-        return 1
+    return status_of(lambda: done(asked), asked.folders[0], lambda text: say(f"Stopped: {text}"))
 
 
 if __name__ == "__main__":

@@ -26,6 +26,7 @@ from dataclasses import dataclass
 
 import rulings
 from folder import Folder
+from guard import status_of
 from holdings import holdings
 from office import Link, Sheet, Trouble
 from prompt import question, say, sentence
@@ -168,25 +169,22 @@ def send(desk: Desk) -> int:
     return 1 if stale else 0
 
 
+def done(folder: str, what: str) -> int:
+    """Does a command; the status."""
+    desk = Desk(folder)
+    try:
+        return {"show": show, "check": check, "send": send}[what](desk)
+    finally:
+        if desk.link:
+            desk.link.close()
+
+
 def main() -> int:
     parser = argparse.ArgumentParser(description="Decisions for which the program has no line.")
     parser.add_argument("folder", help="the folder of a series")
     parser.add_argument("what", nargs="?", default="show", choices=["show", "check", "send"])
     asked = parser.parse_args()
-    sys.stdout.reconfigure(errors="replace")
-    desk = None
-    try:
-        desk = Desk(asked.folder)
-        return {"show": show, "check": check, "send": send}[asked.what](desk)
-    except (Trouble, ValueError) as trouble:
-        say(sentence(trouble))
-        return 1
-    except KeyboardInterrupt:
-        say("")
-        return 1
-    finally:
-        if desk is not None and desk.link:
-            desk.link.close()
+    return status_of(lambda: done(asked.folder, asked.what), asked.folder)
 
 
 if __name__ == "__main__":

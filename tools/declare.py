@@ -5,13 +5,15 @@ import contextlib
 
 import entries
 import settings
-from folder import Folder, replace_whole
+from files import replace_whole
+from folder import Folder
 from moments import mark_of
 from office import Sheet, Trouble
+from places import kept_in_words
 from prompt import question, say, typed
 from record import Race, Series
 from source import replayed
-from words import count, joined
+from words import count, joined, on_one_line
 
 
 def sheet_now(folder: Folder) -> Sheet:
@@ -26,14 +28,21 @@ def sheet_now(folder: Folder) -> Sheet:
 def recorded_of(race: Race, names: dict[str, entries.Boat]) -> str:
     """What is recorded of a race, in words."""
     finished = sum(map(len, race.order))
-    held = [f"{names.get(sail, sail)} {joined(race.held(sail))}"
-            for sail in {**race.codes, **race.penalties, **race.redress}]
-    return joined([count(finished, "finisher")] * bool(finished) + held)
+    held = [f"{names.get(sail, sail)} {joined(race.held(sail))}" for sail in race.holders()]
+    return joined(([count(finished, "finisher")] if finished else []) + held)
+
+
+def without_name(boats: list[str], names: dict[str, entries.Boat]) -> list[str]:
+    """The boats of which the list has neither helm nor name, if it has those of others."""
+    if not any(boat.helm or boat.name for boat in names.values()):
+        return []
+    known = {sail for sail, boat in names.items() if boat.helm or boat.name}
+    return [sail for sail in boats if sail not in known]
 
 
 def announce(path: str, state: str, reason: str) -> int:
     """Writes whether the results are final; the board shows it within seconds. The status."""
-    folder, reason = Folder(path), " ".join(reason.split())
+    folder, reason = Folder(path), on_one_line(reason)
     if state == "amended" and not reason and not (reason := asked_reason()):
         raise Trouble("amended results need a reason. Nothing was announced")
     mark = ""
@@ -51,16 +60,21 @@ def announce(path: str, state: str, reason: str) -> int:
 
 def asked_reason() -> str:
     """Why the results were amended; empty if nobody says."""
-    return " ".join((typed("Why? The board shows it: ") or "").split())
+    return on_one_line(typed("Why? The board shows it: ") or "")
 
 
 def is_agreed(folder: Folder, sheet: Sheet, state: str) -> bool:
-    """Whether all races are scored, or somebody agrees to leave some out."""
-    left = [race for _, race in sorted(Series.read(list(sheet.journal)).races.items())
-            if race.is_recorded and not race.counts]
-    names = entries.read_if_there(folder.entries)
+    """Whether all races are scored and all finishers are known, or somebody agrees to leave some out."""
+    series, names = Series.read(list(sheet.journal)), entries.read_if_there(folder.entries)
+    left = [race for _, race in sorted(series.races.items()) if race.is_recorded and not race.counts]
+    if unnamed := without_name(series.boats, names):
+        say(f"Shown without a name: {joined(unnamed)}. Add the {'boat' if len(unnamed) == 1 else 'boats'} to "
+            f"{folder.settings.entries}.")
     for race in left:
         say(f"Race {race.number} isn't scored. Recorded of it: {recorded_of(race, names)}.")
+    if kept := kept_in_words(folder):
+        say(kept)
+        return question(f"Are the results {state} all the same?")
     which = "that race" if len(left) == 1 else "those races"
     return not left or question(f"Are the results {state} without {which}?")
 
@@ -68,8 +82,7 @@ def is_agreed(folder: Folder, sheet: Sheet, state: str) -> bool:
 def write(folder: Folder, values: dict[str, str]) -> None:
     """Writes what the notice says into series.ini."""
     path = folder.file(settings.NAME)
-    with open(path, encoding="utf-8-sig") as file:
-        text = file.read()
+    text = settings.text_in(path)
     for key, value in values.items():
         text = settings.with_value(text, "notice", key, value)
     replace_whole(path, text.encode())

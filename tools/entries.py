@@ -1,23 +1,20 @@
 """The entry list: the boats with their names, and what is wrong with a list, in words."""
 from __future__ import annotations
 
-import csv
-import io
-import os
 import re
+import string
+from collections.abc import Sequence
 from dataclasses import dataclass
 
+from headings import ENTRIES, columns, plain_heading, rating_columns
+from lists import Table, as_csv, bytes_of, name_of, table_of, wrong_form
 from office import Trouble
-from words import count, sign
+from words import count, joined, on_one_line, sign
 
-HEADS = {"sail": ("sail", "sailno", "sailnumber"), "helm": ("helm", "skipper", "name"),
-         "name": ("boat", "boatname"), "club": ("club",)}
-SEPARATORS = {";": "semicolons", "\t": "tabs"}
 SAIL = re.compile(r"[A-Z0-9-]{1,12}")
 ROOM = 500
-# Bytes of a list that are read at most. A single field may have all of them.
-LARGEST = 4 << 20
-csv.field_size_limit(LARGEST)
+# Other alphabets have small letters of their own, which the program doesn't raise.
+RAISED = str.maketrans(string.ascii_lowercase, string.ascii_uppercase)
 
 
 @dataclass(frozen=True)
@@ -35,112 +32,88 @@ class Boat:
 
 def plain(sail: str) -> str:
     """A sail as the program writes it."""
-    return sail.replace(" ", "").upper()
+    return sail.replace(" ", "").translate(RAISED)
 
 
-def text_of(data: bytes) -> str:
-    """The text of a list. A NUL, which some versions of csv refuse, is an odd sign like any other."""
-    try:
-        text = data.decode("utf-8-sig")
-    except UnicodeDecodeError:
-        text = data.decode("latin-1")
-    return text.replace("\0", "\ufffd")
-
-
-def rows_of(data: bytes) -> list[tuple[int, list[str]]]:
-    """The rows that aren't blank, with their numbers; a row may hold line breaks."""
-    rows = csv.reader(io.StringIO(text_of(data), newline=""))
-    return [(at, row) for at, row in enumerate(rows, 1) if any(cell.strip(" ") for cell in row)]
-
-
-def column(heads: list[str], names: tuple[str, ...]) -> int | None:
-    heads = [head.replace(" ", "").lower() for head in heads]
-    return next((heads.index(name) for name in names if name in heads), None)
-
-
-def bytes_of(path: str) -> bytes:
-    try:
-        with open(path, "rb") as file:
-            return file.read(LARGEST)
-    except FileNotFoundError:
-        raise Trouble(f"{path} isn't there") from None
-    except OSError as cause:
-        raise Trouble(f"{path} can't be read: {cause.strerror}") from None
+def plain_words(line: str) -> list[str]:
+    """The words of a line of a journal, as the program writes them: it takes small letters, too."""
+    return line.translate(RAISED).split()
 
 
 def read(path: str) -> dict[str, Boat]:
     """The boats of an entry list, by the sail as the program writes it; none if it has faults."""
     data = bytes_of(path)
-    if problems(data, path):
-        return {}
-    (_, heads), *rows = rows_of(data)
-    places = {key: column(heads, names) for key, names in HEADS.items()}
-    boats = {}
-    for _, row in rows:
-        texts = {key: " ".join(row[at].split()) if at is not None and at < len(row) else ""
-                 for key, at in places.items()}
-        boats[plain(texts["sail"])] = Boat(**texts)
+    return {} if problems(data, path) else boats_of(table_of(data))
+
+
+def boats_of(table: Table) -> dict[str, Boat]:
+    """The boats of a list without faults. What isn't printable is taken out of their names, since they
+    may come from anybody, and go to terminals and pages. Sails are shown in capitals."""
+    places, boats = columns(table.heads, ENTRIES), {}
+    for _, row in table.rows:
+        texts = {key: on_one_line(table.cell(row, at)) for key, at in places.items()}
+        boat = Boat(**texts | {"sail": texts["sail"].translate(RAISED)})
+        boats[plain(boat.sail)] = boat
     return boats
 
 
 def read_if_there(path: str) -> dict[str, Boat]:
-    """The boats of an entry list, which only gives names to a series that has been opened."""
-    return read(path) if os.path.exists(path) else {}
+    """The boats of an entry list, which only gives names to a series that has been opened: none if it
+    can't be read."""
+    try:
+        return read(path)
+    except Trouble:
+        return {}
 
 
-def wrong_form(data: bytes, name: str) -> str:
-    """Why a file isn't CSV with rows in it; empty if it is."""
-    if data.startswith(b"PK\x03\x04"):
-        return f"{name} is a spreadsheet, not CSV. Save it as \"Text CSV\", with commas."
-    if data.startswith((b"\xff\xfe", b"\xfe\xff")) or b"\0" in data[:1000]:
-        return f"{name} is UTF-16 (\"Unicode text\"). Save it as CSV, UTF-8."
-    return "" if rows_of(data) else f"{name} is empty."
+def given(path: str) -> bytes:
+    """An entry list as the program takes it: the sails alone. A Trouble says what is wrong with it."""
+    data = bytes_of(path)
+    if wrong := problems(data, path):
+        raise Trouble("\n".join(wrong))
+    return as_csv([["Sail"], *([sail] for sail in boats_of(table_of(data)))])
 
 
-def heading_at(rows: list[tuple[int, list[str]]]) -> int:
-    """At which of the first rows the headings are: the first, unless only a later one has a sail's."""
-    return next((at for at, (_, row) in enumerate(rows[:5])
-                 if column(re.split("[;\t,]", ",".join(row)), HEADS["sail"]) is not None), 0)
+def columns_left(data: bytes) -> list[str]:
+    """The columns that no tool reads, in a series by ratings either: their headings, or their numbers."""
+    table = table_of(data)
+    read_ones = {*columns(table.heads, ENTRIES).values(), *rating_columns(table.heads).values()}
+    filled = {at for _, row in [(0, table.heads), *table.rows] for at, cell in enumerate(row) if cell.strip()}
+    return [on_one_line(table.cell(table.heads, at)) or f"column {at + 1}" for at in sorted(filled - read_ones)]
 
 
-def separator_of(data: bytes) -> str:
-    """A sign other than the comma by which the columns are separated, if any. It is in each of the
-    first rows, and no comma is in that of the headings, unless a heading is a sail's."""
-    rows = rows_of(data)
-    texts = [",".join(row) for _, row in rows[heading_at(rows):][:3]]
-    head = texts[0] if texts else ""
-    return next((mark for mark in SEPARATORS if mark in head and (
-        column(head.split(mark), HEADS["sail"]) is not None
-        or "," not in head and len(texts) > 1 and all(mark in text for text in texts))), "")
+def left_in_words(data: bytes) -> str:
+    """Which columns aren't read; empty if all are."""
+    left = columns_left(data)
+    return f"Not read: {joined(left)}." if left else ""
 
 
-def with_commas(data: bytes) -> bytes:
-    """The same list, separated by commas."""
-    rows = csv.reader(io.StringIO(text_of(data), newline=""), delimiter=separator_of(data) or ",")
-    made = io.StringIO(newline="")
-    csv.writer(made, lineterminator="\n").writerows(rows)
-    return made.getvalue().encode()
+def rating_note(data: bytes, name: str, is_rated: bool) -> str:
+    """What should be known of the ratings in a list, in a series by corrected time or in another."""
+    heads = table_of(data).heads
+    found = [on_one_line(heads[at]) for at in rating_columns(heads).values()]
+    if is_rated and not found:
+        return f"No column of {name} has the heading Rating, PY or TCF: tools/times.py needs one."
+    if found and not is_rated:
+        return f"Read in a series by corrected time alone: {joined(found)}."
+    return ""
 
 
-def column_like(heads: list[str]) -> int | None:
+def column_like(heads: Sequence[str]) -> int | None:
     """The column whose heading looks like a sail's, and isn't one."""
     return next((at for at, head in enumerate(heads)
-                 if head.strip().lower().startswith(("sail", "segel"))), None)
+                 if plain_heading(head).startswith(("sail", "segel", "zeil", "voile", "vela"))), None)
 
 
-def heading_faults(data: bytes, name: str) -> list[str]:
-    """What is wrong with the form of the first rows: a title, the separators, the headings."""
-    mark, rows = separator_of(data), rows_of(with_commas(data))
-    at = heading_at(rows)
-    number, heads = rows[at]
-    faults = [f"Row 1 of {name} is a title; the headings are in row {number}. Take out what is above "
-              f"row {number}."] if at else []
-    if mark:
-        faults.append(f"The columns of {name} are separated by {SEPARATORS[mark]}. They have to be "
-                      "separated by commas.")
-    if column(heads, HEADS["sail"]) is None:
-        like = column_like(heads)
-        found = "" if like is None else f" {heads[like].strip()!r} isn't one of them."
+def heading_faults(table: Table, name: str) -> list[str]:
+    """What is wrong with the form of the first rows: a title, the headings."""
+    faults = []
+    if table.title:
+        faults.append(f"Row {table.title} of {name} is a title; the headings are in row {table.first}. Take "
+                      f"out what is above row {table.first}.")
+    if "sail" not in columns(table.heads, ENTRIES):
+        like = column_like(table.heads)
+        found = "" if like is None else f" {table.heads[like].strip()!r} isn't one of them."
         faults.append(f"No column of {name} has the heading Sail, SailNo or SailNumber.{found}")
     return faults
 
@@ -159,24 +132,24 @@ def fault_of(sail: str) -> str:
 
 
 def problems(data: bytes, path: str) -> list[str]:
-    """All that keeps the program from taking a list, in words: as much as shows at once; empty if it
-    takes it."""
-    name = os.path.basename(path)
+    """All that keeps a list from being used, in words: as much as shows at once; empty if nothing does."""
+    name = name_of(path)
     if wrong := wrong_form(data, name):
         return [wrong]
-    faults, rows = heading_faults(data, name), rows_of(with_commas(data))
-    (_, heads), *rows = rows[heading_at(rows):]
-    at, who = column(heads, HEADS["sail"]), column(heads, HEADS["helm"])
-    if at is None and (at := column_like(heads)) is None:
+    table = table_of(data)
+    faults, places = heading_faults(table, name), columns(table.heads, ENTRIES)
+    at, who = places.get("sail", column_like(table.heads)), places.get("helm")
+    if at is None:
         return faults
     found: dict[str, int] = {}
-    for number, row in rows:
-        named = f" ({row[who].strip()})" if who is not None and max(who, at) < len(row) else ""
+    for number, row in table.rows:
         if fault := fault_of_row(row, at, found):
+            helm = on_one_line(table.cell(row, who))
+            named = f" ({helm})" if helm and len(row) > at else ""
             faults.append(f"{name}, row {number}{named}: {fault}")
         else:
             found[plain(row[at])] = number
-    if not rows:
+    if not table.rows:
         faults.append(f"{name} has headings, but no boats.")
     if len(found) > ROOM:
         faults.append(f"{name} has {count(len(found), 'boat')}, and {ROOM} fit.")

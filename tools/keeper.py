@@ -2,11 +2,16 @@
 in kept/."""
 from __future__ import annotations
 
-import os
-import time
+import contextlib
 
-from folder import VERSION, Folder, entries_of, replace_whole
+import copies
+from continuity import first_entries
+from folder import VERSION, Folder
 from office import Sheet, Trouble
+from second import Second
+from source import replayed
+
+CHANGED = "journal.txt isn't what the office keeps: somebody has changed or replaced it"
 
 
 class Keeper:
@@ -18,100 +23,67 @@ class Keeper:
     """
 
     def __init__(self, folder: Folder) -> None:
-        self.folder, self.copied = folder, -1
-        self.copy = copy_of(folder)
-        self.trouble = ""
+        self.folder, self.second, self.copied = folder, Second(folder), -1
+        # Why there is no second copy, and what else should be known of it.
+        self.trouble = self.note = ""
+        # What the office has, and how journal.txt began when this window came.
+        self.sheet = Sheet((), ())
         self.first: list[str] | None = None
 
     def save(self, sheet: Sheet) -> None:
         """Copies the journal; a Trouble if journal.txt isn't what the office keeps. A copy that fails
         is only remembered."""
-        if len(sheet.journal) != self.copied or self.trouble:
-            self.trouble = self.copy_trouble(sheet)
-            self.copied = len(sheet.journal)
-        held = self.folder.kept()
-        if self.first is None:
-            # An older journal may be written otherwise than the office shows it.
-            self.first = held[:len(sheet.journal)]
-        if held[:len(sheet.journal)] != [*self.first, *sheet.journal[len(self.first):]]:
-            raise Trouble("journal.txt isn't what the office keeps: somebody has changed or replaced it")
+        self.sheet = sheet
+        if self.second.path and (len(sheet.journal) != self.copied or self.trouble):
+            self.copy(sheet)
+        if not self.is_kept():
+            raise Trouble(CHANGED)
 
-    def copy_trouble(self, sheet: Sheet) -> str:
-        """Copies the journal to the second disk; why it can't be, or nothing."""
-        if fault := copy_fault(self.folder):
-            return fault
-        try:
-            if self.copy:
-                save_to(self.copy, text_of(sheet))
-        except Trouble as trouble:
-            return str(trouble)
-        return ""
+    def copy(self, sheet: Sheet) -> None:
+        """Copies the journal to the second disk, and remembers what is wrong with that."""
+        answer = self.second.ask("save", text_of(sheet))
+        self.trouble, self.copied = answer.fault, len(sheet.journal)
+        self.note = same_disk(self.second.path) if self.second.is_on_our_disk(answer) else ""
+
+    def is_kept(self) -> bool:
+        """Whether journal.txt is what the office has; a Trouble if it can't be read."""
+        held, journal = self.folder.kept(), list(self.sheet.journal)
+        if self.first is None:
+            self.first = self.beginning(held[:len(journal)], journal)
+        return held[:len(journal)] == [*self.first, *journal[len(self.first):]]
+
+    def beginning(self, held: list[str], journal: list[str]) -> list[str]:
+        """How journal.txt has to begin. An older one may be written otherwise than the office shows it:
+        then it is right as it is."""
+        if held != journal:
+            with contextlib.suppress(Trouble):
+                shown = replayed(self.folder, self.folder.settings.options()).journal
+                if list(shown[:len(journal)]) == journal:
+                    return held
+        return journal
+
+    def data(self) -> bytes:
+        """What the office has, as journal.txt has it if that is right. What it hasn't shown yet may be
+        lost in a crash, and is no part of this."""
+        with contextlib.suppress(Trouble):
+            if self.is_kept():
+                return first_entries(self.folder.parts()[0], len(self.sheet.journal))
+        return text_of(self.sheet).encode()
 
     def keep_dated(self) -> str:
-        """Makes a dated copy of journal.txt in kept/; its name."""
-        return self.keep_as(dated(), self.folder.parts()[0])
+        """Makes a dated copy of the journal in kept/; its name."""
+        return copies.keep(self.folder, self.data())
 
-    def keep_beside(self, sheet: Sheet) -> str:
+    def keep_beside(self) -> str:
         """Keeps the office's journal in kept/ if journal.txt isn't it any more; the copy's name."""
-        return self.keep_as(dated("-office"), text_of(sheet).encode())
-
-    def keep_as(self, name: str, data: bytes) -> str:
-        try:
-            os.makedirs(self.folder.file("kept"), exist_ok=True)
-        except OSError as cause:
-            raise Trouble(f"kept/ can't be made: {cause.strerror}") from None
-        replace_whole(self.folder.file(name), data)
-        return name
+        return copies.keep(self.folder, self.data(), "-office")
 
 
-def dated(more: str = "") -> str:
-    """The name of a copy that is made now."""
-    return os.path.join("kept", time.strftime(f"%Y-%m-%d-%H%M%S{more}.txt"))
+def same_disk(path: str) -> str:
+    """What is said of a copy that breaks with the disk of the journal."""
+    return f"The second copy, {path}, is on the same disk as journal.txt. Is the stick in?"
 
 
 def text_of(sheet: Sheet) -> str:
     """The journal of a sheet as a file has it."""
     return VERSION + "".join(f"{line}\n" for line in sheet.journal)
-
-
-def copy_of(folder: Folder) -> str:
-    """The file of the copy on a second disk; empty if the settings name none."""
-    copy = folder.settings.copy
-    return os.path.join(folder.file(copy), f"{folder.name}-journal.txt") if copy else ""
-
-
-def copy_fault(folder: Folder) -> str:
-    """Why the second folder can't take a copy; empty if it is there, or none is named."""
-    copy = folder.settings.copy
-    return f"{folder.file(copy)} isn't there" if copy and not os.path.isdir(folder.file(copy)) else ""
-
-
-def save_to(path: str, text: str) -> None:
-    """Makes a file hold a journal that goes on where the file ends."""
-    try:
-        with open(path, encoding="ascii", errors="replace") as file:
-            held = file.read()
-    except FileNotFoundError:
-        held = ""
-    except OSError as cause:
-        raise Trouble(f"{path} can't be read: {cause.strerror}") from None
-    if not text.removeprefix(VERSION).startswith(held.removeprefix(VERSION)):
-        raise Trouble(f"{path} holds entries that the office doesn't have. It is left as it is")
-    if text != held:
-        replace_whole(path, text.encode())
-
-
-def fullest_copy(folder: Folder) -> tuple[str, int]:
-    """The copy of the journal with the most entries, the latest of those, and how many it has."""
-    kept = folder.file("kept")
-    names = sorted(os.listdir(kept)) if os.path.isdir(kept) else []
-    paths = [os.path.join(kept, name) for name in names] + [copy_of(folder)]
-    sized = [(entries_in(path), path) for path in paths if os.path.isfile(path)]
-    most = max((size for size, _ in sized), default=0)
-    return next(((path, size) for size, path in reversed(sized) if size == most and most), ("", 0))
-
-
-def entries_in(path: str) -> int:
-    """How many entries a journal's file has."""
-    with open(path, encoding="ascii", errors="replace") as file:
-        return len(entries_of(file.read()))

@@ -1,12 +1,11 @@
 """The results as plain text for a mail: no line is longer than 72 columns."""
 from __future__ import annotations
 
-import html
-import re
 import textwrap
 from collections.abc import Sequence
 
-import page
+from overall import tie_words
+from page import MEANING
 from proof import seal_words
 from record import Row, Score
 from verdicts import words_of
@@ -14,11 +13,6 @@ from view import View
 from words import count
 
 COLUMNS = 72
-
-
-def plain(text: str) -> str:
-    """The text of a piece of a page."""
-    return html.unescape(re.sub(r"<[^>]*>", "", text))
 
 
 def wrapped(text: str, first: str = "", more: str = "") -> list[str]:
@@ -62,11 +56,11 @@ def heading(view: View) -> list[str]:
 
 def notes(view: View) -> list[str]:
     """Ties, decisions and abbreviations."""
-    found = [(f"{plain(page.tie_words(view, group))}", "Tie: ") for group in view.ties()]
+    found = [(tie_words(view, group), "Tie: ") for group in view.ties()]
     found += [(f"{words_of(each)}.", f"Race {each.ruling.race}, {view.boat(each.ruling.sail).sail}: ")
               for each in view.decided.verdicts]
     used = sorted({score.code for row in view.standing.rows for score in row.scores if score.code})
-    found += [(f"{page.MEANING[code][0]}", f"{code}: ") for code in used]
+    found += [(f"{MEANING[code][0]}", f"{code}: ") for code in used]
     if view.totals:
         found.append(("excluded. The total is before exclusions.", "(4.0): "))
     return [line for text, name in found for line in wrapped(name + text, "", "  ")]

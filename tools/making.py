@@ -1,22 +1,20 @@
 """A new series: what it needs, asked in the words of the sailing instructions."""
 from __future__ import annotations
 
+import contextlib
 import os
 import shlex
-import shutil
+import tempfile
 from collections.abc import Callable
 
 import entries
 import settings
-from folder import replace_whole
+from files import replace_whole
+from lists import bytes_of
 from office import Trouble
-from prompt import question, say, typed
+from programs import found_program
+from prompt import YES_OR_NO, is_yes, say, typed
 from words import count, joined
-
-HERE = os.path.dirname(os.path.abspath(__file__))
-PLACES = ["regatta", os.path.join(HERE, os.pardir, "regatta"),
-          os.path.join(HERE, os.pardir, "crates/regatta/out/regatta")]
-
 
 # More points of a Scoring Penalty than these are hardly meant.
 MOST_USUAL = 10
@@ -24,8 +22,7 @@ MOST_USUAL = 10
 
 def program_for(folder: str) -> str:
     """The program's file as seen from a new folder."""
-    found = next((path for path in PLACES if os.path.isfile(path)), shutil.which("regatta"))
-    return os.path.relpath(found or "regatta", folder)
+    return os.path.relpath(found_program("regatta", os.curdir) or "regatta", folder)
 
 
 def asked(text: str) -> str:
@@ -45,7 +42,9 @@ def asked_until(text: str, is_right: Callable[[str], bool], wanted: str, default
 
 def is_so(text: str) -> bool:
     """Whether the answer is yes; Enter is no."""
-    return asked(f"{text} [y/N] ").lower() in ("y", "yes")
+    while (meant := is_yes(asked(f"{text} [y/N] "))) is None:
+        say(YES_OR_NO)
+    return meant
 
 
 def asked_exclude() -> str:
@@ -82,35 +81,28 @@ def asked_scp() -> str:
 def right_list(default: str) -> tuple[str, bytes]:
     """An entry list that the program takes: its path and what it holds. A list with a fault is the
     default of the next question."""
+    named = ""
     while True:
-        given = asked(f"Entry list [{default}]: ") or default
+        given = named or asked(f"Entry list [{default}]: ") or default
+        named = ""
         try:
-            mended_list(given)
-            data = entries.bytes_of(given)
+            data = bytes_of(given)
         except Trouble as trouble:
             say(f"   {trouble}. Type the name of the list, or make it now. Ctrl-C ends this.")
             continue
         if not (wrong := entries.problems(data, given)):
             return given, data
         say("\n".join(wrong))
-        if not question("Is it put right? Look again?", True):
-            raise Trouble("the entry list isn't right. Nothing was written")
-        default = given
+        named, default = other_list(), given
 
 
-def mended_list(path: str) -> bool:
-    """Offers to write an entry list with commas; whether that was done."""
-    data = entries.bytes_of(path)
-    mended = entries.with_commas(data) if entries.separator_of(data) else b""
-    old = f"{os.path.splitext(path)[0]}-old.csv"
-    if not mended or entries.problems(mended, path) or os.path.exists(old):
-        return False
-    say("\n".join(entries.problems(data, path)))
-    if not question(f"Write it with commas? The old one stays as {os.path.basename(old)}.", True):
-        return False
-    os.rename(path, old)
-    replace_whole(path, mended)
-    return True
+def other_list() -> str:
+    """The list that somebody names instead of one with a fault; empty if that one is put right."""
+    given = asked("Is it put right? Look again? [Y/n, or the name of another list] ")
+    meant = is_yes(given, True)
+    if meant is False:
+        raise Trouble("the entry list isn't right. Nothing was written")
+    return "" if meant else given
 
 
 def boats_in_words(boats: list[entries.Boat]) -> str:
@@ -122,17 +114,51 @@ def boats_in_words(boats: list[entries.Boat]) -> str:
     return f"{count(len(boats), 'boat')}, from {boats[0].sail} to {boats[-1].sail}{names}"
 
 
+def make_folder(folder: str) -> None:
+    try:
+        os.makedirs(folder, mode=0o755, exist_ok=True)
+    except OSError as cause:
+        raise Trouble(f"{folder} can't be made: {cause.strerror}") from None
+
+
+def try_folder(folder: str) -> None:
+    """Makes what is missing of a folder, and takes it away again; a Trouble if nothing can be written
+    there."""
+    missing, path = [], os.path.abspath(folder)
+    while not os.path.lexists(path):
+        missing.append(path)
+        path = os.path.dirname(path)
+    make_folder(folder)
+    try:
+        tempfile.TemporaryFile(dir=folder).close()
+    except OSError as cause:
+        raise Trouble(f"nothing can be written in {folder}: {cause.strerror}") from None
+    finally:
+        for made in missing:
+            with contextlib.suppress(OSError):
+                os.rmdir(made)
+
+
+def say_if_any(text: str) -> None:
+    """Says what should be known of a list, if anything should."""
+    if text:
+        say(f"   {text}")
+
+
 def new(folder: str) -> None:
     """Makes a folder with its series.ini and its entry list, once all is asked."""
     path, list_path = os.path.join(folder, settings.NAME), os.path.join(folder, "entries.csv")
     if os.path.exists(path):
         raise Trouble(f"{folder} has a {settings.NAME} already. Nothing was changed")
+    try_folder(folder)
     values = {"title": asked_until("Title: ", bool, "a title, as Autumn Cup"),
               "class": asked("Class (Enter: none): "), "club": asked("Club (Enter: none): ")}
     given, data = right_list(list_path)
     say(f"   {boats_in_words(list(entries.read(given).values()))}")
+    say_if_any(entries.left_in_words(data))
     values |= asked_rules() | {"program": program_for(folder)}
-    os.makedirs(folder, exist_ok=True)
+    say_if_any(entries.rating_note(data, "entries.csv", values["handicap"] == "yes"))
+    make_folder(folder)
     if os.path.abspath(given) != os.path.abspath(list_path):
         replace_whole(list_path, data)
         say(f"Copied {given} to {list_path}: from now on change that one.")

@@ -5,9 +5,11 @@ from __future__ import annotations
 import datetime
 import hashlib
 import re
+from collections.abc import Sequence
 
 from folder import Logged
 from settings import STATES
+from unsaved import is_entry
 
 
 def time_of(entry: Logged) -> datetime.datetime | None:
@@ -17,16 +19,19 @@ def time_of(entry: Logged) -> datetime.datetime | None:
         return None
 
 
-def time_of_entry(logged: list[Logged], number: int) -> datetime.datetime | None:
-    """When an entry of the journal was answered; None if no window has logged it. One that was there
-    when a boat was taken out got its number then, and the results changed."""
+def time_of_entry(logged: list[Logged], journal: Sequence[str], number: int) -> datetime.datetime | None:
+    """When an entry of the journal was answered; None if no window has logged it. Another journal may
+    once have had this number: so the line is compared, too. An entry that was there when a boat was taken
+    out got its number then, and the results changed."""
+    if not 0 < number <= len(journal):
+        return None
     found = None
     for entry in logged:
-        if entry.answer.split()[:2] == ["OK", str(number)]:
+        if entry.answer.split()[:2] == ["OK", str(number)] and is_entry(entry.line, journal[number - 1]):
             found = time_of(entry)
         elif entry.line.startswith("removed "):
-            left = re.match(r"[0-9]{1,9} entr", entry.answer)
-            found = time_of(entry) if left and number <= int(left[0].split()[0]) else None
+            left = re.match(r"([0-9]{1,9}) entr", entry.answer)
+            found = time_of(entry) if left and number <= int(left[1]) else None
     return found
 
 

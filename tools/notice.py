@@ -5,10 +5,11 @@ from __future__ import annotations
 import dataclasses
 from collections.abc import Sequence
 
-import page
+import overall
 from chart import chart
-from page import esc
-from proof import block
+from markup import NOTHING, Markup, separated, tag, together
+from page import classes, finder, foot, framed, head
+from proof import block, version_of
 from view import View, labels_of
 
 
@@ -18,37 +19,31 @@ def placed(views: Sequence[View]) -> list[View]:
             for at, view in enumerate(views, 1)]
 
 
-def ways(views: Sequence[View]) -> str:
+def ways(views: Sequence[View]) -> Markup:
     """The way to each class."""
     if len(views) < 2:
-        return ""
-    links = "".join(f'<li><a href="#{view.ids}class">{esc(label)}</a></li>'
-                    for label, view in zip(labels_of(views), views))
-    return f'<nav aria-label="Classes"><ul class="classes">{links}</ul></nav>\n'
+        return NOTHING
+    return together(classes([tag("li", tag("a", label, href=f"#{view.ids}class"))
+                             for label, view in zip(labels_of(views), views)]), "\n")
 
 
-def section(view: View, at: int) -> str:
+def section(view: View, at: int) -> Markup:
     """One class."""
-    shown = view.settings
-    title = f"{shown.title}: {shown.group}" if shown.group else shown.title
-    return f"""<section class="standing class-{at}" id="{view.ids}class">
-{page.head(view, (), shown.club, title, page.overall_facts(view))}
-{page.table(view, None)}
-{page.second_table(view)}
-{chart(view)}
-<div class="notes">{page.notes(view)}</div>
-{page.foot(view)}
-</section>"""
+    begun = head(view, False, view.settings.club, overall.title_of(view), overall.facts(view),
+                 overall.asides(view))
+    return tag("section", separated([
+        "", begun, overall.table(view, None), overall.second_table(view, None), chart(view),
+        overall.notes(view), foot(view), ""], "\n"), class_=f"standing class-{at}",
+        id=f"{view.ids}class")
 
 
 def style(views: Sequence[View]) -> str:
     """The style of all classes: on paper that of the class with the most races, or else boats."""
     most = max(views, key=lambda view: (len(view.standing.races), len(view.standing.rows)))
-    paper = page.paper_style(max(len(view.standing.rows) for view in views),
-                             len(most.standing.races))
-    each = "".join(page.overall_style(view, f".standing.class-{at}")
-                   for at, view in enumerate(views))
-    wide = max(map(page.fits, views)) + 60
+    paper = overall.paper_style(max(len(view.standing.rows) for view in views),
+                                len(most.standing.races))
+    each = "".join(overall.style(view, f".standing.class-{at}") for at, view in enumerate(views))
+    wide = max(map(overall.fits, views)) + 60
     return (f"main.results {{ --wide: {wide}px; }}\n{each}@media print {{ {paper} "
             ".standing ~ .standing { break-before: page; } }\n")
 
@@ -63,17 +58,9 @@ def title_of(views: Sequence[View]) -> str:
 def results(views: Sequence[View]) -> str:
     """The page of all classes."""
     found = placed(views)
-    finder = ('<div class="bar"><div class="find"><label for="find" class="hidden">Find a boat by '
-              'sail or name</label><input type="search" id="find" placeholder="Find a sail or a '
-              'name" autocomplete="off" spellcheck="false"><span id="found" role="status"></span>'
-              f"{page.more_names(found[0])}</div></div>")
-    sections = "\n".join(section(view, at) for at, view in enumerate(found))
-    body = f"""<main class="results">
-{ways(found)}{finder}
-{sections}
-{block("results", views)}
-</main>"""
-    version = "-".join(view.version for view in found)
-    document = page.document(title_of(found), "no", found[0].settings.every, version, "", body,
-                             style(found))
-    return document.replace('href="#table"', f'href="#{found[0].ids}table"', 1)
+    body = tag("main", separated([
+        "", together(ways(found), tag("div", finder(overall.more_names(found[0])), class_="bar")),
+        *(section(view, at) for at, view in enumerate(found)), block("results", views), ""], "\n"),
+        class_="results")
+    return framed(title_of(found), "no", found[0].settings.every, "-".join(map(version_of, views)), "",
+                  body, style(found), f"{found[0].ids}table")

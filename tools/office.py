@@ -117,9 +117,10 @@ class Link:
     def sheet(self) -> Sheet:
         """The journal's lines and the table's."""
         words = (first := self.ask("SHOW")).split()
-        if len(words) != 2 or words[0] != "JOURNAL" or not words[1].isdigit():
+        if len(words) != 2 or words[0] != "JOURNAL" or not re.fullmatch("[0-9]{1,9}", words[1]):
             raise Trouble(f"the office doesn't show its journal: it said {first[:60]!r}")
-        lines, size = [], 0
+        lines: list[str] = []
+        size = 0
         while not lines or lines[-1] != "END":
             lines.append(self.line())
             size += len(lines[-1]) + 1

@@ -5,8 +5,11 @@ import errno
 import os
 import subprocess
 
-from folder import Folder, replace_whole
+from entries import given
+from files import replace_whole
+from folder import Folder
 from office import Trouble
+from prompt import sentence
 from record import Standing
 from replay import ran
 from words import start_fault
@@ -22,15 +25,8 @@ class Program:
         """Why the program can't be run; empty if it can."""
         try:
             tried = ran(self.path, [])
-        except FileNotFoundError:
-            return f"The program isn't at {self.path}: correct `program` in series.ini."
-        except PermissionError:
-            return f"The program may not be run: type chmod +x {self.path}"
-        except OSError as cause:
-            other = " It is made for another system." if cause.errno == errno.ENOEXEC else ""
-            return f"The program at {self.path} can't be run: {cause.strerror}.{other}"
-        except subprocess.TimeoutExpired:
-            return f"{self.path} isn't regatta: it doesn't end."
+        except Trouble as trouble:
+            return why_not_run(self.path, trouble)
         if tried.stdout != "TABLE 0 RACES\n":
             return f"{self.path} isn't regatta: it said {tried.stderr[:200]!r}."
         return ""
@@ -40,13 +36,13 @@ class Program:
         list."""
         if self.folder.kept():
             return ran(self.path, options, journal=self.folder.parts()[0])
-        return ran(self.path, [*options, "--entries", self.folder.entries])
+        return ran(self.path, options, boats=given(self.folder.entries))
 
     def begin(self) -> None:
         """Makes the journal of a new series, with the boats of its list. It is there whole or, after a
         crash, not at all: in one with a part of them the others would be missing."""
-        done = ran(self.path, [*self.folder.settings.options(), "--entries", self.folder.entries,
-                               "--print", "journal"])
+        done = ran(self.path, [*self.folder.settings.options(), "--print", "journal"],
+                   boats=given(self.folder.entries))
         if done.returncode:
             raise Trouble("\n".join(self.in_words(done.stderr)).removesuffix("."))
         self.folder.save_torn()
@@ -71,6 +67,20 @@ class Program:
         if done.returncode:
             raise Trouble("\n".join(self.in_words(done.stderr)).removesuffix("."))
         return done.stdout.rstrip()
+
+
+def why_not_run(path: str, trouble: Trouble) -> str:
+    """Why a program couldn't be run, and what to do."""
+    match trouble.__cause__:
+        case FileNotFoundError():
+            return f"The program isn't at {path}: correct `program` in series.ini."
+        case PermissionError():
+            return f"The program may not be run: type chmod +x {path}"
+        case subprocess.TimeoutExpired():
+            return f"{path} isn't regatta: it doesn't end."
+        case OSError(errno=errno.ENOEXEC):
+            return f"The program at {path} can't be run: it is made for another system."
+    return sentence(trouble)
 
 
 def serve_words(folder: Folder, sessions: int) -> list[str]:

@@ -2,18 +2,21 @@
 they ask what the program would say."""
 from __future__ import annotations
 
+import contextlib
 import hashlib
 import os
+import re
 import subprocess
-from collections.abc import Sequence
+from collections.abc import Iterator, Mapping, Sequence
 from dataclasses import dataclass
 
 from office import Sheet, Trouble
 from record import Standing
 from words import refusal
 
-# Seconds that the program may take for a replay.
-PATIENCE = 60.0
+# Seconds that the program may take for a replay, and for each 1,000 bytes of its journal: of a full series
+# it prints the table once for each race.
+PATIENCE, FOR_JOURNAL = 60.0, 1.0
 
 
 @dataclass(frozen=True)
@@ -26,30 +29,52 @@ class Line:
         return self.text
 
 
-def ran(program: str, words: list[str], typed: str = "",
-        journal: bytes | None = None) -> subprocess.CompletedProcess[str]:
-    """A replay of these lines, run to its end, after the journal that is given, if one is."""
-    command = [program, "replay", *words]
-    held = -1
-    if journal is not None:
-        held = os.memfd_create("journal")
-        os.write(held, journal)
-        command += ["--journal", f"/proc/self/fd/{held}"]
-    try:
-        return subprocess.run(command, input=typed, capture_output=True, encoding="utf-8",
-                              errors="replace", timeout=PATIENCE, pass_fds=[held] if held >= 0 else [])
-    finally:
-        if held >= 0:
-            os.close(held)
+@contextlib.contextmanager
+def in_memory(files: Mapping[str, bytes | None]) -> Iterator[dict[str, int]]:
+    """Files that a program reads by their numbers, by the options that name them; none of them is kept."""
+    with contextlib.ExitStack() as stack:
+        found = {}
+        for option, data in files.items():
+            if data is not None:
+                found[option] = os.memfd_create(option)
+                stack.callback(os.close, found[option])
+                with open(found[option], "wb", closefd=False) as file:
+                    file.write(data)
+        yield found
 
 
-def printed(program: str, words: list[str], typed: str, journal: bytes | None = None) -> list[str]:
-    """What a replay prints for these lines, after the journal that is given, if one is."""
+def options_of(files: Mapping[str, int]) -> list[str]:
+    """The options of files in memory, as words of a command."""
+    return [word for option, number in files.items() for word in (option, f"/proc/self/fd/{number}")]
+
+
+def ran(program: str, words: list[str], typed: str = "", journal: bytes | None = None,
+        boats: bytes | None = None) -> subprocess.CompletedProcess[str]:
+    """A replay of these lines, run to its end, after the journal and the entry list that are given. The
+    cause of a Trouble is why the program can't be run, or doesn't end."""
     try:
-        done = ran(program, words, typed, journal)
+        with in_memory({"--journal": journal, "--entries": boats}) as files:
+            return subprocess.run([program, "replay", *words, *options_of(files)], input=typed,
+                                  capture_output=True, encoding="utf-8", errors="replace",
+                                  timeout=patience(journal), pass_fds=list(files.values()))
     except (OSError, subprocess.TimeoutExpired) as cause:
-        raise Trouble(f"the program at {program} can't be run: "
-                      f"{getattr(cause, 'strerror', '') or 'it does not end'}") from None
+        raise not_run(program, cause) from cause
+
+
+def patience(journal: bytes | None) -> float:
+    return PATIENCE + FOR_JOURNAL * len(journal or b"") / 1000
+
+
+def not_run(program: str, cause: OSError | subprocess.TimeoutExpired) -> Trouble:
+    """Why a program can't be run, or doesn't end."""
+    return Trouble(f"the program at {program} can't be run: "
+                   f"{getattr(cause, 'strerror', '') or 'it does not end'}")
+
+
+def printed(program: str, words: list[str], typed: str, journal: bytes | None = None,
+            boats: bytes | None = None) -> list[str]:
+    """What a replay prints for these lines, after the journal and the entry list that are given."""
+    done = ran(program, words, typed, journal, boats)
     if done.returncode:
         raise Trouble(f"the program says {done.stderr.strip() or 'nothing'}")
     return done.stdout.splitlines()
@@ -57,10 +82,10 @@ def printed(program: str, words: list[str], typed: str, journal: bytes | None = 
 
 def sheet_of(lines: list[str]) -> Sheet:
     """The sheet that a replay prints for SHOW."""
-    words = lines[0].split() if lines else []
-    if len(words) != 2 or words[0] != "JOURNAL" or "END" not in lines:
+    head = re.fullmatch("JOURNAL ([0-9]{1,9})", lines[0]) if lines else None
+    if not head or "END" not in lines:
         raise Trouble("the program doesn't show its journal: is it regatta?")
-    count = int(words[1])
+    count = int(head[1])
     return Sheet(tuple(lines[1:count + 1]), tuple(lines[count + 1:lines.index("END")]))
 
 
@@ -101,7 +126,7 @@ def developed(program: str, options: list[str], journal: Sequence[str],
     while said and said[0].startswith("JOURNAL "):
         sheet, end = sheet_of(said), said.index("END")
         found.append(Standing.read(list(sheet.table)))
-        if not said[end + 1].startswith("OK "):
+        if not "".join(said[end + 1:end + 2]).startswith("OK "):
             return ()
         said = said[end + 2:]
     return tuple(reversed(found))

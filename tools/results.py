@@ -10,25 +10,24 @@ from __future__ import annotations
 
 import argparse
 import dataclasses
-import re
 import sys
 from collections.abc import Callable, Sequence
 
-from folder import replace_whole
+from files import replace_whole
+from guard import status_of
 from letters import mail
 from notice import results
 from office import Trouble
-from prompt import say, sentence
+from prompt import say, sentence, visible
 from replay import developed
 from source import Source
-from view import View, csv_heads, csv_of, csv_row, labels_of, unharmful
+from spreadsheet import Cell, csv_of
+from view import View, csv_heads, csv_row, labels_of
 from words import count
-
-NUMBER = re.compile(r"\d+\.\d")
 
 
 def warn(text: str) -> None:
-    sys.stderr.write(f"{text}\n")
+    sys.stderr.write(f"{visible(text)}\n")
 
 
 def view_of(folder: str, tell: Callable[[str], None] = warn) -> View:
@@ -49,22 +48,14 @@ def view_of(folder: str, tell: Callable[[str], None] = warn) -> View:
     return dataclasses.replace(view, course=course)
 
 
-def rows_of(views: Sequence[View]) -> list[list[str]]:
+def rows_of(views: Sequence[View]) -> list[list[Cell]]:
     """The rows of the CSV; of several series the first column says which."""
     races = sorted({race for view in views for race in view.standing.races})
-    heads, several = csv_heads(races), len(views) > 1
-    rows = [["class", *heads] if several else heads]
-    return rows + [[unharmful(label)] * several + csv_row(view, row, races)
-                   for label, view in zip(labels_of(views), views) for row in view.standing.rows]
-
-
-def sheet(views: Sequence[View], semicolons: bool) -> bytes:
-    """The CSV; with semicolons its decimals have a comma, as some countries' spreadsheets want."""
-    rows = rows_of(views)
-    if semicolons:
-        rows = [[text.replace(".", ",") if NUMBER.fullmatch(text) else text for text in row]
-                for row in rows]
-    return csv_of(rows, ";" if semicolons else ",")
+    rows = [(label, csv_row(view, row, races)) for label, view in zip(labels_of(views), views)
+            for row in view.standing.rows]
+    if len(views) == 1:
+        return [csv_heads(races), *(row for _, row in rows)]
+    return [["class", *csv_heads(races)], *([label, *row] for label, row in rows)]
 
 
 def asked_of(words: list[str] | None = None) -> argparse.Namespace:
@@ -83,12 +74,22 @@ def asked_of(words: list[str] | None = None) -> argparse.Namespace:
     return asked
 
 
+def views_of(folders: Sequence[str]) -> list[View]:
+    """The results of the series, whose folders have to have different names: a page knows them by these."""
+    views = [view_of(folder) for folder in folders]
+    names = [view.name for view in views]
+    for name in names:
+        if names.count(name) > 1:
+            raise Trouble(f"two of the folders are called {name}, and each needs a name of its own")
+    return views
+
+
 def write(asked: argparse.Namespace, views: list[View]) -> None:
     """Writes and prints what was asked for."""
     if asked.html:
-        replace_whole(asked.html, results(views).encode())
+        replace_whole(asked.html, results(views).encode(), True)
     if asked.csv:
-        replace_whole(asked.csv, sheet(views, asked.semicolons))
+        replace_whole(asked.csv, csv_of(rows_of(views), asked.semicolons), True)
     if asked.text:
         say(mail(views))
     else:
@@ -99,13 +100,12 @@ def write(asked: argparse.Namespace, views: list[View]) -> None:
 
 def main() -> int:
     asked = asked_of()
-    sys.stdout.reconfigure(errors="replace")
-    try:
+
+    def work() -> int:
         write(asked, [view_of(folder) for folder in asked.folder])
-    except Trouble as trouble:
-        warn(sentence(trouble))
-        return 1
-    return 0
+        return 0
+
+    return status_of(work, asked.folder[0], warn)
 
 
 if __name__ == "__main__":

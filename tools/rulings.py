@@ -13,7 +13,8 @@ from collections.abc import Sequence
 from dataclasses import dataclass
 
 from entries import fault_of, plain
-from office import Trouble
+from files import NotThere
+from settings import rows_of, text_in
 from words import joined
 
 NAME = "decisions.txt"
@@ -129,7 +130,7 @@ def rulings_of(text: str) -> tuple[list[Ruling], list[str]]:
     """The decisions of a file, and what is wrong with its other lines."""
     found: list[Ruling] = []
     wrong: list[str] = []
-    for at, line in enumerate(text.removeprefix("\ufeff").splitlines(), 1):
+    for at, line in enumerate(rows_of(text), 1):
         line = line.partition("#")[0].strip()
         if not line:
             continue
@@ -149,16 +150,10 @@ def rulings_of(text: str) -> tuple[list[Ruling], list[str]]:
 
 def read(folder: str) -> str:
     """The text of a series' decisions; empty if there are none."""
-    path = os.path.join(folder, NAME)
     try:
-        with open(path, encoding="utf-8-sig") as file:
-            return file.read()
-    except FileNotFoundError:
+        return text_in(os.path.join(folder, NAME))
+    except NotThere:
         return ""
-    except UnicodeDecodeError:
-        raise Trouble(f"{path} isn't UTF-8 text: save it as UTF-8") from None
-    except OSError as cause:
-        raise Trouble(f"{path} can't be read: {cause.strerror}") from None
 
 
 def in_words(ruling: Ruling, points: str) -> str:

@@ -1,9 +1,10 @@
 """What a reader sees of a page: its tables cell by cell, and its other texts, with where each is."""
 from __future__ import annotations
 
+import html
 import re
+from collections.abc import Iterator
 from dataclasses import dataclass, field
-from html.parser import HTMLParser
 
 from record import Row, Score, Standing
 
@@ -11,7 +12,29 @@ from record import Row, Score, Standing
 BLOCKS = {"h1", "h2", "p", "li", "dt", "dd", "caption", "summary", "title", "text", "label", "header",
           "div", "small", "ul", "section", "time", "span", "button"}
 VOID = {"meta", "link", "input", "br", "img", "hr", "rect", "circle", "path", "line", "polyline"}
-SILENT = {"script", "style", "noscript"}
+# Parts whose text no reader sees; what is in the first two is no markup.
+RAW, SILENT = ("script", "style"), {"script", "style", "noscript"}
+TAG = re.compile("<([^<>]*)>")
+CLASS = re.compile('class="([^"]*)"')
+# A number of a sign that is too long for one.
+LONG = re.compile("&#[xX]?[0-9a-fA-F]{8}")
+# Parts inside one another, and signs of a cell to which more are added. The tools' pages have fewer.
+DEEPEST, LONGEST = 40, 10_000
+
+
+def tokens(page: str) -> Iterator[tuple[str, str]]:
+    """The texts and the tags of a page as `text` and `tag`, in a time that its length bounds. A page that
+    the tools write has no `<` or `>` besides those of its tags, but in scripts and styles."""
+    at = 0
+    while found := TAG.search(page, at):
+        yield "text", page[at:found.start()]
+        yield "tag", found[1]
+        at = found.end()
+        name = found[1].partition(" ")[0].lower()
+        if name in RAW:
+            end = page.find(f"</{name}>", at)
+            at = len(page) if end < 0 else end
+    yield "text", page[at:]
 
 
 @dataclass
@@ -35,55 +58,69 @@ class Table:
         return next((cell.text for cell in self.rows[at] if cell.is_sail), "")
 
 
-class Reader(HTMLParser):
+class Reader:
     """Takes a page apart."""
 
-    def __init__(self) -> None:
-        super().__init__(convert_charrefs=True)
+    def __init__(self, page: str) -> None:
         self.tables: list[Table] = []
         self.texts: list[tuple[str, str]] = []
         self.open: list[str] = []
         self.cell: Cell | None = None
-        self.text = ""
+        self.pieces: list[str] = []
+        for kind, text in tokens(page):
+            if kind == "text":
+                self.text(text)
+            elif text.startswith("/"):
+                self.close(text[1:].strip().lower())
+            else:
+                self.begin(text)
+        self.end_text()
 
-    def handle_starttag(self, tag: str, attrs: list[tuple[str, str | None]]) -> None:
-        if tag in BLOCKS or tag in ("table", "td", "th"):
+    def begin(self, text: str) -> None:
+        """The beginning of a part."""
+        name = text.partition(" ")[0].rstrip("/").lower()
+        if name in BLOCKS or name in ("table", "td", "th"):
             self.end_text()
-        if tag == "table":
+        if name == "table":
             self.tables.append(Table())
-        elif tag == "tr" and self.tables:
+        elif name == "tr" and self.tables:
             self.tables[-1].rows.append([])
-        elif tag in ("td", "th") and self.tables and self.tables[-1].rows:
-            self.cell = Cell(is_sail="sail" in (dict(attrs).get("class") or "").split())
+        elif name in ("td", "th") and self.tables and self.tables[-1].rows:
+            named = CLASS.search(text)
+            self.cell = Cell(is_sail=named is not None and "sail" in named[1].split())
             self.tables[-1].rows[-1].append(self.cell)
-        if tag not in VOID:
-            self.open.append(tag)
+        if name not in VOID and len(self.open) < DEEPEST:
+            self.open.append(name)
 
-    def handle_endtag(self, tag: str) -> None:
-        if tag in BLOCKS:
+    def close(self, name: str) -> None:
+        """The end of a part."""
+        if name in BLOCKS or name in ("td", "th"):
             self.end_text()
-        if tag in ("td", "th"):
-            self.end_text()
+        if name in ("td", "th"):
             self.cell = None
-        if tag in self.open:
-            del self.open[len(self.open) - 1 - self.open[::-1].index(tag):]
+        if name in self.open:
+            del self.open[len(self.open) - 1 - self.open[::-1].index(name):]
 
-    def handle_data(self, data: str) -> None:
+    def text(self, text: str) -> None:
         if not SILENT.intersection(self.open):
-            self.text += data
+            self.pieces.append(text if LONG.search(text) else html.unescape(text))
 
     def end_text(self) -> None:
         """Puts the text that was read where it belongs."""
-        text, self.text = " ".join(self.text.split()), ""
+        text, self.pieces = " ".join("".join(self.pieces).split()), []
         if not text:
             return
         if self.cell is not None:
-            self.cell.text = f"{self.cell.text} {text}".strip()
-        elif "table" in self.open and "caption" in self.open:
-            self.tables[-1].caption += text
+            self.cell.text = longer(self.cell.text, f" {text}").strip()
+        elif "table" in self.open and "caption" in self.open and self.tables:
+            self.tables[-1].caption = longer(self.tables[-1].caption, text)
         else:
             where = [tag for tag in self.open if tag in BLOCKS]
             self.texts.append((where[-1] if where else "body", text))
+
+
+def longer(text: str, more: str) -> str:
+    return text + more if len(text) < LONGEST else text
 
 
 @dataclass(frozen=True)
@@ -93,10 +130,7 @@ class Seen:
 
 
 def seen(page: str) -> Seen:
-    reader = Reader()
-    reader.feed(page)
-    reader.close()
-    reader.end_text()
+    reader = Reader(page)
     return Seen(tuple(reader.tables), tuple(reader.texts))
 
 
@@ -164,7 +198,7 @@ def row_of(table: Table, at: int, sails: dict[str, str], races: int) -> Row:
         raise ValueError(f"row {at} has {len(cells)} cells")
     rank = re.fullmatch(r"(\d+)(=?)", cells[0])
     net = re.fullmatch(r"(\d+\.\d) ?[a-z]*", cells[3])
-    sail = next((sails[name] for name in sails if cells[1] == name), None)
+    sail = sails.get(cells[1])
     if not rank or not net or sail is None:
         raise ValueError(f"row {at} begins with {' '.join(cells[:4])!r}")
     scores = []

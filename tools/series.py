@@ -10,6 +10,9 @@
 A series is a folder with its settings (series.ini), its entry list and its journal (journal.txt).
 `open` says in words whatever is wrong before it opens anything. It then is the office's window, and
 closes the office on Ctrl-C. `remove` takes a boat that was entered by mistake out of the journal.
+
+The status is 1 if something was refused, if `check` finds what keeps the office shut or what `open` would
+ask, and if the program ended by itself; 130 after Ctrl-C; otherwise 0.
 """
 from __future__ import annotations
 
@@ -17,27 +20,46 @@ import argparse
 import os
 import sys
 
+import copies
 import settings
+from continuity import difference, note_of
+from copies import best_copy
 from declare import announce
-from folder import Folder, replace_whole
+from files import replace_whole
+from folder import Folder
 from hall import Hall
-from keeper import copy_fault, fullest_copy
-from making import mended_list, new
+from guard import status_of
+from keeper import same_disk
+from making import new
 from office import Trouble
-from prompt import question, say, sentence
+from prompt import question, say
 from removal import remove
-from survey import disk_fault, faults, journal_fault, lost_journal, notes, summary
+from second import second_of
+from survey import disk_fault, faults, journal_fault, list_notes, lost_journal, notes, summary
 
 
 def check(path: str) -> int:
     """Says all that would keep a series from being opened; the status."""
     folder = Folder(path)
-    wrong, missing = faults(folder), copy_fault(folder)
-    for text in wrong + notes(folder) + [f"No second copy: {missing}."] * bool(missing):
-        say(text)
-    if not wrong:
-        say(f"{path} can be opened: {summary(folder)}\n{folder.settings.in_words()}")
-    return 1 if wrong else 0
+    wrong = faults(folder)
+    changed = "" if wrong else difference(folder)
+    for text in [*wrong, *notes(folder), *list_notes(folder), second_note(folder), changed]:
+        if text:
+            say(text)
+    if wrong:
+        return 1
+    say(f"{path} can be opened{' if somebody agrees' if changed else ''}: {summary(folder)}\n"
+        f"{folder.settings.in_words()}")
+    return 1 if changed else 0
+
+
+def second_note(folder: Folder) -> str:
+    """What should be known of the second folder; empty if a copy can be made in it, on another disk."""
+    with second_of(folder) as second:
+        answer = second.ask("look")
+        if answer.fault:
+            return f"No second copy: {answer.fault}."
+        return same_disk(second.path) if second.is_on_our_disk(answer) else ""
 
 
 def open_(path: str) -> int:
@@ -60,16 +82,19 @@ def open_(path: str) -> int:
 
 
 def mend(folder: Folder) -> None:
-    """Offers what puts a series without a journal right: its fullest copy, or a list with commas."""
+    """Offers what puts a series without a journal right: its best copy."""
     # Nothing may replace a file that an office has.
     if journal_fault(folder) or folder.is_held() or folder.kept():
         return
-    lost, (copy, _) = lost_journal(folder), fullest_copy(folder)
-    if not lost and os.path.exists(folder.entries):
-        mended_list(folder.entries)
-    elif copy and question(f"{lost} Use it?"):
-        with open(copy, "rb") as file:
-            replace_whole(os.path.realpath(folder.journal), file.read())
+    lost = lost_journal(folder)
+    if not lost:
+        return
+    with second_of(folder) as second:
+        copy, data = best_copy(folder, second)
+    if copy and question(f"{lost} Use it?"):
+        replace_whole(os.path.realpath(folder.journal), data)
+        copies.keep(folder, data)
+        folder.log("", "", "", "restored", note_of(data))
 
 
 def arguments() -> argparse.Namespace:
@@ -130,15 +155,7 @@ def done(asked: argparse.Namespace) -> int:
 
 def main() -> int:
     asked = arguments()
-    sys.stdout.reconfigure(errors="replace")
-    try:
-        return done(asked)
-    except Trouble as trouble:
-        say(sentence(trouble))
-        return 1
-    except KeyboardInterrupt:
-        say("")
-        return 1
+    return status_of(lambda: done(asked), asked.folder)
 
 
 if __name__ == "__main__":

@@ -9,18 +9,15 @@ import gzip
 import hashlib
 import re
 import socket
-import socketserver
-import threading
-import time
+import urllib.parse
 from collections.abc import Mapping
 from dataclasses import dataclass
 from email.utils import formatdate
 
-from office import Trouble
+import assets
 
-# Seconds that a request may take, and as many again for its answer; how many bytes it may have; how
-# many are answered at a time.
-PATIENCE, LARGEST, AT_ONCE = 5.0, 8192, 64
+# How many bytes a request may have.
+LARGEST = 8192
 REASONS = {200: "OK", 301: "Moved Permanently", 304: "Not Modified", 400: "Bad Request",
            404: "Not Found", 405: "Method Not Allowed", 408: "Request Timeout",
            431: "Request Header Fields Too Large"}
@@ -44,17 +41,16 @@ class Text:
     @classmethod
     def of(cls, kind: str, data: bytes) -> Text:
         tag = hashlib.sha256(data).hexdigest()[:20]
-        return cls(kind, data, gzip.compress(data, 6, mtime=0), tag, policy(kind, data))
+        return cls(kind, data, gzip.compress(data, 6, mtime=0), tag, policy(kind))
 
 
-def policy(kind: str, data: bytes) -> str:
-    """A page may run its own script and no other, and ask this server and nobody else."""
+def policy(kind: str) -> str:
+    """A page may run the script that comes with the tools and no other, and ask this server and nobody
+    else."""
     if "html" not in kind:
         return "default-src 'none'"
-    scripts = re.findall(rb"<script>(.*?)</script>", data, re.DOTALL)
-    hashes = " ".join(f"'sha256-{base64.b64encode(hashlib.sha256(text).digest()).decode()}'"
-                      for text in scripts) or "'none'"
-    return (f"default-src 'none'; script-src {hashes}; style-src 'unsafe-inline'; "
+    digest = base64.b64encode(hashlib.sha256(assets.script().encode()).digest()).decode()
+    return (f"default-src 'none'; script-src 'sha256-{digest}'; style-src 'unsafe-inline'; "
             "connect-src 'self'; base-uri 'none'; form-action 'none'")
 
 
@@ -81,7 +77,7 @@ class Request:
 
     @classmethod
     def read(cls, head: bytes) -> Request:
-        first, *lines = head.decode("latin-1").splitlines()
+        first, *lines = re.split("\r?\n", head.decode("latin-1"))
         method, target, version = first.split(" ")
         if not version.startswith("HTTP/1.") or not target.startswith("/"):
             raise ValueError(first)
@@ -90,34 +86,15 @@ class Request:
         offered = re.sub(r"\s", "", fields.get("accept-encoding", "").lower()).split(",")
         tags = fields.get("if-none-match", "").split(",")
         is_packed = any(coding in offered for coding in ("gzip", "gzip;q=1", "gzip;q=1.0"))
-        return cls(method, target.partition("?")[0], is_packed,
+        return cls(method, address_of(target.partition("?")[0]), is_packed,
                    tuple(tag.strip().removeprefix("W/").strip('"') for tag in tags))
 
 
-class Refused(Exception):
-    """Why a request isn't answered, as the number of a status."""
-
-
-def head_of(connection: socket.socket) -> bytes:
-    """A request up to its empty line; no bytes if the client left without one."""
-    end, head = time.monotonic() + PATIENCE, b""
-    while not (found := re.search(rb"\r?\n\r?\n", head)):
-        left = end - time.monotonic()
-        if len(head) > LARGEST:
-            raise Refused(431)
-        if left <= 0:
-            raise Refused(408)
-        connection.settimeout(left)
-        try:
-            piece = connection.recv(4096)
-        except TimeoutError:
-            raise Refused(408) from None
-        if not piece:
-            return b""
-        head += piece
-    if found.start() > LARGEST:
-        raise Refused(431)
-    return head[:found.start()]
+def address_of(path: str) -> str:
+    """The address that a path stands for, in the one way in which the board writes it: a browser may
+    leave signs as they are that others write by their numbers."""
+    parts = [urllib.parse.unquote_to_bytes(part.encode("latin-1")) for part in path.split("/")]
+    return "/".join(urllib.parse.quote(part, safe="") for part in parts)
 
 
 def with_head(status: int, fields: Mapping[str, str], body: bytes = b"") -> bytes:
@@ -156,71 +133,6 @@ def answer(request: Request, texts: Mapping[str, Text]) -> bytes:
     fields |= {"Content-Type": text.kind, "Content-Length": str(len(data))}
     fields |= {"Content-Encoding": "gzip"} if request.is_packed else {}
     return with_head(200, fields, b"" if is_head else data)
-
-
-class Handler(socketserver.BaseRequestHandler):
-    """One request and one answer."""
-    server: Server
-
-    def handle(self) -> None:
-        try:
-            if not (head := head_of(self.request)):
-                return
-            said = answer(Request.read(head), self.server.board.texts)
-        except Refused as refused:
-            said = told(refused.args[0])
-        except ValueError:
-            said = told(400)
-        self.request.settimeout(PATIENCE)
-        self.request.sendall(said)
-        self.leave()
-
-    def leave(self) -> None:
-        """Reads what is still being sent for a moment: a client who can't send it all would never
-        read the answer."""
-        self.request.shutdown(socket.SHUT_WR)
-        self.request.settimeout(0.5)
-        end = time.monotonic() + 1
-        while time.monotonic() < end and self.request.recv(65536):
-            pass
-
-
-class Server(socketserver.ThreadingTCPServer):
-    """Answers at an address of this computer, AT_ONCE requests at a time."""
-    daemon_threads, allow_reuse_address, request_queue_size = True, True, 512
-
-    def __init__(self, address: tuple[str, int], board: Board) -> None:
-        self.board, self.room = board, threading.BoundedSemaphore(AT_ONCE)
-        try:
-            super().__init__(address, Handler)
-        except PermissionError:
-            raise Trouble(f"this account may not use port {address[1]}: "
-                          "take one from 1024 on, as --http 8080") from None
-        except OSError as cause:
-            raise Trouble(f"port {address[1]} can't be used: {cause.strerror}. Another program may "
-                          "have it: take another, as --http 8081") from None
-
-    def process_request(self, request, client_address) -> None:
-        self.room.acquire()
-        try:
-            super().process_request(request, client_address)
-        except RuntimeError:
-            # No thread is available.
-            self.room.release()
-            self.shutdown_request(request)
-
-    def process_request_thread(self, request, client_address) -> None:
-        try:
-            super().process_request_thread(request, client_address)
-        finally:
-            self.room.release()
-
-    def handle_error(self, request, client_address) -> None:
-        """A phone that goes away before its answer is no fault of the office's."""
-
-    def start(self) -> None:
-        """Answers in a thread of its own until the tool ends."""
-        threading.Thread(target=self.serve_forever, daemon=True).start()
 
 
 def addresses() -> list[str]:

@@ -2,8 +2,8 @@
 from __future__ import annotations
 
 import datetime
+import functools
 import glob
-import hashlib
 import os
 import re
 import time
@@ -11,11 +11,15 @@ import urllib.parse
 from collections.abc import Callable, Mapping
 from dataclasses import dataclass
 
+import listing
 import page
-from folder import replace_whole
+from files import replace_whole
 from office import Trouble
+from one_race import one_race
+from overall import overall
+from proof import version_of
 from source import Source
-from view import Named, View, labels_of, now_json, results_csv, results_json
+from view import View, labels_of, now_json, results_csv, results_json
 
 HTML, CSV, JSON = "text/html; charset=utf-8", "text/csv; charset=utf-8", "application/json"
 # The least seconds between two writings of a file that has only been confirmed.
@@ -55,47 +59,47 @@ class Site:
         self.made[name] = Made(key, plain, stamped)
         return stamped
 
-    def of_series(self, view: View, names: tuple[Named, ...]) -> dict[str, str]:
+    def of_series(self, view: View) -> dict[str, str]:
         """The pages of one series; alone, it is at the top as well."""
-        here = f"/{view.address}/"
-        found = {f"{here}race-{number}.html": page.race(view, number, names)
+        here, is_among = f"/{view.address}/", len(self.sources) > 1
+        found = {f"{here}race-{number}.html": one_race(view, number, is_among)
                  for number in view.race_pages}
-        found[f"{here}index.html"] = page.overall(view, names)
-        if len(self.sources) == 1:
-            found["/index.html"] = page.overall(view, names, f"{view.address}/")
+        found[f"{here}index.html"] = overall(view, is_among)
+        if not is_among:
+            found["/index.html"] = overall(view, is_top=True)
         return found
 
     def front(self, views: list[View], fresh: bool) -> dict[str, tuple[str, bytes]]:
         """The list of several series, with what its script asks for."""
         if len(self.sources) == 1:
             return {}
-        joined = "".join(view.name + view.version for view in views)
-        version = hashlib.sha256(joined.encode()).hexdigest()[:8]
+        version = listing.version(views)
         checked = min(source.checked for source in self.sources)
         shown = [source for source in self.sources if source.view]
         away = [str(at) for at, source in enumerate(shown) if source.office == "away"]
         is_away = len(away) > 0 or len(shown) < len(self.sources)
         office = ("once" if self.is_once else "open" if not is_away
                   else ":".join(["away", *[",".join(away)] * bool(away)]))
-        pages = self.kept("", version, lambda: {"/index.html": page.series_list(views, version)},
+        pages = self.kept("", version, lambda: {"/index.html": listing.listing(views)},
                           fresh, checked, office)
-        return {**pages, "/now.json": (JSON, now_json(version, checked, office))}
+        classes = [{"name": label, "address": view.address}
+                   for label, view in zip(labels_of(views), views)]
+        return {**pages, "/now.json": (JSON, now_json(version, checked, office, classes=classes))}
 
     def texts(self, fresh: bool = False) -> dict[str, tuple[str, bytes]]:
         """All texts, by address, as files have it."""
         views = [source.view for source in self.sources if source.view]
-        names = tuple(Named(label, view.address) for label, view in zip(labels_of(views), views))
         found = self.front(views, fresh)
         for source in self.sources:
             if (view := source.view) is None:
                 continue
             here = f"/{view.address}/"
-            found |= self.kept(view.name, (view.version, names),
-                               lambda: self.of_series(view, names), fresh, source.checked,
-                               self.office(source))
+            version = version_of(view)
+            found |= self.kept(view.name, version, functools.partial(self.of_series, view), fresh,
+                               source.checked, self.office(source))
             found |= {f"{here}results.csv": (CSV, results_csv(view)),
-                      f"{here}results.json": (JSON, results_json(view)),
-                      f"{here}now.json": (JSON, now_json(view.version, source.checked,
+                      f"{here}results.json": (JSON, results_json(view, version)),
+                      f"{here}now.json": (JSON, now_json(version, source.checked,
                                                          self.office(source)))}
         return found
 
@@ -148,7 +152,7 @@ class Files:
             os.makedirs(os.path.dirname(path), exist_ok=True)
         except OSError as cause:
             raise Trouble(f"{os.path.dirname(path)} can't be made: {cause.strerror}") from None
-        replace_whole(path, data)
+        replace_whole(path, data, True)
         self.written[address] = data
 
 

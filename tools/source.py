@@ -16,7 +16,7 @@ from record import Series, Standing, last_scored
 from replay import digest_of, nets_before_exclusion, printed, sheet_of
 from settings import Settings
 from verdicts import Decided, decided
-from view import View, labelled
+from view import CHANGED, View, labelled
 
 # Seconds that an office may take for its answer.
 PATIENCE = 5.0
@@ -26,7 +26,7 @@ def replayed(folder: Folder, options: list[str]) -> Sheet:
     """The sheet of a series under these rules, from the folder's own files."""
     if os.path.exists(folder.journal):
         return sheet_of(printed(folder.program, options, "SHOW\nQUIT\n", folder.parts()[0]))
-    return sheet_of(printed(folder.program, [*options, "--entries", folder.entries], "SHOW\nQUIT\n"))
+    return sheet_of(printed(folder.program, options, "SHOW\nQUIT\n", boats=entries.given(folder.entries)))
 
 
 def rules_of(options: list[str]) -> dict[str, object]:
@@ -49,7 +49,8 @@ class Source:
         self.link: Link | None = None
         self.view: View | None = None
         self.office, self.checked = "away", now()
-        self.settings, self.rules = self.folder.settings, {}
+        self.settings = self.folder.settings
+        self.rules: dict[str, object] = {}
         self.notes: dict[str, str] = {}
         self.replayed: tuple[object, Sheet] | None = None
         self.summed: tuple[object, dict[str, str]] | None = None
@@ -182,10 +183,12 @@ class Source:
         found = self.decided(sheet, shown, key[3])
         fresh = View(self.folder.name, shown, labelled(standing, found.labels), series, key[2],
                      self.totals(sheet, standing, shown), now(), key, sheet.journal, found, digest)
-        is_same = old is not None and old.results() == fresh.results()
-        is_seen = old is not None and old.standing != fresh.standing
-        changed = old.changed if is_same else self.changed_at(sheet, standing, is_seen)
-        self.view = dataclasses.replace(fresh, changed=changed)
+        if old is not None and old.results() == fresh.results():
+            changed = old.changed
+        else:
+            is_seen = old is not None and old.standing != fresh.standing
+            changed = self.changed_at(sheet, standing, is_seen)
+        self.view = dataclasses.replace(fresh, changed=changed.astimezone(datetime.timezone.utc))
 
     def reason(self, sheet: Sheet) -> str:
         """What is shown below the title; also that the results aren't those that were declared."""
@@ -193,7 +196,7 @@ class Source:
         if state == "provisional" or not is_changed_since(self.folder.logged(), state, sheet.table):
             return said
         before = f"{sentence(said)} " if said else ""
-        return f"{before}The results have changed since they were declared {state}."
+        return f"{before}{CHANGED.format(state)}"
 
     def totals(self, sheet: Sheet, standing: Standing, shown: Settings) -> dict[str, str]:
         """The net of each boat without exclusions, by the program; none if nothing is excluded.
@@ -221,7 +224,7 @@ class Source:
         """When the results changed last, as far as the log and the files know. If a change is seen just
         now that isn't in the log, it is now."""
         logged, state = self.folder.logged(), self.settings.state
-        entry = time_of_entry(logged, last_scored(list(sheet.journal), standing.races))
+        entry = time_of_entry(logged, sheet.journal, last_scored(list(sheet.journal), standing.races))
         notice = time_of_notice(logged, state)
         times = [time for time in (entry, notice, time_of_rules(logged)) if time]
         files = [] if entry or is_seen else [self.folder.journal]

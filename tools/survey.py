@@ -1,6 +1,7 @@
 """A look at a series before its office is opened: what keeps it shut, and what should be known."""
 from __future__ import annotations
 
+import contextlib
 import errno
 import glob
 import os
@@ -9,12 +10,17 @@ import socket
 import stat
 
 import entries
+from continuity import added
+from copies import best_copy, lines_in
 from folder import PRIVATE, Folder
-from keeper import fullest_copy
+from lists import bytes_of
 from office import Trouble
+from places import kept_in_words
 from program import Program
 from prompt import sentence
-from record import Change, changes
+from record import Change, Series, changes
+from second import second_of
+from source import replayed
 from words import count, joined
 
 # The journal, what the program cuts off it, and what it may leave of an opening.
@@ -33,8 +39,8 @@ def faults(folder: Folder) -> list[str]:
     if not folder.kept():
         if lost := lost_journal(folder):
             return [lost]
-        if wrong := list_faults(folder):
-            return wrong
+        if listed := list_faults(folder):
+            return listed
     return program.start_faults()
 
 
@@ -63,9 +69,18 @@ def journal_fault(folder: Folder) -> str:
 def list_faults(folder: Folder) -> list[str]:
     """What is wrong with the entry list."""
     try:
-        return entries.problems(entries.bytes_of(folder.entries), folder.entries)
+        return entries.problems(bytes_of(folder.entries), folder.entries)
     except Trouble as trouble:
         return [f"{trouble}."]
+
+
+def list_notes(folder: Folder) -> list[str]:
+    """What of the entry list isn't read, and whether it has the ratings that a series may need."""
+    if not os.path.exists(folder.entries) or list_faults(folder):
+        return []
+    data, name = bytes_of(folder.entries), os.path.basename(folder.entries)
+    found = [entries.left_in_words(data), entries.rating_note(data, name, folder.settings.handicap)]
+    return [text for text in found if text]
 
 
 def entries_logged(folder: Folder) -> int:
@@ -76,13 +91,15 @@ def entries_logged(folder: Folder) -> int:
 
 def entries_in_words(text: str) -> int:
     """How many entries a line of the log says, as `74 entries`."""
-    found = re.match(r"[0-9]{1,9} entr", text)
-    return int(found[0].split()[0]) if found else 0
+    found = re.match(r"([0-9]{1,9}) entr", text)
+    return int(found[1]) if found else 0
 
 
 def lost_journal(folder: Folder) -> str:
     """What the log and the copies say of a journal that is empty or gone."""
-    path, held = fullest_copy(folder)
+    with second_of(folder) as second:
+        path, data = best_copy(folder, second)
+    held = len(lines_in(data))
     had = max(entries_logged(folder), held)
     if not had:
         return ""
@@ -95,7 +112,7 @@ def disk_fault(folder: Folder) -> str:
     if cause := room_fault(folder):
         why = "is full" if cause.errno == errno.ENOSPC else f"can't be written: {cause.strerror}"
         return f"The disk {why}. Nothing was opened or changed."
-    path = folder.file(PRIVATE, "probe")
+    path = probe_of(folder)
     try:
         make_socket(path)
     except OSError:
@@ -108,7 +125,7 @@ def disk_fault(folder: Folder) -> str:
 
 def room_fault(folder: Folder) -> OSError | None:
     """Why the disk has no room for what an opening and its day may write; None if it has."""
-    path = folder.file(PRIVATE, "probe")
+    path = probe_of(folder)
     size = os.path.getsize(folder.journal) if os.path.exists(folder.journal) else 0
     try:
         with open(path, "wb") as file:
@@ -138,21 +155,39 @@ def make_socket(path: str) -> None:
         os.close(folder)
 
 
+def probe_of(folder: Folder) -> str:
+    """The file with which this process tries the disk: two may open a series at once."""
+    return folder.file(PRIVATE, f"probe-{os.getpid()}")
+
+
 def remove_probe(path: str) -> None:
-    if os.path.lexists(path):
+    with contextlib.suppress(OSError):
         os.remove(path)
+
+
+def remove_probes(folder: Folder) -> None:
+    """Removes what openings have left that were killed."""
+    for path in glob.glob(glob.escape(folder.file(PRIVATE, "probe")) + "*"):
+        remove_probe(path)
 
 
 def notes(folder: Folder) -> list[str]:
     """What should be known, and keeps nobody from opening."""
-    return [note for note in (folder.torn_end(), boats_left(folder), shorter_journal(folder),
-                              other_journals(folder)) if note]
+    return [note for note in (folder.torn_end(), added(folder), boats_left(folder), other_journals(folder),
+                              kept_in_words(folder)) if note]
+
+
+def boats_entered(folder: Folder) -> list[str]:
+    """The boats of the journal as the program reads it; none if it can't."""
+    try:
+        return Series.read(list(replayed(folder, folder.settings.options()).journal)).boats
+    except (Trouble, ValueError):
+        return []
 
 
 def boats_left(folder: Folder) -> str:
     """Which boats of the entry list aren't entered; empty before the first opening."""
-    entered = {sail for line in folder.kept() for sail in line.split()[4:5]
-               if line.split()[3].upper() == "ENTER"}
+    entered = boats_entered(folder)
     left = [str(boat) for sail, boat in entries.read_if_there(folder.entries).items()
             if sail not in entered]
     if not entered or not left:
@@ -161,21 +196,9 @@ def boats_left(folder: Folder) -> str:
             "ENTER.")
 
 
-def shorter_journal(folder: Folder) -> str:
-    """A journal with fewer entries than at its last closing: an older copy, or an edited one."""
-    held, had = len(folder.kept()), 0
-    for entry in folder.logged():
-        if entry.line == "closed":
-            had = entries_in_words(entry.answer)
-    if not held or held >= had:
-        return ""
-    return (f"journal.txt has {count(held, 'entry', 'entries')}, but had {had} when the office was "
-            "closed. Compare it with the copies in kept/.")
-
-
 def other_journals(folder: Folder) -> str:
     """Files that a cloud folder made beside the journal, as `journal (conflicted copy).txt`."""
-    names = sorted(os.path.basename(path) for path in glob.glob(folder.file("journal*"))
+    names = sorted(os.path.basename(path) for path in glob.glob(glob.escape(folder.file("journal")) + "*")
                    if os.path.basename(path) not in OURS and not path.endswith(".new"))
     if not names:
         return ""

@@ -5,7 +5,7 @@ from book import Book
 from record import Plan, Race, Standing, changes
 from spoken import FINISHING
 from unread import Waiting
-from words import ROLES, count, duration, moved, ordinal, rank_of, refusal
+from words import ROLES, count, duration, joined, moved, ordinal, rank_of, refusal
 
 
 def answer_line(book: Book, line: str, answer: str, prefix: str = "") -> str:
@@ -43,8 +43,11 @@ def outcome(book: Book, line: str, waiting: Waiting) -> str:
 def place_in(race: Race, sail: str, unread: int) -> str:
     """A finisher's place; `unread` finishers ahead of her aren't in the order yet."""
     place, tied = race.places().get(sail, (0, False))
-    if not place:
+    if not place and sail in race.codes:
         return f"she holds {race.codes[sail]} in race {race.number}, and is scored so"
+    if not place:
+        # Another window has struck her just now.
+        return f"she is out of the order of race {race.number} again"
     ahead = f", with {count(unread, 'unread finisher')} ahead" if unread else ""
     return f"{ordinal(place + unread)}{' (tied)' if tied else ''} in race {race.number}{ahead}"
 
@@ -74,7 +77,7 @@ def race_lines(book: Book, race: Race, unread: dict[str, str], is_to_count: bool
              for sail, (place, tied) in race.places().items()]
     said += [f"   {code}  {book.called(sail)}{time_in(race, sail)}{beside_code(race, sail)}"
              for sail, code in race.codes.items()]
-    said += [f"  {mark:>4}  {place} on the water, but her sail wasn't read"
+    said += [f"  {mark:>4}  {place} on the water, but her sail isn't known"
              for mark, place in unread.items()]
     if missing:
         said.append(f"  {'DNC' if race.counts else 'not recorded'}: "
@@ -100,10 +103,12 @@ def standing_lines(book: Book) -> list[str]:
             for row in book.standing.rows]
 
 
-def plan_lines(book: Book, race: Race, plan: Plan) -> list[str]:
-    """How a race is taken away."""
+def plan_lines(book: Book, race: Race, plan: Plan, kept: list[str]) -> list[str]:
+    """How a race is taken away; `kept` are the finishers without a sail whose places go with it."""
     lines = count(len(plan.lines), "line is", "lines are")
     said = [f"To take race {race.number} away {lines} sent:", *(f"    {line}" for line in plan.lines)]
+    if kept:
+        said.append(f"  Places that are dropped: {joined(kept)}")
     if plan.stays:
         said += [f"  ZFP and BFD stay (RRS 30.2, 30.4): {book.all_called(plan.stays)}",
                  "  If the race is resailed under a new number: type them there, and clear them here"]

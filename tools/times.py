@@ -6,18 +6,17 @@
 The series' folder has a folder `times` with a sheet of each race and the rules for all of them:
 
     times/race-1.csv     Sail, Elapsed or Start and Finish, Laps, Distance; an empty start, number of
-                         laps or distance is that of the boat above
+                         laps or distance is that of the boat above. A time may be a code, as DNF
     times/rules.ini      [times], with system = tcf, py or tod, and perhaps rounding, overnight and
                          program
 
-The ratings are in the entry list, headed Rating; `Rating from 5` holds from race 5 on. The program
-`times` computes each time; this tool shows the sums, compares the times with the journal, and prints
-the lines that differ. With --send it asks, and sends them to the open office.
+The ratings are in the entry list, headed Rating, PY or TCF; `Rating from 5` holds from race 5 on. The
+program `times` computes each time; this tool shows the sums, compares times and codes with the journal,
+and prints the lines that differ. With --send it asks, and sends them to the open office.
 """
 from __future__ import annotations
 
 import argparse
-import configparser
 import os
 import re
 import subprocess
@@ -28,23 +27,33 @@ from fractions import Fraction
 
 import entries
 from folder import Folder
+from guard import status_of
+from headings import rating_columns
+from lists import as_csv, bytes_of, name_of, table_of
 from office import Link, Sheet, Trouble
-from prompt import question, say, sentence
-from record import Series
+from programs import found_program
+from prompt import question, say
+from record import Race, Series
+from replay import in_memory, not_run, options_of
+from settings import lines_of, text_in
+from sheets import Entry, entries_of, for_program
 from source import replayed
 from unsaved import UNANSWERED
 from words import count, duration, refusal
 
 WHO = "times"
 SHEETS, RULES = "times", "rules.ini"
-KEYS = {"system": "", "rounding": "half-up", "overnight": "", "program": "../times"}
+KEYS = {"times": {"system": "", "rounding": "half-up", "overnight": "", "program": ""}}
 SYSTEMS = {"tcf": "time on time", "py": "Portsmouth Yardstick", "tod": "time on distance"}
 ROUNDINGS = {"half-up": "to the nearest second, halves up", "half-down": "to the nearest second, halves down",
              "down": "rounded down", "up": "rounded up"}
 # Seconds that the program may take for a race.
 PATIENCE = 60.0
 FAULT = re.compile(r"times: (ratings|sheet) fault \d+ row (\d+): (.*)")
-SUM = re.compile(r"(\S+) (\d+ .*) -> (\d+)")
+NUMBER = "[0-9]{1,12}"
+SUM = re.compile(f"([A-Z0-9-]{{1,12}}) ({NUMBER}(?: [-+*/] {NUMBER})*) -> ([0-9]{{1,6}})")
+# The codes that only the jury gives.
+OF_JURY = ("DSQ", "DNE")
 
 
 @dataclass(frozen=True)
@@ -59,29 +68,27 @@ class Rules:
     def read(cls, folder: Folder) -> Rules:
         """The rules of a series; a Trouble says what is wrong with them."""
         path = folder.file(SHEETS, RULES)
-        parser = configparser.ConfigParser(interpolation=None)
-        try:
-            with open(path, encoding="utf-8-sig") as file:
-                parser.read_file(file)
-        except FileNotFoundError:
-            raise Trouble(f"{path} isn't there") from None
-        except (OSError, UnicodeDecodeError, configparser.Error) as cause:
-            raise Trouble(f"{path} can't be read: {' '.join(str(cause).split())}") from None
-        if parser.sections() != ["times"]:
-            raise Trouble(f"{path} has to have one section, [times]")
-        for key in parser["times"]:
-            if key not in KEYS:
-                raise Trouble(f"{path} has a key {key!r}, which isn't known")
-        values = {**KEYS, **parser["times"]}
+        found, wrong = lines_of(text_in(path), f"{SHEETS}/{RULES}", KEYS)
+        if wrong:
+            raise Trouble("\n".join(wrong))
+        values = KEYS["times"] | {key: value for key, (_, value) in found.items()}
         if values["system"] not in SYSTEMS:
             raise Trouble(f"{path}: system has to be tcf, py or tod")
         if values["rounding"] not in ROUNDINGS:
             raise Trouble(f"{path}: rounding has to be half-up, half-down, down or up")
         nights = [text.strip() for text in values["overnight"].split(",") if text.strip()]
-        if not all(night.isascii() and night.isdigit() for night in nights):
+        if not all(re.fullmatch("[0-9]{1,2}", night) for night in nights):
             raise Trouble(f"{path}: overnight has to be numbers of races, as 4,5")
         return cls(values["system"], values["rounding"], tuple(map(int, nights)),
-                   folder.file(values["program"]))
+                   program_of(folder, values["program"]))
+
+
+def program_of(folder: Folder, named: str) -> str:
+    """The program of corrected times: that of the rules, or one beside the program of the series or near."""
+    if named:
+        return folder.file(named)
+    beside = os.path.dirname(folder.program)
+    return found_program("times", beside, folder.file(os.pardir)) or os.path.join(beside, "times")
 
 
 @dataclass(frozen=True)
@@ -111,23 +118,53 @@ def product(words: Sequence[str]) -> Fraction:
     return value
 
 
-def heading_for(race: int, data: bytes) -> str:
-    """The heading of the ratings of a race: the last `Rating from N` that holds, or `Rating`."""
-    rows = entries.rows_of(data)
-    begins = {0: "Rating"}
-    for head in rows[0][1] if rows else []:
-        if found := re.fullmatch(r"ratingfrom(\d{1,2})", head.replace(" ", "").lower()):
-            begins[int(found[1])] = head
-    return begins[max(begin for begin in begins if begin <= race)]
+@dataclass(frozen=True)
+class Rated:
+    """The ratings of a race, as the program reads them, and the rows of the list that they are from."""
+    data: bytes
+    rows: tuple[int, ...]
 
 
-def in_words(fault: str, sheet: str, ratings: str) -> str:
-    """What the program says of a list, with the file and the row."""
-    if found := FAULT.fullmatch(fault):
-        name = sheet if found[1] == "sheet" else ratings
-        said = re.sub(r"^entries fault \d+: |,? (?:in|from) row \d+", "", found[3])
-        return f"{name}, row {found[2]}: {said}"
-    return f"the program says {fault.removeprefix('times: ') or 'nothing'}"
+def rated(data: bytes, path: str, race: int, system: str) -> Rated:
+    """The ratings of a race, of the last column that holds: `Rating`, or `Rating from N`. A boat without
+    one has none."""
+    if wrong := entries.problems(data, path):
+        raise Trouble("\n".join(wrong))
+    table = table_of(data)
+    begins = {first: at for first, at in rating_columns(table.heads, system).items() if first <= race}
+    if not begins:
+        raise Trouble(f"{name_of(path)}, row {table.first}: no column of ratings. " + wanted_heading(system))
+    at = begins[max(begins)]
+    sails = list(entries.boats_of(table))
+    rows = [[sail, table.number(row, at)] for sail, (_, row) in zip(sails, table.rows)]
+    return Rated(as_csv([["Sail", "Rating"], *rows]), tuple(number for number, _ in table.rows))
+
+
+def wanted_heading(system: str) -> str:
+    """How a column of ratings is headed."""
+    other = {"py": " or PY", "tcf": " or TCF"}.get(system, "")
+    return f"It is headed Rating{other}"
+
+
+def in_words(fault: str, sheet: str, ratings: str, rows: dict[str, Sequence[int]]) -> str:
+    """What the program says of a list, with the file and its row. `rows` are the numbers of those that it
+    was given."""
+    found = FAULT.fullmatch(fault)
+    if not found:
+        return f"the program says {fault.removeprefix('times: ') or 'nothing'}"
+    name = sheet if found[1] == "sheet" else ratings
+    said = re.sub(r"^entries fault \d+: |,? (?:in|from) row \d+", "", found[3])
+    return f"{name}, row {row_at(int(found[2]), rows.get(found[1], ()))}: {said}"
+
+
+def row_at(number: int, rows: Sequence[int]) -> int:
+    """The number in a list of a row that the program was given: its first is that of the headings."""
+    return rows[number - 2] if 2 <= number < len(rows) + 2 else number
+
+
+def sheet_name(race: int) -> str:
+    """The file of a race's sheet, as seen from the series' folder."""
+    return f"{SHEETS}/race-{race}.csv"
 
 
 class Desk:
@@ -151,31 +188,44 @@ class Desk:
     def races(self) -> list[int]:
         """The races that have a sheet of times."""
         names = os.listdir(self.folder.file(SHEETS))
-        found = [re.fullmatch(r"race-(\d{1,2})\.csv", name) for name in names]
+        found = [re.fullmatch(r"race-([0-9]{1,2})\.csv", name) for name in names]
         return sorted(int(match[1]) for match in found if match)
 
-    def times(self, race: int) -> list[Time]:
-        """The corrected times of a race, by the program. A Trouble names the row that has a fault."""
-        name = f"{SHEETS}/race-{race}.csv"
-        sheet = entries.bytes_of(self.folder.file(SHEETS, f"race-{race}.csv"))
-        words = ["--race", str(race), "--system", self.rules.system, "--rounding", self.rules.rounding,
-                 "--entries", self.folder.entries,
-                 "--rating", heading_for(race, entries.bytes_of(self.folder.entries)),
-                 *(["--overnight"] if race in self.rules.overnight else [])]
-        try:
-            done = subprocess.run([self.rules.program, "sums", *words], input=sheet,
-                                  capture_output=True, timeout=PATIENCE)
-        except (OSError, subprocess.TimeoutExpired) as cause:
-            raise Trouble(f"the program at {self.rules.program} can't be run: "
-                          f"{getattr(cause, 'strerror', '') or 'it does not end'}") from None
+    def rows(self, race: int) -> list[Entry]:
+        """The rows of a race's sheet; a Trouble names all that is wrong with it."""
+        name = sheet_name(race)
+        found, wrong = entries_of(bytes_of(self.folder.file(name)), name)
+        if wrong:
+            raise Trouble("\n".join(wrong))
+        return found
+
+    def times(self, race: int, timed: list[Entry]) -> list[Time]:
+        """The corrected times of boats, by the program. A Trouble names the row that has a fault."""
+        if not timed:
+            return []
+        ratings = rated(bytes_of(self.folder.entries), self.folder.entries, race, self.rules.system)
+        done = self.ran(race, for_program(timed), ratings.data)
         if done.returncode:
-            raise Trouble(in_words(done.stderr.decode("utf-8", "replace").strip(), name,
-                                   os.path.basename(self.folder.entries)))
+            rows = {"ratings": ratings.rows, "sheet": [entry.number for entry in timed]}
+            said = done.stderr.decode("utf-8", "replace").strip()
+            raise Trouble(in_words(said, sheet_name(race), name_of(self.folder.entries), rows))
         head, *lines = done.stdout.decode("ascii", "replace").splitlines() or [""]
         found = [SUM.fullmatch(line) for line in lines]
         if head != f"RACE {race} {self.rules.rounding}" or not all(found):
             raise Trouble(f"the program at {self.rules.program} doesn't show sums: is it times?")
-        return [Time(match[1], match[2], int(match[3])) for match in found]
+        return [Time(match[1], match[2], int(match[3])) for match in found if match]
+
+    def ran(self, race: int, sheet: bytes, ratings: bytes) -> subprocess.CompletedProcess[bytes]:
+        """The program, run to its end over a sheet and ratings."""
+        words = ["--race", str(race), "--system", self.rules.system, "--rounding", self.rules.rounding,
+                 *(["--overnight"] if race in self.rules.overnight else [])]
+        try:
+            with in_memory({"--entries": ratings}) as files:
+                return subprocess.run([self.rules.program, "sums", *words, *options_of(files)], input=sheet,
+                                      capture_output=True, timeout=PATIENCE,
+                                      pass_fds=list(files.values()))
+        except (OSError, subprocess.TimeoutExpired) as cause:
+            raise not_run(self.rules.program, cause) from cause
 
     def send(self, lines: list[str]) -> int:
         """Sends lines up to the first that isn't taken; how many were."""
@@ -211,31 +261,74 @@ class Compared:
     counts: bool
 
 
-def compared(race: int, times: list[Time], journal: Sequence[str]) -> Compared:
-    """The corrected times beside those of the journal."""
+@dataclass(frozen=True)
+class Beside:
+    """A boat beside the journal: a note, and the lines that differ."""
+    note: str
+    lines: tuple[str, ...] = ()
+
+
+def time_beside(record: Race, time: Time) -> Beside:
+    """A corrected time beside that of the journal."""
+    was, code = record.times.get(time.sail), record.codes.get(time.sail, "")
+    held = f"; she holds {code}" if code else ""
+    if was == time.seconds:
+        return Beside(f"stands{held}")
+    line = f"TIME {record.number} {time.sail} {time.seconds}"
+    if was is None:
+        return Beside(f"new{held}", (line,))
+    strike = f"STRIKE {record.number} {time.sail}"
+    return Beside(f"stood as {was}: struck and timed again{held}", (strike, line))
+
+
+def code_beside(record: Race, entry: Entry) -> Beside:
+    """A code beside what the journal has of the boat. A time that she had goes after it is there."""
+    was = record.codes.get(entry.sail, "")
+    lines: list[str] = []
+    if entry.code in OF_JURY and was != entry.code:
+        return Beside("the jury types this code")
+    if was in OF_JURY and was != entry.code:
+        return Beside(f"the jury gave {was}")
+    if was != entry.code:
+        lines.append(f"MARK {record.number} {entry.sail} {entry.code}")
+    if entry.sail in record.times:
+        lines.append(f"STRIKE {record.number} {entry.sail}")
+    note = "stands" if not lines else f"stood as {was}" if was and was != entry.code else "new"
+    return Beside(note, tuple(lines))
+
+
+def compared(race: int, times: list[Time], journal: Sequence[str],
+             others: Sequence[Entry] = ()) -> Compared:
+    """The corrected times and codes beside those of the journal. `others` are rows without a time."""
     series = Series.read(list(journal))
-    record, shown, lines = series.race(race), [], []
-    for time in times:
-        was = record.times.get(time.sail)
-        if time.sail not in series.boats:
-            note = "not entered: the office refuses her line"
-        elif was is None:
-            note = "new"
-        elif was == time.seconds:
-            note = "stands"
-        else:
-            note = f"stood as {was}: struck and timed again"
-        if was is not None and was != time.seconds:
-            lines.append(f"STRIKE {race} {time.sail}")
-        if was != time.seconds:
-            lines.append(f"TIME {race} {time.sail} {time.seconds}")
-        # Cut and not rounded: a time just below a half has to look so.
-        exact = f"{int(time.exact * 10000) / 10000:.4f}"
-        shown.append(f"   {time.sail:<12} {time.sum:<36} {exact:>12} {time.seconds:>7}   "
-                     f"{duration(time.seconds)}   {note}")
-    for sail in sorted(set(record.times) - {time.sail for time in times}):
-        shown.append(f"   {sail:<12} isn't in the sheet, and stands as {record.times[sail]}")
-    return Compared(tuple(shown), tuple(lines), record.counts)
+    record = series.race(race)
+    rows = [time_row(record, time, series.boats) for time in times]
+    rows += [other_row(record, entry, series.boats) for entry in others]
+    named = {time.sail for time in times} | {entry.sail for entry in others}
+    left = [f"   {sail:<12} isn't in the sheet, and stands as {record.times[sail]}"
+            for sail in sorted(set(record.times) - named)]
+    return Compared((*(shown for shown, _ in rows), *left),
+                    tuple(line for _, found in rows for line in found.lines), record.counts)
+
+
+def time_row(record: Race, time: Time, boats: Sequence[str]) -> tuple[str, Beside]:
+    """What is shown of a boat with a time."""
+    found = time_beside(record, time)
+    # Cut and not rounded: a time just below a half has to look so.
+    exact = f"{int(time.exact * 10000) / 10000:.4f}"
+    return (f"   {time.sail:<12} {time.sum:<36} {exact:>12} {time.seconds:>7}   {duration(time.seconds)}   "
+            f"{noted(found, time.sail, boats)}"), found
+
+
+def other_row(record: Race, entry: Entry, boats: Sequence[str]) -> tuple[str, Beside]:
+    """What is shown of a boat with a code, or with neither time nor code."""
+    found = code_beside(record, entry) if entry.code else Beside("no time and no code in the sheet")
+    return f"   {entry.sail:<12} {entry.code or '-':<36} {noted(found, entry.sail, boats)}", found
+
+
+def noted(found: Beside, sail: str, boats: Sequence[str]) -> str:
+    """The note of a boat, also if the office doesn't know her."""
+    return found.note if sail in boats else "not entered: the office refuses her line"
 
 
 def show(desk: Desk, race: int, found: Compared) -> None:
@@ -243,11 +336,9 @@ def show(desk: Desk, race: int, found: Compared) -> None:
     rules = desk.rules
     say(f"Race {race}, {SYSTEMS[rules.system]}, {ROUNDINGS[rules.rounding]}"
         + (", past midnight" if race in rules.overnight else ""))
-    print(f"   {'sail':<12} {'sum':<36} {'exact':>12} {'seconds':>7}")
-    print("\n".join(found.shown), flush=True)
-    changes = " Race counts: its results will change." if found.counts and found.lines else ""
-    say(f"{count(len(found.shown), 'boat')}, {count(len(found.lines), 'line')}."
-        f"{changes.replace('Race', f'Race {race}')}")
+    print("\n".join([f"   {'sail':<12} {'sum':<36} {'exact':>12} {'seconds':>7}", *found.shown]), flush=True)
+    changes = f" Race {race} counts: its results will change." if found.counts and found.lines else ""
+    say(f"{count(len(found.shown), 'boat')}, {count(len(found.lines), 'line')}.{changes}")
 
 
 def run(desk: Desk, races: list[int], is_sent: bool) -> int:
@@ -255,7 +346,10 @@ def run(desk: Desk, races: list[int], is_sent: bool) -> int:
     journal = desk.sheet().journal
     lines: list[str] = []
     for race in races:
-        found = compared(race, desk.times(race), journal)
+        rows = desk.rows(race)
+        timed = [entry for entry in rows if entry.is_timed]
+        others = [entry for entry in rows if not entry.is_timed]
+        found = compared(race, desk.times(race, timed), journal, others)
         show(desk, race, found)
         lines += found.lines
     if not lines:
@@ -275,29 +369,32 @@ def run(desk: Desk, races: list[int], is_sent: bool) -> int:
     return 0 if desk.send(lines) == len(lines) else 1
 
 
+def races_of(desk: Desk, text: str) -> list[int]:
+    """The races that were asked for."""
+    if text == "all":
+        return desk.races()
+    if not re.fullmatch("[1-9][0-9]?", text):
+        raise Trouble(f"{text!r} is no race: a number from 1 to 40, or all")
+    return [int(text)]
+
+
+def done(folder: str, race: str, is_sent: bool) -> int:
+    """Does what was asked for; the status."""
+    desk = Desk(folder)
+    try:
+        return run(desk, races_of(desk, race), is_sent)
+    finally:
+        if desk.link:
+            desk.link.close()
+
+
 def main() -> int:
     parser = argparse.ArgumentParser(description="Corrected times of a race.")
     parser.add_argument("folder", help="the folder of a series")
     parser.add_argument("race", help="the number of a race, or all that have a sheet")
     parser.add_argument("--send", action="store_true", help="send the lines to the open office")
     asked = parser.parse_args()
-    sys.stdout.reconfigure(errors="replace")
-    desk = None
-    try:
-        desk = Desk(asked.folder)
-        if asked.race != "all" and not re.fullmatch("[1-9][0-9]?", asked.race):
-            raise Trouble(f"{asked.race!r} is no race: a number from 1 to 40, or all")
-        races = desk.races() if asked.race == "all" else [int(asked.race)]
-        return run(desk, races, asked.send)
-    except (Trouble, ValueError) as trouble:
-        say(sentence(trouble))
-        return 1
-    except KeyboardInterrupt:
-        say("")
-        return 1
-    finally:
-        if desk is not None and desk.link:
-            desk.link.close()
+    return status_of(lambda: done(asked.folder, asked.race, asked.send), asked.folder)
 
 
 if __name__ == "__main__":

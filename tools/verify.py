@@ -4,8 +4,10 @@ each cell.
 
     verify.py PAGE [PAGE ...] [--program P]
 
-The status is 0 if each page is the one that the program's results give, and 1 if anything differs:
-then the first cell, line or setting that does is named. docs/VERIFY.md says what that proves.
+The status is 0 if each page is the one that the program's results give, 1 if anything differs (then the
+first cell, line or setting that does is named), and 2 if nothing can be said: there is no program, it
+takes too long, a file is no page, or an older version of these tools made it. docs/VERIFY.md says what
+that proves.
 """
 from __future__ import annotations
 
@@ -17,63 +19,95 @@ import sys
 from collections.abc import Sequence
 from dataclasses import dataclass
 
-import notice
 import page
-import proof
+import reading
+import signs
+from guard import guarded, status_of
+from listing import listing
+from notice import results
 from office import Sheet, Trouble
+from one_race import one_race
+from overall import overall
+from programs import program_at
 from prompt import say, sentence
-from proof import Kept, Odd
+from proof import Carried, seal_words
+from reading import Kept, Odd, Unsure, found_in, moment_of, wrong_confirmation
 from record import Series, Standing
 from replay import developed, digest_of, nets_before_exclusion, scored
-from seen import Seen, difference, first_of, place, seen, standing_of
-from settings import CHECKS, Settings
-from verdicts import decided
-from view import Named, View, labelled
+from seen import difference, first_of, place, seen, standing_of
+from settings import Settings, rows_of
+from verdicts import Decided, decided
+from view import View, labelled
 from words import count, refusal
 
-HERE = os.path.dirname(os.path.abspath(__file__))
-PROGRAM = os.path.join(os.path.dirname(HERE), "crates", "regatta", "out", "regatta")
-STAMP = re.compile(r'data-checked="[0-9T:+-]*" data-office="(?:open|journal|away(?::[0-9,]+)?|once|)"')
+CONFIRMED = re.compile('<!DOCTYPE html>\n<html lang="en" data-live="(?:yes|no)" data-every="[0-9]{1,4}" '
+                       'data-checked="([0-9T:+-]{0,40})" data-office="([a-z0-9:,]{0,500})" ')
 LARGEST = 64 << 20
+# Signs of a message about what differs. A page that is longer than the right one by this many isn't taken
+# apart to find the first cell that differs.
+MESSAGE, LONGER = 400, 1 << 16
+# The most texts with odd signs that are named, and series whose scores are kept.
+BEWARES, SCORED = 5, 20
+VERIFIED, DIFFERS, UNSURE = 0, 1, 2
 
 
 @dataclass(frozen=True)
 class Rebuilt:
-    """A page made again from what it carries: its series, its text, and what is seen of it."""
+    """A page made again from what it carries: what that is, its series and its text."""
+    kept: Kept
     views: tuple[View, ...]
     text: str
-    seen: Seen
 
 
 class Verifier:
-    """Has one program score what pages carry. What it made last is kept for the same data."""
+    """Has one program score what pages carry. What it scored before is kept for the other pages of the
+    same series."""
 
     def __init__(self, program: str) -> None:
         self.program = os.path.abspath(program)
-        self.last: tuple[Kept, Rebuilt] | None = None
+        self.views: dict[str, View] = {}
+        self.last: Rebuilt | None = None
 
     def rebuilt(self, kept: Kept) -> Rebuilt:
-        if self.last is None or self.last[0] != kept:
-            views = tuple(self.view(series, stamp, kept.page.get("kind") == "results")
-                          for series, stamp in zip(kept.series, kept.stamps))
-            text = page_of(kept, views)
-            self.last = (kept, Rebuilt(views, text, seen(text)))
-        return self.last[1]
+        """The page that the tools write of what a page carries."""
+        if self.last is None or self.last.kept != kept:
+            views = tuple(self.view(carried, kept.kind == "results") for carried in kept.series)
+            made = Rebuilt(kept, views, page_of(kept, views))
+            compare_tables(made)
+            self.last = made
+        return self.last
 
-    def view(self, series: dict, stamp: list[str], with_course: bool) -> View:
-        """A series as the program scores it now."""
-        version, changed, when, every = stamp
-        shown, journal = settings_of(series["settings"] | {"every": every}), series["journal"]
+    def view(self, carried: Carried, with_course: bool) -> View:
+        """A series as the program scores it."""
+        key = repr((carried, with_course))
+        if key not in self.views:
+            if len(self.views) >= SCORED:
+                self.views.clear()
+            self.views[key] = self.fresh_view(carried, with_course)
+        return self.views[key]
+
+    def fresh_view(self, carried: Carried, with_course: bool) -> View:
+        shown, journal = settings_of(carried), list(carried.journal)
         sheet = self.sheet(shown, journal)
         standing, options = Standing.read(list(sheet.table)), shown.options()
-        found = decided(self.program, options, journal, "\n".join(series["decisions"]))
+        text = "".join(f"{line}\n" for line in carried.decisions)
+        found = self.decided(options, journal, text)
         is_excluded = any(score.excluded for row in standing.rows for score in row.scores)
         totals = nets_before_exclusion(self.program, options, journal) if is_excluded else {}
-        course = (developed(self.program, options, journal, standing.races) if with_course else ())
-        return View(series["name"], shown, labelled(standing, found.labels),
-                    Series.read(list(sheet.journal)), proof.boats_of(series), totals,
-                    moment_of(changed), None, tuple(journal), found, series["program"], course,
-                    (version, when))
+        course = developed(self.program, options, journal, standing.races) if with_course else ()
+        changed = moment_of(carried.stamp.changed)
+        assert changed is not None
+        return View(carried.name, shown, labelled(standing, found.labels),
+                    Series.read(list(sheet.journal)), carried.names(), totals, changed, None,
+                    carried.journal, found, carried.program, course, carried.stamp.when)
+
+    def decided(self, options: list[str], journal: list[str], text: str) -> Decided:
+        """What the decisions come to. If the program can't be run, nothing can be said of them."""
+        found = decided(self.program, options, journal, text)
+        for wrong in found.wrong:
+            if f"the program at {self.program} can't be run" in wrong:
+                raise Trouble(wrong)
+        return found
 
     def sheet(self, shown: Settings, journal: list[str]) -> Sheet:
         try:
@@ -89,16 +123,17 @@ class Verifier:
         return sheet
 
     def verified(self, text: str) -> Rebuilt:
-        """A page that is the one which its results give. Odd says what differs first."""
-        rebuilt = self.rebuilt(proof.found_in(text))
-        if STAMP.sub(page.STAMP, text, 1) == rebuilt.text:
-            found = rebuilt.seen
-        else:
-            found = seen(text)
-        compare_tables(found, rebuilt)
-        if problem := difference(found, rebuilt.seen):
-            raise Odd(problem)
-        compare_bytes(STAMP.sub(page.STAMP, text, 1), rebuilt.text)
+        """A page that is the one which its results give. Odd says what differs first, and Unsure or
+        Trouble why nothing can be said."""
+        now = datetime.datetime.now(datetime.timezone.utc)
+        rebuilt = self.rebuilt(found_in(text, now))
+        confirmed = CONFIRMED.match(text)
+        checked, office = confirmed.groups() if confirmed else ("", "")
+        wanted = page.confirmed(rebuilt.text, checked, office)
+        if text != wanted:
+            raise Odd(first_difference(text, wanted))
+        if wrong := wrong_confirmation(rebuilt.kept, checked, office, now):
+            raise Odd(wrong)
         return rebuilt
 
 
@@ -115,82 +150,76 @@ def refused(trouble: str, journal: list[str]) -> str:
     return f"entry {at} of the journal {why}: {(journal + [''] * at)[at - 1]!r}"
 
 
-def moment_of(text: str) -> datetime.datetime:
-    try:
-        return datetime.datetime.fromisoformat(text)
-    except ValueError:
-        raise Odd(f"the time of change is {text!r}, which is none") from None
-
-
-def settings_of(values: dict[str, str]) -> Settings:
-    """The settings that a page carries; Odd names one that no series could have."""
-    for name, (is_right, wanted) in CHECKS.items():
-        if name in values and not is_right(values[name]):
-            raise Odd(f"the setting {name} is {values[name]!r}, and has to be {wanted}")
-    rest = {name: values[name] for name in proof.NAMES}
-    return Settings(**rest, group=values["class"], handicap=values["handicap"] == "yes", program="",
-                    entries="", seats=16, copy="", every=int(values["every"]), port=8080, page="")
+def settings_of(carried: Carried) -> Settings:
+    """The settings that a page carries."""
+    values = dict(carried.settings)
+    group, handicap = values.pop("class"), values.pop("handicap")
+    return Settings(**values, group=group, handicap=handicap == "yes", program="", entries="", seats=16,
+                    copy="", every=carried.stamp.every, port=8080, page="")
 
 
 def page_of(kept: Kept, views: Sequence[View]) -> str:
     """The page that the tools write of these series."""
-    asked = kept.page
-    try:
-        names = [Named(*both) for both in asked.get("names", ())]
-        if asked["kind"] == "overall":
-            return page.overall(views[0], names, asked["prefix"])
-        if asked["kind"] == "race":
-            return page.race(views[0], asked["race"], names)
-        if asked["kind"] == "list":
-            return page.series_list(views, asked["version"])
-        if asked["kind"] == "results":
-            return notice.results(views)
-    except (KeyError, TypeError, IndexError, AttributeError):
-        pass
-    raise Odd("the block doesn't say which page this is")
+    if kept.kind == "list":
+        return listing(views)
+    if kept.kind == "results":
+        return results(views)
+    if kept.kind != "race":
+        return overall(views[0], kept.is_among, kept.kind == "top")
+    if kept.race not in views[0].race_pages:
+        raise Odd(f"the page is that of race {kept.race}, which has none")
+    return one_race(views[0], kept.race, kept.is_among)
 
 
-def compare_tables(found: Seen, rebuilt: Rebuilt) -> None:
-    """Compares the overall tables of a page with the program's, cell by cell."""
-    ours = [table for table in found.tables if table.caption.startswith("Overall results")]
-    others = [table for table in rebuilt.seen.tables if table.caption.startswith("Overall results")]
-    if len(ours) != len(others):
-        raise Odd(f"the page has {count(len(ours), 'overall table')}, and not {len(others)}")
-    for table, right, view in zip(ours, others, rebuilt.views):
-        sails = {f"{boat.sail} {boat.helm or boat.name}".strip(): row.sail
+def compare_tables(rebuilt: Rebuilt) -> None:
+    """Compares the overall tables that the tools write with the program's, cell by cell."""
+    tables = [table for table in seen(rebuilt.text).tables
+              if table.caption.startswith("Overall results, ")]
+    wanted = [view for view in rebuilt.views if rebuilt.kept.kind in ("top", "overall", "results")]
+    if len(tables) != len(wanted):
+        raise Odd(f"the page has {count(len(tables), 'overall table')}, and not {len(wanted)}")
+    for table, view in zip(tables, wanted):
+        sails = {" ".join(f"{boat.sail} {boat.helm or boat.name}".split()): row.sail
                  for row in view.standing.rows for boat in [view.boat(row.sail)]}
         try:
             standing = standing_of(table, sails, view.standing.races) if view.standing.races else None
         except ValueError as cause:
-            raise Odd(difference(found, rebuilt.seen) or f"{view.label}: {cause}") from None
+            raise Odd(f"{view.label}: {cause}") from None
         if standing not in (None, view.standing):
             assert standing is not None
             at = first_of([repr(row) for row in standing.rows],
                           [repr(row) for row in view.standing.rows]) or 0
-            raise Odd(difference(found, rebuilt.seen)
-                      or f"{place(right, at + 1, 0)}: the row isn't the program's")
+            raise Odd(f"{place(table, at + 1, 0)}: the row isn't the program's")
 
 
-def compare_bytes(text: str, wanted: str) -> None:
-    """Compares what isn't seen: style and script decide what a browser shows."""
+def first_difference(text: str, wanted: str) -> str:
+    """Where a page first differs from what it has to be: a cell, a text, or else a line of its file."""
     ours, others = text.split("\n"), wanted.split("\n")
-    at = first_of(ours, others)
-    if at is not None:
-        shown = (ours + ["nothing"])[min(at, len(ours))].strip()[:80]
-        raise Odd(f"all that is seen is right, but line {at + 1} of the file isn't as these tools "
-                  f"write it: {shown!r}. Was the page written by other tools, or changed by hand?")
+    at = first_of(ours, others) or 0
+    line = f"line {at + 1} of the file isn't as these tools write it: {part(ours, at)!r}"
+    if len(text) > len(wanted) + LONGER:
+        return f"the page is longer than the right one, and {line}"
+    return difference(seen(text), seen(wanted)) or (
+        f"all that is seen is right, but {line}. Was the page changed by hand?")
 
+
+def part(lines: list[str], at: int) -> str:
+    return lines[at].strip()[:80] if at < len(lines) else "nothing"
+
+
+# What is said
 
 def report(rebuilt: Rebuilt, program: str) -> list[str]:
     """What was found right with a page, and whether the program is the same."""
     lines = []
     for view in rebuilt.views:
         rows, races = len(view.standing.rows), len(view.standing.races)
-        lines += [f"   {view.label}: {count(rows, 'boat')}, {count(races, 'race')}, "
+        lines += [f"   {signs.shortly(view.label)}: {count(rows, 'boat')}, {count(races, 'race')}, "
                   f"{count(view.series.entries, 'entry', 'entries')}, {view.settings.state}. "
                   "Scored again: every cell is the same.",
-                  f"   Seal {proof.seal_words(view)}"]
-        lines += [f"   Beware: {text}" for text in view.decided.stale]
+                  f"   Seal {seal_words(view)}",
+                  f"   Last changed {view.when(view.changed)}, by the page's own word."]
+        lines += [f"   Beware: {signs.shortly(text, MESSAGE)}" for text in bewares(view)]
     ours, theirs = digest_of(program), {view.program for view in rebuilt.views}
     same = theirs == {ours}
     lines.append(f"   Program: the same that scored the page, SHA-256 {ours}" if same else
@@ -199,42 +228,75 @@ def report(rebuilt: Rebuilt, program: str) -> list[str]:
     return lines
 
 
+def bewares(view: View) -> list[str]:
+    """What of a verified page isn't what it seems, or what the scores don't have as they should."""
+    shown = view.settings
+    texts = [view.name, shown.title, shown.group, shown.club, shown.reason]
+    texts += [text for boat in view.boats.values() for text in (boat.helm, boat.name, boat.club)]
+    texts += rows_of(view.decided.text)
+    odd = [text for text in texts if signs.has_odd(text)]
+    found = [f"{signs.shortly(text)} has a sign that isn't seen, or that turns or strikes others"
+             for text in odd[:BEWARES]]
+    if len(odd) > BEWARES:
+        found.append(f"and so have {len(odd) - BEWARES} other texts")
+    return [*view.decided.stale, *found]
+
+
 def text_in(path: str) -> str:
     try:
         with open(path, "rb") as file:
-            return file.read(LARGEST).decode("utf-8")
+            data = file.read(LARGEST + 1)
     except OSError as cause:
-        raise Trouble(f"it can't be read: {cause.strerror}") from None
+        raise Unsure(f"it can't be read: {cause.strerror}") from None
+    if len(data) > LARGEST:
+        raise Odd(f"it is longer than {LARGEST:,} bytes, and no page is")
+    try:
+        return data.decode("utf-8")
     except UnicodeDecodeError as cause:
+        if reading.START.encode() not in data:
+            raise Unsure("it is no page of results.py or board.py") from None
         raise Odd(f"byte {cause.start + 1} of the file isn't UTF-8") from None
 
 
-def is_verified(verifier: Verifier, path: str) -> bool:
-    """Verifies a page and says what was found."""
+def outcome(verifier: Verifier, path: str) -> tuple[int, list[str]]:
+    """The status of a page, and what is said of it."""
     try:
-        rebuilt = verifier.verified(text_in(path))
+        with guarded("", Odd, Unsure, ValueError):
+            rebuilt = verifier.verified(text_in(path))
+            return VERIFIED, [f"{path}: verified.", *report(rebuilt, verifier.program)]
     except Odd as odd:
-        say(f"{path}: NOT VERIFIED: {sentence(odd)}")
-        return False
-    except (Trouble, ValueError) as trouble:
-        say(f"{path}: not verified: {sentence(trouble)}")
-        return False
-    say("\n".join([f"{path}: verified.", *report(rebuilt, verifier.program)]))
-    return True
+        return DIFFERS, [f"{path}: NOT VERIFIED: {sentence(signs.shortly(str(odd), MESSAGE))}"]
+    except (Unsure, Trouble, ValueError) as why:
+        return UNSURE, [f"{path}: not verified: {sentence(signs.shortly(str(why), MESSAGE))}"]
+
+
+def verify(pages: Sequence[str], program: str) -> int:
+    """Verifies pages and says what was found; the status."""
+    if not os.access(program, os.X_OK):
+        say(signs.plainly(f"There is no program at {program}: build it, or name one with --program."))
+        return UNSURE
+    verifier, found = Verifier(program), set()
+    for path in pages:
+        status, lines = outcome(verifier, path)
+        say("\n".join(map(signs.plainly, lines)))
+        found.add(status)
+    if DIFFERS in found:
+        return DIFFERS
+    return UNSURE if UNSURE in found else VERIFIED
 
 
 def main() -> int:
     parser = argparse.ArgumentParser(description="Verifies pages of results.")
     parser.add_argument("page", nargs="+", help="a page that results.py or board.py wrote")
-    parser.add_argument("--program", default=PROGRAM, help="the program that scores the journal again")
+    parser.add_argument("--program", default="regatta", help="the program that scores the journal again: its "
+                        "file, or its name if it is beside tools, where it is built, or on the PATH")
     asked = parser.parse_args()
-    sys.stdout.reconfigure(errors="replace")
-    if not os.access(asked.program, os.X_OK):
-        say(f"There is no program at {asked.program}: build it, or name one with --program.")
-        return 1
-    verifier = Verifier(asked.program)
-    found = [is_verified(verifier, path) for path in asked.page]
-    return 0 if all(found) else 1
+    return status_of(lambda: verify(asked.page, program_at(asked.program)), tell=complain, failed=UNSURE)
+
+
+def complain(text: str) -> None:
+    """Says why nothing can be said of the pages."""
+    say(signs.plainly(text))
 
 
 if __name__ == "__main__":

@@ -1,29 +1,23 @@
 """What the pages of one series show, and the same as CSV and JSON. No score is computed here."""
 from __future__ import annotations
 
-import csv
 import dataclasses
 import datetime
 import functools
-import hashlib
-import io
 import json
 import urllib.parse
 import zoneinfo
 from collections.abc import Sequence
 from dataclasses import dataclass, field
 
+import zones
 from entries import Boat
 from record import Race, Row, Score, Series, Standing, tie_break
 from settings import Settings
+from spreadsheet import Cell, as_number, csv_of
 from verdicts import Decided
 
-
-@dataclass(frozen=True)
-class Named:
-    """A series among others: what it is called, and the folder of its pages."""
-    label: str
-    address: str
+CHANGED = "The results have changed since they were declared {}."
 
 
 @dataclass(frozen=True)
@@ -32,7 +26,7 @@ class View:
 
     `journal` and `program`, the SHA-256 of the program's file, are what a page carries for those who
     verify it. `course` has the standing after each race, for a chart. A page that is made again to
-    be verified has the `stamp`, which are the version and the words of its time.
+    be verified has the words of its time from the computer that made it, if the series names no zone.
     """
     name: str
     settings: Settings
@@ -46,7 +40,7 @@ class View:
     decided: Decided = Decided()
     program: str = ""
     course: tuple[Standing, ...] = ()
-    stamp: tuple[str, str] | None = None
+    said: str = ""
     # What the names of places in a page begin with, if it has several series.
     ids: str = ""
     # Texts that were made of it already.
@@ -62,22 +56,23 @@ class View:
         """The folder of its pages, as an address has it."""
         return urllib.parse.quote(self.name, safe="")
 
+    @property
+    def reasons(self) -> tuple[str, str]:
+        """What is said below the title, and then that the results aren't those that were declared; each
+        may be empty."""
+        said, changed = self.settings.reason, CHANGED.format(self.settings.state)
+        if said.endswith(changed):
+            return said.removesuffix(changed).rstrip(), changed
+        return said, ""
+
     def boat(self, sail: str) -> Boat:
         return self.boats.get(sail, Boat(sail))
 
-    def results(self) -> tuple:
+    def results(self) -> tuple[object, ...]:
         """All whose change is a change of the results."""
         shown = self.settings
         return (self.standing, self.boats, shown.title, shown.group, shown.club, shown.state,
                 shown.reason, shown.options(), self.decided)
-
-    @functools.cached_property
-    def version(self) -> str:
-        """Another text whenever anything that is shown is another."""
-        if self.stamp:
-            return self.stamp[0]
-        made = hashlib.sha256(repr((self.key, self.changed)).encode())
-        return f"{self.series.entries}-{made.hexdigest()[:8]}"
 
     @property
     def has_helms(self) -> bool:
@@ -130,15 +125,11 @@ class View:
 
     def when(self, moment: datetime.datetime) -> str:
         """A moment with its zone and the hours from UTC, as `Thu 26 Nov 2026, 08:52 WET (UTC+0)`."""
-        if self.stamp and moment == self.changed:
-            return self.stamp[1]
-        local = self.local(moment)
-        offset, name = local.strftime("%z"), local.strftime("%Z")
-        minutes = f":{offset[3:5]}" if offset[3:5] != "00" else ""
-        hours = f"UTC{offset[0]}{int(offset[1:3])}{minutes}"
-        zone = "UTC" if name == "UTC" else hours if name[:1] in "+-" else f"{name} ({hours})"
-        day = f"{DAYS[local.weekday()]} {local.day} {MONTHS[local.month - 1]} {local.year}"
-        return f"{day}, {local:%H:%M} {zone}"
+        if self.settings.zone:
+            return zones.in_words(self.local(moment))
+        if self.said and moment == self.changed:
+            return self.said
+        return zones.of_computer(moment)
 
 
 def labels_of(views: Sequence[View]) -> list[str]:
@@ -146,16 +137,6 @@ def labels_of(views: Sequence[View]) -> list[str]:
     labels = [view.label for view in views]
     return [label if labels.count(label) == 1 else f"{label} ({view.name})"
             for label, view in zip(labels, views)]
-
-
-# Not those of the computer's language: the pages are in English.
-DAYS = ["Mon", "Tue", "Wed", "Thu", "Fri", "Sat", "Sun"]
-MONTHS = ["Jan", "Feb", "Mar", "Apr", "May", "Jun", "Jul", "Aug", "Sep", "Oct", "Nov", "Dec"]
-
-
-def unharmful(text: str) -> str:
-    """A text that no spreadsheet takes for a formula."""
-    return f"'{text}" if text[:1] in ("=", "+", "-", "@", "\t", "\r") else text
 
 
 def labelled(standing: Standing, labels: dict[tuple[int, str], str]) -> Standing:
@@ -171,27 +152,26 @@ def labelled(standing: Standing, labels: dict[tuple[int, str], str]) -> Standing
 HEADS = ["rank", "tied", "sail", "helm", "boat", "club", "net", "total"]
 
 
-def csv_row(view: View, row: Row, races: Sequence[int]) -> list[str]:
+def csv_row(view: View, row: Row, races: Sequence[int]) -> list[Cell]:
     """A boat's row: names, then points, code and whether it is excluded of each of these races."""
     boat = view.boat(row.sail)
     found = dict(zip(view.standing.races, row.scores))
-    scores = [text for race in races for text in (
-        (found[race].points, found[race].code, "yes" if found[race].excluded else "no")
-        if race in found else ("", "", ""))]
-    return [str(row.rank), "yes" if row.shared else "no",
-            *map(unharmful, (boat.sail, boat.helm, boat.name, boat.club)), row.net,
-            view.totals.get(row.sail, row.net), *scores]
+    cells: list[Cell] = [row.rank, "yes" if row.shared else "no", boat.sail, boat.helm, boat.name, boat.club,
+                         as_number(row.net), as_number(view.totals.get(row.sail, row.net))]
+    for race in races:
+        cells += score_cells(found.get(race))
+    return cells
 
 
-def csv_heads(races: Sequence[int]) -> list[str]:
-    return HEADS + [f"R{number}{what}" for number in races for what in ("", " code", " excluded")]
+def score_cells(score: Score | None) -> list[Cell]:
+    """The cells of a score; empty ones if the race isn't the series'."""
+    if score is None:
+        return ["", "", ""]
+    return [as_number(score.points), score.code, "yes" if score.excluded else "no"]
 
 
-def csv_of(rows: list[list[str]], separator: str = ",") -> bytes:
-    """Rows in UTF-8 with the mark by which a spreadsheet knows it."""
-    made = io.StringIO(newline="")
-    csv.writer(made, delimiter=separator, lineterminator="\r\n").writerows(rows)
-    return b"\xef\xbb\xbf" + made.getvalue().encode()
+def csv_heads(races: Sequence[int]) -> list[Cell]:
+    return [*HEADS, *(f"R{number}{what}" for number in races for what in ("", " code", " excluded"))]
 
 
 def results_csv(view: View) -> bytes:
@@ -200,7 +180,7 @@ def results_csv(view: View) -> bytes:
     return csv_of([csv_heads(races), *(csv_row(view, row, races) for row in view.standing.rows)])
 
 
-def results_json(view: View) -> bytes:
+def results_json(view: View, version: str) -> bytes:
     """The same for programs; points are texts, since they are exact to a tenth."""
     shown = view.settings
 
@@ -215,13 +195,13 @@ def results_json(view: View) -> bytes:
 
     whole = {"title": shown.title, "class": shown.group, "club": shown.club, "state": shown.state,
              "reason": shown.reason, "changed": view.local(view.changed).isoformat(),
-             "version": view.version, "rules": shown.options(), "races": view.standing.races,
+             "version": version, "rules": shown.options(), "races": view.standing.races,
              "stale": view.decided.stale,
              "boats": [boat_of(row) for row in view.standing.rows]}
     return json.dumps(whole, ensure_ascii=False, indent=1).encode() + b"\n"
 
 
-def now_json(version: str, checked: datetime.datetime, office: str) -> bytes:
+def now_json(version: str, checked: datetime.datetime, office: str, **more: object) -> bytes:
     """Which version is shown, when it was confirmed last, and whether the office is open."""
-    return json.dumps({"version": version, "checked": checked.isoformat(),
-                       "office": office}).encode() + b"\n"
+    return json.dumps({"version": version, "checked": checked.isoformat(), "office": office,
+                       **more}).encode() + b"\n"

@@ -9,6 +9,7 @@ import threading
 import time
 
 from desk import Desk
+from folder import PRIVATE, Folder
 from office import Trouble, sockets_at
 
 try:
@@ -21,7 +22,7 @@ try:
         # Pasted lines come together, and wait for Enter.
         readline.parse_and_bind("set enable-bracketed-paste on")
 except ImportError:
-    readline = None
+    readline = None  # type: ignore[assignment]
 
 # Seconds between two looks, and between two tries at an office whose seats are all taken.
 LOOK, AGAIN = 0.5, 5.0
@@ -37,7 +38,11 @@ class Watcher(threading.Thread):
     def __init__(self, desks: list[Desk]) -> None:
         super().__init__(daemon=True)
         self.desks, self.half, self.not_before = desks, "", 0.0
+        # What of the offices' windows was said here.
+        self.told: dict[Desk, str] = {}
         self.at_prompt, self.begun, self.prompts, self.interrupted = False, False, 0, 0
+        # The window's own thread, which makes this one.
+        self.window = threading.get_ident()
         signal.signal(signal.SIGUSR1, self.interrupt)
 
     def ask(self, prompt: str) -> str:
@@ -76,11 +81,12 @@ class Watcher(threading.Thread):
                 # Nobody is at the prompt to be told of it.
                 time.sleep(LOOK / 10)
             prompt = self.prompts
-            is_news = self.at_prompt and (self.is_heard(0) or self.is_closing() or self.is_back())
+            is_news = self.at_prompt and (self.is_heard(0) or self.is_closing() or self.is_back()
+                                          or self.is_warned())
             # What comes from an office is news only if nobody has sent a line meanwhile.
             if is_news and self.at_prompt and self.prompts == prompt:
                 self.interrupted = prompt
-                signal.pthread_kill(threading.main_thread().ident, signal.SIGUSR1)
+                signal.pthread_kill(self.window, signal.SIGUSR1)
                 time.sleep(LOOK)
 
     def is_heard(self, patience: float) -> bool:
@@ -95,6 +101,19 @@ class Watcher(threading.Thread):
     def is_closing(self) -> bool:
         return any(desk.link and desk.folder.is_closing() for desk in self.desks)
 
+    def is_warned(self) -> bool:
+        """Whether an office's window says that something is wrong, which wasn't said here yet."""
+        return any(text and text != self.told.get(desk) for desk, text in self.warnings().items())
+
+    def warnings(self) -> dict[Desk, str]:
+        """What the windows of the offices say is wrong."""
+        found = {desk: desk.folder.beware() for desk in self.desks if desk.link}
+        for desk, text in found.items():
+            if not text:
+                # It may come again.
+                self.told.pop(desk, None)
+        return found
+
     def is_back(self) -> bool:
         """Whether an office that has gone is there again."""
         return time.monotonic() > self.not_before and any(
@@ -106,7 +125,34 @@ class Watcher(threading.Thread):
 
 
 def is_open(desk: Desk) -> bool:
-    """Whether an office lets clients in, and isn't closing. To ask the system costs the office nothing."""
+    """Whether an office lets clients in, has a free seat, and isn't closing. To ask the system costs the
+    office nothing."""
     with contextlib.suppress(Trouble):
-        return not desk.folder.is_closing() and True in sockets_at(desk.folder.socket)
+        found = sockets_at(desk.folder.socket)
+        return not desk.folder.is_closing() and True in found and not is_full(desk.folder, found)
     return False
+
+
+def is_full(folder: Folder, sockets: list[bool]) -> bool:
+    """Whether an office with these sockets has no free seat: who comes then uses up one of its
+    sessions, and is turned away."""
+    return sockets.count(False) >= seats_of(folder)
+
+
+def has_no_seat(folder: Folder) -> bool:
+    """Whether an office is full, as far as the system tells."""
+    with contextlib.suppress(Trouble):
+        return is_full(folder, sockets_at(folder.socket))
+    return False
+
+
+def seats_of(folder: Folder) -> int:
+    """The seats of the open office; those of the settings if its program doesn't tell. They may have been
+    changed since it was opened."""
+    with contextlib.suppress(OSError, ValueError, IndexError):
+        with open(folder.file(PRIVATE, "pid"), encoding="ascii") as file:
+            number = file.read().split()[0]
+        with open(f"/proc/{number}/cmdline", "rb") as command:
+            words = command.read().split(b"\0")
+        return int(words[words.index(b"--clients") + 1])
+    return folder.settings.seats

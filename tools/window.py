@@ -7,15 +7,17 @@ import select
 import sys
 import termios
 import time
+from collections.abc import Callable
 
-from classes import FIRST, choosing, desk_meant, greeting
+from classes import Unsure, choosing, desk_meant, greeting
 from desk import Desk
 from folder import Folder
+from guard import Fault, guarded
 from office import NoSeat, Trouble
-from prompt import question, say, sentence
-from prompt import typed as asked
-from spoken import NotSent, line_meant
-from watcher import AGAIN, LOOK, News, Watcher
+from prompt import question, say, sentence, visible
+from spoken import COMMANDS, FIRST, NotSent
+from unread import Unread, in_words
+from watcher import AGAIN, LOOK, News, Watcher, has_no_seat
 from words import count
 
 
@@ -29,6 +31,8 @@ class Window:
     def __init__(self, folders: list[Folder], role: str, name: str) -> None:
         self.desks = [Desk(folder, role, name, say, self.ask) for folder in folders]
         self.watcher = Watcher(self.desks)
+        # The places that were kept in several classes for one finisher.
+        self.twins: list[list[tuple[Desk, Unread]]] = []
 
     @property
     def several(self) -> bool:
@@ -53,6 +57,8 @@ class Window:
         desk = self.desks[0]
         say(greeting(self.desks) if self.several else
             f"{desk.folder.settings.title}: you type as the {desk.role.lower()}. help lists your lines.")
+        self.say_warnings()
+        self.say_kept()
 
     def come_to(self, desk: Desk) -> None:
         """Links to an office, and notes it in the log."""
@@ -65,13 +71,13 @@ class Window:
                 say(f"Beware: {trouble}, that of {desk.folder.name}. The others go on.")
         self.log(desk, "came")
 
-    def may_leave(self) -> bool:
-        """Whether somebody leaves although places are kept, which only this window knows."""
-        kept = sum(len(desk.unread.all) for desk in self.desks)
-        if not kept:
-            return True
-        given = asked(f"   {count(kept, 'finisher')} without a sail (?) would be forgotten. Leave? [y/N] ")
-        return given is None or given.lower() in ("y", "yes")
+    def say_kept(self, desks: list[Desk] | None = None) -> None:
+        """Says who is without a sail."""
+        for desk in desks or self.desks:
+            desk.look_at_places()
+            if desk.unread.all and desk.role != "JURY":
+                of = f" of {desk.folder.name}" if self.several else ""
+                say(f"Kept without a sail{of}: {in_words(desk.unread.all)}.")
 
     def leave(self) -> None:
         """Leaves all offices."""
@@ -97,17 +103,28 @@ class Window:
         try:
             typed = self.watcher.ask(self.prompt())
             if typed.strip().lower() in ("quit", "exit"):
-                return not self.may_leave()
+                self.say_kept()
+                return False
             self.do_all(typed.splitlines())
         except EOFError:
             say("")
-            return not self.may_leave()
+            self.say_kept()
+            return False
         except KeyboardInterrupt:
             say("   Type quit to leave.")
+            self.say_kept()
         except News:
             say("")
-            self.take_news()
+            self.take_news_safely()
         return True
+
+    def take_news_safely(self) -> None:
+        """Takes the news, and goes on after a fault of the window itself."""
+        try:
+            with guarded(self.desks[0].folder.path, End):
+                self.take_news()
+        except Fault as fault:
+            say(f"   Beware: {sentence(fault)}")
 
     def do_all(self, lines: list[str]) -> None:
         """Does what was typed. Pasted lines stop at the first that is refused or isn't sent."""
@@ -123,9 +140,13 @@ class Window:
     def refused(self, line: str) -> str:
         """Does a line; why the lines after it can't be sent, or nothing."""
         try:
-            if self.several and line.lower().split()[:1] == ["role"]:
-                return self.do_everywhere(line)
-            return self.do(*desk_meant(self.desks, line))
+            with guarded(self.desks[0].folder.path, End, NotSent):
+                if self.several and line.lower().split()[:1] == ["role"]:
+                    return self.do_everywhere(line)
+                return self.do_where_meant(line)
+        except Fault as fault:
+            say(f"   Beware: {sentence(fault)} Look whether this line is in the journal: {line}")
+            return "since this window has a fault"
         except NotSent as why:
             say(f"   Not sent: {sentence(why)}")
             return "since the line before it wasn't"
@@ -134,13 +155,48 @@ class Window:
         """Gives a line to all classes that are there: a role is that of the whole window."""
         return "".join([self.do(desk, line) for desk in self.desks if desk.link])
 
-    def do(self, desk: Desk, line: str) -> str:
+    def do_where_meant(self, line: str) -> str:
+        """Gives a line to the class that it is for. Who may be in several keeps her place in each."""
+        try:
+            return self.do(*desk_meant(self.desks, line))
+        except Unsure as why:
+            if not why.desks:
+                raise
+            return self.keep_in_each(why)
+
+    def keep_in_each(self, unsure: Unsure) -> str:
+        """Keeps a place in each class to which she may belong. Once she is known in one, it is dropped in
+        the others."""
+        say(f"   {sentence(unsure.what[:1].upper() + unsure.what[1:])}")
+        why, kept = "", []
+        for desk in [desk for desk in unsure.desks if desk.link]:
+            before = desk.done
+            why += self.do(desk, unsure.sail, Desk.keep_crossed)
+            if desk.done and desk.done.unread and desk.done is not before:
+                kept.append((desk, desk.done.unread))
+        self.twins.append(kept)
+        return why
+
+    def drop_twins(self) -> None:
+        """Drops places in other classes of finishers who are known in one."""
+        for twins in list(self.twins):
+            known = [desk for desk, unread in twins if desk.history.boat(unread.race, unread.mark)]
+            for desk, unread in twins:
+                if known and desk not in known and unread.mark in desk.unread.marks(unread.race):
+                    desk.drop_safely([unread], f"she is known in {known[0].folder.name}")
+                    if unread.mark not in desk.unread.marks(unread.race):
+                        say(f"   {desk.folder.name}: {unread.mark} is dropped.")
+            if known:
+                self.twins.remove(twins)
+
+    def do(self, desk: Desk, line: str, action: Callable[[Desk, str], bool] = Desk.do) -> str:
         """Gives a line to the desk that it is for; why the lines after it can't be sent, or nothing."""
         desk.prefix = f"{desk.folder.name}: " if self.several else ""
         if desk.link is None:
             raise NotSent(f"the office of {desk.folder.name} has gone. Write {line.upper()} down")
         try:
-            is_taken = desk.do(line)
+            is_taken = action(desk, line)
+            self.drop_twins()
             if self.several and line.strip().lower() == "help":
                 say(choosing(self.desks))
             return "" if is_taken else "since the line before it wasn't taken"
@@ -153,28 +209,32 @@ class Window:
     def ask(self, text: str) -> bool:
         """Whether somebody says yes. What was typed before the question is no answer to it."""
         self.drop_typed("since a question came before it")
-        return question(text)
+        return question(visible(text))
 
     def is_agreed(self, lines: list[str]) -> bool:
         """Whether somebody agrees to a pasted list of bare sails, which are shown by their names."""
         desk = self.desks[0]
         words = [line.upper().split()[:1] for line in lines]
-        if self.several or not desk.at or any(word and word[0] in FIRST for word in words):
+        if self.several or not desk.at or any(word and word[0] in FIRST - COMMANDS.keys() for word in words):
             return True
         try:
-            meant = [line_meant(line, desk.at, desk.book.boats, desk.book.called,
-                                desk.folder.settings.handicap) for line in lines if line.strip()]
+            # In a list nothing is asked line by line.
+            meant = [desk.reader.line(line, lambda _: False) for line in lines if line.strip()]
         except NotSent as why:
             say(f"   {sentence(why)}")
             return False
         for at, line in enumerate(meant, 1):
-            say(f"{at:>6}  {desk.book.called(line.split()[2])}")
-        return question(f"   Send these {count(len(meant), 'finish', 'finishes')} in race {desk.at}?")
+            _, _, sail, *last = line.split()
+            say(f"{at:>6}  {desk.book.called(sail)}{''.join(f'   {word}' for word in last)}")
+        are_finishes = all(line.startswith("FINISH ") for line in meant)
+        what = count(len(meant), "finish", "finishes") if are_finishes else count(len(meant), "line")
+        return question(f"   Send these {what} in race {desk.at}?")
 
     # When an office goes
 
     def take_news(self) -> None:
         """Says what came of the offices while nobody had sent a line."""
+        self.say_warnings()
         if self.watcher.is_closing():
             self.close_one()
         for desk in self.desks:
@@ -182,6 +242,18 @@ class Window:
                 self.try_again(desk)
             elif select.select([desk.link], [], [], 0)[0]:
                 self.lost(desk, heard(desk))
+
+    def say_warnings(self) -> None:
+        """Says what the offices' windows say is wrong, once."""
+        for desk, text in self.watcher.warnings().items():
+            if text and self.watcher.told.get(desk) != text:
+                say(f"Beware: the office's window{self.of(desk)} says: {text}\n"
+                    "Write on paper, and ask there before you go on.")
+                self.watcher.told[desk] = text
+
+    def of(self, desk: Desk) -> str:
+        """Which office is meant, if there are several."""
+        return f" of {desk.folder.name}" if self.several else ""
 
     def close_one(self) -> None:
         """Leaves the offices that are being closed; the window ends with the last."""
@@ -219,13 +291,14 @@ class Window:
         """Links to an office, for which it waits."""
         while True:
             try:
+                if has_no_seat(desk.folder):
+                    raise NoSeat("all seats of the office are taken")
                 desk.connect()
                 return
             except Trouble as trouble:
                 if not told:
                     say(f"Waiting: {trouble}{seats_taken(desk, trouble)}. Ctrl-C ends this window.")
                 told = True
-                # A client who finds no seat uses up one of the office's sessions.
                 wait(AGAIN if isinstance(trouble, NoSeat) else LOOK)
 
     def say_back(self, desk: Desk) -> None:
@@ -236,8 +309,7 @@ class Window:
         later = journal[max(desk.sent, default=0):]
         desk.sent = {at: sent for at, sent in desk.sent.items() if at not in lost}
         desk.unanswered = ""
-        of = f" of {desk.folder.name}" if self.several else ""
-        say(f"The office{of} is back with {count(len(journal), 'entry', 'entries')}.")
+        say(f"The office{self.of(desk)} is back with {count(len(journal), 'entry', 'entries')}.")
         if lost:
             say("These lines of yours are lost. The office's window lists those of all windows: type "
                 "them again in that order.")
@@ -247,6 +319,7 @@ class Window:
             say(f"Your last line, OK {at} {desk.sent[at]}, is among them.")
         if line:
             say(f"{line} is {'in the journal' if line in later else 'not in the journal'}.")
+        self.say_kept([desk])
 
     def drop_typed(self, why: str) -> None:
         """Shows the lines that wait at the prompt already, and sends none of them."""

@@ -3,8 +3,10 @@ from __future__ import annotations
 
 import os
 import re
+from collections.abc import Sequence
 
 from record import Change, Row, Score
+from signs import UNSEEN
 
 # What each number of a reply says. The guide's table has these words, and a check compares them.
 NUMBERS = {
@@ -56,7 +58,7 @@ def count(number: int, one: str, more: str = "") -> str:
     return f"{number or 'no'} {one if number == 1 else more or one + 's'}"
 
 
-def joined(texts: list[str], last: str = "and") -> str:
+def joined(texts: Sequence[str], last: str = "and") -> str:
     """`A, B and C`."""
     return texts[0] if len(texts) == 1 else f"{', '.join(texts[:-1])} {last} {texts[-1]}"
 
@@ -79,10 +81,16 @@ def sign(letter: str) -> str:
                      f"the invisible sign U+{ord(letter):04X}")
 
 
+def on_one_line(text: str) -> str:
+    """A text of a file or of a command as names are shown: on one line, without signs that aren't seen."""
+    seen = "".join(letter for letter in " ".join(text.split()) if letter.isprintable())
+    return " ".join(UNSEEN.sub("", seen).split())
+
+
 def refusal(answer: str) -> str:
     """Why a line was refused, from its answer."""
     number = answer.removeprefix("NO ")
-    return NUMBERS.get(int(number) if number.isdigit() else 0,
+    return NUMBERS.get(int(number) if re.fullmatch("[0-9]{1,3}", number) else 0,
                        "an answer that isn't known here; docs/FORMATS.md may know it")
 
 
@@ -103,7 +111,8 @@ NO_JOURNAL = "journal.txt is no journal: none of its lines is whole. Compare it 
 KEPT = {
     "taken": "Another office has journal.txt, which wasn't opened here. End that one first.",
     "fault": "journal.txt can't be opened, or can't be put on the disk. Is the disk full? May this "
-             "account write the file? It must be a plain file with one name.",
+             "account write the file? It must be a plain file with one name, and nobody else may change, "
+             "move or remove it while the office is open.",
     "too long": "journal.txt is longer than 1,048,576 bytes.",
     "damaged after line 0": NO_JOURNAL,
     r"damaged after line (\d+)": DAMAGED,

@@ -1,0 +1,39 @@
+"""Signs that aren't seen, or that move or strike out what is beside them."""
+from __future__ import annotations
+
+import re
+
+# What Python calls printable and yet isn't seen, or lies over its neighbours: fillers, joiners, variants
+# of signs, strokes, and marks of which three are over one letter.
+UNSEEN = re.compile("[\u034f\u115f\u1160\u17b4\u17b5\u180b-\u180f\u2800\u3164\ufe00-\ufe0f\uffa0"
+                    "\U000e0100-\U000e01ef\u0334-\u0338\u0488\u0489\u20d0-\u20f0]"
+                    "|(?<=[\u0300-\u036f]{2})[\u0300-\u036f]")
+# Signs of a line that is said; longer ones are cut.
+MOST = 100
+
+
+def is_odd(sign: str) -> bool:
+    return not sign.isprintable() and sign != " "
+
+
+def has_odd(text: str) -> bool:
+    """Whether a text has a sign that isn't seen, that turns the direction of others or strikes them."""
+    return any(map(is_odd, text)) or UNSEEN.search(text) is not None
+
+
+def code_of(sign: str) -> str:
+    number = ord(sign)
+    return f"\\x{number:02x}" if number < 256 else f"\\u{number:04x}" if number < 65536 else \
+        f"\\U{number:08x}"
+
+
+def plainly(text: str) -> str:
+    """A text on one line of a terminal: what isn't seen is shown by its number."""
+    seen = "".join(code_of(sign) if is_odd(sign) else sign for sign in text)
+    return UNSEEN.sub(lambda found: code_of(found[0]), seen)
+
+
+def shortly(text: str, most: int = MOST) -> str:
+    """The same, and no longer than that."""
+    seen = plainly(text[:most + 1])
+    return seen if len(seen) <= most else f"{seen[:most]}…"

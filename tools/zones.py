@@ -1,0 +1,62 @@
+"""Moments in words, as pages have them, and the names of time zones."""
+from __future__ import annotations
+
+import datetime
+import functools
+import re
+import zoneinfo
+
+# Not those of the computer's language: the pages are in English.
+DAYS = ["Mon", "Tue", "Wed", "Thu", "Fri", "Sat", "Sun"]
+MONTHS = ["Jan", "Feb", "Mar", "Apr", "May", "Jun", "Jul", "Aug", "Sep", "Oct", "Nov", "Dec"]
+# The most minutes that a zone is from UTC.
+MOST = 14 * 60
+# The end of a moment in words: `CET (UTC+1)`, `UTC+5:30` or `UTC`.
+END = re.compile(r"[0-9] (?:([A-Za-z]{3,6}) \()?UTC(?:([+-])([0-9]{1,2})(?::([0-9]{2}))?)?\)?")
+
+
+@functools.cache
+def all_zones() -> tuple[zoneinfo.ZoneInfo, ...]:
+    return tuple(zoneinfo.ZoneInfo(name) for name in sorted(zoneinfo.available_timezones()))
+
+
+def has_name(local: datetime.datetime) -> bool:
+    """Whether some time zone has the name and the offset of this local time at its moment."""
+    wanted = (local.tzname(), local.utcoffset())
+    return wanted == ("UTC", datetime.timedelta()) or any(
+        (other.tzname(), other.utcoffset()) == wanted for other in map(local.astimezone, all_zones()))
+
+
+def in_words(local: datetime.datetime) -> str:
+    """A local time with its zone and the hours from UTC, as `Thu 26 Nov 2026, 08:52 WET (UTC+0)`."""
+    offset, name = local.strftime("%z"), local.tzname() or ""
+    minutes = f":{offset[3:5]}" if offset[3:5] != "00" else ""
+    hours = f"UTC{offset[0]}{int(offset[1:3])}{minutes}"
+    is_number = not name or name[0] in "+-" or name.startswith("UTC")
+    zone = "UTC" if name == "UTC" else hours if is_number else f"{name} ({hours})"
+    day = f"{DAYS[local.weekday()]} {local.day} {MONTHS[local.month - 1]} {local.year}"
+    return f"{day}, {local:%H:%M} {zone}"
+
+
+def of_computer(moment: datetime.datetime) -> str:
+    """A moment in this computer's zone. A name that no time zone has is left out."""
+    local = moment.astimezone()
+    return in_words(local if has_name(local) else without_name(local))
+
+
+def without_name(local: datetime.datetime) -> datetime.datetime:
+    return local.astimezone(datetime.timezone(local.utcoffset() or datetime.timedelta()))
+
+
+def is_of_some_computer(text: str, moment: datetime.datetime) -> bool:
+    """Whether these are the words of a moment in the zone of a computer somewhere."""
+    found = END.search(text)
+    if not found:
+        return False
+    minutes = int(found[3] or 0) * 60 + int(found[4] or 0)
+    if minutes > MOST:
+        return False
+    offset = datetime.timedelta(minutes=-minutes if found[2] == "-" else minutes)
+    named = datetime.timezone(offset, found[1]) if found[1] else datetime.timezone(offset)
+    local = moment.astimezone(named)
+    return in_words(local) == text and (not found[1] or has_name(local))
