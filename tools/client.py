@@ -24,6 +24,7 @@ from folder import Folder
 from guard import status_of
 from office import Trouble
 from prompt import answer, say
+from signs import is_utf8
 from window import Window
 from words import on_one_line
 
@@ -66,7 +67,7 @@ def send_file(asked: argparse.Namespace) -> int:
 
 def in_utf8(text: str) -> str:
     """A word of the command line that goes into a file."""
-    if text.encode("utf-8", "replace").decode() != text:
+    if not is_utf8(text):
         raise argparse.ArgumentTypeError("it isn't UTF-8 text")
     return on_one_line(text)
 

@@ -12,6 +12,7 @@ from office import Sheet, Trouble
 from places import kept_in_words
 from prompt import question, say, typed
 from record import Race, Series
+from signs import utf8
 from source import replayed
 from words import count, joined, on_one_line
 
@@ -85,4 +86,4 @@ def write(folder: Folder, values: dict[str, str]) -> None:
     text = settings.text_in(path)
     for key, value in values.items():
         text = settings.with_value(text, "notice", key, value)
-    replace_whole(path, text.encode())
+    replace_whole(path, utf8(text))

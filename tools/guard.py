@@ -16,6 +16,7 @@ from files import append_whole
 from folder import PRIVATE
 from office import Trouble
 from prompt import print_any_sign, read_any_sign, say, sentence
+from signs import utf8
 
 NAME = "faults.txt"
 # What a shell says of a command that Ctrl-C has ended.
@@ -52,7 +53,7 @@ def written(folder: str, trace: str) -> str:
     """Writes a trace into the series' folder, or else into one for temporary files; the file, or nothing
     if neither takes it. A loop that meets the same fault again doesn't write it again."""
     if trace not in WRITTEN:
-        data = f"{time.strftime('%Y-%m-%dT%H:%M:%S%z')}\n{trace}\n".encode("utf-8", "replace")
+        data = utf8(f"{time.strftime('%Y-%m-%dT%H:%M:%S%z')}\n{trace}\n")
         places = [os.path.join(folder, PRIVATE, NAME)] if folder else []
         WRITTEN[trace] = next((path for path in places if is_added(path, data)), "") or temporary(data)
     return WRITTEN[trace]

@@ -14,6 +14,8 @@ import socket
 import stat
 from dataclasses import dataclass
 
+from signs import utf8
+
 # How long an answer may take, in seconds, and how many bytes of one are read at most. A sheet of
 # 500 boats, 40 races and 8,192 entries has less than a quarter of that.
 PATIENCE = 10.0
@@ -106,7 +108,7 @@ class Link:
     def ask(self, line: str) -> str:
         """The answer to a line; of SHOW the first line of it."""
         try:
-            self.socket.sendall(line.encode() + b"\n")
+            self.socket.sendall(utf8(line) + b"\n")
         except TimeoutError:
             raise Trouble(f"the office hasn't listened for {self.patience:g} seconds") from None
         except OSError:

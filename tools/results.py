@@ -102,7 +102,7 @@ def main() -> int:
     asked = asked_of()
 
     def work() -> int:
-        write(asked, [view_of(folder) for folder in asked.folder])
+        write(asked, views_of(asked.folder))
         return 0
 
     return status_of(work, asked.folder[0], warn)
