@@ -23,7 +23,7 @@ import sys
 import copies
 import settings
 from continuity import difference, note_of
-from copies import best_copy
+from copies import best_copy, places_with
 from declare import announce
 from files import replace_whole
 from folder import Folder
@@ -32,6 +32,7 @@ from guard import status_of
 from keeper import same_disk
 from making import new
 from office import Trouble
+from places import Places
 from prompt import question, say
 from removal import remove
 from second import second_of
@@ -91,7 +92,9 @@ def mend(folder: Folder) -> None:
         return
     with second_of(folder) as second:
         copy, data = best_copy(folder, second)
+        places = places_with(folder, second, data)
     if copy and question(f"{lost} Use it?"):
+        Places(folder).put_back(places)
         replace_whole(os.path.realpath(folder.journal), data)
         copies.keep(folder, data)
         folder.log("", "", "", "restored", note_of(data))
