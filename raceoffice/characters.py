@@ -12,6 +12,16 @@ UNSEEN = re.compile("[\u034f\u115f\u1160\u17b4\u17b5\u180b-\u180f\u2800\u3164\uf
 MOST = 100
 
 
+def utf8(text: str) -> bytes:
+    """A text as UTF-8. What the name of a file has that is no text is written as `?`."""
+    return text.encode("utf-8", "replace")
+
+
+def is_utf8(text: str) -> bool:
+    """Whether a text, which may be the name of a file, can be written as UTF-8."""
+    return utf8(text).decode() == text
+
+
 def is_odd(sign: str) -> bool:
     return not sign.isprintable() and sign != " "
 

@@ -12,6 +12,7 @@ import time
 import traceback
 from collections.abc import Callable, Iterator
 
+from raceoffice.characters import utf8
 from raceoffice.errors import Fault, Trouble
 from raceoffice.files import append_whole
 from raceoffice.series.folder import PRIVATE
@@ -48,7 +49,7 @@ def written(folder: str, trace: str) -> str:
     """Writes a trace into the series' folder, or else into one for temporary files; the file, or nothing
     if neither takes it. A loop that meets the same fault again doesn't write it again."""
     if trace not in WRITTEN:
-        data = f"{time.strftime('%Y-%m-%dT%H:%M:%S%z')}\n{trace}\n".encode("utf-8", "replace")
+        data = utf8(f"{time.strftime('%Y-%m-%dT%H:%M:%S%z')}\n{trace}\n")
         places = [os.path.join(folder, PRIVATE, NAME)] if folder else []
         WRITTEN[trace] = next((path for path in places if is_added(path, data)), "") or temporary(data)
     return WRITTEN[trace]

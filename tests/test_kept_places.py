@@ -55,6 +55,15 @@ class Files(helpers.Series):
             file.write(b"REGATTA 2\n1 1 SCORER ENTER GBR7\n1 2\n")
         self.assertEqual(kept_places.kept_in_words(self.folder), "Kept without a sail: ?1 in race 1.")
 
+    def test_damaged(self) -> None:
+        """Who asks before an office closes is told of a line that can't be read: a place may be in it."""
+        beware = ("Beware: line 1 of office/places can't be read, and is left out. A finisher without a sail may "
+                  "be missing.")
+        self.put(b"x\n")
+        self.assertEqual(kept_places.kept_in_words(self.folder), beware)
+        self.keep()
+        self.assertEqual(kept_places.kept_in_words(self.folder), f"Kept without a sail: ?1 in race 1. {beware}")
+
     def test_form(self) -> None:
         """A line has all that is known of a place, and the file is this account's alone."""
         before = os.umask(0)

@@ -579,7 +579,7 @@ class Seconds(Windows):
         found.process.wait()
         with mock.patch("raceoffice.series.second_folder.GIVE_UP", 0.0):
             helpers.until("a copy", lambda: not found.ask("save", "x\n").fault)
-        for what, text, fault in [("save", "y\n", "holds entries that the office doesn't have"),
+        for what, text, fault in [("save", "y\n", "holds lines that the office doesn't have"),
                                   ("replace", "y\n", ""), ("read", "", "")]:
             answer = found.ask(what, text)
             self.assertTrue(fault in answer.fault and bool(fault) == bool(answer.fault), answer)

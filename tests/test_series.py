@@ -359,7 +359,7 @@ class Keeping(unittest.TestCase):
         for text in ["", self.HELD[:19], self.HELD.replace("B", "C") + "2 1 SCORER ENTER D\n"]:
             with self.assertRaises(Trouble) as raised:
                 second_folder.save_to(self.path, text)
-            self.assertIn("holds entries that the office doesn't have", str(raised.exception))
+            self.assertIn("holds lines that the office doesn't have", str(raised.exception))
             self.assertEqual(self.text(), self.HELD)
 
     def test_no_folder(self) -> None:

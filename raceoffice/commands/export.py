@@ -108,7 +108,7 @@ def run(asked: argparse.Namespace) -> int:
     look_at(asked)
 
     def work() -> int:
-        write(asked, [view_of(folder) for folder in asked.folder])
+        write(asked, views_of(asked.folder))
         return 0
 
     return status_of(work, asked.folder[0], warn)

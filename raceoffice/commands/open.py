@@ -22,9 +22,10 @@ from raceoffice.files import replace_whole
 from raceoffice.office.window import Hall
 from raceoffice.series import copies
 from raceoffice.series.continuity import note_of
-from raceoffice.series.copies import best_copy
+from raceoffice.series.copies import best_copy, places_with
 from raceoffice.series.folder import Folder
 from raceoffice.series.health import disk_fault, faults, journal_fault, lost_journal
+from raceoffice.series.kept_places import Places
 from raceoffice.series.second_folder import second_of
 from raceoffice.terminal import question, say
 
@@ -58,7 +59,9 @@ def mend(folder: Folder) -> None:
         return
     with second_of(folder) as second:
         copy, data = best_copy(folder, second)
+        places = places_with(folder, second, data)
     if copy and question(f"{lost} Use it?"):
+        Places(folder).put_back(places)
         replace_whole(os.path.realpath(folder.journal), data)
         copies.keep(folder, data)
         folder.log("", "", "", "restored", note_of(data))

@@ -21,6 +21,7 @@ from __future__ import annotations
 import argparse
 import sys
 
+from raceoffice.characters import is_utf8
 from raceoffice.errors import Trouble
 from raceoffice.faults import status_of
 from raceoffice.series.folder import Folder
@@ -69,7 +70,7 @@ def send_file(asked: argparse.Namespace) -> int:
 
 def in_utf8(text: str) -> str:
     """A word of the command line that goes into a file."""
-    if text.encode("utf-8", "replace").decode() != text:
+    if not is_utf8(text):
         raise argparse.ArgumentTypeError("it isn't UTF-8 text")
     return on_one_line(text)
 

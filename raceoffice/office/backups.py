@@ -1,5 +1,5 @@
-"""The copies of the journal that the program keeps in journal.txt: one on a second disk, and dated ones
-in kept/."""
+"""The copies of the journal that the program keeps in journal.txt: one on a second disk, with one of the
+places of finishers without a sail, and dated ones in kept/."""
 from __future__ import annotations
 
 import contextlib
@@ -10,13 +10,15 @@ from raceoffice.results.source import replayed
 from raceoffice.series import copies
 from raceoffice.series.continuity import first_entries
 from raceoffice.series.folder import VERSION, Folder
-from raceoffice.series.second_folder import Second
+from raceoffice.series.kept_places import Places
+from raceoffice.series.second_folder import Second, places_copy_of
 
 CHANGED = "journal.txt isn't what the office keeps: somebody has changed or replaced it"
 
 
 class Keeper:
-    """Copies the journal to a second disk if the settings say so, and looks whether journal.txt has it.
+    """Copies journal and places to a second disk if the settings say so, and looks whether journal.txt has
+    the journal.
 
     While the office is open, only the program writes journal.txt: a rename over it would break the
     keeping. The copy is replaced only by a journal that goes on where it ends. So an office that was
@@ -24,7 +26,9 @@ class Keeper:
     """
 
     def __init__(self, folder: Folder) -> None:
-        self.folder, self.second, self.copied = folder, Second(folder), -1
+        self.folder, self.second, self.places = folder, Second(folder), Places(folder)
+        # How many entries the second copy has, and which places.
+        self.copied: tuple[int, object] = (-1, None)
         # Why there is no second copy, and what else should be known of it.
         self.trouble = self.note = ""
         # What the office has, and how journal.txt began when this window came.
@@ -35,16 +39,26 @@ class Keeper:
         """Copies the journal; a Trouble if journal.txt isn't what the office keeps. A copy that fails
         is only remembered."""
         self.sheet = sheet
-        if self.second.path and (len(sheet.journal) != self.copied or self.trouble):
+        if self.second.path and (self.copied != (len(sheet.journal), self.places.state()) or self.trouble):
             self.copy(sheet)
         if not self.is_kept():
             raise Trouble(CHANGED)
 
     def copy(self, sheet: Sheet) -> None:
         """Copies the journal to the second disk, and remembers what is wrong with that."""
+        # What is noted meanwhile is copied next time.
+        state = self.places.state()
         answer = self.second.ask("save", text_of(sheet))
-        self.trouble, self.copied = answer.fault, len(sheet.journal)
+        self.trouble, self.copied = answer.fault or self.copy_places(), (len(sheet.journal), state)
         self.note = same_disk(self.second.path) if self.second.is_on_our_disk(answer) else ""
+
+    def copy_places(self) -> str:
+        """Copies the places to the second disk; why that failed, or nothing."""
+        try:
+            text = self.places.text()
+        except Trouble as trouble:
+            return str(trouble)
+        return self.second.ask("save", text, places_copy_of(self.folder)).fault
 
     def is_kept(self) -> bool:
         """Whether journal.txt is what the office has; a Trouble if it can't be read."""

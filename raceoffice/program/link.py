@@ -10,6 +10,7 @@ import socket
 import stat
 from dataclasses import dataclass
 
+from raceoffice.characters import utf8
 from raceoffice.errors import Gone, NoSeat, Trouble
 
 # How long an answer may take, in seconds, and how many bytes of one are read at most. A sheet of
@@ -92,7 +93,7 @@ class Link:
     def ask(self, line: str) -> str:
         """The answer to a line; of SHOW the first line of it."""
         try:
-            self.socket.sendall(line.encode() + b"\n")
+            self.socket.sendall(utf8(line) + b"\n")
         except TimeoutError:
             raise Trouble(f"the office hasn't listened for {self.patience:g} seconds") from None
         except OSError:

@@ -3,6 +3,7 @@ from __future__ import annotations
 
 import contextlib
 
+from raceoffice.characters import utf8
 from raceoffice.errors import Trouble
 from raceoffice.files import replace_whole
 from raceoffice.program.journal import Race, Series
@@ -85,4 +86,4 @@ def write(folder: Folder, values: dict[str, str]) -> None:
     text = settings.text_in(path)
     for key, value in values.items():
         text = settings.with_value(text, "notice", key, value)
-    replace_whole(path, text.encode())
+    replace_whole(path, utf8(text))

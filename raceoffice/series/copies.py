@@ -10,7 +10,7 @@ from dataclasses import dataclass
 from raceoffice.errors import Trouble
 from raceoffice.files import read_whole, replace_whole
 from raceoffice.series.folder import LARGEST, Folder, entries_of, whole_part
-from raceoffice.series.second_folder import Second, copy_of
+from raceoffice.series.second_folder import Second, copy_of, places_copy_of
 
 KEPT, STAMP = "kept", "%Y-%m-%d-%H%M%S"
 # The time, in UTC if a Z follows it; the number of the copy within its second; what made it.
@@ -80,6 +80,15 @@ def best_copy(folder: Folder, second: Second) -> tuple[str, bytes]:
     if len(theirs) > len(ours) and theirs[:len(ours)] == ours:
         return copy_of(folder), other
     return (folder.file(last.name), held) if last and ours else ("", b"")
+
+
+def places_with(folder: Folder, second: Second, data: bytes) -> str:
+    """The copy of the places in the second folder, if that has copies of this journal."""
+    if not copy_of(folder):
+        return ""
+    ours, theirs = lines_in(data), lines_in(second.ask("read").text.encode())
+    is_of_this = theirs and theirs == ours[:len(theirs)]
+    return second.ask("read", path=places_copy_of(folder)).text if is_of_this else ""
 
 
 def lines_in(data: bytes) -> list[str]:

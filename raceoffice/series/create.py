@@ -7,6 +7,7 @@ import shlex
 import tempfile
 from collections.abc import Callable
 
+from raceoffice.characters import utf8
 from raceoffice.errors import Trouble
 from raceoffice.files import replace_whole
 from raceoffice.program.find import found_program
@@ -157,12 +158,24 @@ def new(folder: str) -> None:
     say_if_any(entry_list.left_in_words(data))
     values |= asked_rules() | {"program": program_for(folder)}
     say_if_any(entry_list.rating_note(data, "entries.csv", values["handicap"] == "yes"))
+    data_of_settings = settings_with(values)
     make_folder(folder)
     if os.path.abspath(given) != os.path.abspath(list_path):
         replace_whole(list_path, data)
         say(f"Copied {given} to {list_path}: from now on change that one.")
-    replace_whole(path, settings.text_of(values).encode())
+    replace_whole(path, data_of_settings)
     say(f"Wrote {path}. Next: {command_name()} open {shlex.quote(folder)}")
+
+
+def settings_with(values: dict[str, str]) -> bytes:
+    """A series.ini with these values; a Trouble if it can't hold the name of a file."""
+    data = utf8(settings.text_of(values))
+    read = settings.values_of(data.decode())
+    for key in ("program", "copy"):
+        if read.get(key) != values[key]:
+            raise Trouble(f"{settings.NAME} can't hold {key} = {values[key]!r}: rename its folders. Nothing "
+                          "was written")
+    return data
 
 
 def asked_rules() -> dict[str, str]:

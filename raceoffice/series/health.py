@@ -9,6 +9,7 @@ import re
 import socket
 import stat
 
+from raceoffice.characters import is_utf8
 from raceoffice.errors import Trouble
 from raceoffice.program.journal import Change, Series, changes
 from raceoffice.results.source import replayed
@@ -32,7 +33,7 @@ ROOM = 64 << 10
 def faults(folder: Folder) -> list[str]:
     """All that keeps the office from being opened, in words."""
     program = Program(folder)
-    if wrong := program.fault():
+    if wrong := path_fault(folder) or program.fault():
         return [wrong]
     if wrong := journal_fault(folder):
         return [wrong]
@@ -42,6 +43,14 @@ def faults(folder: Folder) -> list[str]:
         if listed := list_faults(folder):
             return listed
     return program.start_faults()
+
+
+def path_fault(folder: Folder) -> str:
+    """Which path the program wouldn't take; empty if it takes both."""
+    for path in (os.path.abspath(folder.program), folder.journal):
+        if not is_utf8(path):
+            return f"The program takes no path that isn't UTF-8, as {path} isn't: rename that folder."
+    return ""
 
 
 def journal_fault(folder: Folder) -> str:

@@ -1,4 +1,4 @@
-"""The second folder for the journal, as on a stick.
+"""The second folder for the journal and the places, as on a stick.
 
 Its disk or its network may hang. So a process of its own looks at it, reads and writes there, and who
 asks waits for some seconds alone. That process is this module: it answers requests, one a line.
@@ -42,8 +42,9 @@ class Second:
         self.line: socket.socket | None = None
         self.rest, self.asked_at, self.failed_at = b"", 0.0, -GIVE_UP
 
-    def ask(self, what: str, text: str = "") -> Answer:
-        """Looks at the second folder, reads the copy in it, or writes one; nothing if none is named."""
+    def ask(self, what: str, text: str = "", path: str = "") -> Answer:
+        """Looks at the second folder, reads the copy in it, or writes one; nothing if none is named. The
+        copy is that of the journal, or the file of this path."""
         if not self.path:
             return Answer()
         if self.is_busy() or time.monotonic() < self.failed_at + GIVE_UP:
@@ -55,7 +56,8 @@ class Second:
             self.close()
             return self.silence()
         try:
-            line.sendall(json.dumps({"what": what, "path": self.path, "text": text}).encode() + b"\n")
+            line.sendall(json.dumps({"what": what, "path": path or self.path, "text": text}).encode()
+                         + b"\n")
         except OSError:
             # It has ended. The next request starts another one.
             self.close()
@@ -136,6 +138,11 @@ def copy_of(folder: Folder) -> str:
     return os.path.join(folder.file(copy), f"{folder.name}-journal.txt") if copy else ""
 
 
+def places_copy_of(folder: Folder) -> str:
+    """The file of the copy of the places on a second disk."""
+    return os.path.join(folder.file(folder.settings.copy), f"{folder.name}-places")
+
+
 @contextlib.contextmanager
 def second_of(folder: Folder) -> Iterator[Second]:
     """The second folder for a short while."""
@@ -151,7 +158,7 @@ def second_of(folder: Folder) -> Iterator[Second]:
 def text_in(path: str) -> str:
     """What the copy holds; nothing if there is none."""
     try:
-        with open(path, encoding="ascii", errors="replace") as file:
+        with open(path, encoding="utf-8", errors="replace") as file:
             return file.read()
     except FileNotFoundError:
         return ""
@@ -160,10 +167,10 @@ def text_in(path: str) -> str:
 
 
 def save_to(path: str, text: str) -> None:
-    """Makes a file hold a journal that goes on where the file ends."""
+    """Makes a file hold a journal, or places, that go on where the file ends."""
     held = text_in(path)
     if not text.removeprefix(VERSION).startswith(held.removeprefix(VERSION)):
-        raise Trouble(f"{path} holds entries that the office doesn't have. It is left as it is")
+        raise Trouble(f"{path} holds lines that the office doesn't have. It is left as it is")
     if text != held:
         replace_whole(path, text.encode())
 

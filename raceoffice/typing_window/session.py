@@ -89,13 +89,12 @@ class Desk:
     def look_at_places(self) -> None:
         """Reads the places that are kept. If that can't be, those stay that were known."""
         try:
-            self.history, wrong = self.places.read(self.book.commands), ""
-            if faults := self.history.faults:
-                wrong = f"line {faults[0]} of office/places can't be read, and is left out"
+            self.history = self.places.read(self.book.commands)
+            wrong = self.history.fault
         except Trouble as trouble:
-            wrong = str(trouble)
+            wrong = f"{trouble}. A finisher without a sail may be missing."
         if self.once.is_new("places", wrong):
-            self.say(f"   Beware: {wrong}. A finisher without a sail may be missing.")
+            self.say(f"   Beware: {wrong}")
 
     @property
     def unread(self) -> Waiting:
