@@ -6,6 +6,7 @@ import unittest
 
 import helpers
 from raceoffice import wording
+from raceoffice.program import messages
 
 
 class Words(unittest.TestCase):
@@ -28,7 +29,7 @@ class Words(unittest.TestCase):
             journal = os.path.join(name, "journal.txt")
             with open(journal, "w", encoding="ascii") as file:
                 file.write("REGATTA 2\n1 1 SCORER ENTER A\n1 2 FINISH FINISH 1 B\n")
-            said = wording.start_fault("regatta: start refused 7 at 2\n", journal, "entries.csv")
+            said = messages.start_fault("regatta: start refused 7 at 2\n", journal, "entries.csv")
             self.assertEqual(said[0], "Line 3 of journal.txt is refused: a boat that is named isn't "
                              "entered. It is '1 2 FINISH FINISH 1 B'.")
             for fault, text in [
@@ -46,16 +47,16 @@ class Words(unittest.TestCase):
                     ("error: unexpected argument '--keep' found", "older than these tools"),
                     ("regatta: no memory", "The program says: regatta: no memory.")]:
                 for note in ("", "regatta: keep cut 3 bytes after line 3\n1 3\n"):
-                    said = wording.start_fault(f"{note}{fault}\n", journal, "entries.csv")
+                    said = messages.start_fault(f"{note}{fault}\n", journal, "entries.csv")
                     self.assertIn(text, said[0])
 
     def test_cut(self) -> None:
         """What was cut off is shown, with what it may have been."""
-        said = wording.cut_note("regatta: keep cut 12 bytes after line 3\n1 3 FINI??\nregatta: keep fault\n")
+        said = messages.cut_note("regatta: keep cut 12 bytes after line 3\n1 3 FINI??\nregatta: keep fault\n")
         self.assertEqual(said.splitlines()[0], "journal.txt ended in a torn line, as after a crash. What came "
                          "after line 3 was cut off, and is in journal.txt.cut now (12 bytes):")
         self.assertEqual(said.splitlines()[1], "   1 3 FINI??")
-        self.assertEqual(wording.cut_note("regatta: keep fault\n"), "")
+        self.assertEqual(messages.cut_note("regatta: keep fault\n"), "")
 
 
 if __name__ == "__main__":
