@@ -5,7 +5,7 @@ import os
 import re
 from collections.abc import Sequence
 
-from raceoffice.characters import UNSEEN
+from raceoffice.characters import replaced
 from raceoffice.program.journal import Change, Row, Score
 
 # What each number of a reply says. The guide's table has these words, and a check compares them.
@@ -84,7 +84,7 @@ def sign(letter: str) -> str:
 def on_one_line(text: str) -> str:
     """A text of a file or of a command as names are shown: on one line, without signs that aren't seen."""
     seen = "".join(letter for letter in " ".join(text.split()) if letter.isprintable())
-    return " ".join(UNSEEN.sub("", seen).split())
+    return " ".join(replaced(seen, lambda _: "").split())
 
 
 def refusal(answer: str) -> str:

@@ -24,7 +24,7 @@ import time
 
 from raceoffice.errors import Trouble
 from raceoffice.faults import WRITTEN, guarded, status_of, written
-from raceoffice.results.http import Board, addresses
+from raceoffice.results.http_answers import Board, addresses
 from raceoffice.results.publish import Files, Site, served
 from raceoffice.results.server import Listener
 from raceoffice.results.source import Source

@@ -17,7 +17,7 @@ import traceback
 from collections.abc import Callable, Iterator
 
 from raceoffice.errors import Trouble
-from raceoffice.results.http import LARGEST, Board, Request, answer, told
+from raceoffice.results.http_answers import LARGEST, Board, Request, answer, told
 
 # Seconds that a request may take, and as many again for its answer.
 PATIENCE = 5.0
