@@ -3,7 +3,7 @@ from __future__ import annotations
 
 from collections.abc import Sequence
 
-from raceoffice.characters import UNSEEN
+from raceoffice.characters import replaced
 
 TIMES = ["no", "one", "two", "three", "four"]
 SIGNS = {"/": "a slash", "\\": "a backslash", ".": "a dot", ",": "a comma", "_": "an underscore",
@@ -52,4 +52,4 @@ def sign(letter: str) -> str:
 def on_one_line(text: str) -> str:
     """A text of a file or of a command as names are shown: on one line, without signs that aren't seen."""
     seen = "".join(letter for letter in " ".join(text.split()) if letter.isprintable())
-    return " ".join(UNSEEN.sub("", seen).split())
+    return " ".join(replaced(seen, lambda _: "").split())

@@ -23,6 +23,13 @@ class Words(unittest.TestCase):
         self.assertEqual(wording.sign("\u200b"), "the invisible sign U+200B")
         self.assertEqual(wording.sign("é"), "the sign 'é'")
 
+    def test_names(self) -> None:
+        """What isn't seen, or lies over the lines around, is no part of a name."""
+        for text, name in [("Mo\u200bss\u202e", "Moss"), ("M\ua670oss", "Moss"), ("Mo\U0001d159ss", "Moss"),
+                           ("\u0e01" + "\u0e49" * 9, "\u0e01"), ("\u0e01\u0e34\u0e49", "\u0e01\u0e34\u0e49"),
+                           ("Zo\u0308e\u0301", "Zo\u0308e\u0301")]:
+            self.assertEqual(wording.on_one_line(text), name)
+
     def test_faults(self) -> None:
         """A fault of a file is shown with the line that is meant."""
         with helpers.folder() as name:
