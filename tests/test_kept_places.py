@@ -23,7 +23,7 @@ from test_unknown_finishers import dropped, kept
 
 # Signs and values that break readers.
 ODD = [b"\0", b"\n", b"\r", b"\xff", b'"', b"\\", b"{", b"}", b"[", b"]", b",", b"\xe2\x80\xa8", b"\x1b", b"1" * 5000]
-VALUES = [None, True, -1, 10 ** 400, 1.5, "", "?", "\x1b[2K", "\ud800", [], [1], ["A" * 99], {}, "x" * 5000, [[]] * 9]
+VALUES: list[object] = [None, True, -1, 10 ** 400, 1.5, "", "?", "\x1b[2K", "\ud800", [], [1], ["A" * 99], {}, "x" * 5000, [[]] * 9]
 
 
 class Files(helpers.Series):
@@ -149,10 +149,11 @@ class Files(helpers.Series):
         """A link is followed by neither reader nor writer, and nothing but a plain file is opened."""
         other = os.path.join(self.here, "other")
         self.write("precious", other)
-        for make, clear in [(lambda: os.symlink(other, self.path), os.remove),
-                            (lambda: os.symlink("/nowhere", self.path), os.remove),
-                            (lambda: os.mkfifo(self.path), os.remove),
-                            (lambda: os.mkdir(self.path), os.rmdir)]:
+        makes: list[tuple[Callable[[], object], Callable[[str], object]]] = [
+            (lambda: os.symlink(other, self.path), os.remove),
+            (lambda: os.symlink("/nowhere", self.path), os.remove),
+            (lambda: os.mkfifo(self.path), os.remove), (lambda: os.mkdir(self.path), os.rmdir)]
+        for make, clear in makes:
             make()
             self.assertRaisesRegex(Trouble, "office/places can't be read", self.places.read)
             self.assertRaisesRegex(NotSent, "can't be written: .*Write her down on paper", self.keep)

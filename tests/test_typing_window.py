@@ -447,6 +447,7 @@ Race 1 is taken away: 3 lines, all taken.
         desk = Desk(Folder(os.path.join(self.here, "cup")), "FINISH", "", self.said.append, lambda _: True)
         desk.connect()
         self.addCleanup(desk.disconnect)
+        assert desk.link
         ask = desk.link.ask
 
         def asked(line: str) -> str:
