@@ -163,6 +163,21 @@ class Files(helpers.Series):
             file.truncate(places.LARGEST + 1)
         self.assertRaisesRegex(Trouble, "has more than 4,194,304 bytes", self.places.read)
 
+    def test_largest(self) -> None:
+        """A file never grows beyond what is read of one, so that no place is lost by another."""
+        self.keep()
+        before = self.data()
+        self.put(before + b" " * (places.LARGEST - len(before) - 300) + b"\n")
+        self.assertEqual(self.keep(), "?2")
+        self.assertRaisesRegex(NotSent, "would have more than .*Write her down on paper", self.keep)
+        self.assertEqual(self.marks(), ["?1", "?2"])
+
+    def test_gone(self) -> None:
+        """A place that isn't noted any more, since somebody has removed the file, isn't kept again."""
+        self.keep()
+        os.remove(self.path)
+        self.assertRaisesRegex(NotSent, r"\?1 of race 1 isn't noted any more", self.places.keep_again, 1, "?1")
+
     def test_full(self) -> None:
         """On a full disk nothing is kept, and it is said; what was kept stays as it was."""
         self.keep()
