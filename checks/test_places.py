@@ -15,6 +15,7 @@ from unittest import mock
 
 import helpers
 import places
+from desk import Desk
 from folder import Folder
 from office import Trouble
 from places import History, Note, Places
@@ -177,6 +178,16 @@ class Files(helpers.Series):
         self.keep()
         os.remove(self.path)
         self.assertRaisesRegex(NotSent, r"\?1 of race 1 isn't noted any more", self.places.keep_again, 1, "?1")
+
+    def test_unreadable_just_then(self) -> None:
+        """Who was told that her place is kept doesn't keep it twice, though the file can't be read just then."""
+        said: list[str] = []
+        desk = Desk(self.folder, "FINISH", "Ann", said.append, bool)
+        with mock.patch.object(desk.places, "data", side_effect=Trouble("it can't be read")):
+            self.assertTrue(desk.keep_place(Race(1)))
+        self.assertIn("?1 keeps her place", said[-1])
+        self.assertRaisesRegex(NotSent, "office/places can't be read", desk.undo)
+        self.assertEqual(self.marks(), ["?1"])
 
     def test_full(self) -> None:
         """On a full disk nothing is kept, and it is said; what was kept stays as it was."""
