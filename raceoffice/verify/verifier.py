@@ -260,7 +260,7 @@ def outcome(verifier: Verifier, path: str) -> tuple[int, list[str]]:
 
 def verify(pages: Sequence[str], program: str) -> int:
     """Verifies pages and says what was found; the status."""
-    if not os.access(program, os.X_OK):
+    if not (os.path.dirname(program) and os.access(program, os.X_OK)):
         say(characters.plainly(f"There is no program at {program}: build it, or name one with --program."))
         return UNSURE
     verifier, found = Verifier(program), set()
