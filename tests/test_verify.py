@@ -207,7 +207,7 @@ class Pages(helpers.Series):
                 self.verifier.verified(text)
 
     def test_wrong_tools(self) -> None:
-        """If the tools themselves wrote a cell wrongly, and would do so again, the cell is named."""
+        """If the package itself wrote a cell wrongly, and would do so again, the cell is named."""
         right = overall.cell
         for was, now, why in [("3<i>.0", "4<i>.0", "(GBR 101 A. Moss)"), ("DNE", "DSQ", "(GBR 33 "),
                               ("<s>)", "<s>", "")]:
