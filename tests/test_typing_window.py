@@ -14,13 +14,14 @@ from raceoffice.errors import NotSent, Trouble
 from raceoffice.series.folder import Folder
 from raceoffice.series.kept_places import Note
 from raceoffice.typing_window.session import Session
+from raceoffice.typing_window.values import ANSWER, Outcome, Said
 from raceoffice.typing_window.watcher import News, Watcher
 
 
 class Client(helpers.Series):
     def setUp(self) -> None:
         super().setUp()
-        self.said: list[str] = []
+        self.said: list[Said] = []
 
     def typist(self, role: str = "finish", *more: str) -> helpers.Terminal:
         return self.client("cup", "--role", role, *more)
@@ -406,7 +407,7 @@ NO 8   Refused: she is in the finishing order of this race already
                     session.do(line)
                 self.assertLess(len(str(caught.exception)), 200)
         for line in (f"score {long}", f"unscore {long}"):
-            self.assertFalse(session.do(line))
+            self.assertFalse(session.do(line).is_taken)
         session.do(f"help {long}")
         for line in (f"FINISH {long} GBR7", f"SCORE {long}", f"ABANDON {long}"):
             said, status = helpers.run("type", "cup", "--role", "scorer", lines=line, cwd=self.here)
@@ -459,8 +460,9 @@ Race 1 is taken away: 3 lines, all taken.
                     scorer.ask("STRIKE 1 GBR7")
             return answer
         with mock.patch.object(session.link, "ask", asked):
-            self.assertTrue(session.do("finish 1 7"))
-        self.assertIn("OK 8   she is out of the order of race 1 again; 0 finished", self.said[-1])
+            self.assertEqual(session.do("finish 1 7"), Outcome(True, "FINISH 1 GBR7", 8))
+        self.assertEqual(self.said[-1], Said(
+            "OK 8   she is out of the order of race 1 again; 0 finished, 0 coded, 7 to come of 7", ANSWER))
 
     def test_abandon(self) -> None:
         self.open()

@@ -53,7 +53,7 @@ class Batch:
         try:
             plain = " ".join(line.upper().split())
             self.session.look()
-            return self.session.do(line) if plain == "SHOW" else self.session.send(plain)
+            return self.session.do(line).is_taken if plain == "SHOW" else self.session.send(plain)
         except Trouble as trouble:
             raise Trouble(f"{trouble}. Line {at} had no answer: look whether it is in the journal "
                           "before you send it again. The lines after it weren't sent") from None

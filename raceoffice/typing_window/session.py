@@ -1,5 +1,5 @@
 """The session of one class: it sends lines to an office, asks before one that can't be taken back, and
-says what each has done."""
+says what each has done. Whoever types there hears and is asked by values."""
 from __future__ import annotations
 
 import contextlib
@@ -29,6 +29,7 @@ from raceoffice.typing_window.facts import Facts
 from raceoffice.typing_window.parse import (FIRST, MAY, Reader, Unclear, boat_meant, boats_meant, digits_of,
                                             race_number, short)
 from raceoffice.typing_window.undo import reversal
+from raceoffice.typing_window.values import ANSWER, NOTE, REFUSAL, SHOWN, WARNING, Outcome, Question, Said
 from raceoffice.wording import count, joined
 
 
@@ -45,12 +46,12 @@ class Done:
 
 
 class Session:
-    """One class, one role. `say` shows a line; `ask` is asked a question, and in lines of a file
-    there is none."""
+    """One class, one role. `tell` is told what there is to show; `ask` is asked questions, and answers lines
+    of a file by yes."""
 
-    def __init__(self, folder: Folder, role: str, name: str, say: Callable[[str], None],
-                 ask: Callable[[str], bool]) -> None:
-        self.folder, self.role, self.name, self.say, self.ask = folder, role, name, say, ask
+    def __init__(self, folder: Folder, role: str, name: str, tell: Callable[[Said], object],
+                 ask: Callable[[Question], bool]) -> None:
+        self.folder, self.role, self.name, self.tell, self.ask = folder, role, name, tell, ask
         self.facts, self.places = Facts(folder), Places(folder, name or role.lower())
         self.history, self.once = History(), Once()
         self.done: Done | None = None
@@ -96,26 +97,45 @@ class Session:
         except Trouble as trouble:
             wrong = f"{trouble}. A finisher without a sail may be missing."
         if self.once.is_new("places", wrong):
-            self.say(f"   Beware: {wrong}")
+            self.say(f"   Beware: {wrong}", WARNING)
 
     @property
     def unread(self) -> Waiting:
         """The finishers whose sails aren't known."""
         return self.history.waiting
 
-    def say_all(self, lines: list[str]) -> None:
+    def say(self, text: str, kind: str = NOTE) -> None:
+        self.tell(Said(text, kind))
+
+    def say_all(self, lines: list[str], kind: str = NOTE) -> None:
         for line in lines:
-            self.say(line)
+            self.say(line, kind)
+
+    def is_yes(self, text: str) -> bool:
+        """Whether somebody says yes to a question about this class."""
+        return self.ask(Question(text, self.prefix))
 
     # What is typed
 
-    def do(self, typed: str) -> bool:
+    def do(self, typed: str) -> Outcome:
+        """Does what was typed; what became of it."""
+        before = self.done
+        return self.outcome_since(before, self.is_done(typed))
+
+    def outcome_since(self, before: Done | None, is_taken: bool) -> Outcome:
+        """What has been done since `before`."""
+        if self.done is None or self.done is before:
+            return Outcome(is_taken)
+        done = self.done
+        return Outcome(is_taken, done.line, done.number, done.unread.mark if done.unread else "")
+
+    def is_done(self, typed: str) -> bool:
         """Does what was typed; whether it was taken."""
         words, self.answered = typed.lower().split(), False
         if not words:
             return True
         if (shown := self.shown(words)) is not None:
-            self.say_all(shown)
+            self.say_all(shown, SHOWN)
             return True
         match words:
             case ["at", *number] if len(number) < 2:
@@ -171,7 +191,7 @@ class Session:
 
     def line(self, typed: str) -> str:
         """The program's line. Who typed digits sees which boat was meant."""
-        line = self.reader.line(typed, lambda text: self.ask(f"   {self.prefix}{text}"))
+        line = self.reader.line(typed, self.is_yes)
         for sail in line.split()[1:]:
             if digits := digits_of(sail, typed, self.facts.boats):
                 others = [boat for boat in self.facts.boats if boat.endswith(digits) and boat != sail]
@@ -219,13 +239,14 @@ class Session:
         if unread:
             self.note_answer(unread, line, answer)
         if not answer.startswith("OK "):
-            self.say(answer_line(self.facts, line, answer, self.prefix))
-            return not answer.startswith("NO ")
+            is_refused = answer.startswith("NO ")
+            self.say(answer_line(self.facts, line, answer, self.prefix), REFUSAL if is_refused else ANSWER)
+            return not is_refused
         number = int(answer.split()[1])
         self.done = Done(line, number, unread, time=time.monotonic())
         self.look_after(number, line)
         race = self.race_of(line)
-        self.say(f"OK {number}   {self.prefix}{outcome(self.facts, line, self.unread)}")
+        self.say(f"OK {number}   {self.prefix}{outcome(self.facts, line, self.unread)}", ANSWER)
         if line.startswith("UNSCORE "):
             self.say_all(change_lines(self.facts, before, None, number != length + 1))
         elif not line.startswith("SCORE ") and (race is None or race.counts):
@@ -251,10 +272,10 @@ class Session:
         race = self.race_of(line)
         unread: list[str] = []
         if command == "SCORE" and command in MAY[self.role] and race and not race.counts:
-            self.say_all(self.shown_race(race, True))
+            self.say_all(self.shown_race(race, True), SHOWN)
             unread = [f"{one.mark} (kept by {one.since})" for one in self.unread.of(race.number)]
         asked = questions(self.facts, self.role, line, unread)
-        return all(self.ask(f"   {self.prefix}{text}") for text in asked)
+        return all(self.is_yes(text) for text in asked)
 
     def race_of(self, line: str) -> Race | None:
         """The race that a line is about, if anything is recorded of it."""
@@ -284,7 +305,7 @@ class Session:
         try:
             self.look()
         except Trouble:
-            self.say(f"OK {number}   {self.prefix}{line}")
+            self.say(f"OK {number}   {self.prefix}{line}", ANSWER)
             raise
         self.seat = self.facts.sheet.journal[number - 1].split()[0]
 
@@ -292,7 +313,7 @@ class Session:
         try:
             self.folder.log(self.name, self.seat, self.role, line, answer)
         except Trouble as trouble:
-            self.say(f"   Beware: {trouble}.")
+            self.say(f"   Beware: {trouble}.", WARNING)
 
     # A race that is abandoned
 
@@ -307,8 +328,8 @@ class Session:
             self.say(f"{self.prefix}Nothing of race {race.number} has to be taken away.")
             return True
         first, *rest = plan_lines(self.facts, race, plan, kept)
-        self.say_all([self.prefix + first, *rest])
-        if not self.ask("   Send them?" if plan.lines else "   Drop the places?"):
+        self.say_all([self.prefix + first, *rest], SHOWN)
+        if not self.ask(Question("Send them?" if plan.lines else "Drop the places?")):
             self.say("   Not sent.")
             return False
         before, length = self.facts.standing, len(self.facts.sheet.journal)
@@ -349,10 +370,11 @@ class Session:
         """The sail of somebody who crossed the line, if that is what was typed."""
         return self.reader.crossed(typed) if self.may_keep else ""
 
-    def keep_crossed(self, sail: str) -> bool:
+    def keep_crossed(self, sail: str) -> Outcome:
         """Keeps the place of somebody whose class isn't clear."""
+        before = self.done
         self.look()
-        return self.keep_place(self.facts.race(str(self.at)), sail)
+        return self.outcome_since(before, self.keep_place(self.facts.race(str(self.at)), sail))
 
     def place_unread(self, mark: str, sail: list[str]) -> bool:
         """Keeps her place (`?`, `101?`), or sends her sail (`?1 GBR 33`); whether it was taken."""
@@ -395,8 +417,7 @@ class Session:
             return None
         for unread in self.unread.of(self.at or 0):
             is_like = unread.typed and (boats_meant([unread.typed], [sail]) or near(unread.typed, [sail]))
-            if is_like and self.ask(f"   {self.prefix}{unread.mark} keeps a place. Is she "
-                                    f"{self.facts.called(sail)}?"):
+            if is_like and self.is_yes(f"{unread.mark} keeps a place. Is she {self.facts.called(sail)}?"):
                 return unread
         return None
 
@@ -423,8 +444,8 @@ class Session:
 
     def may_send(self, line: str, last: str, meant: Unread) -> bool:
         """Whether a line may be sent for a place although another was, to which no answer came."""
-        return last.split()[2] == line.split()[2] or self.ask(
-            f"   {last} was sent for {meant.mark}, and no answer came. It isn't in the journal. Send this?")
+        return last.split()[2] == line.split()[2] or self.ask(Question(
+            f"{last} was sent for {meant.mark}, and no answer came. It isn't in the journal. Send this?"))
 
     def note_answer(self, unread: Unread, line: str, answer: str) -> None:
         """Notes the answer to a line for a place. If that fails, the journal has the line all the same."""
@@ -443,7 +464,8 @@ class Session:
         try:
             self.drop(waiting, why)
         except NotSent as fault:
-            self.say(f"   Beware: {fault}. Still kept: {joined([unread.mark for unread in waiting])}.")
+            kept = joined([unread.mark for unread in waiting])
+            self.say(f"   Beware: {fault}. Still kept: {kept}.", WARNING)
 
     # The last line
 
@@ -459,7 +481,7 @@ class Session:
         if self.facts.commands[done.number - 1:done.number] != [done.line]:
             raise NotSent(f"{done.line} isn't in the journal any more")
         line = reversal(self.facts, done.number)
-        if not self.ask(f"   {self.prefix}{done.line} is taken back by {line}. Send it?") or \
+        if not self.is_yes(f"{done.line} is taken back by {line}. Send it?") or \
                 not self.is_meant(line):
             self.say("   Not sent.")
             return False
@@ -477,7 +499,7 @@ class Session:
         of = f"{unread.mark} in race {unread.race}"
         if (what == "kept") != (unread.mark in self.unread.marks(unread.race)):
             raise NotSent(f"somebody has typed for {of} since")
-        if not self.ask(f"   {self.prefix}" + (f"Drop {of}?" if what == "kept" else f"Keep {of} again?")):
+        if not self.is_yes(f"Drop {of}?" if what == "kept" else f"Keep {of} again?"):
             self.say("   Not sent.")
             return False
         if what == "kept":

@@ -18,6 +18,7 @@ from raceoffice.terminal import question, say, sentence, visible
 from raceoffice.typing_window.classes import Unsure, choosing, session_meant, greeting
 from raceoffice.typing_window.parse import COMMANDS, FIRST
 from raceoffice.typing_window.session import Session
+from raceoffice.typing_window.values import Outcome, Question, Said
 from raceoffice.typing_window.watcher import AGAIN, LOOK, News, Watcher, has_no_seat
 from raceoffice.wording import count
 
@@ -30,7 +31,7 @@ class Window:
     """A prompt, and a session for each class."""
 
     def __init__(self, folders: list[Folder], role: str, name: str) -> None:
-        self.sessions = [Session(folder, role, name, say, self.ask) for folder in folders]
+        self.sessions = [Session(folder, role, name, show, self.ask) for folder in folders]
         self.watcher = Watcher(self.sessions)
         self.present: list[Presence] = []
         # The places that were kept in several classes for one finisher.
@@ -195,27 +196,28 @@ class Window:
             if known:
                 self.twins.remove(twins)
 
-    def do(self, session: Session, line: str, action: Callable[[Session, str], bool] = Session.do) -> str:
+    def do(self, session: Session, line: str,
+           action: Callable[[Session, str], Outcome] = Session.do) -> str:
         """Gives a line to the session that it is for; why the lines after it can't be sent, or nothing."""
         session.prefix = f"{session.folder.name}: " if self.several else ""
         if session.link is None:
             raise NotSent(f"the office of {session.folder.name} has gone. Write {line.upper()} down")
         try:
-            is_taken = action(session, line)
+            outcome = action(session, line)
             self.drop_twins()
             if self.several and line.strip().lower() == "help":
                 say(choosing(self.sessions))
-            return "" if is_taken else "since the line before it wasn't taken"
+            return "" if outcome.is_taken else "since the line before it wasn't taken"
         except Trouble as trouble:
             if not session.unanswered and not session.answered:
                 say(f"Not sent: {line}")
             self.lost(session, trouble)
             return "since the office was away"
 
-    def ask(self, text: str) -> bool:
+    def ask(self, asked: Question) -> bool:
         """Whether somebody says yes. What was typed before the question is no answer to it."""
         self.drop_typed("since a question came before it")
-        return question(visible(text))
+        return question(visible(f"   {asked.prefix}{asked.text}"))
 
     def is_agreed(self, lines: list[str]) -> bool:
         """Whether somebody agrees to a pasted list of bare sails, which are shown by their names."""
@@ -332,6 +334,11 @@ class Window:
         """Shows the lines that wait at the prompt already, and sends none of them."""
         if sys.stdin.isatty():
             not_sent(typed_already().splitlines(), why)
+
+
+def show(said: Said) -> None:
+    """Shows what a session says."""
+    say(said.text)
 
 
 def wait(seconds: float) -> None:

@@ -19,6 +19,7 @@ import helpers
 from raceoffice.errors import NotSent, Trouble
 from raceoffice.series.folder import Folder
 from raceoffice.typing_window.session import Session
+from raceoffice.typing_window.values import Said
 
 # What is typed, and between which lines the steps are counted.
 TYPED = ["101", "?", "12", "?1 33"]
@@ -176,9 +177,9 @@ class Kills(helpers.Series):
             if victim != "program":
                 os.kill(os.getpid(), signal.SIGKILL)
 
-        def say(text: str) -> None:
+        def say(said: Said) -> None:
             steps.take("say")
-            write(into, text.encode() + b"\n")
+            write(into, said.text.encode() + b"\n")
         steps = Steps(stop, kill, victim == "torn")
         try:
             with contextlib.ExitStack() as stack:
@@ -202,8 +203,8 @@ class Kills(helpers.Series):
 
     def look(self, said: str, race: int) -> None:
         """What the next window finds, and what it makes of it."""
-        lines: list[str] = []
-        session = Session(self.folder, "SCORER", "Eve", lines.append, lambda _: True)
+        told: list[Said] = []
+        session = Session(self.folder, "SCORER", "Eve", told.append, lambda _: True)
         session.connect()
         self.assertEqual(session.history.faults, [])
         is_in = ["GBR33"] in session.facts.race(str(race)).order
@@ -217,7 +218,7 @@ class Kills(helpers.Series):
             with contextlib.suppress(NotSent):
                 session.do(f"{mark} 33")
             session.look()
-        self.assertEqual(session.unread.all, (), lines)
+        self.assertEqual(session.unread.all, (), told)
         if (race, "?1") in session.history.kept:
             lines = [line for line in session.facts.commands if line.split()[1:3] == [str(race), "GBR33"]]
             self.assertEqual(len(lines), 1)
