@@ -7,12 +7,15 @@ import os
 import select
 import sys
 import textwrap
+import time
 import unicodedata
 
 from raceoffice.characters import code_of
 
 # Control signs, signs of direction and of no width, and ends of lines that an editor doesn't show.
 HIDDEN = {"Cc", "Cf", "Zl", "Zp"}
+# Clears the rest of a line.
+CLEARED = "\x1b[K"
 YES_OR_NO = "   Type y for yes, or n for no."
 ANSWERS = {"y": True, "yes": True, "n": False, "no": False}
 
@@ -159,6 +162,26 @@ def question(text: str, yes: bool = False) -> bool:
             return meant
         say(YES_OR_NO)
     return False
+
+
+class Progress:
+    """Shows on a terminal how far long work is, as `cup: R12 of 40`. Nothing is shown of what takes less than
+    two seconds."""
+
+    def __init__(self, name: str) -> None:
+        self.name, self.begun, self.is_shown = name, time.monotonic(), False
+
+    def __call__(self, done: int, whole: int) -> None:
+        if sys.stderr.isatty() and time.monotonic() > self.begun + 2.0:
+            self.is_shown = True
+            sys.stderr.write("\r" + visible(f"{self.name}: R{done} of {whole}") + CLEARED)
+            sys.stderr.flush()
+
+    def end(self) -> None:
+        """Takes away what was shown."""
+        if self.is_shown:
+            sys.stderr.write("\r" + CLEARED)
+            sys.stderr.flush()
 
 
 class Once:

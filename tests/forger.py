@@ -161,17 +161,18 @@ class Forger:
 @contextlib.contextmanager
 def remembered() -> Iterator[None]:
     """Replays of the same journal are run once: the program answers them always alike."""
-    plain = replay.printed
+    plain = {"printed": replay.printed, "watched": replay.watched}
     known: dict[object, list[str]] = {}
 
-    @functools.wraps(plain)
-    def printed(*asked: object) -> list[str]:
-        key = repr(asked)
+    def kept(name: str, *asked: object) -> list[str]:
+        key = repr((name, [value for value in asked if not callable(value)]))
         if key not in known:
-            known[key] = plain(*asked)  # type: ignore[arg-type]
+            known[key] = plain[name](*asked)  # type: ignore[operator]
         return list(known[key])
 
-    with unittest.mock.patch.object(replay, "printed", printed):
+    with contextlib.ExitStack() as stack:
+        for name in plain:
+            stack.enter_context(unittest.mock.patch.object(replay, name, functools.partial(kept, name)))
         yield
 
 

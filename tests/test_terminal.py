@@ -1,12 +1,13 @@
 """What a tool says is broken at spaces, as wide as the terminal; what is an answer to its questions."""
 from __future__ import annotations
 
+import io
 import os
 import unittest
 from unittest import mock
 
 import helpers
-from raceoffice.terminal import question, visible, wrapped
+from raceoffice.terminal import Progress, question, visible, wrapped
 
 
 class Prompt(unittest.TestCase):
@@ -62,6 +63,20 @@ class Shown(unittest.TestCase):
                             ("\u202eGBR\u200b 7", r"\u202eGBR\u200b 7"), ("a\x85b\u2028c", r"a\x85b\u2028c"),
                             ("J\u00fcrgen\u00a0S.\n\tx", "J\u00fcrgen\u00a0S.\n\tx")]:
             self.assertEqual(visible(text), shown)
+
+    def test_progress(self) -> None:
+        """How far work is comes after two seconds, on a terminal alone, and goes at the end."""
+        for terminal, later, wanted in [(True, 2.1, "\rcup: R2 of 40\x1b[K\r\x1b[K"), (True, 1.9, ""),
+                                        (False, 60.0, "")]:
+            error = io.StringIO()
+            with mock.patch("sys.stderr", error), mock.patch("time.monotonic", return_value=0.0) as now, \
+                    mock.patch.object(error, "isatty", return_value=terminal):
+                progress = Progress("cup")
+                progress(1, 40)
+                now.return_value = later
+                progress(2, 40)
+                progress.end()
+            self.assertEqual(error.getvalue(), wanted)
 
 
 if __name__ == "__main__":

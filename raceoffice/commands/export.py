@@ -28,7 +28,7 @@ from raceoffice.results.html.sealing import version_of
 from raceoffice.results.snapshot import View, as_json, csv_heads, csv_row, labels_of, results_value
 from raceoffice.results.source import Source
 from raceoffice.results.spreadsheet import Cell, csv_of
-from raceoffice.terminal import say, sentence, visible
+from raceoffice.terminal import Progress, say, sentence, visible
 from raceoffice.wording import count
 
 
@@ -49,8 +49,10 @@ def view_of(folder: str, tell: Callable[[str], None] = warn) -> View:
             tell(f"{source.name}: {sentence(text)}")
     view = source.view
     assert view is not None
-    course = developed(source.folder.program, view.settings.options(), view.journal,
-                       view.standing.races)
+    progress = Progress(source.name)
+    course = developed(source.folder.program, view.settings.options(), view.journal, view.standing.races,
+                       progress)
+    progress.end()
     return dataclasses.replace(view, course=course)
 
 

@@ -2,11 +2,15 @@
 they ask what the program would say."""
 from __future__ import annotations
 
+import contextlib
 import hashlib
+import itertools
 import os
 import re
+import signal
 import subprocess
-from collections.abc import Sequence
+import threading
+from collections.abc import Callable, Sequence
 from dataclasses import dataclass
 
 from raceoffice import system
@@ -41,6 +45,39 @@ def ran(program: str, words: list[str], typed: str = "", journal: bytes | None =
                                   pass_fds=numbers)
     except (OSError, subprocess.TimeoutExpired) as cause:
         raise not_run(program, cause) from cause
+
+
+def watched(program: str, words: list[str], typed: str, journal: bytes,
+            seen: Callable[[str], None]) -> list[str]:
+    """What a replay prints for a few lines, of which each is seen as soon as it comes."""
+    printed: list[str] = []
+    try:
+        with system.lent({"--journal": journal}) as (files, numbers), subprocess.Popen(
+                [program, "replay", *words, *files], stdin=subprocess.PIPE, stdout=subprocess.PIPE,
+                stderr=subprocess.PIPE, encoding="utf-8", errors="replace", pass_fds=numbers) as process:
+            assert process.stdin and process.stdout and process.stderr
+            alarm = threading.Timer(patience(journal), process.kill)
+            alarm.start()
+            try:
+                with contextlib.suppress(BrokenPipeError):
+                    process.stdin.write(typed)
+                    process.stdin.close()
+                for line in process.stdout:
+                    printed.append(line.removesuffix("\n"))
+                    seen(printed[-1])
+                said = process.stderr.read()
+            except BaseException:
+                process.kill()
+                raise
+            finally:
+                alarm.cancel()
+    except OSError as cause:
+        raise not_run(program, cause) from cause
+    if process.returncode == -signal.SIGKILL:
+        raise Trouble(f"the program at {program} can't be run: it does not end")
+    if process.returncode:
+        raise Trouble(f"the program says {said.strip() or 'nothing'}")
+    return printed
 
 
 def patience(journal: bytes | None) -> float:
@@ -93,9 +130,10 @@ def scored(program: str, options: list[str], journal: Sequence[str],
     return sheet_of(said[len(typed):])
 
 
-def developed(program: str, options: list[str], journal: Sequence[str],
-              races: Sequence[int]) -> tuple[Standing, ...]:
-    """The standing after each race, by the scores as they are now.
+def developed(program: str, options: list[str], journal: Sequence[str], races: Sequence[int],
+              tell: Callable[[int, int], None] = lambda done, all: None) -> tuple[Standing, ...]:
+    """The standing after each race, by the scores as they are now. `tell` hears how many are there, of how
+    many.
 
     The program is asked with the later races unscored. The journal's beginnings would give other
     standings: those of the moment, before a hearing or a late entry. The last of them would agree
@@ -103,7 +141,13 @@ def developed(program: str, options: list[str], journal: Sequence[str],
     the journal has no room for these lines.
     """
     typed = [line for race in reversed(races) for line in ("SHOW", f"UNSCORE {race}")]
-    said = printed(program, options, "\n".join([*typed, "QUIT", ""]), bytes_of(journal))
+    shown = itertools.count(1)
+
+    def see(line: str) -> None:
+        if line.startswith("JOURNAL "):
+            tell(next(shown), len(races))
+
+    said = watched(program, options, "\n".join([*typed, "QUIT", ""]), bytes_of(journal), see)
     found = []
     while said and said[0].startswith("JOURNAL "):
         sheet, end = sheet_of(said), said.index("END")

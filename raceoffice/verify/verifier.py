@@ -24,7 +24,7 @@ from raceoffice.results.html.race import one_race
 from raceoffice.results.html.sealing import Carried, seal_words
 from raceoffice.results.snapshot import View, labelled
 from raceoffice.series.settings import Settings, rows_of
-from raceoffice.terminal import say, say_json, sentence
+from raceoffice.terminal import Progress, say, say_json, sentence
 from raceoffice.verify import read_block
 from raceoffice.verify.read_block import Kept, found_in, moment_of, wrong_confirmation
 from raceoffice.verify.visible import difference, first_of, place, seen, standing_of
@@ -84,12 +84,21 @@ class Verifier:
         found = self.decided(options, journal, text)
         is_excluded = any(score.excluded for row in standing.rows for score in row.scores)
         totals = nets_before_exclusion(self.program, options, journal) if is_excluded else {}
-        course = developed(self.program, options, journal, standing.races) if with_course else ()
+        course = self.course(carried.name, options, journal, standing) if with_course else ()
         changed = moment_of(carried.stamp.changed)
         assert changed is not None
         return View(carried.name, shown, labelled(standing, found.labels),
                     Series.read(list(sheet.journal)), carried.names(), totals, changed, None,
                     carried.journal, found, carried.program, course, carried.stamp.when)
+
+    def course(self, name: str, options: list[str], journal: list[str],
+               standing: Standing) -> tuple[Standing, ...]:
+        """The standing after each race."""
+        progress = Progress(characters.shortly(name))
+        try:
+            return developed(self.program, options, journal, standing.races, progress)
+        finally:
+            progress.end()
 
     def decided(self, options: list[str], journal: list[str], text: str) -> Decided:
         """What the decisions come to. If the program can't be run, nothing can be said of them."""

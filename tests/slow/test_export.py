@@ -196,7 +196,10 @@ class Results(Made):
         folder = self.make("long", entries, exclude="2,4")
         lines = season(5, 3)
         journal = journal_of(folder, *lines).splitlines()[1:]
-        found = replay.developed(helpers.PROGRAM, ["--exclude", "2,4"], journal, range(1, 6))
+        told: list[tuple[int, int]] = []
+        found = replay.developed(helpers.PROGRAM, ["--exclude", "2,4"], journal, range(1, 6),
+                                 lambda done, whole: told.append((done, whole)))
+        self.assertEqual(told, [(race, 5) for race in range(1, 6)])
         self.assertEqual(len(found), 5)
         for race in range(1, 6):
             later = [f"SCORE {number}" for number in range(race + 1, 6)]
