@@ -78,9 +78,9 @@ class Series:
         """Her last code, number of penalties and last redress, of those after the last Clear."""
         if (race, boat) not in self.kept:
             hers = [(words[0], *words[3:]) for words in self.acts(race) if words[2:3] == (boat,)]
-            while ("Clear",) in hers:
-                hers = hers[hers.index(("Clear",)) + 1:]
-            last = dict(words for words in hers if words[0] in ("Mark", "Redress"))
+            clears = [at for at, words in enumerate(hers) if words[0] == "Clear"]
+            hers = hers[clears[-1] + 1:] if clears else hers
+            last = {words[0]: words[1] for words in hers if words[0] in ("Mark", "Redress")}
             self.kept[race, boat] = Held(last.get("Mark"), hers.count(("Penalise", "Zfp")),
                                          hers.count(("Penalise", "Scp")), last.get("Redress"))
         return self.kept[race, boat]

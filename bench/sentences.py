@@ -1,7 +1,7 @@
 #!/usr/bin/env python3
 """Tells mutated sentences of Appendix A from the right ones, by examples that are worked by hand.
 
-    bench/sentences.py [--examples]
+    bench/sentences.py
 
 A mutant is the sentences of `appendix_a.py` without one of them, or with an edit in one. An example
 tells it if the mutant refuses the table that is worked by hand, or accepts a neighbour of it: a score
@@ -12,15 +12,15 @@ Each mutant is printed with the example that tells it, and `N mutants, N told, M
 The status is 1 if one isn't told. It is 1, too, if the names, comments or text of the fields in
 `AppendixA.antt` aren't those that the functions were written from, if the right sentences refuse a
 table that is worked by hand or accept a neighbour of it, or if an edit that is said to change no
-meaning is told. With --examples the last lines say how many mutants each example tells.
+meaning is told.
 """
 from __future__ import annotations
 
-import argparse
 import hashlib
 import inspect
 import re
 import sys
+from collections.abc import Iterator
 from typing import Any, NamedTuple
 
 import appendix_a
@@ -28,7 +28,7 @@ from appendix_a import Order, Series, Table, Work
 from worked import SPECS, Example, neighbours, worked_cases
 
 # What the functions were written from: AppendixA.antt without imports, comments and spaces.
-WRITTEN_FROM = "?"
+WRITTEN_FROM = "24c52f61d182b9e9"
 
 # The fields, in order: of a race, of a boat's scores in it, of a cell, of a row, of a table.
 ORDERS = "a3_finish a3_time".split()
@@ -134,9 +134,12 @@ MUTANTS = [Edit(field) for field in FIELDS] + [Edit(*line) for line in (
     ("is_average", "of_none and of_some", "of_none"),
     ("is_average", "0 < len(scores)", "1 < len(scores)"),
     ("is_average", "0 == len(scores)", "1 >= len(scores)"),
+    ("is_average", "0 == len(scores)", "0 > len(scores)"),
     ("is_nearest", "not_above and not_below", "not_below"),
     ("is_nearest", "not_above and not_below", "not_above"),
     ("is_nearest", "<=", "<"),
+    ("is_nearest", "<=", ">="),
+    ("is_nearest", "2 * total <", "2 * total >"),
     ("is_nearest", "2 * total <", "2 * total <="),
     ("is_nearest", "2 * total + parts", "2 * total"),
     ("is_nearest", "nearest + parts", "nearest"),
@@ -165,6 +168,7 @@ MUTANTS = [Edit(field) for field in FIELDS] + [Edit(*line) for line in (
     ("total", "==", ">="),
     # A8
     ("wins", "return a.net < b.net", "return a.net > b.net"),
+    ("wins", "return a.net < b.net", "return a.net <= b.net"),
     ("wins", "return a.net < b.net", "return False"),
     ("wins", "sorted(hers), sorted(other)", "sorted(other), sorted(hers)"),
     ("wins", "sorted(hers), sorted(other)", "sorted(hers)[::-1], sorted(other)[::-1]"),
@@ -182,6 +186,7 @@ MUTANTS = [Edit(field) for field in FIELDS] + [Edit(*line) for line in (
     ("wins", "cell_points(a.cells)[::-1], cell_points(b.cells)[::-1]",
      "counting_points(a.cells)[::-1], counting_points(b.cells)[::-1]"),
     ("is_lower_at_first", "hers[at] < other[at]", "hers[at] > other[at]"),
+    ("is_lower_at_first", "hers[at] < other[at]", "hers[at] <= other[at]"),
     ("is_lower_at_first", "hers[:at] == other[:at] and ", ""),
     ("a8", "==", "<="),
     ("a8", "==", ">="),
@@ -201,6 +206,7 @@ MUTANTS = [Edit(field) for field in FIELDS] + [Edit(*line) for line in (
      "len({b.rank for b in table.rows if b.rank < a.rank})"),
     ("tied", "1 < sum", "0 < sum"),
     ("tied", "1 < sum", "2 < sum"),
+    ("tied", "1 < sum", "1 > sum"),
     ("tied", "a.tied ==", "a.tied <="),
     ("tied", "a.tied ==", "a.tied >="),
     ("comes_first", "(a.rank, a.sail) <=", "(a.rank, a.sail) >="),
@@ -212,9 +218,9 @@ MUTANTS = [Edit(field) for field in FIELDS] + [Edit(*line) for line in (
 # Edits that change no meaning, each with the reason.
 SAME_MEANING = [
     (Edit("a9_a", "other != w.race", "True"),
-     "in this race she has an average, and those are left out"),
+     "she has an average in this race, and own_points leaves out races in which she has one"),
     (Edit("a9_b", "other < w.race", "other <= w.race"),
-     "in this race she has an average, and those are left out"),
+     "she has an average in this race, and own_points leaves out races in which she has one"),
     (Edit("is_by_times", "s < t", "s <= t"),
      "a time that comes twice places its boats twice, and no score is that of two places"),
     (Edit("penalties", "not w.base <", "not w.base <="),
@@ -235,16 +241,16 @@ def code_of(function: str) -> tuple[str, str]:
     return text[:end], text[end:]
 
 
-def edited(edit: Edit) -> Sentences:
-    """The sentences with the edit."""
+def edited(edit: Edit | None = None) -> Sentences:
+    """The sentences with the edit, if there is one."""
     text = inspect.getsource(appendix_a)
-    if edit.old:
+    if edit and edit.old:
         head, code = code_of(edit.function)
         assert code.count(edit.old) == 1, f"not one place: {edit}"
         text = text.replace(head + code, head + code.replace(edit.old, edit.new))
     sentences: Sentences = {"__name__": "mutant"}
     exec(compile(text, "mutant", "exec"), sentences)
-    if edit.function and not edit.old:
+    if edit and not edit.old:
         sentences[edit.function] = lambda *_: True
     return sentences
 
@@ -252,7 +258,7 @@ def edited(edit: Edit) -> Sentences:
 # ---- which tables fit
 
 def orders_of(s: Series, race: int) -> list[Order]:
-    """The orders that a sentence of a race, right or wrong, may ask for."""
+    """The orders that a sentence, right or mutated, may ask for."""
     times = s.times(race)
     by_time = [[b for b, t in times if t == second] for second in sorted({t for _, t in times})]
     found: list[Order] = [[]]
@@ -280,17 +286,17 @@ class Fitting:
     def works_of(self, race: int) -> list[Work]:
         """The workings of a race that fit, without the scores of boats."""
         if race not in self.works:
-            most = len(self.s.entered) + 4
+            most = range(len(self.s.entered) + 4)
             ordered = [w for order in orders_of(self.s, race)
                        if self.hold(ORDERS, w := Work(race, order))]
-            with_dnf = [v for w in ordered for dnf in range(most)
+            with_dnf = [v for w in ordered for dnf in most
                         if self.hold(DNF_SCORES, v := w._replace(dnf=dnf))]
-            self.works[race] = [v for w in with_dnf for twenty in range(most)
+            self.works[race] = [v for w in with_dnf for twenty in most
                                 if self.hold(TWENTIES, v := w._replace(twenty_percent=twenty))]
         return self.works[race]
 
     def scores_of(self, race: int, at: int, boat: str) -> list[Work]:
-        """The same with the scores of a boat that fit, for the working of the race at this place."""
+        """The working of the race at this place with each scores of the boat that fit."""
         key = race, at, boat
         if key not in self.scores:
             points = range(10 * (len(self.s.entered) + 4))
@@ -300,23 +306,38 @@ class Fitting:
                                 if self.hold(PLAINS, v := w._replace(plain=plain), boat)]
         return self.scores[key]
 
-    def has_working(self, race: int, table: Table) -> bool:
-        """Whether there is a working of the race by which the cells of all boats fit."""
-        rows = [(row, [cell for r, cell in zip(self.s.scored, row.cells) if r == race])
-                for row in table.rows]
-        others = set(self.s.entered) - {row.sail for row in table.rows}
-        return any(
-            all(any(all(self.hold(CELLS, w, row, cell) for cell in cells)
-                    for w in self.scores_of(race, at, row.sail)) for row, cells in rows)
-            and all(self.scores_of(race, at, boat) for boat in others)
-            for at in range(len(self.works_of(race))))
+    def boat_fits(self, race: int, at: int, boat: str, table: Table) -> bool:
+        """Whether by this working her cells fit, if she has any."""
+        cells = [(row, cell) for row in table.rows if row.sail == boat
+                 for number, cell in zip(self.s.scored, row.cells) if number == race]
+        return any(all(self.hold(CELLS, w, row, cell) for row, cell in cells)
+                   for w in self.scores_of(race, at, boat))
+
+    def race_fits(self, race: int, table: Table) -> bool:
+        """Whether there is a working by which the cells of all boats fit."""
+        boats = {*self.s.entered, *(row.sail for row in table.rows)}
+        return any(all(self.boat_fits(race, at, boat, table) for boat in boats)
+                   for at in range(len(self.works_of(race))))
 
     def fits(self, table: Table) -> bool:
         return (self.hold(TABLES, table) and all(self.hold(ROWS, row) for row in table.rows)
-                and all(self.has_working(race, table) for race in self.races))
+                and all(self.race_fits(race, table) for race in self.races))
 
 
 # ---- the run
+
+Tables = dict[str, list[tuple[str, Table]]]
+
+
+def telling(sentences: Sentences, examples: list[Example], others: Tables) -> Iterator[str]:
+    """What the sentences say otherwise than the examples."""
+    for example in examples:
+        fitting = Fitting(sentences, example.series)
+        if not fitting.fits(example.by_hand):
+            yield f"refuses {example.name}"
+        yield from (f"accepts {example.name} with {text}"
+                    for text, other in others[example.name] if fitting.fits(other))
+
 
 def sentences_in_specs() -> tuple[dict[str, str], str]:
     """The fields of AppendixA.antt that have a comment, with it, and a digest of its text."""
@@ -330,15 +351,37 @@ def sentences_in_specs() -> tuple[dict[str, str], str]:
 def drift() -> Iterator[str]:
     """What differs between the functions and the fields that they were written from."""
     comments, digest = sentences_in_specs()
-    if list(comments) != FIELDS_IN_ORDER:
+    if list(comments) != FIELDS:
         yield f"the fields of AppendixA.antt are {' '.join(comments)}"
-    for name in set(comments) & set(FIELDS):
+    functions = [name for name in vars(appendix_a) if name in FIELDS]
+    if functions != FIELDS:
+        yield f"the functions of appendix_a.py are {' '.join(functions)}"
+    for name in functions:
         documented = " ".join((inspect.getdoc(getattr(appendix_a, name)) or "").split())
-        if documented != comments[name]:
-            yield f"{name} reads: {comments[name]}"
+        if documented != comments.get(name):
+            yield f"the comment of {name} is {comments.get(name)}"
     if digest != WRITTEN_FROM:
-        yield f"AppendixA.antt has changed; compare each function with it, then set WRITTEN_FROM to {digest}"
+        yield f"AppendixA.antt has changed: compare the functions with it, then WRITTEN_FROM = {digest}"
 
 
 def main() -> int:
-    pass
+    examples = worked_cases()
+    others = {example.name: neighbours(example) for example in examples}
+    faults = list(drift())
+    faults += [f"the right sentences: {what}" for what in telling(edited(), examples, others)]
+    for edit, reason in SAME_MEANING:
+        what = next(telling(edited(edit), examples, others), "")
+        faults += [f"{edit}: {what}"] if what else []
+        print(f"{edit}: no other meaning, since {reason}")
+    untold = 0
+    for mutant in MUTANTS:
+        what = next(telling(edited(mutant), examples, others), "NOT TOLD")
+        untold += what == "NOT TOLD"
+        print(f"{mutant}: {what}", flush=True)
+    print("".join(f"{fault}\n" for fault in faults), end="")
+    print(f"{len(MUTANTS)} mutants, {len(MUTANTS) - untold} told, {untold} not told")
+    return 1 if faults or untold else 0
+
+
+if __name__ == "__main__":
+    sys.exit(main())
