@@ -4,9 +4,9 @@
     bench/sentences.py
 
 A mutant is the sentences of `appendix_a.py` without one of them, or with an edit in one. An example
-tells it if the mutant refuses the table that is worked by hand, or accepts a neighbour of it: a score
+tells it apart if it refuses the table that is worked by hand, or accepts a neighbour of it: a score
 changed, two scores exchanged, another exclusion, a tie made or broken, and so on. The examples are the
-worked cases of `specs/`, which are proved, and a few that stand here.
+worked cases of `specs/`, which are proved, and three of `worked.py`.
 
 Each mutant is printed with the example that tells it, and `N mutants, N told, M not told` at the end.
 The status is 1 if one isn't told. It is 1, too, if the names, comments or text of the fields in
@@ -209,7 +209,7 @@ MUTANTS = [Edit(field) for field in FIELDS] + [Edit(*line) for line in (
     ("tied", "1 < sum", "1 > sum"),
     ("tied", "a.tied ==", "a.tied <="),
     ("tied", "a.tied ==", "a.tied >="),
-    ("comes_first", "(a.rank, a.sail) <=", "(a.rank, a.sail) >="),
+    ("comes_first", "<=", ">="),
     ("comes_first", "(a.rank, a.sail) <= (b.rank, b.sail)", "(a.sail, a.rank) <= (b.sail, b.rank)"),
     ("comes_first", "(a.rank, a.sail) <= (b.rank, b.sail)", "(a.rank, b.sail) <= (b.rank, a.sail)"),
     ("comes_first", "(a.rank, a.sail) <= (b.rank, b.sail)", "a.rank <= b.rank"),
@@ -222,7 +222,8 @@ SAME_MEANING = [
     (Edit("a9_b", "other < w.race", "other <= w.race"),
      "she has an average in this race, and own_points leaves out races in which she has one"),
     (Edit("is_by_times", "s < t", "s <= t"),
-     "a time that comes twice places its boats twice, and no score is that of two places"),
+     "a time that comes twice gives its boats two places, and no score is that of both; boats with "
+     "a code take none"),
     (Edit("penalties", "not w.base <", "not w.base <="),
      "at the DNF score the cap leaves a score as it is"),
     (Edit("worst", "race < other", "race <= other"),

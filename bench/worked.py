@@ -170,7 +170,7 @@ def totalled(row: Row, cells: list[Cell]) -> Row:
 
 
 def rescored(s: Series, row: Row, race: int, cell: Cell) -> Row:
-    """The row with another cell, and the worst cells excluded anew."""
+    """The row with another cell, and the worst cells excluded again."""
     cells = replaced(row.cells, race, cell)
     free = [at for at, number in enumerate(s.scored) if s.held(number, row.sail).code != "Dne"]
     worst = sorted(free, key=lambda at: (-cells[at].points, at))
@@ -179,7 +179,7 @@ def rescored(s: Series, row: Row, race: int, cell: Cell) -> Row:
 
 
 def ranked(table: Table, rows: list[Row]) -> Table:
-    """A table of these rows, ranked anew."""
+    """A table of these rows, ranked again."""
     rows = [row._replace(rank=1 + sum(wins(other, row) for other in rows)) for row in rows]
     ranks = [row.rank for row in rows]
     rows = [row._replace(tied=ranks.count(row.rank) > 1) for row in rows]
