@@ -10,7 +10,6 @@ mod opening;
 mod pass;
 mod receipt;
 mod sheet;
-mod sources;
 mod told;
 
 pub use answers::{Next, answer_alone};

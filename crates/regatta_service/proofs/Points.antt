@@ -7,7 +7,7 @@ use Rattle.regatta_terms.specs.declared.command.Role.{Role}
 use Rattle.regatta_terms.specs.declared.line.Line.TheVariants.{Do, SetRole, Rank, Show, Quit}
 use Rattle.regatta_scores.specs.Journal.{Journal}
 use Rattle.regatta_streams.proofs.KnownBytes.{keeps-appends, keeps-same, keeps-then}
-use Rattle.regatta_desk.specs.Passes.{PassValue, with_source}
+use Rattle.regatta_desk.specs.Passes.{PassValue, with_told}
 use Rattle.regatta_desk.specs.Replies.{DeskReplies}
 use Rattle.regatta_talk.specs.Replies.{role_after}
 use Rattle.regatta_service.specs.Lines.{Answers}
@@ -93,7 +93,7 @@ desk_seat : (rules : RulesParts) (asked : Asked) (role : Role) (before after : P
     → after.seat ≡ before.seat
 desk_seat rules (Ok (Do command)) role before after old new made_from u = by u.replied
   where
-    by : DeskReplies rules (Do command) role u.found u.left (with_source before u.found.entries)
+    by : DeskReplies rules (Do command) role u.found u.left (with_told before u.found.entries)
         after u.reply
         → after.seat ≡ before.seat
     by (inl ran) = ap (λ (p : PassValue). p.seat) ran.pass

@@ -16,14 +16,14 @@ use Rattle.regatta_talk.specs.Replies.{role_after}
 use Rattle.regatta_scores.specs.Journal.{Journal}
 use Rattle.regatta_keeper.specs.Sealing.{IsNoted, Needs}
 use Rattle.regatta_desk.specs.Desks.{DeskValue}
-use Rattle.regatta_desk.specs.Passes.{PassValue, with_source}
+use Rattle.regatta_desk.specs.Passes.{PassValue, with_told}
 use Rattle.regatta_desk.specs.Replies.{DeskReplies, PassReplies}
 use Rattle.regatta_service.specs.declared.sessions.End.{End}
 
 -- a line that a desk answered for a pass in this role: the desk did what the line asks, and its reply
--- is appended. The journal that the desk had is lawful, is noted as the source of the answer, and
--- begins with the journal that the pass has seen, with each that it was told of, and with those that
--- its earlier answers came from. The desk then has the journal `made_from`
+-- is appended. The journal that the desk had is lawful, and begins with the journal that the pass has
+-- seen and with each that it was told of; the pass was told of it before the answer. The desk then has
+-- the journal `made_from`
 pub record DeskAnswers (rules : RulesParts) (line : Line) (role : Role) (before after : PassValue)
     (old new : List ℕ) (made_from : Journal) : Type 0 where
   pub found : DeskValue
@@ -32,8 +32,7 @@ pub record DeskAnswers (rules : RulesParts) (line : Line) (role : Role) (before 
   pub lawful : is_lawful limits rules found.entries ≡ true
   pub seen : IsPrefix before.seen found.entries
   pub told : All (λ j. IsPrefix j found.entries) before.told
-  pub sources : All (λ j. IsPrefix j found.entries) before.sources
-  pub replied : DeskReplies rules line role found left (with_source before found.entries) after reply
+  pub replied : DeskReplies rules line role found left (with_told before found.entries) after reply
   pub text : new ≡ old ++ reply_text reply
   pub made : left.entries ≡ made_from
 

@@ -77,7 +77,7 @@ struct Talk<'a, N: OfficeName, H: Wait + Drop, C, G: Gate> {
 }
 
 impl<N: OfficeName, H: Wait + Drop, C: Covers<N>, G: Gate> Talk<'_, N, H, C, G> {
-    /// Takes the lock and has the desk answer a line, in the session's role. The pass notes the
+    /// Takes the lock and has the desk answer a line, in the session's role. The pass is told of the
     /// journal that the answer comes from.
     ///
     /// Nothing is done, and the result is false, if the desk's journal doesn't begin with the one
@@ -95,12 +95,10 @@ impl<N: OfficeName, H: Wait + Drop, C: Covers<N>, G: Gate> Talk<'_, N, H, C, G> 
     {
         let mut guard = self.office.desk(rt);
         let desk = &mut *guard;
-        // Called for its contract: the journal is lawful.
-        let _ = desk.board();
         if !desk.confirm(pass) {
             return false;
         }
-        desk.note_source(pass);
+        desk.tell(pass);
         self.reply.answer(rt, desk, pass, self.role, line, covers);
         true
     }
