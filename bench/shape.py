@@ -6,7 +6,7 @@ and the size of each crate.
     bench/shape.py CRATE ..    contracts and sizes of these crates
 
 Run it from the repository's root. PATH lists the calls that one `FINISH 3 GBR7` makes, from the socket
-to the disk and back (`serve --keep`). A call that decides stands there as often as it is made, any
+to the disk and back (`serve --keep`). A call that decides is there as often as it is made, any
 other once. Whoever changes these calls changes the list with them: a name that the script can't find
 stops it.
 

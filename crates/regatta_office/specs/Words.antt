@@ -77,7 +77,7 @@ abbrev pub serve : App
 serve = with_rule (with_seats (with_start (with_rules (new_app (codes "serve")))))
     (option (codes "keep"))
 
--- the program has no option of its own but for its help and its version, and needs a subcommand
+-- the program has no option of its own besides its help and its version, and needs a subcommand
 abbrev pub bare_program : App
 bare_program =
     let app = new_app (codes "regatta") in

@@ -19,7 +19,6 @@ ghost use Rattle.regatta_office.specs.Words.{with_start as with_start_of};
 
 use crate::form::Form;
 use clap::builder::ValueParser;
-use clap::error::ErrorKind;
 use clap::{Arg, ArgAction, ArgMatches, Command, Error};
 use regatta_terms::MAX_SEATS;
 use regatta_version::VERSION;

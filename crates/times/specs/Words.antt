@@ -49,7 +49,7 @@ lines = with_rules (with_race (new_app (codes "lines")))
 abbrev pub sums : App
 sums = with_rules (with_race (new_app (codes "sums")))
 
--- the program has no option of its own but for its help and its version, and needs a subcommand
+-- the program has no option of its own besides its help and its version, and needs a subcommand
 abbrev pub bare_program : App
 bare_program =
     let app = new_app (codes "times") in

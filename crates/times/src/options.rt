@@ -10,7 +10,6 @@ ghost use Rattle.times.specs.Words.{option as option_of, option_or as option_or_
 ghost use Rattle.times.specs.Words.{lines as lines_of, sums as sums_of, times as times_of};
 ghost use Rattle.times.specs.Words.{with_race as with_race_of, with_rules as with_rules_of};
 
-use clap::error::ErrorKind;
 use clap::{Arg, ArgAction, ArgMatches, Command, Error};
 use regatta_version::VERSION;
 use std::alloc::{AllocError, Global};
