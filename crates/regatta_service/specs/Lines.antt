@@ -15,6 +15,7 @@ use Rattle.regatta_streams.specs.Texts.{AppendsPrefix}
 use Rattle.regatta_talk.specs.Replies.{role_after}
 use Rattle.regatta_scores.specs.Journal.{Journal}
 use Rattle.regatta_keeper.specs.Sealing.{IsNoted, Needs}
+use Rattle.regatta_keeper.specs.declared.need.Need.{Need}
 use Rattle.regatta_desk.specs.Desks.{DeskValue}
 use Rattle.regatta_desk.specs.Passes.{PassValue, with_source}
 use Rattle.regatta_desk.specs.Replies.{DeskReplies, PassReplies}
@@ -57,9 +58,9 @@ Answers rules (Err fault) role before after old new made_from =
 
 -- a line that was answered, and a reply with this text and this need: if there is a book of what is
 -- kept, the need begins with the journal that the answer was made from
-pub record Prepared (rules : RulesParts) (asked : Result Line LineFault) (role : Role)
-    (before after : PassValue) (text : List ℕ) (need : Option Journal)
-    (book : Option (List Journal)) : Type 0 where
+pub record Prepared {N : Type 0} (rules : RulesParts) (asked : Result Line LineFault) (role : Role)
+    (before after : PassValue) (text : List ℕ) (need : Need N) (book : Option (List Journal))
+    : Type 0 where
   pub made_from : Journal
   pub answered : Answers rules asked role before after [] text made_from
   pub needs : Needs book need made_from
@@ -85,7 +86,7 @@ pub record Replied (rules : RulesParts) (asked : Result Line LineFault) (role la
   pub made_from : Journal
   pub answered : Answers rules asked role before after [] text made_from
   pub role_set : later ≡ role_after asked role
-  pub kept : IsNoted (Some made_from) book noted
+  pub kept : IsNoted (IsPrefix made_from) book noted
   pub wrote : Appends old new text
 
 -- a line that was answered so, where a write failed: a beginning of its reply was written, and not
@@ -97,7 +98,7 @@ pub record CutOff (rules : RulesParts) (asked : Result Line LineFault) (role lat
   pub made_from : Journal
   pub answered : Answers rules asked role before after [] text made_from
   pub role_set : later ≡ role_after asked role
-  pub kept : IsNoted (Some made_from) book noted
+  pub kept : IsNoted (IsPrefix made_from) book noted
   pub wrote : AppendsPrefix old new text
 
 -- a line that was answered so, whose reply stays sealed
