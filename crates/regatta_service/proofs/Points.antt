@@ -1,5 +1,5 @@
 -- Lines that were answered one after another, and what stays between them.
-use Rattle.std.proofs.Common.{◌≡◌, ◌∷◌, ◌++◌, ◌∙◌, [], ℕ, List, Option, Some, Ok, Err, refl}
+use Rattle.std.proofs.Common.{◌≡◌, ◌∷◌, ◌++◌, ◌∙◌, [], ℕ, List, Option, Ok, Err, refl}
 use Rattle.std.proofs.Common.{ap, inl, inr, subst, sym}
 use mathlib.Core.List.{IsPrefix}
 use Rattle.std.specs.Io.KnownBytes.{Keeps}

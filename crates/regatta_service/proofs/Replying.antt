@@ -11,7 +11,7 @@ use Rattle.regatta_desk.specs.Passes.{PassValue}
 use Rattle.regatta_keeper.specs.Sealing.{IsMet, IsNoted, Needs}
 use Rattle.regatta_keeper.specs.declared.need.Need.{Need}
 use Rattle.regatta_keeper.specs.declared.need.Need.TheVariants.{Nothing, UpTo, Lost}
-use Rattle.regatta_service.specs.Lines.{CutOff, Prepared, Replied}
+use Rattle.regatta_service.specs.Lines.{CutOff, Prepared, Replied, Unsaid}
 use Rattle.regatta_service.specs.LinesTaken.{Asked}
 
 prefix_then : (a b c : Journal) → IsPrefix a b → IsPrefix b c → IsPrefix a c
@@ -60,4 +60,12 @@ module _ {N : Type 0} {rules : RulesParts} {asked : Asked} {role later : Role} {
     role_set = role_set;
     kept = noted_less p.made_from need book noted p.needs is;
     wrote = wrote;
+  }
+
+  pub unsaid : Unsaid rules asked role later before after
+  unsaid = record {
+    text = text;
+    made_from = p.made_from;
+    answered = p.answered;
+    role_set = role_set;
   }

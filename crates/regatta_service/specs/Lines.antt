@@ -1,5 +1,5 @@
 -- The replies to the lines of a session.
-use Rattle.std.specs.Prelude.{◌≡◌, ℕ, Bool, true, false, List, [], ◌++◌, Option, Some, None}
+use Rattle.std.specs.Prelude.{◌≡◌, ℕ, true, List, [], ◌++◌, Option}
 use Rattle.std.specs.Prelude.{Result, Ok, Err, All}
 use mathlib.Core.List.{IsPrefix}
 use Rattle.std.specs.Io.KnownBytes.{Appends}
@@ -19,7 +19,6 @@ use Rattle.regatta_keeper.specs.declared.need.Need.{Need}
 use Rattle.regatta_desk.specs.Desks.{DeskValue}
 use Rattle.regatta_desk.specs.Passes.{PassValue, with_source}
 use Rattle.regatta_desk.specs.Replies.{DeskReplies, PassReplies}
-use Rattle.regatta_service.specs.declared.sessions.End.{End}
 
 -- a line that a desk answered for a pass in this role: the desk did what the line asks, and its reply
 -- is appended. The journal that the desk had is lawful, is noted as the source of the answer, and
@@ -64,17 +63,6 @@ pub record Prepared {N : Type 0} (rules : RulesParts) (asked : Result Line LineF
   pub made_from : Journal
   pub answered : Answers rules asked role before after [] text made_from
   pub needs : Needs book need made_from
-
--- whether the reply to the last line was written whole, if the session ended so or goes on (`None`)
-abbrev pub is_replied : Option End → Bool
-is_replied None = true
-is_replied (Some End.Quit) = true
-is_replied (Some End.Closed) = false
-is_replied (Some End.ReadFault) = false
-is_replied (Some End.WriteFault) = false
-is_replied (Some End.Stopped) = false
-is_replied (Some End.NoMemory) = false
-is_replied (Some End.NotKept) = false
 
 -- a line that was answered in this role, and the state after it: the role of the next lines, the
 -- pass, the stream, to which exactly the reply was written, and the book of what is kept, if there
