@@ -1,6 +1,7 @@
 -- Lines that were answered one after another, and what stays between them.
-use Rattle.std.proofs.Common.{◌≡◌, ◌∷◌, ◌++◌, ◌∙◌, [], ℕ, List, Option, Some, Ok, Err, refl}
+use Rattle.std.proofs.Common.{◌≡◌, ◌∷◌, ◌++◌, ◌∙◌, [], ℕ, List, Option, Ok, Err, refl}
 use Rattle.std.proofs.Common.{ap, inl, inr, subst, sym}
+use mathlib.Core.List.{IsPrefix}
 use Rattle.std.specs.Io.KnownBytes.{Keeps}
 use Rattle.regatta_terms.specs.Rules.{RulesParts}
 use Rattle.regatta_terms.specs.declared.command.Role.{Role}
@@ -55,7 +56,7 @@ replied_from rules asked p q r stays u = record {
       (subst (λ (pass : PassValue). Answers rules asked q.role pass r.pass [] u.text u.made_from)
       stays.pass u.answered);
   role_set = u.role_set ∙ ap (λ (role : Role). role_after asked role) stays.role;
-  kept = subst (λ (book : Option (List Journal)). IsNoted (Some u.made_from) book r.book) stays.book
+  kept = subst (λ (book : Option (List Journal)). IsNoted (IsPrefix u.made_from) book r.book) stays.book
       u.kept;
   wrote = keeps-appends p.written q.written r.written u.text stays.written u.wrote;
 }

@@ -9,7 +9,7 @@ use Rattle.regatta_service.proofs.sessions.Talk.ask_desk.Goals as goal
 
 -- the desk's own clauses, of the value that its lock held: looking and telling left it as it was
 pub returns-clause-answered : goal.returns-clause-answered
-returns-clause-answered g c = λ is.
+returns-clause-answered g c =
     let before = c.args.pass.now in
     let found = c.tell.new.self in
     let same : found ≡ c.deref_mut-desk.result.now =
@@ -19,11 +19,11 @@ returns-clause-answered g c = λ is.
     let told : c.tell.new.pass ≡ with_told before found.entries =
     c.tell.ensures.pass
     ∙ (λ k. with_told (c.confirm.ensures.same.1 k) (sym c.tell.ensures.same k).entries) in
-    let (reply, replied, text) = c.answer.ensures.answered in (
-      c.answer.new.desk.entries,
+    let (reply, replied, text) = c.answer-reply.ensures.answered in (
+      c.answer-reply.new.desk.entries,
       record {
         found = found;
-        left = c.answer.new.desk;
+        left = c.answer-reply.new.desk;
         reply = reply;
         lawful = subst (λ (j : List EntryParts). is_lawful limits g.N.OfficeName.rules j ≡ true) entries
             c.confirm.ensures.lawful;
@@ -32,9 +32,9 @@ returns-clause-answered g c = λ is.
         told = subst (λ (j : List EntryParts). All (λ i. IsPrefix i j) before.told) entries
             c.confirm.ensures.told;
         replied = subst (λ (p : PassValue). DeskReplies g.N.OfficeName.rules c.args.line
-            c.args.self.now.role found c.answer.new.desk p c.answer.new.pass reply) told replied;
+            c.args.self.now.role found c.answer-reply.new.desk p c.answer-reply.new.pass reply) told replied;
         text = text;
         made = refl;
       },
-      c.answer.ensures.needs,
+      c.answer-reply.ensures.needs,
     )
