@@ -12,7 +12,7 @@ mod receipt;
 mod sheet;
 mod told;
 
-pub use answers::{Next, answer_alone};
+pub use answers::{Next, answer_alone, answer_show};
 pub use desk::Desk;
 pub use office::{Office, Opened};
 pub use opening::OpenFault;
