@@ -42,8 +42,9 @@ import time
 
 from compiled import HERE, compiled
 
-sys.path.append(os.path.join(HERE, os.pardir, "tools"))
-from office import Gone, Link, Trouble  # noqa: E402
+sys.path.append(os.path.dirname(HERE))
+from raceoffice.errors import Gone, Trouble  # noqa: E402
+from raceoffice.program.link import Link  # noqa: E402
 
 # Seconds that an answer may take.
 PATIENCE = 60.0

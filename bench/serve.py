@@ -35,8 +35,9 @@ import time
 
 from compiled import compiled
 
-sys.path.append(os.path.join(os.path.dirname(os.path.abspath(__file__)), os.pardir, "tools"))
-from office import Gone, Link  # noqa: E402
+sys.path.append(os.path.dirname(os.path.dirname(os.path.abspath(__file__))))
+from raceoffice.errors import Gone  # noqa: E402
+from raceoffice.program.link import Link  # noqa: E402
 
 SEATS, COMMANDS, RACES, JOURNAL = 16, 4000, 40, 8192
 # The boats of a series whose races count, and how many finish in each race.

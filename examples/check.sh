@@ -1,7 +1,7 @@
 #!/usr/bin/env bash
 # Runs a built program over the weekend of this folder and over two races by corrected time, and
 # compares what it prints. The weekend is also served and kept in a file, and goes on from it.
-# checks/all.sh calls this; the evening is played by checks/test_evening.py.
+# tests/all.sh calls this; the evening is played by tests/test_evening.py.
 #   examples/check.sh PROGRAM
 set -euo pipefail
 program=$(realpath "$1")

@@ -1,0 +1,65 @@
+"""A race office for sailing clubs, under Appendix A of the Racing Rules of Sailing 2025-2028.
+
+    raceoffice new cup                       asks what the sailing instructions say, and makes a series
+    raceoffice open cup                      opens its office, and is the office's window
+    raceoffice type cup --role finish        types the finishes, in a window of its own
+    raceoffice board cup --http              shows the results to phones
+    raceoffice final cup                     says that the results are final
+    raceoffice export cup --html page.html   writes the page for the notice board
+
+A series is a folder. `raceoffice COMMAND --help` has the form of a command, its files, its statuses and
+examples.
+"""
+from __future__ import annotations
+
+import argparse
+import importlib
+import sys
+from types import ModuleType
+
+from raceoffice import version
+
+# Each command, the module of `commands` that does it, and what it does.
+COMMANDS = {
+    "new": ("new", "ask for the settings of a new series, and write them"),
+    "check": ("check", "say what is wrong with a series, and open nothing"),
+    "open": ("open", "open the office of a series, and be its window"),
+    "type": ("type", "type finishes, codes and decisions, in a window or from a file"),
+    "board": ("board", "show the results, to phones and as files"),
+    "export": ("export", "write the results as a page, as CSV or as a text for a mail"),
+    "provisional": ("announce", "say that the results are provisional"),
+    "final": ("announce", "say that the results are final"),
+    "amended": ("announce", "say that the results are amended, and why"),
+    "remove": ("remove", "take a boat that was entered by mistake out of the journal"),
+    "decisions": ("decisions", "work out decisions for which the program has no line"),
+    "times": ("times", "correct the times of a race by the boats' ratings"),
+    "verify": ("verify", "verify a page of results"),
+}
+
+
+def module_of(command: str) -> ModuleType:
+    return importlib.import_module(f"raceoffice.commands.{COMMANDS[command][0]}")
+
+
+def parser_for(words: list[str]) -> argparse.ArgumentParser:
+    """What reads a command line. Only the command that it names is loaded."""
+    plain = argparse.RawDescriptionHelpFormatter
+    parser = argparse.ArgumentParser("raceoffice", description=__doc__, formatter_class=plain)
+    parser.add_argument("--version", action="version", version=version.in_words())
+    commands = parser.add_subparsers(dest="command", required=True, metavar="COMMAND")
+    named = next((word for word in words if not word.startswith("-")), "")
+    for name, (_, text) in COMMANDS.items():
+        command = commands.add_parser(name, help=text, formatter_class=plain)
+        if name == named:
+            module = module_of(name)
+            command.description = module.__doc__
+            module.arguments(command)
+    return parser
+
+
+def main(words: list[str] | None = None) -> int:
+    """Does what a command line asks for; the status."""
+    words = sys.argv[1:] if words is None else words
+    asked = parser_for(words).parse_args(words)
+    status: int = module_of(asked.command).run(asked)
+    return status

@@ -1,0 +1,1 @@
+"""What each command does: its words, and what is asked of the modules below."""

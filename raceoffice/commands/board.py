@@ -1,0 +1,252 @@
+"""Shows the results of one or more series, to phones in the same network and as files.
+
+    raceoffice board FOLDER [FOLDER ...] [--http [PORT] [--address ADDRESS]] [--page OUT] [--once]
+
+The results are those of the open office, or else of journal.txt. An office is asked as often as
+series.ini says, however many phones look. The board only reads: nothing that a phone
+sends reaches an office or a file.
+
+To stop the board by Ctrl-C is its usual end, with status 0. With --once the status is 1 if a page couldn't be
+brought up to date, and otherwise 0.
+
+    raceoffice board cup --http 8080
+    raceoffice board cup fleet --page out --once
+"""
+from __future__ import annotations
+
+import argparse
+import functools
+import shutil
+import signal
+import subprocess
+import sys
+import time
+
+from raceoffice import system
+from raceoffice.errors import Trouble
+from raceoffice.faults import WRITTEN, guarded, status_of, written
+from raceoffice.results.http_answers import Board, addresses
+from raceoffice.results.publish import Files, Site, served
+from raceoffice.results.server import Listener
+from raceoffice.results.source import Source
+from raceoffice.series.folder import clock
+from raceoffice.series.settings import is_address, is_between
+from raceoffice.terminal import say, sentence
+from raceoffice.wording import count
+
+# Seconds between two looks at whether an office is being closed: then the board leaves it.
+TICK = 0.5
+
+
+class Shown:
+    """The series that are shown, where they are shown, and what was said of them last."""
+
+    def __init__(self, sources: list[Source], files: list[Files], board: Board | None,
+                 is_once: bool = False) -> None:
+        self.sources, self.files, self.board, self.is_once = sources, files, board, is_once
+        self.site = Site(sources)
+        self.width = max(len(source.name) for source in sources)
+        self.said: dict[str, str] = {}
+
+    def tell(self, about: str, text: str, stamp: str) -> None:
+        """Says a thing when it is new, and not again until it has changed."""
+        if text and self.said.get(about) != text:
+            say(f"{stamp}{text}")
+        self.said[about] = text
+
+    def look(self, due: list[Source], stamp: str = "") -> bool:
+        """Looks at some series, shows what was found and then says what has changed; whether all
+        went well."""
+        troubles = [trouble_of(source) for source in due]
+        well = self.publish() and not any(troubles)
+        for source, trouble in zip(due, troubles):
+            said = said_of(source, trouble, self.width, bool(stamp), self.is_once)
+            self.tell(source.folder.name, said, stamp)
+            for about, text in source.notes.items():
+                self.tell(f"{source.folder.name} {about}", text and
+                          f"{source.name}: {sentence(text)}", stamp)
+        return well
+
+    def publish(self) -> bool:
+        """Shows what was found, to phones and in files; whether all files were written."""
+        wrong = []
+        for show in [self.put, *(files.write for files in self.files)]:
+            try:
+                with guarded(self.sources[0].folder.path):
+                    show()
+            except Trouble as trouble:
+                wrong.append(sentence(trouble))
+        self.tell("files", f"Not all pages were written: {' '.join(wrong)}" if wrong else "", f"{clock()} ")
+        return not wrong
+
+    def put(self) -> None:
+        """Gives the pages to the server of the phones, if there is one."""
+        if self.board is not None:
+            self.board.put(served(self.site.texts()))
+
+    def round(self) -> None:
+        """Looks at the series whose time has come."""
+        for source in self.sources:
+            if source.folder.is_closing():
+                source.leave()
+        due = [source for source in self.sources if time.monotonic() >= source.due]
+        if due:
+            self.look(due, f"{clock()} ")
+
+    def leave(self) -> None:
+        for source in self.sources:
+            source.leave()
+
+
+def note(folder: str, trace: str) -> None:
+    """Notes what went wrong in answering a phone, and says so, once for each trace."""
+    if trace not in WRITTEN:
+        path = written(folder, trace)
+        say(f"{clock()} Beware: a phone wasn't answered, by a fault of this tool. "
+            + (f"Its trace is in {path}." if path else "Its trace couldn't be written."))
+
+
+def trouble_of(source: Source) -> str:
+    """Looks at one series; why its page stays as it was, or nothing."""
+    source.due = time.monotonic() + source.settings.every
+    try:
+        with guarded(source.folder.path):
+            source.look()
+    except Trouble as trouble:
+        return sentence(trouble)
+    return ""
+
+
+def said_of(source: Source, trouble: str, width: int, is_later: bool, is_once: bool) -> str:
+    """What is shown of a series, from where and how often."""
+    view = source.view
+    name = f"{source.name}: " if is_later else f"{source.name:<{width}}  "
+    if trouble:
+        red = view is not None and view.settings.state == "provisional" and not is_once
+        after = " The page says so in red." if red else "" if view else " There is no page yet."
+        return f"{name}{trouble}{after}"
+    often = "once" if is_once else f"every {count(source.settings.every, 'second')}"
+    where = {"open": f"from the office, {often}",
+             "journal": "from journal.txt, no office is open"}[source.office]
+    if is_later:
+        return f"{name}{where}."
+    assert view is not None
+    return (f"{name}{count(len(view.standing.rows), 'boat')}, "
+            f"{count(len(view.standing.races), 'race')}, {view.settings.state}: {where}")
+
+
+def port(text: str) -> int:
+    if not is_between(1, 65535)(text):
+        raise argparse.ArgumentTypeError(
+            f"{text!r} is no port from 1 to 65535. Put the folders before --http")
+    return int(text)
+
+
+def address(text: str) -> str:
+    if not is_address(text):
+        raise argparse.ArgumentTypeError(f"{text!r} is no address of a computer, as 192.168.1.20")
+    return text
+
+
+def arguments(parser: argparse.ArgumentParser) -> None:
+    parser.add_argument("folder", nargs="+", help="the folder of a series")
+    parser.add_argument("--http", nargs="?", type=port, const=0, metavar="PORT",
+                        help="show them to phones, at this port or at that of series.ini")
+    parser.add_argument("--address", type=address,
+                        help="show them at this address of this computer alone")
+    parser.add_argument("--page", metavar="OUT", help="write the pages into this folder")
+    parser.add_argument("--once", action="store_true", help="write the pages once, and end")
+    parser.set_defaults(complain=parser.error)
+
+
+def look_at(asked: argparse.Namespace) -> None:
+    """Says which options don't go together."""
+    if asked.once and asked.http is not None:
+        asked.complain("--once writes files: it goes with --page, and not with --http")
+    if asked.address and asked.http is None:
+        asked.complain("--address is for phones: it goes with --http")
+
+
+def sources_of(folders: list[str]) -> list[Source]:
+    """The series, whose folders have to have different names: they are addresses."""
+    found = list(map(Source, folders))
+    names = [source.folder.name for source in found]
+    for name in names:
+        if name in ("index.html", "now.json"):
+            raise Trouble(f"a page is called {name}, too: give that folder another name")
+        if names.count(name) > 1:
+            raise Trouble(f"two of the folders are called {name}, and each needs a name of its own")
+    return found
+
+
+def files_of(asked: argparse.Namespace, sources: list[Source]) -> list[Files]:
+    """Where pages are written: one folder for all, or that which each series.ini names."""
+    if asked.page:
+        return [Files(asked.page, Site(sources, asked.once))]
+    return [Files(source.folder.file(source.settings.page), Site([source], asked.once))
+            for source in sources if source.settings.page]
+
+
+def say_address(own: str, number: int) -> None:
+    """Says what phones open, with a code for their cameras if qrencode is installed."""
+    first, *others = [f"http://{text}:{number}/" for text in ([own] if own else addresses())]
+    say(f"Phones open   {first}" + (f"   (or {', '.join(others)})" if others else ""))
+    if sys.stdout.isatty() and shutil.which("qrencode"):
+        subprocess.run(["qrencode", "-t", "UTF8", "-m", "2", first], check=False)
+    say("They must be on the same Wi-Fi as this computer. Guest networks often keep devices apart:\n"
+        "try one phone before you post the address.")
+
+
+def show(asked: argparse.Namespace) -> int:
+    """Shows the series until somebody stops it, or once; the status."""
+    sources = sources_of(asked.folder)
+    files = files_of(asked, sources)
+    if asked.http is None and not files:
+        raise Trouble("nothing is shown: add --http for phones, or --page OUT for files")
+    board = None if asked.http is None else Board()
+    first = sources[0].settings
+    own, number = asked.address or first.address, asked.http or first.port
+    server = None
+    if board is not None:
+        noted = functools.partial(note, sources[0].folder.path)
+        server = Listener(own or "0.0.0.0", number, board, noted)
+    shown, is_shown = Shown(sources, files, board, asked.once), False
+    try:
+        well = shown.look(sources)
+        is_shown = True
+        if server:
+            server.start()
+            say_address(own, number)
+        for place in files if well or not asked.once else []:
+            say(f"Pages are in  {place.folder}")
+        if asked.once:
+            return 0 if well else 1
+        while True:
+            time.sleep(TICK)
+            shown.round()
+    except Stopped:
+        if not is_shown or asked.once:
+            raise
+        say("\nStopped. Pages that are provisional turn red in a minute.")
+        return 0
+    finally:
+        shown.leave()
+
+
+class Stopped(BaseException):
+    """A signal came that ends the board; its argument is the signal's number."""
+
+
+def stop(number: int, _frame: object) -> None:
+    raise Stopped(number)
+
+
+def run(asked: argparse.Namespace) -> int:
+    look_at(asked)
+    for number in system.STOPS:
+        signal.signal(number, stop)
+    try:
+        return status_of(lambda: show(asked), asked.folder[0])
+    except Stopped as stopped:
+        # What a shell says of a command that a signal has ended.
+        return 128 + int(stopped.args[0])

@@ -1,0 +1,218 @@
+"""Decisions for which the program has no line: penalties in percent, time limits, averages.
+
+    raceoffice decisions [show|check|send] FOLDER [--json]
+
+They are the lines of decisions.txt in the series' folder:
+
+    race 3 GBR7 PRP 30%          a penalty of 30% of the score for Did Not Finish; DPI, T1, SCP too
+    race 3 GBR7 DPI 2            a penalty of two points
+    race 1 FRA9 TLE last+2       two points more than the last boat that finished
+    race 4 IRL5 NSC              out of the finishing order, and scored as DNF
+    race 5 GBR7 AVG 1,2,4        the average of these races; also sailed, all or before
+    race 3 NED1 DUTY sailed      the average of the races that she sailed
+    race 2 K12 REINSTATE         what the jury gave her there goes, what the committee gave stays
+
+`show` lists what each comes to, and the lines that the journal lacks. `check` names each decision
+that isn't in the scores as it has to be. `send` asks, and sends the lines to the open office. Text after # is
+a note.
+
+The status is 0 if all are in the scores, 1 if one isn't or a line wasn't taken, and 130 after Ctrl-C.
+
+With --json `show` and `check` print an object: `decisions`, each with its `text`, `line`, `points`, `held`,
+`why`, `is_kept` and `lines`; `stale`, what isn't in the scores as it has to be; and `unexplained`.
+
+    raceoffice decisions cup
+    raceoffice decisions send cup
+"""
+from __future__ import annotations
+
+import argparse
+import os
+from dataclasses import dataclass
+
+from raceoffice.decisions import decision_lines
+from raceoffice.decisions.held import holdings
+from raceoffice.decisions.points import Decided, decided
+from raceoffice.errors import Trouble
+from raceoffice.faults import status_of, tell_json
+from raceoffice.program.link import Link, Sheet
+from raceoffice.program.messages import refusal
+from raceoffice.program.replay import Line
+from raceoffice.results.source import Source
+from raceoffice.series.folder import Folder
+from raceoffice.series.lost_lines import UNANSWERED
+from raceoffice.series.run_program import replayed
+from raceoffice.series.settings import Settings
+from raceoffice.terminal import command_name, question, say, say_json, sentence
+from raceoffice.wording import count
+
+WHO = "decisions"
+
+
+@dataclass(frozen=True)
+class State:
+    """The decisions at one moment, and the journal with which they were compared."""
+    decided: Decided
+    journal: tuple[str, ...]
+
+
+class Desk:
+    """A series with its decisions; `link` leads to its office if one is open."""
+
+    def __init__(self, path: str) -> None:
+        self.folder = Folder(path)
+        self.link: Link | None = None
+        if os.path.lexists(self.folder.socket) and not self.folder.is_closing():
+            self.link = self.folder.link()
+
+    def settings(self) -> list[str]:
+        """The rules as options: those of the open office, if one is open."""
+        rules = Source(self.folder.path).opened_rules() if self.link else {}
+        values = {**vars(self.folder.settings), **rules}
+        return Settings(**values).options()
+
+    def sheet(self) -> Sheet:
+        if self.link:
+            return self.link.sheet()
+        return replayed(self.folder, self.folder.settings.options())
+
+    def state(self) -> State:
+        journal = self.sheet().journal
+        text = decision_lines.read(self.folder.path)
+        return State(decided(self.folder.program, self.settings(), journal, text), journal)
+
+    def send(self, lines: list[Line]) -> int:
+        """Sends lines up to the first that isn't taken; how many were."""
+        for at, line in enumerate(lines):
+            if why := self.why_not_taken(line):
+                say(f"Stopped at {line}: {why}.")
+                # What a CLEAR before them took is in these lines alone.
+                say("Not sent, and to be typed in this order:")
+                for rest in lines[at:]:
+                    say(f"      {rest}   ({rest.role.lower()})")
+                return at
+        return len(lines)
+
+    def why_not_taken(self, line: Line) -> str:
+        """Sends a line in its role, and logs it; why it wasn't taken, or nothing."""
+        assert self.link
+        try:
+            self.link.ask(f"ROLE {line.role}")
+            answer = self.link.ask(line.text)
+        except Trouble as trouble:
+            self.folder.log(WHO, "", line.role, line.text, UNANSWERED)
+            return str(trouble)
+        self.folder.log(WHO, "", line.role, line.text, answer)
+        return "" if answer.startswith("OK ") else refusal(answer)
+
+
+def shown(found: Decided) -> list[str]:
+    """What each decision comes to, and the lines that differ from the journal."""
+    said = [f"   {sentence(text)}" for text in found.wrong]
+    for verdict in found.verdicts:
+        said.append(f"   {sentence(verdict)}")
+        said += [f"      {line}   ({line.role.lower()})" for line in verdict.lines]
+    return said
+
+
+def unexplained(state: State) -> list[str]:
+    """Redress in points that no decision explains: it may be the jury's own, or that of a line that
+    was taken out."""
+    ruled = {(verdict.ruling.race, verdict.ruling.sail) for verdict in state.decided.verdicts}
+    return [f"   Race {race}, {sail}: the journal has redress of {held.redress} points, and "
+            f"{decision_lines.NAME} has no line for it."
+            for (race, sail), held in sorted(holdings(state.journal).items())
+            if held.is_points and (race, sail) not in ruled]
+
+
+def show(desk: Desk) -> int:
+    """Lists all decisions; the status is 1 if one isn't in the scores as it has to be."""
+    state = desk.state()
+    found = state.decided
+    say("\n".join(shown(found) or [f"{decision_lines.NAME} has no decisions."]))
+    for text in unexplained(state):
+        say(text)
+    if found.lines:
+        lines = count(len(found.lines), "line")
+        say(f"{lines} to send: {command_name()} decisions send {os.path.relpath(desk.folder.path)}")
+    return 1 if found.stale else 0
+
+
+def value_of(state: State) -> dict[str, object]:
+    """The decisions for programs."""
+    found = [{"text": str(verdict.ruling), "line": verdict.ruling.line, "points": verdict.points,
+              "held": verdict.held, "why": verdict.why, "is_kept": verdict.is_kept,
+              "lines": [vars(line) for line in verdict.lines]} for verdict in state.decided.verdicts]
+    return {"decisions": found, "stale": state.decided.stale,
+            "unexplained": [text.strip() for text in unexplained(state)]}
+
+
+def show_json(desk: Desk) -> int:
+    """Prints all decisions for programs; the status is 1 if one isn't in the scores as it has to be."""
+    state = desk.state()
+    say_json(value_of(state))
+    return 1 if state.decided.stale else 0
+
+
+def check(desk: Desk) -> int:
+    """Names the decisions that aren't in the scores as they have to be; the status."""
+    state = desk.state()
+    stale = state.decided.stale
+    for text in stale:
+        say(sentence(text))
+    kept = sum(verdict.is_kept for verdict in state.decided.verdicts)
+    say(f"{count(kept, 'decision')} in the scores, {count(len(stale), 'other')} out of date or in "
+        "doubt.")
+    return 1 if stale else 0
+
+
+def send(desk: Desk) -> int:
+    """Sends the lines that the journal lacks, after a question; the status."""
+    if not desk.link:
+        raise Trouble("no office is open: open it, and send again")
+    first = desk.state()
+    lines = first.decided.lines
+    say("\n".join(shown(first.decided)))
+    if not lines:
+        say("Nothing is to be sent.")
+        return 1 if first.decided.stale else 0
+    if not question(f"Send {count(len(lines), 'line')}?"):
+        say("Not sent.")
+        return 1
+    # Others type meanwhile, and a line of theirs may change what a decision comes to.
+    if desk.state().decided != first.decided:
+        say("Somebody else has typed meanwhile, and the decisions come to something else now. Nothing "
+            "was sent: send again.")
+        return 1
+    taken = desk.send(lines)
+    say(f"{taken} of {count(len(lines), 'line')} taken.")
+    if taken < len(lines):
+        return 1
+    stale = desk.state().decided.stale
+    for text in stale:
+        say(sentence(text))
+    return 1 if stale else 0
+
+
+def done(folder: str, what: str) -> int:
+    """Does a command; the status."""
+    desk = Desk(folder)
+    try:
+        return {"show": show, "check": check, "send": send, "json": show_json}[what](desk)
+    finally:
+        if desk.link:
+            desk.link.close()
+
+
+def arguments(parser: argparse.ArgumentParser) -> None:
+    parser.add_argument("what", nargs="?", default="show", choices=["show", "check", "send"])
+    parser.add_argument("folder", help="the folder of a series")
+    parser.add_argument("--json", action="store_true", help="print what was found for programs")
+    parser.set_defaults(complain=parser.error)
+
+
+def run(asked: argparse.Namespace) -> int:
+    if asked.json and asked.what == "send":
+        asked.complain("--json goes with show and check")
+    what = "json" if asked.json else asked.what
+    return status_of(lambda: done(asked.folder, what), asked.folder, tell_json if asked.json else say)

@@ -1,0 +1,75 @@
+"""Opens the office of a series, and is its window until Ctrl-C closes it.
+
+    raceoffice open FOLDER
+
+It says in words whatever is wrong before it opens anything. The program then serves the series and keeps
+its journal (journal.txt): each entry is on the disk before it is answered. This window copies the journal,
+to a second folder if series.ini names one, and each hour to kept/. If its window has gone, an office that
+is still open is taken over.
+
+The status is 0 after the office was closed, 1 if something was refused or the program ended by itself, and
+130 after Ctrl-C before it was open.
+
+    raceoffice open cup
+"""
+from __future__ import annotations
+
+import argparse
+import os
+
+from raceoffice.faults import status_of
+from raceoffice.files import replace_whole
+from raceoffice.office.window import Hall
+from raceoffice.series import copies
+from raceoffice.series.continuity import note_of
+from raceoffice.series.copies import best_copy, places_with
+from raceoffice.series.folder import Folder
+from raceoffice.series.health import disk_fault, faults, journal_fault, lost_journal
+from raceoffice.series.kept_places import Places
+from raceoffice.series.second_folder import second_of
+from raceoffice.terminal import question, say
+
+
+def open_(path: str) -> int:
+    """Opens an office, and is its window until it is closed; the status."""
+    folder = Folder(path)
+    folder.make_private()
+    if fault := disk_fault(folder):
+        say(fault)
+        return 1
+    hall = Hall(folder)
+    if not hall.service.lock.is_taken():
+        mend(folder)
+    wrong = faults(folder)
+    for text in wrong:
+        say(text)
+    if wrong:
+        say("Nothing was opened.")
+        return 1
+    return hall.open()
+
+
+def mend(folder: Folder) -> None:
+    """Offers what puts a series without a journal right: its best copy."""
+    # Nothing may replace a file that an office has.
+    if journal_fault(folder) or folder.is_held() or folder.kept():
+        return
+    lost = lost_journal(folder)
+    if not lost:
+        return
+    with second_of(folder) as second:
+        copy, data = best_copy(folder, second)
+        places = places_with(folder, second, data)
+    if copy and question(f"{lost} Use it?"):
+        Places(folder).put_back(places)
+        replace_whole(os.path.realpath(folder.journal), data)
+        copies.keep(folder, data)
+        folder.log("", "", "", "restored", note_of(data))
+
+
+def arguments(parser: argparse.ArgumentParser) -> None:
+    parser.add_argument("folder", help="the folder of the series")
+
+
+def run(asked: argparse.Namespace) -> int:
+    return status_of(lambda: open_(asked.folder), asked.folder)

@@ -1,0 +1,36 @@
+"""Corrected times of a race, from a sheet of times to the lines of the office.
+
+    raceoffice times FOLDER RACE|all [--send]
+
+The series' folder has a folder `times` with a sheet of each race and the rules for all of them:
+
+    times/race-1.csv     Sail, Elapsed or Start and Finish, Laps, Distance; an empty start, number of
+                         laps or distance is that of the boat above. A time may be a code, as DNF
+    times/rules.ini      [times], with system = tcf, py or tod, and perhaps rounding, overnight and
+                         program
+
+The ratings are in the entry list, headed Rating, PY or TCF; `Rating from 5` holds from race 5 on. The
+program `times` computes each time; this command shows the sums, compares times and codes with the journal,
+and prints the lines that differ. With --send it asks, and sends them to the open office.
+
+The status is 0 if all is well, 1 if something is wrong or a line wasn't taken, and 130 after Ctrl-C.
+
+    raceoffice times cup 3
+    raceoffice times cup 3 --send
+"""
+from __future__ import annotations
+
+import argparse
+
+from raceoffice.corrected.times import done
+from raceoffice.faults import status_of
+
+
+def arguments(parser: argparse.ArgumentParser) -> None:
+    parser.add_argument("folder", help="the folder of a series")
+    parser.add_argument("race", help="the number of a race, or all that have a sheet")
+    parser.add_argument("--send", action="store_true", help="send the lines to the open office")
+
+
+def run(asked: argparse.Namespace) -> int:
+    return status_of(lambda: done(asked.folder, asked.race, asked.send), asked.folder)

@@ -1,0 +1,97 @@
+"""A window for those who type: the finish, the jury, the scorer.
+
+    raceoffice type FOLDER [FOLDER ...] [--role finish|jury|scorer] [--name ANN]
+    raceoffice type FOLDER --role ROLE [--from N] [--go-on] < lines.txt
+
+`help` lists the lines of a role. With several folders each line goes to the class in which its boat
+is entered; the first letters of a folder in front of a line choose it.
+
+Lines of a file are sent as they are, and stop at the first that is refused, since the next boat
+would take the refused boat's place. The status is 1 if a line was refused or had no answer, and 130 after
+Ctrl-C.
+
+If the office goes before a line is answered, nobody knows whether the line is in the journal, however
+the office was kept: look there before you send it again.
+
+    raceoffice type cup --role finish --name Ann
+    raceoffice type cup fleet --role finish
+"""
+from __future__ import annotations
+
+import argparse
+import sys
+
+from raceoffice.characters import is_utf8
+from raceoffice.errors import Trouble
+from raceoffice.faults import status_of
+from raceoffice.series.folder import Folder
+from raceoffice.terminal import answer, command_name, say
+from raceoffice.typing_window.batch import LARGEST, Batch, lines_of
+from raceoffice.typing_window.session import Desk
+from raceoffice.typing_window.window import Window
+from raceoffice.wording import on_one_line
+
+ROLES = ["FINISH", "JURY", "SCORER"]
+
+
+def asked_role() -> str:
+    """The role, which is asked for: forgetting it must not make anybody the scorer."""
+    for _ in range(5):
+        if role := role_meant(answer("Whose lines are these? finish, jury or scorer: ")):
+            return role
+    raise Trouble("no role was given")
+
+
+def role_meant(text: str) -> str:
+    """The role that begins with these letters; empty if there is none."""
+    return next((role for role in ROLES if text and role.startswith(text.upper())), "")
+
+
+def role_of(asked: argparse.Namespace) -> str:
+    """The role of the command line, or the one that somebody types."""
+    if asked.role is None:
+        return asked_role()
+    if not (role := role_meant(asked.role)):
+        raise Trouble(f"there is no role {asked.role!r}. --role takes finish, jury or scorer")
+    return role
+
+
+def send_file(asked: argparse.Namespace) -> int:
+    """Sends the lines of standard input; the status."""
+    if not asked.role or len(asked.folders) > 1:
+        raise Trouble("lines of a file need --role, and one folder")
+    folder, role = Folder(asked.folders[0]), role_of(asked)
+    lines = lines_of(sys.stdin.buffer.read(LARGEST))
+    desk = Desk(folder, role, asked.name, say, lambda _: True)
+    desk.connect()
+    again = f"{command_name()} type {asked.folders[0]} --role {role.lower()}"
+    return Batch(desk, lines, again).send(asked.start, asked.go_on)
+
+
+def in_utf8(text: str) -> str:
+    """A word of the command line that goes into a file."""
+    if not is_utf8(text):
+        raise argparse.ArgumentTypeError("it isn't UTF-8 text")
+    return on_one_line(text)
+
+
+def arguments(words: argparse.ArgumentParser) -> None:
+    words.add_argument("folders", nargs="+", metavar="FOLDER", help="the folder of a series")
+    words.add_argument("--role", help="whose lines these are: finish, jury or scorer; it is asked for "
+                       "if it isn't given")
+    words.add_argument("--name", type=in_utf8, default="", help="who types, for office.log")
+    words.add_argument("--from", dest="start", type=int, default=1, metavar="N",
+                       help="the first line of a file that is sent")
+    words.add_argument("--go-on", action="store_true", help="go on after a refused line of a file")
+
+
+def done(asked: argparse.Namespace) -> int:
+    """Sends a file's lines, or is a window; the status."""
+    if not sys.stdin.isatty():
+        return send_file(asked)
+    folders = [Folder(path) for path in asked.folders]
+    return Window(folders, role_of(asked), asked.name).run()
+
+
+def run(asked: argparse.Namespace) -> int:
+    return status_of(lambda: done(asked), asked.folders[0], lambda text: say(f"Stopped: {text}"))

@@ -1,0 +1,1 @@
+"""Corrected times, which the program `times` computes."""

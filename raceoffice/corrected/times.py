@@ -1,0 +1,373 @@
+"""The corrected times of races beside the journal: the program computes each, and what differs is shown, or
+sent as lines to the office."""
+from __future__ import annotations
+
+import os
+import re
+import subprocess
+from collections.abc import Sequence
+from dataclasses import dataclass
+from fractions import Fraction
+
+from raceoffice import system
+from raceoffice.corrected.sheets import Entry, entries_of, for_program
+from raceoffice.errors import Trouble
+from raceoffice.program.find import found_program
+from raceoffice.program.journal import Race, Series
+from raceoffice.program.link import Link, Sheet
+from raceoffice.program.messages import refusal
+from raceoffice.program.replay import not_run
+from raceoffice.series import entry_list
+from raceoffice.series.folder import Folder
+from raceoffice.series.headings import rating_columns
+from raceoffice.series.lost_lines import UNANSWERED
+from raceoffice.series.read_list import as_csv, bytes_of, name_of, table_of
+from raceoffice.series.run_program import replayed
+from raceoffice.series.settings import lines_of, text_in
+from raceoffice.terminal import question, say
+from raceoffice.wording import count, duration
+
+WHO = "times"
+SHEETS, RULES = "times", "rules.ini"
+KEYS = {"times": {"system": "", "rounding": "half-up", "overnight": "", "program": ""}}
+SYSTEMS = {"tcf": "time on time", "py": "Portsmouth Yardstick", "tod": "time on distance"}
+ROUNDINGS = {"half-up": "to the nearest second, halves up", "half-down": "to the nearest second, halves down",
+             "down": "rounded down", "up": "rounded up"}
+# Seconds that the program may take for a race.
+PATIENCE = 60.0
+FAULT = re.compile(r"times: (ratings|sheet) fault \d+ row (\d+): (.*)")
+NUMBER = "[0-9]{1,12}"
+SUM = re.compile(f"([A-Z0-9-]{{1,12}}) ({NUMBER}(?: [-+*/] {NUMBER})*) -> ([0-9]{{1,6}})")
+# The codes that only the jury gives.
+OF_JURY = ("DSQ", "DNE")
+
+
+@dataclass(frozen=True)
+class Rules:
+    """The rules of times/rules.ini."""
+    system: str
+    rounding: str
+    overnight: tuple[int, ...]
+    program: str
+
+    @classmethod
+    def read(cls, folder: Folder) -> Rules:
+        """The rules of a series; a Trouble says what is wrong with them."""
+        path = folder.file(SHEETS, RULES)
+        found, wrong = lines_of(text_in(path), f"{SHEETS}/{RULES}", KEYS)
+        if wrong:
+            raise Trouble("\n".join(wrong))
+        values = KEYS["times"] | {key: value for key, (_, value) in found.items()}
+        if values["system"] not in SYSTEMS:
+            raise Trouble(f"{path}: system has to be tcf, py or tod")
+        if values["rounding"] not in ROUNDINGS:
+            raise Trouble(f"{path}: rounding has to be half-up, half-down, down or up")
+        nights = [text.strip() for text in values["overnight"].split(",") if text.strip()]
+        if not all(re.fullmatch("[0-9]{1,2}", night) for night in nights):
+            raise Trouble(f"{path}: overnight has to be numbers of races, as 4,5")
+        return cls(values["system"], values["rounding"], tuple(map(int, nights)),
+                   program_of(folder, values["program"]))
+
+
+def program_of(folder: Folder, named: str) -> str:
+    """The program of corrected times: that of the rules, or one beside the program of the series or near."""
+    if named:
+        return folder.file(named)
+    beside = os.path.dirname(folder.program)
+    return found_program("times", beside, folder.file(os.pardir)) or os.path.join(beside, "times")
+
+
+@dataclass(frozen=True)
+class Time:
+    """A boat's corrected time, and the sum that gave it."""
+    sail: str
+    sum: str
+    seconds: int
+
+    @property
+    def exact(self) -> Fraction:
+        """The time before it was rounded, from the sum."""
+        total, sign = Fraction(0), 1
+        for part in re.split(r" ([+-]) ", self.sum):
+            if part in "+-":
+                sign = 1 if part == "+" else -1
+            else:
+                total += sign * product(part.split())
+        return total
+
+
+def product(words: Sequence[str]) -> Fraction:
+    """What a row of factors and divisors comes to: `3751 * 1000 / 1103`."""
+    value = Fraction(words[0])
+    for mark, number in zip(words[1::2], words[2::2]):
+        value = value * int(number) if mark == "*" else value / int(number)
+    return value
+
+
+@dataclass(frozen=True)
+class Rated:
+    """The ratings of a race, as the program reads them, and the rows of the list that they are from."""
+    data: bytes
+    rows: tuple[int, ...]
+
+
+def rated(data: bytes, path: str, race: int, system: str) -> Rated:
+    """The ratings of a race, of the last column that holds: `Rating`, or `Rating from N`. A boat without
+    one has none."""
+    if wrong := entry_list.problems(data, path):
+        raise Trouble("\n".join(wrong))
+    table = table_of(data)
+    begins = {first: at for first, at in rating_columns(table.heads, system).items() if first <= race}
+    if not begins:
+        raise Trouble(f"{name_of(path)}, row {table.first}: no column of ratings. " + wanted_heading(system))
+    at = begins[max(begins)]
+    sails = list(entry_list.boats_of(table))
+    rows = [[sail, table.number(row, at)] for sail, (_, row) in zip(sails, table.rows)]
+    return Rated(as_csv([["Sail", "Rating"], *rows]), tuple(number for number, _ in table.rows))
+
+
+def wanted_heading(system: str) -> str:
+    """How a column of ratings is headed."""
+    other = {"py": " or PY", "tcf": " or TCF"}.get(system, "")
+    return f"It is headed Rating{other}"
+
+
+def in_words(fault: str, sheet: str, ratings: str, rows: dict[str, Sequence[int]]) -> str:
+    """What the program says of a list, with the file and its row. `rows` are the numbers of those that it
+    was given."""
+    found = FAULT.fullmatch(fault)
+    if not found:
+        return f"the program says {fault.removeprefix('times: ') or 'nothing'}"
+    name = sheet if found[1] == "sheet" else ratings
+    said = re.sub(r"^entries fault \d+: |,? (?:in|from) row \d+", "", found[3])
+    return f"{name}, row {row_at(int(found[2]), rows.get(found[1], ()))}: {said}"
+
+
+def row_at(number: int, rows: Sequence[int]) -> int:
+    """The number in a list of a row that the program was given: its first is that of the headings."""
+    return rows[number - 2] if 2 <= number < len(rows) + 2 else number
+
+
+def sheet_name(race: int) -> str:
+    """The file of a race's sheet, as seen from the series' folder."""
+    return f"{SHEETS}/race-{race}.csv"
+
+
+class Desk:
+    """A series with its sheets of times; `link` leads to its office if one is open."""
+
+    def __init__(self, path: str) -> None:
+        self.folder = Folder(path)
+        if not self.folder.settings.handicap:
+            raise Trouble(f"{path} isn't a series by corrected time: its series.ini needs handicap = yes")
+        self.rules = Rules.read(self.folder)
+        self.link: Link | None = None
+        if os.path.lexists(self.folder.socket) and not self.folder.is_closing():
+            self.link = self.folder.link()
+
+    def sheet(self) -> Sheet:
+        """The journal and the table: the office's, or those of the folder."""
+        if self.link:
+            return self.link.sheet()
+        return replayed(self.folder, self.folder.settings.options())
+
+    def races(self) -> list[int]:
+        """The races that have a sheet of times."""
+        names = os.listdir(self.folder.file(SHEETS))
+        found = [re.fullmatch(r"race-([0-9]{1,2})\.csv", name) for name in names]
+        return sorted(int(match[1]) for match in found if match)
+
+    def rows(self, race: int) -> list[Entry]:
+        """The rows of a race's sheet; a Trouble names all that is wrong with it."""
+        name = sheet_name(race)
+        found, wrong = entries_of(bytes_of(self.folder.file(name)), name)
+        if wrong:
+            raise Trouble("\n".join(wrong))
+        return found
+
+    def times(self, race: int, timed: list[Entry]) -> list[Time]:
+        """The corrected times of boats, by the program. A Trouble names the row that has a fault."""
+        if not timed:
+            return []
+        ratings = rated(bytes_of(self.folder.entries), self.folder.entries, race, self.rules.system)
+        done = self.ran(race, for_program(timed), ratings.data)
+        if done.returncode:
+            rows = {"ratings": ratings.rows, "sheet": [entry.number for entry in timed]}
+            said = done.stderr.decode("utf-8", "replace").strip()
+            raise Trouble(in_words(said, sheet_name(race), name_of(self.folder.entries), rows))
+        head, *lines = done.stdout.decode("ascii", "replace").splitlines() or [""]
+        found = [SUM.fullmatch(line) for line in lines]
+        if head != f"RACE {race} {self.rules.rounding}" or not all(found):
+            raise Trouble(f"the program at {self.rules.program} doesn't show sums: is it times?")
+        return [Time(match[1], match[2], int(match[3])) for match in found if match]
+
+    def ran(self, race: int, sheet: bytes, ratings: bytes) -> subprocess.CompletedProcess[bytes]:
+        """The program, run to its end over a sheet and ratings."""
+        words = ["--race", str(race), "--system", self.rules.system, "--rounding", self.rules.rounding,
+                 *(["--overnight"] if race in self.rules.overnight else [])]
+        try:
+            with system.lent({"--entries": ratings}) as (files, numbers):
+                return subprocess.run([self.rules.program, "sums", *words, *files], input=sheet,
+                                      capture_output=True, timeout=PATIENCE, pass_fds=numbers)
+        except (OSError, subprocess.TimeoutExpired) as cause:
+            raise not_run(self.rules.program, cause) from cause
+
+    def send(self, lines: list[str]) -> int:
+        """Sends lines up to the first that isn't taken; how many were."""
+        for at, line in enumerate(lines):
+            if why := self.why_not_taken(line):
+                say(f"Stopped at {line}: {why}.")
+                for rest in lines[at:]:
+                    say(f"   not sent: {rest}")
+                return at
+        return len(lines)
+
+    def why_not_taken(self, line: str) -> str:
+        """Sends a line as the scorer, and logs and shows its answer; why it wasn't taken, or nothing."""
+        assert self.link
+        try:
+            self.link.ask("ROLE SCORER")
+            answer = self.link.ask(line)
+        except Trouble as trouble:
+            self.folder.log(WHO, "", "SCORER", line, UNANSWERED)
+            return str(trouble)
+        self.folder.log(WHO, "", "SCORER", line, answer)
+        if not answer.startswith("OK "):
+            return refusal(answer)
+        say(f"   {line:<24} {answer}")
+        return ""
+
+
+@dataclass(frozen=True)
+class Compared:
+    """A race beside the journal: what is shown of each boat, and the lines that differ."""
+    shown: tuple[str, ...]
+    lines: tuple[str, ...]
+    counts: bool
+
+
+@dataclass(frozen=True)
+class Beside:
+    """A boat beside the journal: a note, and the lines that differ."""
+    note: str
+    lines: tuple[str, ...] = ()
+
+
+def time_beside(record: Race, time: Time) -> Beside:
+    """A corrected time beside that of the journal."""
+    was, code = record.times.get(time.sail), record.codes.get(time.sail, "")
+    held = f"; she holds {code}" if code else ""
+    if was == time.seconds:
+        return Beside(f"stands{held}")
+    line = f"TIME {record.number} {time.sail} {time.seconds}"
+    if was is None:
+        return Beside(f"new{held}", (line,))
+    strike = f"STRIKE {record.number} {time.sail}"
+    return Beside(f"stood as {was}: struck and timed again{held}", (strike, line))
+
+
+def code_beside(record: Race, entry: Entry) -> Beside:
+    """A code beside what the journal has of the boat. A time that she had goes after it is there."""
+    was = record.codes.get(entry.sail, "")
+    lines: list[str] = []
+    if entry.code in OF_JURY and was != entry.code:
+        return Beside("the jury types this code")
+    if was in OF_JURY and was != entry.code:
+        return Beside(f"the jury gave {was}")
+    if was != entry.code:
+        lines.append(f"MARK {record.number} {entry.sail} {entry.code}")
+    if entry.sail in record.times:
+        lines.append(f"STRIKE {record.number} {entry.sail}")
+    note = "stands" if not lines else f"stood as {was}" if was and was != entry.code else "new"
+    return Beside(note, tuple(lines))
+
+
+def compared(race: int, times: list[Time], journal: Sequence[str],
+             others: Sequence[Entry] = ()) -> Compared:
+    """The corrected times and codes beside those of the journal. `others` are rows without a time."""
+    series = Series.read(list(journal))
+    record = series.race(race)
+    rows = [time_row(record, time, series.boats) for time in times]
+    rows += [other_row(record, entry, series.boats) for entry in others]
+    named = {time.sail for time in times} | {entry.sail for entry in others}
+    left = [f"   {sail:<12} isn't in the sheet, and stands as {record.times[sail]}"
+            for sail in sorted(set(record.times) - named)]
+    return Compared((*(shown for shown, _ in rows), *left),
+                    tuple(line for _, found in rows for line in found.lines), record.counts)
+
+
+def time_row(record: Race, time: Time, boats: Sequence[str]) -> tuple[str, Beside]:
+    """What is shown of a boat with a time."""
+    found = time_beside(record, time)
+    # Cut and not rounded: a time just below a half has to look so.
+    exact = f"{int(time.exact * 10000) / 10000:.4f}"
+    return (f"   {time.sail:<12} {time.sum:<36} {exact:>12} {time.seconds:>7}   {duration(time.seconds)}   "
+            f"{noted(found, time.sail, boats)}"), found
+
+
+def other_row(record: Race, entry: Entry, boats: Sequence[str]) -> tuple[str, Beside]:
+    """What is shown of a boat with a code, or with neither time nor code."""
+    found = code_beside(record, entry) if entry.code else Beside("no time and no code in the sheet")
+    return f"   {entry.sail:<12} {entry.code or '-':<36} {noted(found, entry.sail, boats)}", found
+
+
+def noted(found: Beside, sail: str, boats: Sequence[str]) -> str:
+    """The note of a boat, also if the office doesn't know her."""
+    return found.note if sail in boats else "not entered: the office refuses her line"
+
+
+def show(desk: Desk, race: int, found: Compared) -> None:
+    """Shows a race with its sums, and how many lines differ."""
+    rules = desk.rules
+    say(f"Race {race}, {SYSTEMS[rules.system]}, {ROUNDINGS[rules.rounding]}"
+        + (", past midnight" if race in rules.overnight else ""))
+    print("\n".join([f"   {'sail':<12} {'sum':<36} {'exact':>12} {'seconds':>7}", *found.shown]), flush=True)
+    changes = f" Race {race} counts: its results will change." if found.counts and found.lines else ""
+    say(f"{count(len(found.shown), 'boat')}, {count(len(found.lines), 'line')}.{changes}")
+
+
+def run(desk: Desk, races: list[int], is_sent: bool) -> int:
+    """Shows the races, and prints or sends the lines; the status."""
+    journal = desk.sheet().journal
+    lines: list[str] = []
+    for race in races:
+        rows = desk.rows(race)
+        timed = [entry for entry in rows if entry.is_timed]
+        others = [entry for entry in rows if not entry.is_timed]
+        found = compared(race, desk.times(race, timed), journal, others)
+        show(desk, race, found)
+        lines += found.lines
+    if not lines:
+        return 0
+    if not is_sent:
+        print("\n".join(lines), flush=True)
+        return 0
+    if not desk.link:
+        raise Trouble("no office is open: open it, and send again")
+    if not question("Send them?"):
+        say("Not sent.")
+        return 1
+    # Others type meanwhile, and a line of theirs may be one of these.
+    if desk.sheet().journal != journal:
+        say("Somebody else has typed meanwhile. Nothing was sent: send again.")
+        return 1
+    return 0 if desk.send(lines) == len(lines) else 1
+
+
+def races_of(desk: Desk, text: str) -> list[int]:
+    """The races that were asked for."""
+    if text == "all":
+        return desk.races()
+    if not re.fullmatch("[1-9][0-9]?", text):
+        raise Trouble(f"{text!r} is no race: a number from 1 to 40, or all")
+    return [int(text)]
+
+
+def done(folder: str, race: str, is_sent: bool) -> int:
+    """Does what was asked for; the status."""
+    desk = Desk(folder)
+    try:
+        return run(desk, races_of(desk, race), is_sent)
+    finally:
+        if desk.link:
+            desk.link.close()

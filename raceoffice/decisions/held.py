@@ -1,0 +1,87 @@
+"""What each boat holds in each race by the journal, with the role that gave it to her."""
+from __future__ import annotations
+
+from collections.abc import Sequence
+from dataclasses import dataclass, field
+
+from raceoffice.program.replay import Line
+
+HARD = ("DSQ", "DNE")
+
+
+@dataclass
+class Holding:
+    """What CLEAR takes from a boat in a race. Of DSQ and DNE also the code that each replaced."""
+    code: str = ""
+    role: str = ""
+    before: tuple[str, str] = ("", "")
+    penalties: list[tuple[str, str]] = field(default_factory=list)
+    redress: str = ""
+    # Whether the jury ever decided anything about her there.
+    was_decided: bool = False
+
+    def take(self, role: str, command: str, what: str) -> None:
+        """Follows one entry of the journal about her."""
+        if command == "MARK":
+            if what in HARD:
+                self.before = (self.code, self.role)
+            self.code, self.role = what, role
+        elif command == "PENALTY":
+            self.penalties.append((what, role))
+        elif command == "REDRESS":
+            self.redress = what
+        elif command == "CLEAR":
+            self.code, self.role, self.before, self.redress = "", "", ("", ""), ""
+            self.penalties = []
+        self.was_decided |= command == "REDRESS" or what in HARD or \
+            (command == "PENALTY" and role == "JURY")
+
+    @property
+    def is_any(self) -> bool:
+        return bool(self.code or self.penalties or self.redress)
+
+    @property
+    def is_of_jury(self) -> bool:
+        """Whether she holds anything that the jury gave her."""
+        return bool(self.redress or self.code in HARD
+                    or any(role == "JURY" for _, role in self.penalties))
+
+    @property
+    def is_points(self) -> bool:
+        """Whether her redress is a number of points, as a decision's is."""
+        return self.redress[:1].isdigit()
+
+
+def holdings(journal: Sequence[str]) -> dict[tuple[int, str], Holding]:
+    """What each boat holds, by race and sail."""
+    found: dict[tuple[int, str], Holding] = {}
+    for entry in journal:
+        _, _, role, command, *rest = entry.split()
+        if command in ("MARK", "PENALTY", "REDRESS", "CLEAR"):
+            holding = found.setdefault((int(rest[0]), rest[1]), Holding())
+            holding.take(role, command, rest[2] if len(rest) > 2 else "")
+    return found
+
+
+def cleared(race: int, sail: str) -> Line:
+    return Line("JURY", f"CLEAR {race} {sail}")
+
+
+def marked(race: int, sail: str, code: str, role: str = "SCORER") -> Line:
+    return Line(role, f"MARK {race} {sail} {code}")
+
+
+def restored(race: int, sail: str, held: Holding) -> list[Line]:
+    """The lines that give back what CLEAR took with a redress: her code and her penalties, each in
+    the role that gave it."""
+    code = [marked(race, sail, held.code, held.role)] if held.code else []
+    return code + [Line(role, f"PENALTY {race} {sail} {kind}") for kind, role in held.penalties]
+
+
+def reinstated(race: int, sail: str, held: Holding) -> list[Line]:
+    """The lines that take away what the jury gave her, and leave what the committee did."""
+    if not held.is_of_jury:
+        return []
+    code, role = held.before if held.code in HARD else (held.code, held.role)
+    kept = Holding(code, role, penalties=[given for given in held.penalties if given[1] != "JURY"])
+    return [cleared(race, sail), *restored(race, sail, kept)]

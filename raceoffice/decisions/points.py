@@ -1,0 +1,310 @@
+"""What each decision comes to by the program's figures, and the lines that bring the journal there.
+
+The program is asked for the series without the decisions: with their redress cleared, with the codes
+and penalties below it given back, and with boats that are TLE or NSC out of the finishing order. What
+a decision adds is worked out here, by the rules that each function names.
+"""
+from __future__ import annotations
+
+from collections.abc import Sequence
+from dataclasses import dataclass
+
+from raceoffice.decisions.decision_lines import AVERAGES, NAME, PENALTIES, Ruling, in_words, rulings_of
+from raceoffice.decisions.held import HARD, Holding, cleared, holdings, marked, reinstated, restored
+from raceoffice.errors import Trouble
+from raceoffice.program.journal import Race, Series
+from raceoffice.program.replay import Line, scored
+from raceoffice.program.standing import Score, Standing
+from raceoffice.wording import joined
+
+# The codes whose points are the score for Did Not Finish, under RRS A5.2 and A5.3.
+AS_DNF = ("DNS", "OCS", "UFD", "BFD", "DNF", "RET", "DSQ", "DNE")
+OUT = ("TLE", "NSC")
+
+
+def text_of(tenths: int) -> str:
+    return f"{tenths // 10}.{tenths % 10}"
+
+
+@dataclass(frozen=True)
+class Verdict:
+    """A decision: the points it comes to, what the journal holds, and the lines that differ."""
+    ruling: Ruling
+    points: str = ""
+    held: str = ""
+    lines: tuple[Line, ...] = ()
+    why: str = ""
+
+    @property
+    def is_kept(self) -> bool:
+        """Whether the journal has it as it is to be."""
+        return not self.lines and not self.why
+
+    def __str__(self) -> str:
+        """What is wrong with it, after its text."""
+        if self.why:
+            return f"{self.ruling}: {self.why}"
+        if self.is_kept:
+            return f"{self.ruling}: {f'{self.points} points' if self.points else 'done'}"
+        now = f"the journal has {self.held} points" if self.held else "the journal doesn't have it"
+        wanted = f"{self.points} points by the scores as they are" if self.points else "to be sent"
+        return f"{self.ruling}: {wanted}, and {now}"
+
+
+@dataclass(frozen=True)
+class Decided:
+    """All decisions of a series, and the lines of the file that can't be read."""
+    text: str = ""
+    verdicts: tuple[Verdict, ...] = ()
+    wrong: tuple[str, ...] = ()
+
+    @property
+    def labels(self) -> dict[tuple[int, str], str]:
+        """What the cells of decisions show, by race and sail."""
+        return {(verdict.ruling.race, verdict.ruling.sail): verdict.ruling.label
+                for verdict in self.verdicts
+                if verdict.ruling.label and (verdict.held or verdict.is_kept)}
+
+    @property
+    def stale(self) -> list[str]:
+        """What isn't in the scores as it has to be, in words."""
+        return [*self.wrong, *(f"{NAME}, line {verdict.ruling.line}: {verdict}"
+                               for verdict in self.verdicts if not verdict.is_kept)]
+
+    @property
+    def lines(self) -> list[Line]:
+        return [line for verdict in self.verdicts for line in verdict.lines]
+
+    def verdict(self, race: int, sail: str) -> Verdict | None:
+        return next((verdict for verdict in self.verdicts
+                     if (verdict.ruling.race, verdict.ruling.sail) == (race, sail)), None)
+
+
+def words_of(verdict: Verdict) -> str:
+    """A decision as a note on a page says it."""
+    said = in_words(verdict.ruling, verdict.held or verdict.points)
+    if verdict.is_kept:
+        return said
+    if verdict.why:
+        return f"{in_words(verdict.ruling, '')}. Not in the scores: {verdict.why}"
+    wanted = f", and {verdict.points} by the scores as they are" if verdict.points else ""
+    return f"{said}{wanted}. Out of date" if verdict.held else f"{said}. Not in the scores yet"
+
+
+def decided(program: str, options: list[str], journal: Sequence[str], text: str) -> Decided:
+    """What the decisions of a file come to, after this journal and under these rules."""
+    rulings, wrong = rulings_of(text)
+    try:
+        found = weighed(program, options, journal, rulings) if rulings else []
+    except Trouble as trouble:
+        return Decided(text, (), (*wrong, f"{NAME} can't be worked out: {trouble}"))
+    return Decided(text, tuple(found), tuple(wrong))
+
+
+def weighed(program: str, options: list[str], journal: Sequence[str],
+            rulings: list[Ruling]) -> list[Verdict]:
+    """Each decision with its points and the lines that differ from what the journal holds."""
+    held, series = holdings(journal), Series.read(list(journal))
+    barred = {ruling: why_barred(ruling, series, held_by(held, ruling)) for ruling in rulings}
+    figures = figured(program, options, journal, rulings, barred)
+    lost = {ruling: why for ruling, why in figures.why.items() if ruling.kind == "TLE"}
+    if lost:
+        # Their boats stay as they are recorded, and so do the figures of the others.
+        barred |= lost
+        figures = figured(program, options, journal, rulings, barred)
+    return [Verdict(ruling, why=barred[ruling]) if barred[ruling]
+            else verdict(ruling, held_by(held, ruling), figures) for ruling in rulings]
+
+
+def figured(program: str, options: list[str], journal: Sequence[str], rulings: list[Ruling],
+            barred: dict[Ruling, str]) -> Figures:
+    """The figures of the decisions that aren't barred, with their points."""
+    held = holdings(journal)
+    open_ones = [ruling for ruling in rulings if not barred[ruling]]
+    base = [line for ruling in open_ones for line in without(ruling, held_by(held, ruling))]
+    figures = Figures(program, options, journal, base, open_ones)
+    for ruling in sorted(open_ones, key=lambda ruling: ruling.kind in AVERAGES):
+        figures.work_out(ruling)
+    return figures
+
+
+def held_by(held: dict[tuple[int, str], Holding], ruling: Ruling) -> Holding:
+    return held.get((ruling.race, ruling.sail), Holding())
+
+
+def why_barred(ruling: Ruling, series: Series, held: Holding) -> str:
+    """Why a decision can't be worked out, or can't be given; empty if it can."""
+    if ruling.sail not in series.boats:
+        return f"{ruling.sail} isn't entered"
+    if ruling.kind == "REINSTATE":
+        return "" if held.was_decided else "the jury has decided nothing about her there"
+    if held.code in HARD:
+        return f"she holds {held.code} there, which no points replace"
+    if held.redress and not held.is_points:
+        return f"she holds redress {held.redress} there, which isn't of {NAME}"
+    if ruling.kind in OUT and held.code not in ("", "DNF"):
+        return f"she holds {held.code} there"
+    if ruling.kind != "NSC" and not series.race(ruling.race).counts:
+        return f"race {ruling.race} doesn't count"
+    return ""
+
+
+def without(ruling: Ruling, held: Holding) -> list[Line]:
+    """The lines after which the journal is as it would be without a decision's points."""
+    race, sail = ruling.race, ruling.sail
+    if ruling.kind == "REINSTATE":
+        return reinstated(race, sail, held)
+    lines = [cleared(race, sail), *restored(race, sail, held)] if held.redress else []
+    # A boat that is TLE or NSC isn't in the order: each boat behind her moves up (RRS A6.1).
+    return lines + ([marked(race, sail, "DNF")] if ruling.kind in OUT and not held.code else [])
+
+
+def verdict(ruling: Ruling, held: Holding, figures: Figures) -> Verdict:
+    """What a decision comes to, beside what the journal holds."""
+    wanted, why = figures.points.get(ruling, ""), figures.why.get(ruling, "")
+    has_code = held.code == "DNF" or ruling.kind not in OUT
+    if why or wanted and wanted == held.redress and has_code:
+        return Verdict(ruling, wanted, held.redress, (), why)
+    lines = without(ruling, held)
+    if wanted:
+        lines.append(Line("JURY", f"REDRESS {ruling.race} {ruling.sail} {wanted}"))
+    return Verdict(ruling, wanted, held.redress, tuple(lines))
+
+
+class Figures:
+    """The program's figures for a series without its decisions, and what these come to."""
+
+    def __init__(self, program: str, options: list[str], journal: Sequence[str], base: list[Line],
+                 rulings: list[Ruling]) -> None:
+        self.program, self.options = program, options
+        self.sheet = scored(program, options, journal, base)
+        self.series = Series.read(list(self.sheet.journal))
+        self.cells = cells_of(Standing.read(list(self.sheet.table)))
+        self.held = holdings(self.sheet.journal)
+        self.rulings = rulings
+        self.points: dict[Ruling, str] = {}
+        self.why: dict[Ruling, str] = {}
+        self.dnf = self.asked({ruling.race: self.dnf_lines(self.series.race(ruling.race))
+                               for ruling in rulings if ruling.kind in (*PENALTIES, "TLE")})
+        self.last = self.asked({ruling.race: self.last_lines(self.series.race(ruling.race))
+                                for ruling in rulings if ruling.after_last is not None})
+
+    def asked(self, wanted: dict[int, tuple[str, list[Line]]]) -> dict[int, int]:
+        """The tenths of a boat in each race after some lines; the program is asked if there are any."""
+        lines = [line for _, more in wanted.values() for line in more]
+        cells = self.cells
+        if lines:
+            sheet = scored(self.program, self.options, self.sheet.journal, lines)
+            cells = cells_of(Standing.read(list(sheet.table)))
+        return {race: cells[race, sail].tenths for race, (sail, _) in wanted.items() if sail}
+
+    def dnf_lines(self, race: Race) -> tuple[str, list[Line]]:
+        """A boat whose score is that for Did Not Finish, and the lines after which it is.
+
+        She came to the starting area already, so under RRS A5.3 the score stays what it is.
+        """
+        number = race.number
+        coded = [sail for sail in self.series.boats if self.cells[number, sail].code in AS_DNF]
+        if coded:
+            return coded[0], []
+        came = [sail for sail in self.series.boats if self.came(number, sail)] or self.series.boats
+        holds = self.held.get((number, came[0]), Holding()).is_any
+        return came[0], [cleared(number, came[0])] * holds + [marked(number, came[0], "DNF")]
+
+    def last_lines(self, race: Race) -> tuple[str, list[Line]]:
+        """A boat with the points of the last place, and the lines that take penalties and redress
+        from her."""
+        group = race.finished()[-1:]
+        if not group:
+            return "", []
+        plain = [sail for sail in group[0] if not self.cells[race.number, sail].code]
+        return (plain[0], []) if plain else (group[0][0], [cleared(race.number, group[0][0])])
+
+    def came(self, number: int, sail: str) -> bool:
+        """Whether a boat came to the starting area: her status isn't DNC."""
+        race = self.series.race(number)
+        has_place = any(sail in group for group in race.order)
+        return race.codes.get(sail, "" if has_place else "DNC") != "DNC"
+
+    def work_out(self, ruling: Ruling) -> None:
+        """Finds a decision's points, or why it has none."""
+        if ruling.kind in PENALTIES:
+            self.points[ruling] = text_of(self.penalised(ruling))
+        elif ruling.kind == "TLE":
+            self.work_out_limit(ruling)
+        elif ruling.kind in AVERAGES:
+            self.work_out_average(ruling)
+
+    def penalised(self, ruling: Ruling) -> int:
+        """The tenths of a boat with a penalty (RRS 44.3(c)): the score without it, made worse by the
+        percentage of the score for Did Not Finish, but no worse than that score."""
+        before, dnf = self.cells[ruling.race, ruling.sail].tenths, self.dnf[ruling.race]
+        amount = self.share(ruling.race, ruling.percent) if ruling.percent else ruling.tenths
+        return max(before, min(dnf, before + amount))
+
+    def share(self, race: int, percent: int) -> int:
+        """The tenths of a percentage of the score for Did Not Finish, rounded to the nearest whole
+        point, 0.5 upward (RRS 44.3(c))."""
+        return (percent * (self.dnf[race] // 10) + 50) // 100 * 10
+
+    def work_out_limit(self, ruling: Ruling) -> None:
+        """TLE: points after those of the last boat that finished, or points as they are given.
+
+        Her penalties make that worse, and nothing makes it worse than the score for Did Not Finish
+        (RRS 44.3(c)).
+        """
+        race, after = ruling.race, ruling.after_last
+        if after is not None and race not in self.last:
+            self.why[ruling] = f"nobody finished in race {race}"
+            return
+        tenths = ruling.tenths if after is None else self.last[race] + 10 * after
+        held = self.held.get((race, ruling.sail), Holding())
+        tenths += sum(self.cost(race, kind) for kind, _ in held.penalties)
+        self.points[ruling] = text_of(min(tenths, self.dnf[race]))
+
+    def cost(self, race: int, kind: str) -> int:
+        """The tenths that one of the program's penalties costs (RRS 30.2, 44.3(c))."""
+        stated = dict(zip(self.options, self.options[1:])).get("--scp", "")
+        return 10 * int(stated) if kind == "SCP" and stated else self.share(race, 20)
+
+    def work_out_average(self, ruling: Ruling) -> None:
+        """The average of a boat's points in some races, to the nearest tenth of a point, 0.05 upward
+        (RRS A9(a), A9(b)). It counts no race in which she has an average herself."""
+        averaged = self.averaged(ruling.sail)
+        counted = [race for race, sail in self.cells if sail == ruling.sail]
+        races = ruling.chosen or [race for race in counted if race not in averaged
+                                  and self.is_counted(ruling, race)]
+        missing = [str(race) for race in races if race not in counted]
+        itself = [str(race) for race in races if race in averaged]
+        if missing or itself or not races:
+            self.why[ruling] = (f"race {joined(missing)} doesn't count" if missing else
+                                f"race {joined(itself)} is an average itself" if itself else
+                                "she has no other race yet")
+            return
+        total, count = sum(self.tenths(race, ruling.sail) for race in races), len(races)
+        self.points[ruling] = text_of((2 * total + count) // (2 * count))
+
+    def averaged(self, sail: str) -> set[int]:
+        """The races in which a boat has an average as redress."""
+        found = {ruling.race for ruling in self.rulings
+                 if ruling.sail == sail and ruling.kind in AVERAGES}
+        return found | {number for number, race in self.series.races.items()
+                        if race.redress.get(sail) in ("ALL", "PRIOR")}
+
+    def is_counted(self, ruling: Ruling, race: int) -> bool:
+        """Whether an average without a list of races counts a race."""
+        if ruling.how == "before":
+            return race < ruling.race
+        return ruling.how == "all" or self.came(race, ruling.sail)
+
+    def tenths(self, race: int, sail: str) -> int:
+        """A boat's points in a race, by another decision if there is one."""
+        other = next((points for ruling, points in self.points.items()
+                      if (ruling.race, ruling.sail) == (race, sail)), "")
+        return Score(other, "", False).tenths if other else self.cells[race, sail].tenths
+
+
+def cells_of(standing: Standing) -> dict[tuple[int, str], Score]:
+    """Each score of a table, by race and sail."""
+    return {(race, row.sail): score for row in standing.rows
+            for race, score in zip(standing.races, row.scores)}

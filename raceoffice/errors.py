@@ -1,0 +1,42 @@
+"""What can go wrong, as exceptions. Each has a text that says in words what happened."""
+from __future__ import annotations
+
+
+class Trouble(Exception):
+    """Why something can't be done, in words. It is shown, and nothing stops at one with a page of Python."""
+
+
+class Gone(Trouble):
+    """Nobody serves at the socket."""
+
+
+class NoSeat(Trouble):
+    """All seats of the office are taken."""
+
+
+class NotThere(Trouble):
+    """No file has this name."""
+
+
+class NoTable(Trouble, ValueError):
+    """What a program or an office gave as its table is none."""
+
+
+class NoJournal(Trouble, ValueError):
+    """What a program or an office gave as its journal is none."""
+
+
+class Fault(Trouble):
+    """A fault of this package itself, of which only its trace says more."""
+
+
+class NotSent(Exception):
+    """Why a line wasn't sent, in words."""
+
+
+class Odd(Exception):
+    """Why a page isn't one that this package wrote, in words."""
+
+
+class Unsure(Exception):
+    """Why nothing can be said of a page, in words."""

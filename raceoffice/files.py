@@ -1,0 +1,144 @@
+"""Files that are read whole, replaced whole and added to whole."""
+from __future__ import annotations
+
+import contextlib
+import os
+import secrets
+import stat
+
+from raceoffice import system
+from raceoffice.errors import NotThere, Trouble
+
+# The folder in that of a series which lets in this account alone.
+PRIVATE = "office"
+# A file of a series lets in this account alone.
+PRIVATE_MODE, PUBLIC_MODE = 0o600, 0o666
+# Seconds that an addition waits for another: that one's process may have been stopped.
+PATIENCE = 1.0
+
+
+def opened_at_once(path: str, flags: int) -> int:
+    """Opens a file. A pipe of this name holds nobody up."""
+    return os.open(path, flags | system.AT_ONCE)
+
+
+def opened_as_ours(path: str, flags: int) -> int:
+    """Opens a file that lets in this account alone, whatever the umask."""
+    return os.open(path, flags, PRIVATE_MODE)
+
+
+def read_whole(path: str, most: int, called: str = "") -> bytes:
+    """All bytes of a file; a Trouble if it has more than `most`, or isn't a plain file. It calls the file
+    by its path, or otherwise."""
+    called = called or path
+    try:
+        with open(path, "rb", opener=opened_at_once) as file:
+            if not stat.S_ISREG(os.fstat(file.fileno()).st_mode):
+                raise Trouble(f"{called} is no plain file")
+            data = file.read(most + 1)
+    except FileNotFoundError:
+        raise NotThere(f"{called} isn't there") from None
+    except OSError as cause:
+        raise Trouble(f"{called} can't be read: {cause.strerror}") from None
+    except ValueError:
+        raise Trouble(f"{called!r} can't be the name of a file") from None
+    if len(data) > most:
+        raise Trouble(f"{called} is longer than {most:,} bytes")
+    return data
+
+
+def place_of(path: str) -> str:
+    """Where a file is. A link of this account's own is followed: another's may lead anywhere."""
+    with contextlib.suppress(FileNotFoundError):
+        found = os.lstat(path)
+        if stat.S_ISLNK(found.st_mode) and found.st_uid == system.account():
+            return os.path.realpath(path)
+    return path
+
+
+def mode_of(path: str) -> int | None:
+    """The mode of a plain file; None if there is none. A Trouble if it is something else."""
+    try:
+        found = os.lstat(path)
+    except FileNotFoundError:
+        return None
+    if stat.S_ISLNK(found.st_mode):
+        return None
+    if not stat.S_ISREG(found.st_mode):
+        raise Trouble(f"{path} can't be written: it is no plain file")
+    return stat.S_IMODE(found.st_mode)
+
+
+def write_fresh(path: str, data: bytes, mode: int, kept: int | None) -> None:
+    """Makes a new file with these bytes, which are on the disk then. `kept` is the mode of an old file
+    that it replaces."""
+    number = os.open(path, os.O_WRONLY | os.O_CREAT | os.O_EXCL | system.NO_LINK, mode)
+    with open(number, "wb") as file:
+        # A stick's modes can't be changed, and are the same anyway.
+        if kept is not None and kept != stat.S_IMODE(os.fstat(number).st_mode):
+            os.fchmod(number, kept)
+        file.write(data)
+        file.flush()
+        os.fsync(number)
+
+
+def replace_whole(path: str, data: bytes, is_public: bool = False) -> None:
+    """Makes a file hold these bytes, so that whoever reads it finds the old ones or the new.
+
+    They are on the disk when it is done. An old file's mode stays, and so does a link. A new file is
+    this account's alone; of a public one the umask decides.
+    """
+    fresh = ""
+    try:
+        place = place_of(path)
+        kept = mode_of(place)
+        folder = os.path.dirname(place) or "."
+        # A name that nobody can guess: in a shared folder another account may have put a file there.
+        fresh = os.path.join(folder, f".{secrets.token_hex(8)}.new")
+        write_fresh(fresh, data, PUBLIC_MODE if is_public else PRIVATE_MODE, kept)
+        os.replace(fresh, place)
+        system.sync_folder(folder)
+    except OSError as cause:
+        with contextlib.suppress(OSError):
+            os.remove(fresh)
+        raise Trouble(f"{path} can't be written: {cause.strerror}") from None
+
+
+def is_torn(number: int) -> bool:
+    """Whether a file ends in a line without its end."""
+    size = os.fstat(number).st_size
+    return size > 0 and os.pread(number, 1, size - 1) != b"\n"
+
+
+def write_all(number: int, data: bytes, is_alone: bool) -> None:
+    """Adds all of these bytes to the end of a file and puts them on the disk, or adds none."""
+    start, left = os.fstat(number).st_size, data
+    try:
+        while left:
+            left = left[os.write(number, left):]
+        os.fsync(number)
+    except OSError:
+        if is_alone:
+            os.ftruncate(number, start)
+        raise
+
+
+def append_whole(path: str, data: bytes, ended: bytes = b"", called: str = "") -> None:
+    """Adds bytes to a file: all of them, which are on the disk then, or none. A link isn't followed.
+
+    `ended` is put before them if the file ends in a torn line, as after a power cut.
+    """
+    called = called or path
+    flags = os.O_RDWR | os.O_APPEND | os.O_CREAT | system.NO_LINK | system.AT_ONCE
+    try:
+        number = os.open(path, flags, PRIVATE_MODE)
+        try:
+            if not stat.S_ISREG(os.fstat(number).st_mode):
+                raise Trouble(f"{called} can't be written: it is no plain file")
+            # One who has the lock may have been stopped.
+            is_alone = system.take_lock(number, PATIENCE)
+            write_all(number, (ended if is_torn(number) else b"") + data, is_alone)
+        finally:
+            os.close(number)
+    except OSError as cause:
+        raise Trouble(f"{called} can't be written: {cause.strerror}") from None

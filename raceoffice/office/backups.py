@@ -1,0 +1,104 @@
+"""The copies of the journal that the program keeps in journal.txt: one on a second disk, with one of the
+places of finishers without a sail, and dated ones in kept/."""
+from __future__ import annotations
+
+import contextlib
+
+from raceoffice.errors import Trouble
+from raceoffice.program.link import Sheet
+from raceoffice.series import copies
+from raceoffice.series.continuity import first_entries
+from raceoffice.series.folder import VERSION, Folder
+from raceoffice.series.kept_places import Places
+from raceoffice.series.run_program import replayed
+from raceoffice.series.second_folder import Second, places_copy_of
+
+CHANGED = "journal.txt isn't what the office keeps: somebody has changed or replaced it"
+
+
+class Keeper:
+    """Copies journal and places to a second disk if the settings say so, and looks whether journal.txt has
+    the journal.
+
+    While the office is open, only the program writes journal.txt: a rename over it would break the
+    keeping. The copy is replaced only by a journal that goes on where it ends. So an office that was
+    opened with an older journal never costs the entries that were copied.
+    """
+
+    def __init__(self, folder: Folder) -> None:
+        self.folder, self.second, self.places = folder, Second(folder), Places(folder)
+        # How many entries the second copy has, and which places.
+        self.copied: tuple[int, object] = (-1, None)
+        # Why there is no second copy, and what else should be known of it.
+        self.trouble = self.note = ""
+        # What the office has, and how journal.txt began when this window came.
+        self.sheet = Sheet((), ())
+        self.first: list[str] | None = None
+
+    def save(self, sheet: Sheet) -> None:
+        """Copies the journal; a Trouble if journal.txt isn't what the office keeps. A copy that fails
+        is only remembered."""
+        self.sheet = sheet
+        if self.second.path and (self.copied != (len(sheet.journal), self.places.state()) or self.trouble):
+            self.copy(sheet)
+        if not self.is_kept():
+            raise Trouble(CHANGED)
+
+    def copy(self, sheet: Sheet) -> None:
+        """Copies the journal to the second disk, and remembers what is wrong with that."""
+        # What is noted meanwhile is copied next time.
+        state = self.places.state()
+        answer = self.second.ask("save", text_of(sheet))
+        self.trouble, self.copied = answer.fault or self.copy_places(), (len(sheet.journal), state)
+        self.note = same_disk(self.second.path) if self.second.is_on_our_disk(answer) else ""
+
+    def copy_places(self) -> str:
+        """Copies the places to the second disk; why that failed, or nothing."""
+        try:
+            text = self.places.text()
+        except Trouble as trouble:
+            return str(trouble)
+        return self.second.ask("save", text, places_copy_of(self.folder)).fault
+
+    def is_kept(self) -> bool:
+        """Whether journal.txt is what the office has; a Trouble if it can't be read."""
+        held, journal = self.folder.kept(), list(self.sheet.journal)
+        if self.first is None:
+            self.first = self.beginning(held[:len(journal)], journal)
+        return held[:len(journal)] == [*self.first, *journal[len(self.first):]]
+
+    def beginning(self, held: list[str], journal: list[str]) -> list[str]:
+        """How journal.txt has to begin. An older one may be written otherwise than the office shows it:
+        then it is right as it is."""
+        if held != journal:
+            with contextlib.suppress(Trouble):
+                shown = replayed(self.folder, self.folder.settings.options()).journal
+                if list(shown[:len(journal)]) == journal:
+                    return held
+        return journal
+
+    def data(self) -> bytes:
+        """What the office has, as journal.txt has it if that is right. What it hasn't shown yet may be
+        lost in a crash, and is no part of this."""
+        with contextlib.suppress(Trouble):
+            if self.is_kept():
+                return first_entries(self.folder.parts()[0], len(self.sheet.journal))
+        return text_of(self.sheet).encode()
+
+    def keep_dated(self) -> str:
+        """Makes a dated copy of the journal in kept/; its name."""
+        return copies.keep(self.folder, self.data())
+
+    def keep_beside(self) -> str:
+        """Keeps the office's journal in kept/ if journal.txt isn't it any more; the copy's name."""
+        return copies.keep(self.folder, self.data(), "-office")
+
+
+def same_disk(path: str) -> str:
+    """What is said of a copy that breaks with the disk of the journal."""
+    return f"The second copy, {path}, is on the same disk as journal.txt. Is the stick in?"
+
+
+def text_of(sheet: Sheet) -> str:
+    """The journal of a sheet as a file has it."""
+    return VERSION + "".join(f"{line}\n" for line in sheet.journal)

@@ -1,0 +1,236 @@
+"""The program while it serves a series: started, taken over from a window that has gone, ended."""
+from __future__ import annotations
+
+import contextlib
+import os
+import signal
+import subprocess
+import time
+from collections.abc import Iterator
+
+from raceoffice import system
+from raceoffice.errors import Gone, Trouble
+from raceoffice.files import PRIVATE, opened_as_ours, replace_whole
+from raceoffice.program.link import Link, remove_socket
+from raceoffice.program.messages import cut_note, without_note
+from raceoffice.series.folder import Folder, Lock
+from raceoffice.series.run_program import Program, serve_words
+from raceoffice.series.windows import OFFICE, Presence, open_windows
+from raceoffice.terminal import question, say
+
+# The number of clients after which the program ends. Closing uses up the rest, so that it ends by
+# itself, with its table.
+SESSIONS = 4_000
+# Seconds that the program is given to open or to end, the windows to leave, and a program that is
+# stopped before it is killed.
+PATIENCE, LEAVE, SOON = 60.0, 10.0, 5.0
+# How often the program is started, and the seconds between, if something has journal.txt: a tool that
+# only looks whether an office has it holds its lock for a moment.
+TRIES, BETWEEN = 5, 0.3
+TAKEN = "regatta: keep taken"
+
+
+class Service:
+    """The program that serves a series, and this window's link to it."""
+
+    def __init__(self, folder: Folder) -> None:
+        self.folder, self.lock = folder, Lock(folder)
+        self.process: subprocess.Popen[bytes] | None = None
+        self.number = 0
+        self.link: Link
+        self.presence: Presence | None = None
+
+    # Its beginning
+
+    def start(self) -> None:
+        """Starts the program, and links to it; whatever comes between, it isn't left running."""
+        try:
+            if not self.folder.kept() and not self.folder.is_held():
+                Program(self.folder).begin()
+            for _ in range(TRIES - 1):
+                if self.is_started():
+                    return
+                time.sleep(BETWEEN)
+            self.spawn()
+        except OSError as cause:
+            self.undo_start()
+            raise Trouble(f"the office can't be opened: {cause}") from None
+        except BaseException:
+            self.undo_start()
+            raise
+
+    def is_started(self) -> bool:
+        """Whether the program has started; False if something else had journal.txt."""
+        try:
+            self.spawn()
+        except Trouble:
+            if TAKEN not in self.said():
+                raise
+            return False
+        return True
+
+    def spawn(self) -> None:
+        """Starts the program, and links to it. It gets a session of its own, so that Ctrl-C in this
+        window doesn't reach it."""
+        with open(self.file("table"), "wb", opener=opened_as_ours) as table, \
+                open(self.file("fault"), "wb", opener=opened_as_ours) as fault, stops_deferred():
+            # A file that may not grow is a failed write then: Python leaves SIGXFSZ ignored.
+            self.process = subprocess.Popen(
+                serve_words(self.folder, SESSIONS), cwd=self.file(), stdin=subprocess.DEVNULL,
+                stdout=table, stderr=fault, start_new_session=True, restore_signals=False,
+                pass_fds=[self.lock.file], umask=0o077)
+        self.number = self.process.pid
+        self.note_pid()
+        try:
+            self.link = self.first_link()
+        finally:
+            if note := cut_note(self.said()):
+                say(note)
+
+    def first_link(self) -> Link:
+        """The link to the program once it has made its socket."""
+        end = time.monotonic() + PATIENCE
+        while time.monotonic() < end:
+            if self.is_over():
+                raise Trouble("\n".join(self.fault() or ["the program ended, and didn't say why"]))
+            try:
+                return self.folder.link()
+            except Gone:
+                time.sleep(0.02)
+        raise Trouble("the office doesn't open its socket")
+
+    def take_over(self) -> None:
+        """Goes on with a program whose window has gone; a Trouble if it has one."""
+        try:
+            with open(self.file("pid"), encoding="ascii") as file:
+                number, window, since = file.read().split()
+        except (OSError, ValueError):
+            raise Trouble("the office is being opened in another window") from None
+        if window in open_windows(self.folder, OFFICE):
+            raise Trouble(f"the office is open in another window, since {since} (process {window})")
+        if not question(f"The office is open since {since}, but its window has gone. Take it over?",
+                        True):
+            raise Trouble("the office goes on without a window")
+        self.number, self.link = int(number), self.folder.link()
+        self.note_pid()
+
+    def link_again(self) -> None:
+        """Links to the program once more, if it lets somebody in."""
+        self.link.close()
+        with contextlib.suppress(Trouble):
+            self.link = self.folder.link()
+
+    def note_pid(self) -> None:
+        """Notes the program's process and this window's."""
+        self.presence = self.presence or Presence(self.folder, OFFICE)
+        replace_whole(self.file("pid"), f"{self.number} {os.getpid()} {time.strftime('%H:%M')}\n".encode())
+
+    # What it says
+
+    def file(self, *names: str) -> str:
+        return self.folder.file(PRIVATE, *names)
+
+    def said(self) -> str:
+        """What the program has said on standard error; nothing if it can't be read."""
+        with contextlib.suppress(OSError), \
+                open(self.file("fault"), encoding="utf-8", errors="replace") as file:
+            return file.read()
+        return ""
+
+    def fault(self) -> list[str]:
+        """Why the program ended by itself, in words; none if it didn't say."""
+        said = without_note(self.said()).strip()
+        return Program(self.folder).in_words(said) if said else []
+
+    def table(self) -> str:
+        """What the program has printed: its table, once it has ended; nothing if it can't be read."""
+        with contextlib.suppress(OSError), \
+                open(self.file("table"), encoding="utf-8", errors="replace") as file:
+            return file.read().rstrip()
+        return ""
+
+    def is_over(self) -> bool:
+        """Whether the program has ended. It holds the lock as long as it lives."""
+        return self.process.poll() is not None if self.process else not self.lock.is_taken()
+
+    def lets_in(self) -> bool:
+        """Whether the program still lets clients in: not after its last session."""
+        return True in system.sockets_at(self.folder.socket)
+
+    # Its end
+
+    def use_up(self) -> None:
+        """Comes and goes until the program lets nobody in any more."""
+        end = time.monotonic() + PATIENCE
+        while time.monotonic() < end:
+            try:
+                Link(self.folder.socket).close()
+            except Gone:
+                if not os.path.lexists(self.folder.socket):
+                    raise Trouble("the folder of the office has gone") from None
+                return
+            except Trouble:
+                # The queue at the socket is full for a moment.
+                time.sleep(0.01)
+        raise Trouble("the office goes on letting clients in")
+
+    def has_others(self) -> bool:
+        """Whether there are clients beside this window."""
+        return len(system.sockets_at(self.folder.socket)) > 1
+
+    def leave(self) -> None:
+        """Leaves as the last client, and waits for the program's end."""
+        self.link.ask("QUIT")
+        self.link.close()
+        self.wait_for_end()
+
+    def undo_start(self) -> None:
+        """Ends a program that this window has started, but not one that it has taken over."""
+        if self.process is None:
+            return
+        with contextlib.suppress(Trouble):
+            self.stop()
+            remove_socket(self.folder.socket)
+
+    def stop(self) -> None:
+        """Ends the program although clients are there. One that doesn't listen is killed: all that it
+        has answered is on the disk."""
+        self.send(signal.SIGTERM)
+        with contextlib.suppress(Trouble):
+            self.wait_for_end(SOON)
+            return
+        self.send(signal.SIGKILL)
+        self.wait_for_end()
+
+    def send(self, number: int) -> None:
+        """Sends the program a signal, unless it has ended."""
+        if self.process:
+            self.process.send_signal(number)
+        elif not self.is_over():
+            with contextlib.suppress(ProcessLookupError):
+                os.kill(self.number, number)
+
+    def wait_for_end(self, patience: float = PATIENCE) -> None:
+        end = time.monotonic() + patience
+        while not self.is_over():
+            if time.monotonic() > end:
+                raise Trouble(f"the program didn't end in {patience:g} seconds")
+            time.sleep(0.02)
+
+
+@contextlib.contextmanager
+def stops_deferred() -> Iterator[None]:
+    """Lets a signal that ends this window come only after the program that it starts has been noted: else
+    the program would stay, and nobody would know of it."""
+    handlers = {number: signal.getsignal(number) for number in system.STOPS}
+    caught = {number: handler for number, handler in handlers.items() if callable(handler)}
+    came: list[int] = []
+    for number in caught:
+        signal.signal(number, lambda number, _: came.append(number))
+    try:
+        yield
+    finally:
+        for number, handler in caught.items():
+            signal.signal(number, handler)
+    for found in came:
+        signal.raise_signal(found)

@@ -1,0 +1,149 @@
+"""The link to an office, which is `regatta serve`, and the socket at which it serves."""
+from __future__ import annotations
+
+import collections
+import os
+import re
+import stat
+from dataclasses import dataclass
+
+from raceoffice import system
+from raceoffice.characters import utf8
+from raceoffice.errors import Gone, NoSeat, Trouble
+
+# How long an answer may take, in seconds, and how many bytes of one are read at most. A sheet of
+# 500 boats, 40 races and 8,192 entries has less than a quarter of that.
+PATIENCE = 10.0
+LARGEST = 4 << 20
+
+
+@dataclass(frozen=True)
+class Sheet:
+    """What SHOW gives: the lines of the journal, and those of the table."""
+    journal: tuple[str, ...]
+    table: tuple[str, ...]
+
+
+def unreachable(path: str, cause: OSError) -> Trouble:
+    """Why nobody could be reached at the socket."""
+    if isinstance(cause, FileNotFoundError):
+        return Gone("no office is open there")
+    if isinstance(cause, ConnectionRefusedError):
+        return Gone("no office is open there, and the last one wasn't closed properly")
+    if isinstance(cause, PermissionError):
+        return Trouble(f"this account may not open {path}")
+    return Trouble(f"{path} can't be reached: {cause.strerror or cause}")
+
+
+class Link:
+    """One client of the office: it asks one line at a time, and reads the whole answer."""
+
+    def __init__(self, path: str, patience: float = PATIENCE) -> None:
+        self.lines: collections.deque[str] = collections.deque()
+        self.rest, self.patience = b"", patience
+        self.socket = system.socket_of_office()
+        self.socket.settimeout(patience)
+        try:
+            with system.short_name(path) as name:
+                self.socket.connect(name)
+        except OSError as cause:
+            self.close()
+            raise unreachable(path, cause) from None
+
+    def fileno(self) -> int:
+        return self.socket.fileno()
+
+    def close(self) -> None:
+        self.socket.close()
+
+    def line(self) -> str:
+        """The next line of an answer, without its end."""
+        while not self.lines:
+            try:
+                data = self.socket.recv(65536)
+            except TimeoutError:
+                raise Trouble(f"the office hasn't answered for {self.patience:g} seconds") from None
+            except OSError:
+                data = b""
+            if not data:
+                raise Trouble("the office has gone")
+            *lines, self.rest = (self.rest + data).split(b"\n")
+            self.lines.extend(text.decode("ascii", "replace") for text in lines)
+            if len(self.rest) > LARGEST:
+                raise Trouble("what answers there is no office: its answer has no end")
+        text = self.lines.popleft()
+        if text == "BUSY":
+            raise NoSeat("all seats of the office are taken")
+        if text == "CLOSED":
+            raise Trouble("the office lets nobody in any more (CLOSED)")
+        return text
+
+    def ask(self, line: str) -> str:
+        """The answer to a line; of SHOW the first line of it."""
+        try:
+            self.socket.sendall(utf8(line) + b"\n")
+        except TimeoutError:
+            raise Trouble(f"the office hasn't listened for {self.patience:g} seconds") from None
+        except OSError:
+            # A client who is turned away can't write any more, and has yet to read why.
+            pass
+        return self.line()
+
+    def sheet(self) -> Sheet:
+        """The journal's lines and the table's."""
+        words = (first := self.ask("SHOW")).split()
+        if len(words) != 2 or words[0] != "JOURNAL" or not re.fullmatch("[0-9]{1,9}", words[1]):
+            raise Trouble(f"the office doesn't show its journal: it said {first[:60]!r}")
+        lines: list[str] = []
+        size = 0
+        while not lines or lines[-1] != "END":
+            lines.append(self.line())
+            size += len(lines[-1]) + 1
+            if size > LARGEST:
+                raise Trouble("what answers there is no office: its sheet has no end")
+        journal, table = lines[:int(words[1])], lines[int(words[1]):-1]
+        if not table or not table[0].startswith("TABLE "):
+            raise Trouble(f"what answers there is no office: it said {first[:60]!r}")
+        return Sheet(tuple(journal), tuple(table))
+
+    def heard(self) -> Trouble:
+        """What came although nothing was asked: why the office ended this link."""
+        text = self.line()
+        return Trouble(f"the office said {text!r}, which nobody had asked for")
+
+
+def remove_socket(path: str) -> bool:
+    """Removes the file that an office left at this path, and says whether one was there.
+
+    The file stays, and there is a Trouble, if an office is open there or still has clients: a
+    second office would keep a journal of its own, and nobody who types would notice.
+    """
+    try:
+        file = os.lstat(path)
+    except FileNotFoundError:
+        return False
+    except OSError as cause:
+        raise unreachable(path, cause) from None
+    if not stat.S_ISSOCK(file.st_mode):
+        raise Trouble(f"{path} is no file that an office leaves. It stays as it is")
+    # Who connects uses up one of an office's --sessions, so the kernel is asked first.
+    found = system.sockets_at(path, file.st_uid == system.account())
+    if any(found) or not found and is_answered(path):
+        raise Trouble(f"an office is open at {path}: find its window, and press Ctrl-C there")
+    if found:
+        raise Trouble(f"an office is still there with its last clients: it lets nobody in at {path} "
+                      "any more, and ends when they leave. The file stays until then")
+    try:
+        os.remove(path)
+    except OSError as cause:
+        raise Trouble(f"{path} can't be removed: {cause.strerror}") from None
+    return True
+
+
+def is_answered(path: str) -> bool:
+    """Whether somebody accepts clients at this path, as from a container that hides its sockets."""
+    try:
+        Link(path).close()
+    except Gone:
+        return False
+    return True

@@ -1,0 +1,1 @@
+"""The results of a series, as values, as files and for phones."""

@@ -1,0 +1,211 @@
+"""What the pages of one series show, and the same as CSV and JSON. No score is computed here."""
+from __future__ import annotations
+
+import dataclasses
+import datetime
+import functools
+import json
+import urllib.parse
+import zoneinfo
+from collections.abc import Sequence
+from dataclasses import dataclass, field
+
+from raceoffice import time_zones
+from raceoffice.decisions.points import Decided
+from raceoffice.program.journal import Race, Series
+from raceoffice.program.standing import Row, Score, Standing, tie_break
+from raceoffice.results.spreadsheet import Cell, as_number, csv_of
+from raceoffice.series.entry_list import Boat
+from raceoffice.series.settings import Settings
+
+CHANGED = "The results have changed since they were declared {}."
+
+
+@dataclass(frozen=True)
+class View:
+    """One series at one moment; `key` is all that it was made from.
+
+    `journal` and `program`, the SHA-256 of the program's file, are what a page carries for those who
+    verify it. `course` has the standing after each race, for a chart. A page that is made again to
+    be verified has the words of its time from the computer that made it, if the series names no zone.
+    """
+    name: str
+    settings: Settings
+    standing: Standing
+    series: Series
+    boats: dict[str, Boat]
+    totals: dict[str, str]
+    changed: datetime.datetime
+    key: object = None
+    journal: tuple[str, ...] = ()
+    decided: Decided = Decided()
+    program: str = ""
+    course: tuple[Standing, ...] = ()
+    said: str = ""
+    # What the names of places in a page begin with, if it has several series.
+    ids: str = ""
+    # Texts that were made of it already.
+    memo: dict[str, str] = field(init=False, default_factory=dict, compare=False, repr=False)
+
+    @property
+    def label(self) -> str:
+        """What the series is called among others."""
+        return self.settings.group or self.settings.title
+
+    @property
+    def address(self) -> str:
+        """The folder of its pages, as an address has it."""
+        return urllib.parse.quote(self.name, safe="")
+
+    @property
+    def reasons(self) -> tuple[str, str]:
+        """What is said below the title, and then that the results aren't those that were declared; each
+        may be empty."""
+        said, changed = self.settings.reason, CHANGED.format(self.settings.state)
+        if said.endswith(changed):
+            return said.removesuffix(changed).rstrip(), changed
+        return said, ""
+
+    def boat(self, sail: str) -> Boat:
+        return self.boats.get(sail, Boat(sail))
+
+    def results(self) -> tuple[object, ...]:
+        """All whose change is a change of the results."""
+        shown = self.settings
+        return (self.standing, self.boats, shown.title, shown.group, shown.club, shown.state,
+                shown.reason, shown.options(), self.decided)
+
+    @property
+    def has_helms(self) -> bool:
+        return any(boat.helm for boat in self.boats.values())
+
+    @property
+    def excluded(self) -> int:
+        """How many scores of each boat the rules exclude after the races that count."""
+        return sum(len(self.standing.races) >= races for races in self.settings.thresholds)
+
+    @functools.cached_property
+    def open_races(self) -> list[int]:
+        """The races that don't count, or don't count yet, and of which something is recorded."""
+        return [number for number, race in sorted(self.series.races.items())
+                if number not in self.standing.races and race.is_recorded]
+
+    @property
+    def race_pages(self) -> list[int]:
+        """The races that have a page."""
+        return sorted([*self.standing.races, *self.open_races])
+
+    def race(self, number: int) -> Race:
+        return self.series.races.get(number, Race(number))
+
+    def scores(self, number: int) -> dict[str, Score]:
+        """Each boat's score in a race; none if the race doesn't count."""
+        if number not in self.standing.races:
+            return {}
+        column = self.standing.races.index(number)
+        return {row.sail: row.scores[column] for row in self.standing.rows}
+
+    def ties(self) -> list[list[Row]]:
+        """The boats with the same net, in the order of the table."""
+        groups: list[list[Row]] = []
+        for row in self.standing.rows if self.standing.races else ():
+            if groups and groups[-1][0].net == row.net:
+                groups[-1].append(row)
+            else:
+                groups.append([row])
+        found = [group for group in groups if len(group) > 1]
+        # A table whose order isn't that of the rules is no table to show.
+        for group in found:
+            list(map(functools.partial(tie_break, self.standing.races), group, group[1:]))
+        return found
+
+    def local(self, when: datetime.datetime) -> datetime.datetime:
+        """A moment in the series' zone, or else in this computer's."""
+        zone = self.settings.zone
+        return when.astimezone(zoneinfo.ZoneInfo(zone) if zone else None)
+
+    def when(self, moment: datetime.datetime) -> str:
+        """A moment with its zone and the hours from UTC, as `Thu 26 Nov 2026, 08:52 WET (UTC+0)`."""
+        if self.settings.zone:
+            return time_zones.in_words(self.local(moment))
+        if self.said and moment == self.changed:
+            return self.said
+        return time_zones.of_computer(moment)
+
+
+def labels_of(views: Sequence[View]) -> list[str]:
+    """What each series is called, with its folder's name if another is called the same."""
+    labels = [view.label for view in views]
+    return [label if labels.count(label) == 1 else f"{label} ({view.name})"
+            for label, view in zip(labels, views)]
+
+
+def labelled(standing: Standing, labels: dict[tuple[int, str], str]) -> Standing:
+    """The table with each decision's own abbreviation in its cell."""
+    def shown(row: Row) -> Row:
+        scores = [dataclasses.replace(score, code=labels.get((race, row.sail), score.code))
+                  for race, score in zip(standing.races, row.scores)]
+        return dataclasses.replace(row, scores=tuple(scores))
+
+    return dataclasses.replace(standing, rows=tuple(map(shown, standing.rows))) if labels else standing
+
+
+HEADS = ["rank", "tied", "sail", "helm", "boat", "club", "net", "total"]
+
+
+def csv_row(view: View, row: Row, races: Sequence[int]) -> list[Cell]:
+    """A boat's row: names, then points, code and whether it is excluded of each of these races."""
+    boat = view.boat(row.sail)
+    found = dict(zip(view.standing.races, row.scores))
+    cells: list[Cell] = [row.rank, "yes" if row.shared else "no", boat.sail, boat.helm, boat.name, boat.club,
+                         as_number(row.net), as_number(view.totals.get(row.sail, row.net))]
+    for race in races:
+        cells += score_cells(found.get(race))
+    return cells
+
+
+def score_cells(score: Score | None) -> list[Cell]:
+    """The cells of a score; empty ones if the race isn't the series'."""
+    if score is None:
+        return ["", "", ""]
+    return [as_number(score.points), score.code, "yes" if score.excluded else "no"]
+
+
+def csv_heads(races: Sequence[int]) -> list[Cell]:
+    return [*HEADS, *(f"R{number}{what}" for number in races for what in ("", " code", " excluded"))]
+
+
+def results_csv(view: View) -> bytes:
+    """A row for each boat."""
+    races = view.standing.races
+    return csv_of([csv_heads(races), *(csv_row(view, row, races) for row in view.standing.rows)])
+
+
+def results_value(view: View, version: str) -> dict[str, object]:
+    """The same for programs; points are texts, since they are exact to a tenth."""
+    shown = view.settings
+
+    def boat_of(row: Row) -> dict[str, object]:
+        boat = view.boat(row.sail)
+        scores = [{"race": number, "points": score.points, "code": score.code,
+                   "excluded": score.excluded}
+                  for number, score in zip(view.standing.races, row.scores)]
+        return {"rank": row.rank, "tied": row.shared, "sail": row.sail, "shown": boat.sail,
+                "helm": boat.helm, "boat": boat.name, "club": boat.club, "net": row.net,
+                "total": view.totals.get(row.sail, row.net), "scores": scores}
+
+    return {"title": shown.title, "class": shown.group, "club": shown.club, "state": shown.state,
+            "reason": shown.reason, "changed": view.local(view.changed).isoformat(),
+            "version": version, "rules": shown.options(), "races": view.standing.races,
+            "stale": view.decided.stale,
+            "boats": [boat_of(row) for row in view.standing.rows]}
+
+
+def as_json(value: object) -> bytes:
+    return json.dumps(value, ensure_ascii=False, indent=1).encode() + b"\n"
+
+
+def now_json(version: str, checked: datetime.datetime, office: str, **more: object) -> bytes:
+    """Which version is shown, when it was confirmed last, and whether the office is open."""
+    return json.dumps({"version": version, "checked": checked.isoformat(), "office": office,
+                       **more}).encode() + b"\n"

@@ -1,0 +1,121 @@
+"""Whether journal.txt goes on from what the office had: the newest copy in kept/, and the end that
+office.log notes, have to be its beginning."""
+from __future__ import annotations
+
+import hashlib
+import re
+from dataclasses import dataclass
+
+from raceoffice.errors import Trouble
+from raceoffice.series.copies import Copy, bytes_of, newest
+from raceoffice.series.folder import Folder, Logged
+from raceoffice.wording import count
+
+# What the office notes when it is opened or closed, and when a copy becomes the journal again.
+NOTING = ("opened", "closed", "restored")
+NOTED = re.compile(r"(no|[0-9]{1,9}) entr(?:y|ies)(?: ([0-9a-f]{16}))?")
+HINT = "If nobody meant that, compare the two before you open the office."
+
+
+@dataclass(frozen=True)
+class Noted:
+    """The end of a journal as the log has it: when, how many entries, and a short sum of them. Older
+    tools noted no sum."""
+    when: str
+    entries: int
+    digest: str
+
+
+def parts_of(data: bytes) -> tuple[bytes, list[bytes]]:
+    """The line of a journal's version, if it has one, and its entries, all without their ends."""
+    lines = data.split(b"\n")[:-1]
+    if lines and lines[0].upper().split()[:1] == [b"REGATTA"]:
+        return lines[0], lines[1:]
+    return b"", lines
+
+
+def first_entries(data: bytes, number: int) -> bytes:
+    """A journal up to this entry."""
+    version, entries = parts_of(data)
+    lines = ([version] if version else []) + entries[:number]
+    return b"".join(line + b"\n" for line in lines)
+
+
+def note_of(data: bytes) -> str:
+    """What the log notes of a journal."""
+    entries = len(parts_of(data)[1])
+    return f"{count(entries, 'entry', 'entries')} {digest_of(data)}"
+
+
+def digest_of(data: bytes) -> str:
+    return hashlib.sha256(data).hexdigest()[:16]
+
+
+def noted_end(logged: list[Logged]) -> Noted | None:
+    """The last end that the log notes."""
+    found = None
+    for entry in logged:
+        read = NOTED.match(entry.answer) if entry.line in NOTING else None
+        if read:
+            number = 0 if read[1] == "no" else int(read[1])
+            found = Noted(entry.line, number, read[2] or "")
+    return found
+
+
+def difference(folder: Folder) -> str:
+    """How journal.txt isn't what the office had; empty if it goes on from that, or has no entries."""
+    data = folder.parts()[0]
+    if not parts_of(data)[1]:
+        return ""
+    try:
+        last = newest(folder)
+        held = bytes_of(folder, last) if last else b""
+    except Trouble as trouble:
+        return f"Nobody knows whether journal.txt is what the office had: {trouble}."
+    if last and not data.startswith(held):
+        return from_copy(data, held, last)
+    noted = noted_end(folder.logged())
+    return from_note(data, noted) if noted else ""
+
+
+def added(folder: Folder) -> str:
+    """What was added to journal.txt since the office was closed; empty if nothing was, or if the end of
+    the office wasn't noted."""
+    noted, held = noted_end(folder.logged()), len(parts_of(folder.parts()[0])[1])
+    if noted is None or noted.when != "closed" or held <= noted.entries:
+        return ""
+    return (f"journal.txt has {count(held, 'entry', 'entries')}, {held - noted.entries} more than when the office "
+            "was closed: it was kept without these tools, or somebody has added to it.")
+
+
+def from_copy(data: bytes, held: bytes, copy: Copy) -> str:
+    """How a journal doesn't begin with the newest copy."""
+    (version, ours), (other, theirs) = parts_of(data), parts_of(held)
+    sizes = (f"journal.txt isn't what the office had. It has {count(len(ours), 'entry', 'entries')}, and "
+             f"{copy.name} has {len(theirs)}.")
+    places = [at for at, line in enumerate(theirs, 1) if ours[at - 1:at] != [line]]
+    if not places:
+        return f"{sizes} Its first line is {shown(version)}, and that of the copy {shown(other)}. {HINT}"
+    at = places[0]
+    now = shown(ours[at - 1]) if at <= len(ours) else "nothing"
+    many = (f"{len(places)} of these aren't in journal.txt at their place, first" if len(places) > 1 else
+            "One of these isn't in journal.txt at its place,")
+    return (f"{sizes} {many} entry {at}:\n"
+            f"   {shown(theirs[at - 1])}   in the copy\n   {now}   in journal.txt\n{HINT}")
+
+
+def from_note(data: bytes, noted: Noted) -> str:
+    """How a journal doesn't begin with what the log notes; empty if it does."""
+    held = len(parts_of(data)[1])
+    had = (f"journal.txt isn't what the office had. It has {count(held, 'entry', 'entries')}. When the "
+           f"office was {noted.when}, it had {noted.entries}")
+    if held < noted.entries:
+        return f"{had}, and no copy in kept/ has the others."
+    if noted.digest and digest_of(first_entries(data, noted.entries)) != noted.digest:
+        return f"{had}, and these aren't the same. No copy in kept/ shows which differs."
+    return ""
+
+
+def shown(line: bytes) -> str:
+    """A line of a journal, without signs that a terminal would follow."""
+    return "".join(chr(byte) if 32 <= byte < 127 else "?" for byte in line[:80])

@@ -1,0 +1,237 @@
+"""A look at a series before its office is opened: what keeps it shut, and what should be known."""
+from __future__ import annotations
+
+import contextlib
+import errno
+import glob
+import os
+import re
+import stat
+
+from raceoffice import system
+from raceoffice.characters import is_utf8
+from raceoffice.errors import Trouble
+from raceoffice.files import PRIVATE
+from raceoffice.program.journal import Series
+from raceoffice.program.standing import Change, changes
+from raceoffice.series import entry_list
+from raceoffice.series.continuity import added
+from raceoffice.series.copies import best_copy, lines_in
+from raceoffice.series.folder import Folder
+from raceoffice.series.kept_places import kept_in_words
+from raceoffice.series.read_list import bytes_of
+from raceoffice.series.run_program import Program, replayed
+from raceoffice.series.second_folder import second_of
+from raceoffice.terminal import sentence
+from raceoffice.wording import count, joined
+
+# The journal, what the program cuts off it, and what it may leave of an opening.
+OURS = ("journal.txt", "journal.txt.cut", "journal.txt.opening")
+# Bytes that have to be free on the disk beside what the journal has already.
+ROOM = 64 << 10
+
+
+def faults(folder: Folder) -> list[str]:
+    """All that keeps the office from being opened, in words."""
+    program = Program(folder)
+    if wrong := path_fault(folder) or program.fault():
+        return [wrong]
+    if wrong := journal_fault(folder):
+        return [wrong]
+    if not folder.kept():
+        if lost := lost_journal(folder):
+            return [lost]
+        if listed := list_faults(folder):
+            return listed
+    return program.start_faults()
+
+
+def path_fault(folder: Folder) -> str:
+    """Which path the program wouldn't take; empty if it takes both."""
+    for path in (os.path.abspath(folder.program), folder.journal):
+        if not is_utf8(path):
+            return f"The program takes no path that isn't UTF-8, as {path} isn't: rename that folder."
+    return ""
+
+
+def journal_fault(folder: Folder) -> str:
+    """Why the program couldn't keep journal.txt; empty if it can, or if there is none yet."""
+    path = os.path.realpath(folder.journal)
+    try:
+        held = os.stat(path)
+        if not stat.S_ISREG(held.st_mode):
+            return "journal.txt is no plain file."
+        if held.st_nlink > 1:
+            return ("journal.txt has a second name (a hard link), and the office would keep it under one "
+                    "alone. Copy it to another file, and rename that to journal.txt.")
+        if not os.access(path, os.R_OK | os.W_OK) or not os.access(os.path.dirname(path), os.W_OK):
+            return f"This account may not write {path}, or its folder."
+        folder.parts()
+    except FileNotFoundError:
+        return ""
+    except OSError as cause:
+        return f"journal.txt can't be read: {cause.strerror}."
+    except Trouble as trouble:
+        return sentence(trouble)
+    return ""
+
+
+def list_faults(folder: Folder) -> list[str]:
+    """What is wrong with the entry list."""
+    try:
+        return entry_list.problems(bytes_of(folder.entries), folder.entries)
+    except Trouble as trouble:
+        return [f"{trouble}."]
+
+
+def list_notes(folder: Folder) -> list[str]:
+    """What of the entry list isn't read, and whether it has the ratings that a series may need."""
+    if not os.path.exists(folder.entries) or list_faults(folder):
+        return []
+    data, name = bytes_of(folder.entries), os.path.basename(folder.entries)
+    found = [entry_list.left_in_words(data), entry_list.rating_note(data, name, folder.settings.handicap)]
+    return [text for text in found if text]
+
+
+def entries_logged(folder: Folder) -> int:
+    """The most entries that the log has seen at an opening or closing."""
+    return max((entries_in_words(entry.answer) for entry in folder.logged()
+                if entry.line in ("opened", "closed")), default=0)
+
+
+def entries_in_words(text: str) -> int:
+    """How many entries a line of the log says, as `74 entries`."""
+    found = re.match(r"([0-9]{1,9}) entr", text)
+    return int(found[1]) if found else 0
+
+
+def lost_journal(folder: Folder) -> str:
+    """What the log and the copies say of a journal that is empty or gone."""
+    with second_of(folder) as second:
+        path, data = best_copy(folder, second)
+    held = len(lines_in(data))
+    had = max(entries_logged(folder), held)
+    if not had:
+        return ""
+    copy = f" {os.path.relpath(path, folder.path)} has {held}." if path else ""
+    return f"journal.txt is empty or gone, but the series had {count(had, 'entry', 'entries')}.{copy}"
+
+
+def disk_fault(folder: Folder) -> str:
+    """Why the folder can't hold a journal and a socket; empty if it can."""
+    if cause := room_fault(folder):
+        why = "is full" if cause.errno == errno.ENOSPC else f"can't be written: {cause.strerror}"
+        return f"The disk {why}. Nothing was opened or changed."
+    path = probe_of(folder)
+    try:
+        make_socket(path)
+    except OSError:
+        return ("This disk takes no sockets (often a stick). Copy the folder to the computer's own "
+                "disk.")
+    finally:
+        remove_probe(path)
+    return ""
+
+
+def room_fault(folder: Folder) -> OSError | None:
+    """Why the disk has no room for what an opening and its day may write; None if it has."""
+    path = probe_of(folder)
+    size = os.path.getsize(folder.journal) if os.path.exists(folder.journal) else 0
+    try:
+        with open(path, "wb") as file:
+            file.write(b"\0" * (2 * size + ROOM))
+            file.flush()
+            os.fsync(file.fileno())
+    except OSError as cause:
+        return cause
+    finally:
+        remove_probe(path)
+    return None
+
+
+def is_full(folder: Folder) -> bool:
+    """Whether the disk is full."""
+    cause = room_fault(folder)
+    return cause is not None and cause.errno == errno.ENOSPC
+
+
+def make_socket(path: str) -> None:
+    """Makes a socket at this path, which may be longer than the 107 bytes of a socket's."""
+    with system.socket_of_office() as made, system.short_name(path) as name:
+        made.bind(name)
+
+
+def probe_of(folder: Folder) -> str:
+    """The file with which this process tries the disk: two may open a series at once."""
+    return folder.file(PRIVATE, f"probe-{os.getpid()}")
+
+
+def remove_probe(path: str) -> None:
+    with contextlib.suppress(OSError):
+        os.remove(path)
+
+
+def remove_probes(folder: Folder) -> None:
+    """Removes what openings have left that were killed."""
+    for path in glob.glob(glob.escape(folder.file(PRIVATE, "probe")) + "*"):
+        remove_probe(path)
+
+
+def notes(folder: Folder) -> list[str]:
+    """What should be known, and keeps nobody from opening."""
+    return [note for note in (folder.torn_end(), added(folder), boats_left(folder), other_journals(folder),
+                              kept_in_words(folder)) if note]
+
+
+def boats_entered(folder: Folder) -> list[str]:
+    """The boats of the journal as the program reads it; none if it can't."""
+    try:
+        return Series.read(list(replayed(folder, folder.settings.options()).journal)).boats
+    except (Trouble, ValueError):
+        return []
+
+
+def boats_left(folder: Folder) -> str:
+    """Which boats of the entry list aren't entered; empty before the first opening."""
+    entered = boats_entered(folder)
+    left = [str(boat) for sail, boat in entry_list.read_if_there(folder.entries).items()
+            if sail not in entered]
+    if not entered or not left:
+        return ""
+    return (f"On the entry list, but not entered: {joined(left)}. The scorer enters a late boat by "
+            "ENTER.")
+
+
+def other_journals(folder: Folder) -> str:
+    """Files that a cloud folder made beside the journal, as `journal (conflicted copy).txt`."""
+    names = sorted(os.path.basename(path) for path in glob.glob(glob.escape(folder.file("journal")) + "*")
+                   if os.path.basename(path) not in OURS and not path.endswith(".new"))
+    if not names:
+        return ""
+    return (f"Beside journal.txt there is {joined(names)}. Only journal.txt is used. If a cloud "
+            "folder made the other, move the series out of it.")
+
+
+def summary(folder: Folder) -> str:
+    """The series in one line, from journal and table."""
+    standing = Program(folder).standing(folder.settings.options())
+    races = count(len(standing.races), "race")
+    held = count(len(folder.kept()) or len(standing.rows), "entry", "entries")
+    return (f"{folder.settings.title}: {count(len(standing.rows), 'boat')}, {races} scored, {held}")
+
+
+def rules_before(folder: Folder) -> list[str]:
+    """The options of the last opening, if the settings give others now; else none."""
+    opened = [entry.role for entry in folder.logged() if entry.line == "opened"]
+    now = " ".join(folder.settings.options())
+    return opened[-1].split() if opened and opened[-1] != now and folder.kept() else []
+
+
+def changes_of_rules(folder: Folder, before: list[str]) -> list[Change]:
+    """Whom other rules move; none if the program has no table to compare."""
+    program = Program(folder)
+    try:
+        return changes(program.standing(before), program.standing(folder.settings.options()))
+    except Trouble:
+        # With or without corrected times the journal gives no table.
+        return []

@@ -1,0 +1,106 @@
+"""The program of a series, run to its end: whether it can be run, and what it makes of a journal."""
+from __future__ import annotations
+
+import errno
+import os
+import subprocess
+
+from raceoffice.errors import Trouble
+from raceoffice.files import replace_whole
+from raceoffice.program.link import Sheet
+from raceoffice.program.messages import start_fault
+from raceoffice.program.replay import printed, ran, sheet_of
+from raceoffice.program.standing import Standing
+from raceoffice.series.entry_list import given
+from raceoffice.series.folder import Folder
+from raceoffice.terminal import sentence
+
+
+class Program:
+    """The program that the settings of a series name."""
+
+    def __init__(self, folder: Folder) -> None:
+        self.folder, self.path = folder, folder.program
+
+    def fault(self) -> str:
+        """Why the program can't be run; empty if it can."""
+        try:
+            tried = ran(self.path, [])
+        except Trouble as trouble:
+            return why_not_run(self.path, trouble)
+        if tried.stdout != "TABLE 0 RACES\n":
+            return f"{self.path} isn't regatta: it said {tried.stderr[:200]!r}."
+        return ""
+
+    def replay(self, options: list[str]) -> subprocess.CompletedProcess[str]:
+        """A replay of the series under these rules: of what counts of its journal, or else of its entry
+        list."""
+        if self.folder.kept():
+            return ran(self.path, options, journal=self.folder.parts()[0])
+        return ran(self.path, options, boats=given(self.folder.entries))
+
+    def begin(self) -> None:
+        """Makes the journal of a new series, with the boats of its list. It is there whole or, after a
+        crash, not at all: in one with a part of them the others would be missing."""
+        done = ran(self.path, [*self.folder.settings.options(), "--print", "journal"],
+                   boats=given(self.folder.entries))
+        if done.returncode:
+            raise Trouble("\n".join(self.in_words(done.stderr)).removesuffix("."))
+        self.folder.save_torn()
+        replace_whole(os.path.realpath(self.folder.journal), done.stdout.encode())
+
+    def in_words(self, said: str) -> list[str]:
+        """What the program said of the series' files, in words."""
+        return start_fault(said, self.folder.journal, self.folder.entries)
+
+    def start_faults(self) -> list[str]:
+        """What the program finds wrong with the rules, the journal or the entry list, in words."""
+        tried = self.replay(self.folder.settings.options())
+        return self.in_words(tried.stderr) if tried.returncode else []
+
+    def standing(self, options: list[str]) -> Standing:
+        """The standing that these rules give."""
+        return Standing.read(self.table(options).splitlines())
+
+    def table(self, options: list[str]) -> str:
+        """The table that these rules give, as the program prints it."""
+        done = self.replay(options)
+        if done.returncode:
+            raise Trouble("\n".join(self.in_words(done.stderr)).removesuffix("."))
+        return done.stdout.rstrip()
+
+
+def why_not_run(path: str, trouble: Trouble) -> str:
+    """Why a program couldn't be run, and what to do."""
+    match trouble.__cause__:
+        case FileNotFoundError():
+            return f"The program isn't at {path}: correct `program` in series.ini."
+        case PermissionError():
+            return f"The program may not be run: type chmod +x {path}"
+        case subprocess.TimeoutExpired():
+            return f"{path} isn't regatta: it doesn't end."
+        case OSError(errno=errno.ENOEXEC):
+            return f"The program at {path} can't be run: it is made for another system."
+    return sentence(trouble)
+
+
+def serve_words(folder: Folder, sessions: int) -> list[str]:
+    """The command that serves a series and keeps its journal. The socket's path may have 107 bytes, so it
+    is a bare name."""
+    return [os.path.abspath(folder.program), "serve", "--socket", "race.sock", "--keep", folder.journal,
+            "--clients", str(folder.settings.seats), "--sessions", str(sessions),
+            *folder.settings.options()]
+
+
+def replayed(folder: Folder, options: list[str]) -> Sheet:
+    """The sheet of a series under these rules, from the folder's own files."""
+    if os.path.exists(folder.journal):
+        return sheet_of(printed(folder.program, options, "SHOW\nQUIT\n", folder.parts()[0]))
+    return sheet_of(printed(folder.program, options, "SHOW\nQUIT\n", boats=given(folder.entries)))
+
+
+def rules_of(options: list[str]) -> dict[str, object]:
+    """The rules of a settings file from the options that an office was opened with."""
+    words = dict(zip(options, options[1:] + [""]))
+    return {"exclude": words.get("--exclude", "2"), "absent": words.get("--absent", "a52"),
+            "scp": words.get("--scp", ""), "handicap": "--handicap" in words}

@@ -1,0 +1,92 @@
+"""Finishers whose sails aren't known: each keeps her place until she is."""
+from __future__ import annotations
+
+import re
+from collections.abc import Sequence, Set
+from dataclasses import dataclass
+
+from raceoffice.errors import NotSent
+from raceoffice.program.journal import Race
+from raceoffice.wording import joined, ordinal
+
+# How one is called until she is known: ?1, or what was typed of her sail as 101?, and 101?2 for another.
+MARK = re.compile(r"([A-Z0-9-]{0,12})\?([1-9][0-9]{0,3})?")
+
+
+@dataclass(frozen=True)
+class Unread:
+    """One of them: how she is called in her race, and the boats that had finished before her.
+    `typed` is what was typed of her sail, `since` by whom and when her place was kept."""
+    mark: str
+    race: int
+    ahead: Set[str]
+    typed: str = ""
+    since: str = ""
+
+    def place(self, race: Race) -> int:
+        """How many groups of the order are ahead of her."""
+        return max((at for at, group in enumerate(race.order, 1) if self.ahead & set(group)),
+                   default=0)
+
+    def line(self, sail: str, race: Race) -> str:
+        """The line that puts her in her place: ahead of those who finished next."""
+        behind = race.order[self.place(race):]
+        return (f"BEFORE {race.number} {sail} {behind[0][0]}" if behind
+                else f"FINISH {race.number} {sail}")
+
+
+@dataclass(frozen=True)
+class Waiting:
+    """Those of a class, in the order in which they finished. `given` has the race and the mark of each
+    that was ever kept: what somebody wrote down is never another's."""
+    all: tuple[Unread, ...] = ()
+    given: tuple[tuple[int, str], ...] = ()
+
+    def of(self, race: int) -> list[Unread]:
+        return [unread for unread in self.all if unread.race == race]
+
+    def marks(self, race: int) -> list[str]:
+        """How those of a race are called."""
+        return [unread.mark for unread in self.of(race)]
+
+    def next_mark(self, race: int, typed: str = "") -> str:
+        """How the next one of a race is called."""
+        before = [mark for of, mark in self.given if of == race and mark.partition("?")[0] == typed]
+        return f"{typed}?" if typed and not before else f"{typed}?{len(before) + 1}"
+
+    def one(self, race: int, mark: str) -> Unread:
+        """One of them as she is called, or the only one by ? alone; NotSent if it isn't clear who."""
+        kept, marks = self.of(race), self.marks(race)
+        if mark == "?" and len(kept) > 1:
+            raise NotSent(f"more than one place is kept: type {joined(marks, 'or')} and her sail")
+        found = [unread for unread in kept if mark in ("?", unread.mark)]
+        if not found:
+            raise NotSent(f"no finisher {mark} is kept in race {race}"
+                          + (f", only {joined(marks)}" if marks else "") + self.elsewhere(race, mark))
+        return found[0]
+
+    def elsewhere(self, race: int, mark: str) -> str:
+        """In which other races somebody is called so, in words; empty if in none."""
+        races = [unread.race for unread in self.all if unread.mark == mark and unread.race != race]
+        return f". Race {joined(list(map(str, races)))} has one: type at {races[0]} first" if races else ""
+
+    def ahead_of(self, race: Race, sail: str) -> int:
+        """How many of them finished ahead of a boat that is in the order."""
+        at = next((at for at, group in enumerate(race.order) if sail in group), 0)
+        return sum(unread.place(race) <= at for unread in self.of(race.number))
+
+    def places(self, race: Race) -> dict[str, str]:
+        """The place of each, as she is called: all finishers ahead of her count, read or not."""
+        found: dict[str, str] = {}
+        for unread in self.of(race.number):
+            read = sum(sail not in race.codes for group in race.order[:unread.place(race)]
+                       for sail in group)
+            found[unread.mark] = ordinal(read + len(found) + 1)
+        return found
+
+
+def in_words(waiting: Sequence[Unread]) -> str:
+    """`?1 and 101? in race 3, ?1 in race 4`."""
+    races = sorted({unread.race for unread in waiting})
+    return ", ".join(f"{joined([unread.mark for unread in waiting if unread.race == race])} in race {race}"
+                     for race in races)

@@ -1,0 +1,177 @@
+"""Questions at a terminal, and what a tool says."""
+from __future__ import annotations
+
+import io
+import json
+import os
+import select
+import sys
+import textwrap
+import unicodedata
+
+from raceoffice.characters import code_of
+
+# Control signs, signs of direction and of no width, and ends of lines that an editor doesn't show.
+HIDDEN = {"Cc", "Cf", "Zl", "Zp"}
+YES_OR_NO = "   Type y for yes, or n for no."
+ANSWERS = {"y": True, "yes": True, "n": False, "no": False}
+
+
+class TypedLines:
+    """The lines of standard input, of which no more is read than is asked for."""
+
+    def __init__(self) -> None:
+        self.rest = b""
+
+    def line(self, patience: float | None = None) -> str | None:
+        """The next line; None if none comes within these seconds, and EOFError at the end."""
+        while b"\n" not in self.rest:
+            if not select.select([0], [], [], patience)[0]:
+                return None
+            try:
+                data = os.read(0, 4096)
+            except OSError:
+                # The terminal has gone.
+                data = b""
+            if not data and not self.rest:
+                raise EOFError
+            self.rest += data or b"\n"
+        line, _, self.rest = self.rest.partition(b"\n")
+        return line.decode("utf-8", "replace").strip()
+
+
+TYPED = TypedLines()
+
+
+def command_name() -> str:
+    """How this package was started, as somebody can type it again."""
+    return "python3 -m raceoffice" if os.path.basename(sys.argv[0]) == "__main__.py" else "raceoffice"
+
+
+def print_any_sign() -> None:
+    """From now on a sign that the terminal's encoding lacks is printed as `?`."""
+    if isinstance(sys.stdout, io.TextIOWrapper):
+        sys.stdout.reconfigure(errors="replace")
+
+
+def read_any_sign() -> None:
+    """From now on a byte that the terminal's encoding lacks is read as a sign of its own."""
+    if isinstance(sys.stdin, io.TextIOWrapper):
+        sys.stdin.reconfigure(errors="replace")
+
+
+def say(text: str) -> None:
+    print(wrapped(visible(text)), flush=True)
+
+
+def say_json(value: object) -> None:
+    """Prints a value for programs, in signs that every terminal has."""
+    print(json.dumps(value, indent=1), flush=True)
+
+
+def visible(text: str) -> str:
+    """A text without signs that would move the cursor, or turn what is shown: they are shown by their
+    numbers, whoever wrote them into a file or a line."""
+    if text.isascii() and text.replace("\n", "").isprintable():
+        return text
+    return "".join(letter if letter in "\n\t" or unicodedata.category(letter) not in HIDDEN
+                   else code_of(letter) for letter in text)
+
+
+def say_if_heard(text: str, end: str = "\n") -> None:
+    """Says something if there is still a terminal to say it at, for a window that outlives its own."""
+    try:
+        print(wrapped(visible(text)), end=end, flush=True)
+    except OSError:
+        # What is left in the buffer would fail again when the tool ends.
+        nowhere = os.open(os.devnull, os.O_WRONLY)
+        os.dup2(nowhere, sys.stdout.fileno())
+        os.close(nowhere)
+
+
+def width() -> int:
+    """The columns of the terminal; 0 if they aren't known."""
+    try:
+        return os.get_terminal_size(sys.stdout.fileno()).columns
+    except (OSError, ValueError):
+        return 0
+
+
+def wrapped(text: str, columns: int | None = None) -> str:
+    """A text whose lines break at spaces, as wide as the terminal."""
+    columns = width() if columns is None else columns
+    return "\n".join(broken(line, columns) for line in text.split("\n")) if columns else text
+
+
+def broken(line: str, columns: int) -> str:
+    """A line in pieces that fit, the later ones further in. A command at its end stays whole."""
+    if len(line) <= columns:
+        return line
+    indent = " " * (len(line) - len(line.lstrip()) + 2)
+    # A command is to be copied whole.
+    if f"{command_name()} " in line.strip()[1:]:
+        before, command, after = line.rpartition(f"{command_name()} ")
+        return f"{broken(before.rstrip(), columns)}\n{indent}{command}{after}"
+    end = " " * (len(line) - len(line.rstrip()))
+    return textwrap.fill(line, columns, subsequent_indent=indent, break_long_words=False,
+                         break_on_hyphens=False) + end
+
+
+def sentence(text: object) -> str:
+    """A text with a full stop, unless it has an end."""
+    return str(text) if str(text).endswith((".", "?")) else f"{text}."
+
+
+def typed(text: str) -> str | None:
+    """What somebody types to a question; None at the end of the input, and after Ctrl-C."""
+    try:
+        *lines, asked = wrapped(text).split("\n")
+        for line in lines:
+            print(line)
+        if sys.stdin.isatty():
+            return input(asked).strip()
+        print(asked, end="", flush=True)
+        given = TYPED.line() or ""
+    except (EOFError, KeyboardInterrupt):
+        print(flush=True)
+        return None
+    say(given)
+    return given
+
+
+def is_yes(given: str, default: bool = False) -> bool | None:
+    """Whether an answer is yes; None if it is neither yes nor no. Enter alone is the default."""
+    return ANSWERS.get(given.lower()) if given else default
+
+
+def answer(text: str) -> str:
+    """What somebody types to a question; nothing after Ctrl-C."""
+    return typed(text) or ""
+
+
+def question(text: str, yes: bool = False) -> bool:
+    """Whether somebody says yes. Enter alone is the capital letter. Ctrl-C and the end of the input are
+    no, and whatever is neither yes nor no is asked again."""
+    asked = f"{text} [{'Y/n' if yes else 'y/N'}] "
+    while (given := typed(asked)) is not None:
+        meant = is_yes(given, yes and sys.stdin.isatty())
+        if meant is not None:
+            return meant
+        say(YES_OR_NO)
+    return False
+
+
+class Once:
+    """Says a thing when it is new, and not again until it has changed."""
+
+    def __init__(self) -> None:
+        self.said: dict[str, str] = {}
+
+    def say(self, about: str, text: str) -> None:
+        if self.is_new(about, text):
+            say(text)
+
+    def is_new(self, about: str, text: str) -> bool:
+        """Whether this has to be said, which it then is."""
+        before, self.said[about] = self.said.get(about), text
+        return bool(text) and before != text

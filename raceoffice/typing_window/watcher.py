@@ -1,0 +1,157 @@
+"""What happens to an office while somebody types a line: the prompt is interrupted at once."""
+from __future__ import annotations
+
+import contextlib
+import os
+import select
+import threading
+import time
+
+from raceoffice import system
+from raceoffice.errors import Trouble
+from raceoffice.files import PRIVATE
+from raceoffice.series.folder import Folder
+from raceoffice.typing_window.session import Desk
+
+try:
+    # Arrow keys, and the lines typed before.
+    import readline
+
+    # Answers to questions aren't lines.
+    readline.set_auto_history(False)
+    if os.environ.get("TERM", "dumb") != "dumb":
+        # Pasted lines come together, and wait for Enter.
+        readline.parse_and_bind("set enable-bracketed-paste on")
+except ImportError:
+    readline = None  # type: ignore[assignment]
+
+# Seconds between two looks, and between two tries at an office whose seats are all taken.
+LOOK, AGAIN = 0.5, 5.0
+
+
+class News(Exception):
+    """Something came while a line was being typed: an office has gone, come back, or is closing."""
+
+
+class Watcher(threading.Thread):
+    """Looks at the offices while the window waits at its prompt, and interrupts it at news."""
+
+    def __init__(self, desks: list[Desk]) -> None:
+        super().__init__(daemon=True)
+        self.desks, self.half, self.not_before = desks, "", 0.0
+        # What of the offices' windows was said here.
+        self.told: dict[Desk, str] = {}
+        self.at_prompt, self.begun, self.prompts, self.interrupted = False, False, 0, 0
+        # The window's own thread, which makes this one.
+        self.window = threading.get_ident()
+        system.on_interruption(self.interrupt)
+
+    def ask(self, prompt: str) -> str:
+        """A line from the prompt, at which it may be interrupted. What was typed by then is kept,
+        and is there again at the next prompt."""
+        self.prompts += 1
+        self.begun, self.at_prompt = False, True
+        if readline:
+            readline.set_startup_hook(self.begin)
+        try:
+            typed = input(prompt)
+        finally:
+            self.at_prompt = False
+            if readline:
+                readline.set_startup_hook(None)
+        if readline and typed:
+            readline.add_history(typed)
+        return typed
+
+    def begin(self) -> None:
+        """Begins the line at the prompt with what is left of the one before."""
+        self.begun = True
+        readline.insert_text(self.half)
+        self.half = ""
+
+    def interrupt(self) -> None:
+        # The prompt that is meant may have been answered, and another come, before the signal.
+        if self.at_prompt and self.prompts == self.interrupted:
+            self.at_prompt = False
+            self.half = readline.get_line_buffer() if self.begun else self.half
+            raise News
+
+    def run(self) -> None:
+        while True:
+            if self.is_heard(LOOK) and not self.at_prompt:
+                # Nobody is at the prompt to be told of it.
+                time.sleep(LOOK / 10)
+            prompt = self.prompts
+            is_news = self.at_prompt and (self.is_heard(0) or self.is_closing() or self.is_back()
+                                          or self.is_warned())
+            # What comes from an office is news only if nobody has sent a line meanwhile.
+            if is_news and self.at_prompt and self.prompts == prompt:
+                self.interrupted = prompt
+                system.interrupt(self.window)
+                time.sleep(LOOK)
+
+    def is_heard(self, patience: float) -> bool:
+        """Whether anything comes from an office within the patience."""
+        links = [desk.link for desk in self.desks if desk.link]
+        try:
+            return bool(select.select(links, [], [], patience)[0])
+        except (OSError, ValueError):
+            # The window has closed one of them meanwhile.
+            return False
+
+    def is_closing(self) -> bool:
+        return any(desk.link and desk.folder.is_closing() for desk in self.desks)
+
+    def is_warned(self) -> bool:
+        """Whether an office's window says that something is wrong, which wasn't said here yet."""
+        return any(text and text != self.told.get(desk) for desk, text in self.warnings().items())
+
+    def warnings(self) -> dict[Desk, str]:
+        """What the windows of the offices say is wrong."""
+        found = {desk: desk.folder.beware() for desk in self.desks if desk.link}
+        for desk, text in found.items():
+            if not text:
+                # It may come again.
+                self.told.pop(desk, None)
+        return found
+
+    def is_back(self) -> bool:
+        """Whether an office that has gone is there again."""
+        return time.monotonic() > self.not_before and any(
+            desk.link is None and is_open(desk) for desk in self.desks)
+
+    def wait(self) -> None:
+        """Leaves offices without a free seat alone for a while: each try counts as a client there."""
+        self.not_before = time.monotonic() + AGAIN
+
+
+def is_open(desk: Desk) -> bool:
+    """Whether an office lets clients in, has a free seat, and isn't closing. To ask the system costs the
+    office nothing."""
+    with contextlib.suppress(Trouble):
+        found = system.sockets_at(desk.folder.socket)
+        return not desk.folder.is_closing() and True in found and not is_full(desk.folder, found)
+    return False
+
+
+def is_full(folder: Folder, sockets: list[bool]) -> bool:
+    """Whether an office with these sockets has no free seat: who comes then uses up one of its
+    sessions, and is turned away."""
+    return sockets.count(False) >= seats_of(folder)
+
+
+def has_no_seat(folder: Folder) -> bool:
+    """Whether an office is full, as far as the system tells."""
+    with contextlib.suppress(Trouble):
+        return is_full(folder, system.sockets_at(folder.socket))
+    return False
+
+
+def seats_of(folder: Folder) -> int:
+    """The seats of the open office; those of the settings if its program doesn't tell. They may have been
+    changed since it was opened."""
+    with contextlib.suppress(OSError, ValueError, IndexError):
+        with open(folder.file(PRIVATE, "pid"), encoding="ascii") as file:
+            words = system.command_of(int(file.read().split()[0]))
+        return int(words[words.index(b"--clients") + 1])
+    return folder.settings.seats

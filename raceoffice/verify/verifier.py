@@ -1,0 +1,299 @@
+"""Verifies pages of results: the program scores the journal that a page carries, and each cell is compared."""
+from __future__ import annotations
+
+import datetime
+import os
+import re
+from collections.abc import Iterable, Sequence
+from dataclasses import dataclass
+
+from raceoffice import characters
+from raceoffice.decisions.points import Decided, decided
+from raceoffice.errors import Odd, Trouble, Unsure
+from raceoffice.faults import guarded
+from raceoffice.program.journal import Series
+from raceoffice.program.link import Sheet
+from raceoffice.program.messages import refusal
+from raceoffice.program.replay import developed, digest_of, nets_before_exclusion, scored
+from raceoffice.program.standing import Standing
+from raceoffice.results.html import page
+from raceoffice.results.html.listing import listing
+from raceoffice.results.html.notice import results
+from raceoffice.results.html.overall import overall
+from raceoffice.results.html.race import one_race
+from raceoffice.results.html.sealing import Carried, seal_words
+from raceoffice.results.snapshot import View, labelled
+from raceoffice.series.settings import Settings, rows_of
+from raceoffice.terminal import say, say_json, sentence
+from raceoffice.verify import read_block
+from raceoffice.verify.read_block import Kept, found_in, moment_of, wrong_confirmation
+from raceoffice.verify.visible import difference, first_of, place, seen, standing_of
+from raceoffice.wording import count
+
+CONFIRMED = re.compile('<!DOCTYPE html>\n<html lang="en" data-live="(?:yes|no)" data-every="[0-9]{1,4}" '
+                       'data-checked="([0-9T:+-]{0,40})" data-office="([a-z0-9:,]{0,500})" ')
+LARGEST = 64 << 20
+# Signs of a message about what differs. A page that is longer than the right one by this many isn't taken
+# apart to find the first cell that differs.
+MESSAGE, LONGER = 400, 1 << 16
+# The most texts with odd signs that are named, and series whose scores are kept.
+BEWARES, SCORED = 5, 20
+VERIFIED, DIFFERS, UNSURE = 0, 1, 2
+
+
+@dataclass(frozen=True)
+class Rebuilt:
+    """A page made again from what it carries: what that is, its series and its text."""
+    kept: Kept
+    views: tuple[View, ...]
+    text: str
+
+
+class Verifier:
+    """Has one program score what pages carry. What it scored before is kept for the other pages of the
+    same series."""
+
+    def __init__(self, program: str) -> None:
+        self.program = os.path.abspath(program)
+        self.views: dict[str, View] = {}
+        self.last: Rebuilt | None = None
+
+    def rebuilt(self, kept: Kept) -> Rebuilt:
+        """The page that the tools write of what a page carries."""
+        if self.last is None or self.last.kept != kept:
+            views = tuple(self.view(carried, kept.kind == "results") for carried in kept.series)
+            made = Rebuilt(kept, views, page_of(kept, views))
+            compare_tables(made)
+            self.last = made
+        return self.last
+
+    def view(self, carried: Carried, with_course: bool) -> View:
+        """A series as the program scores it."""
+        key = repr((carried, with_course))
+        if key not in self.views:
+            if len(self.views) >= SCORED:
+                self.views.clear()
+            self.views[key] = self.fresh_view(carried, with_course)
+        return self.views[key]
+
+    def fresh_view(self, carried: Carried, with_course: bool) -> View:
+        shown, journal = settings_of(carried), list(carried.journal)
+        sheet = self.sheet(shown, journal)
+        standing, options = Standing.read(list(sheet.table)), shown.options()
+        text = "".join(f"{line}\n" for line in carried.decisions)
+        found = self.decided(options, journal, text)
+        is_excluded = any(score.excluded for row in standing.rows for score in row.scores)
+        totals = nets_before_exclusion(self.program, options, journal) if is_excluded else {}
+        course = developed(self.program, options, journal, standing.races) if with_course else ()
+        changed = moment_of(carried.stamp.changed)
+        assert changed is not None
+        return View(carried.name, shown, labelled(standing, found.labels),
+                    Series.read(list(sheet.journal)), carried.names(), totals, changed, None,
+                    carried.journal, found, carried.program, course, carried.stamp.when)
+
+    def decided(self, options: list[str], journal: list[str], text: str) -> Decided:
+        """What the decisions come to. If the program can't be run, nothing can be said of them."""
+        found = decided(self.program, options, journal, text)
+        for wrong in found.wrong:
+            if f"the program at {self.program} can't be run" in wrong:
+                raise Trouble(wrong)
+        return found
+
+    def sheet(self, shown: Settings, journal: list[str]) -> Sheet:
+        try:
+            sheet = scored(self.program, shown.options(), journal)
+        except Trouble as trouble:
+            if why := refused(str(trouble), journal):
+                raise Odd(why) from None
+            raise
+        at = first_of(journal, list(sheet.journal))
+        if at is not None:
+            raise Odd(f"entry {at + 1} of the journal isn't written as the program writes it: "
+                      f"{(journal + ['nothing'])[at]!r}")
+        return sheet
+
+    def verified(self, text: str) -> Rebuilt:
+        """A page that is the one which its results give. Odd says what differs first, and Unsure or
+        Trouble why nothing can be said."""
+        now = datetime.datetime.now(datetime.timezone.utc)
+        rebuilt = self.rebuilt(found_in(text, now))
+        confirmed = CONFIRMED.match(text)
+        checked, office = confirmed.groups() if confirmed else ("", "")
+        wanted = page.confirmed(rebuilt.text, checked, office)
+        if text != wanted:
+            raise Odd(first_difference(text, wanted))
+        if wrong := wrong_confirmation(rebuilt.kept, checked, office, now):
+            raise Odd(wrong)
+        return rebuilt
+
+
+def refused(trouble: str, journal: list[str]) -> str:
+    """The entry for which the program doesn't score a journal, and why; empty if it is none."""
+    fault = re.search(r"journal fault \d line (\d+)", trouble)
+    start = re.search(r"start refused (\d+) at (\d+)", trouble)
+    if fault:
+        at, why = int(fault[1]), "can't be read"
+    elif start:
+        at, why = int(start[2]), f"is refused: {refusal('NO ' + start[1])}"
+    else:
+        return ""
+    return f"entry {at} of the journal {why}: {(journal + [''] * at)[at - 1]!r}"
+
+
+def settings_of(carried: Carried) -> Settings:
+    """The settings that a page carries."""
+    values = dict(carried.settings)
+    group, handicap = values.pop("class"), values.pop("handicap")
+    return Settings(**values, group=group, handicap=handicap == "yes", program="", entries="", seats=16,
+                    copy="", every=carried.stamp.every, port=8080, page="")
+
+
+def page_of(kept: Kept, views: Sequence[View]) -> str:
+    """The page that the tools write of these series."""
+    if kept.kind == "list":
+        return listing(views)
+    if kept.kind == "results":
+        return results(views)
+    if kept.kind != "race":
+        return overall(views[0], kept.is_among, kept.kind == "top")
+    if kept.race not in views[0].race_pages:
+        raise Odd(f"the page is that of race {kept.race}, which has none")
+    return one_race(views[0], kept.race, kept.is_among)
+
+
+def compare_tables(rebuilt: Rebuilt) -> None:
+    """Compares the overall tables that the tools write with the program's, cell by cell."""
+    tables = [table for table in seen(rebuilt.text).tables
+              if table.caption.startswith("Overall results, ")]
+    wanted = [view for view in rebuilt.views if rebuilt.kept.kind in ("top", "overall", "results")]
+    if len(tables) != len(wanted):
+        raise Odd(f"the page has {count(len(tables), 'overall table')}, and not {len(wanted)}")
+    for table, view in zip(tables, wanted):
+        sails = {" ".join(f"{boat.sail} {boat.helm or boat.name}".split()): row.sail
+                 for row in view.standing.rows for boat in [view.boat(row.sail)]}
+        try:
+            standing = standing_of(table, sails, view.standing.races) if view.standing.races else None
+        except ValueError as cause:
+            raise Odd(f"{view.label}: {cause}") from None
+        if standing not in (None, view.standing):
+            assert standing is not None
+            at = first_of([repr(row) for row in standing.rows],
+                          [repr(row) for row in view.standing.rows]) or 0
+            raise Odd(f"{place(table, at + 1, 0)}: the row isn't the program's")
+
+
+def first_difference(text: str, wanted: str) -> str:
+    """Where a page first differs from what it has to be: a cell, a text, or else a line of its file."""
+    ours, others = text.split("\n"), wanted.split("\n")
+    at = first_of(ours, others) or 0
+    line = f"line {at + 1} of the file isn't as these tools write it: {part(ours, at)!r}"
+    if len(text) > len(wanted) + LONGER:
+        return f"the page is longer than the right one, and {line}"
+    return difference(seen(text), seen(wanted)) or (
+        f"all that is seen is right, but {line}. Was the page changed by hand?")
+
+
+def part(lines: list[str], at: int) -> str:
+    return lines[at].strip()[:80] if at < len(lines) else "nothing"
+
+
+# What is said
+
+def value_of(rebuilt: Rebuilt, program: str) -> dict[str, object]:
+    """What was found right with a page, for programs."""
+    series = [{"name": view.label, "boats": len(view.standing.rows), "races": len(view.standing.races),
+               "entries": view.series.entries, "state": view.settings.state, "seal": seal_words(view),
+               "changed": view.changed.isoformat(), "program": view.program, "beware": bewares(view)}
+              for view in rebuilt.views]
+    return {"series": series, "program": digest_of(program)}
+
+
+def report(rebuilt: Rebuilt, program: str) -> list[str]:
+    """What was found right with a page, and whether the program is the same."""
+    lines = []
+    for view in rebuilt.views:
+        rows, races = len(view.standing.rows), len(view.standing.races)
+        lines += [f"   {characters.shortly(view.label)}: {count(rows, 'boat')}, {count(races, 'race')}, "
+                  f"{count(view.series.entries, 'entry', 'entries')}, {view.settings.state}. "
+                  "Scored again: every cell is the same.",
+                  f"   Seal {seal_words(view)}",
+                  f"   Last changed {view.when(view.changed)}, by the page's own word."]
+        lines += [f"   Beware: {characters.shortly(text, MESSAGE)}" for text in bewares(view)]
+    ours, theirs = digest_of(program), {view.program for view in rebuilt.views}
+    same = theirs == {ours}
+    lines.append(f"   Program: the same that scored the page, SHA-256 {ours}" if same else
+                 f"   Program: another than that which scored the page, and both agree. SHA-256 here "
+                 f"{ours}, there {' '.join(sorted(theirs)) or 'none'}")
+    return lines
+
+
+def bewares(view: View) -> list[str]:
+    """What of a verified page isn't what it seems, or what the scores don't have as they should."""
+    shown = view.settings
+    texts = [view.name, shown.title, shown.group, shown.club, shown.reason]
+    texts += [text for boat in view.boats.values() for text in (boat.helm, boat.name, boat.club)]
+    texts += rows_of(view.decided.text)
+    odd = [text for text in texts if characters.has_odd(text)]
+    found = [f"{characters.shortly(text)} has a sign that isn't seen, or that turns or strikes others"
+             for text in odd[:BEWARES]]
+    if len(odd) > BEWARES:
+        found.append(f"and so have {len(odd) - BEWARES} other texts")
+    return [*view.decided.stale, *found]
+
+
+def text_in(path: str) -> str:
+    try:
+        with open(path, "rb") as file:
+            data = file.read(LARGEST + 1)
+    except OSError as cause:
+        raise Unsure(f"it can't be read: {cause.strerror}") from None
+    if len(data) > LARGEST:
+        raise Odd(f"it is longer than {LARGEST:,} bytes, and no page is")
+    try:
+        return data.decode("utf-8")
+    except UnicodeDecodeError as cause:
+        if read_block.START.encode() not in data:
+            raise Unsure("it is no page of results") from None
+        raise Odd(f"byte {cause.start + 1} of the file isn't UTF-8") from None
+
+
+@dataclass(frozen=True)
+class Outcome:
+    """What became of a page, and what is said of it, to people and to programs."""
+    status: int
+    lines: tuple[str, ...]
+    value: dict[str, object]
+
+
+def outcome(verifier: Verifier, path: str) -> Outcome:
+    """Verifies a page."""
+    try:
+        with guarded("", Odd, Unsure, ValueError):
+            rebuilt = verifier.verified(text_in(path))
+            return Outcome(VERIFIED, (f"{path}: verified.", *report(rebuilt, verifier.program)),
+                           {"page": path, "result": "verified", **value_of(rebuilt, verifier.program)})
+    except Odd as odd:
+        status, what, why = DIFFERS, "NOT VERIFIED", characters.shortly(str(odd), MESSAGE)
+    except (Unsure, Trouble, ValueError) as trouble:
+        status, what, why = UNSURE, "not verified", characters.shortly(str(trouble), MESSAGE)
+    return Outcome(status, (f"{path}: {what}: {sentence(why)}",),
+                   {"page": path, "result": "differs" if status == DIFFERS else "unsure", "why": why})
+
+
+def verify(pages: Sequence[str], program: str, is_json: bool = False) -> int:
+    """Verifies pages and says what was found; the status."""
+    if not os.access(program, os.X_OK):
+        raise Trouble(f"There is no program at {program}: build it, or name one with --program.")
+    verifier, found = Verifier(program), []
+    for path in pages:
+        found.append(outcome(verifier, path))
+        if not is_json:
+            say("\n".join(map(characters.plainly, found[-1].lines)))
+    if is_json:
+        say_json([one.value for one in found])
+    return worst(one.status for one in found)
+
+
+def worst(statuses: Iterable[int]) -> int:
+    """The status of pages together: one that differs comes before one of which nothing can be said."""
+    return max(statuses, key=[VERIFIED, UNSURE, DIFFERS].index)

@@ -1,0 +1,219 @@
+"""What a reader sees of a page: its tables cell by cell, and its other texts, with where each is."""
+from __future__ import annotations
+
+import html
+import re
+from collections.abc import Iterator
+from dataclasses import dataclass, field
+
+from raceoffice.program.standing import Row, Score, Standing
+
+# Parts that end a text; all others are inside one.
+BLOCKS = {"h1", "h2", "p", "li", "dt", "dd", "caption", "summary", "title", "text", "label", "header",
+          "div", "small", "ul", "section", "time", "span", "button"}
+VOID = {"meta", "link", "input", "br", "img", "hr", "rect", "circle", "path", "line", "polyline"}
+# Parts whose text no reader sees; what is in the first two is no markup.
+RAW, SILENT = ("script", "style"), {"script", "style", "noscript"}
+TAG = re.compile("<([^<>]*)>")
+CLASS = re.compile('class="([^"]*)"')
+# A number of a sign that is too long for one.
+LONG = re.compile("&#[xX]?[0-9a-fA-F]{8}")
+# Parts inside one another, and signs of a cell to which more are added. The tools' pages have fewer.
+DEEPEST, LONGEST = 40, 10_000
+
+
+def tokens(page: str) -> Iterator[tuple[str, str]]:
+    """The texts and the tags of a page as `text` and `tag`, in a time that its length bounds. A page that
+    the tools write has no `<` or `>` besides those of its tags, but in scripts and styles."""
+    at = 0
+    while found := TAG.search(page, at):
+        yield "text", page[at:found.start()]
+        yield "tag", found[1]
+        at = found.end()
+        name = found[1].partition(" ")[0].lower()
+        if name in RAW:
+            end = page.find(f"</{name}>", at)
+            at = len(page) if end < 0 else end
+    yield "text", page[at:]
+
+
+@dataclass
+class Cell:
+    text: str = ""
+    is_sail: bool = False
+
+
+@dataclass
+class Table:
+    """A table: the text of each cell, its headings first."""
+    caption: str = ""
+    rows: list[list[Cell]] = field(default_factory=list)
+
+    @property
+    def heads(self) -> list[str]:
+        return [cell.text for cell in self.rows[0]] if self.rows else []
+
+    def sail(self, at: int) -> str:
+        """The sail of a row, as it is shown first in its cell."""
+        return next((cell.text for cell in self.rows[at] if cell.is_sail), "")
+
+
+class Reader:
+    """Takes a page apart."""
+
+    def __init__(self, page: str) -> None:
+        self.tables: list[Table] = []
+        self.texts: list[tuple[str, str]] = []
+        self.open: list[str] = []
+        self.cell: Cell | None = None
+        self.pieces: list[str] = []
+        for kind, text in tokens(page):
+            if kind == "text":
+                self.text(text)
+            elif text.startswith("/"):
+                self.close(text[1:].strip().lower())
+            else:
+                self.begin(text)
+        self.end_text()
+
+    def begin(self, text: str) -> None:
+        """The beginning of a part."""
+        name = text.partition(" ")[0].rstrip("/").lower()
+        if name in BLOCKS or name in ("table", "td", "th"):
+            self.end_text()
+        if name == "table":
+            self.tables.append(Table())
+        elif name == "tr" and self.tables:
+            self.tables[-1].rows.append([])
+        elif name in ("td", "th") and self.tables and self.tables[-1].rows:
+            named = CLASS.search(text)
+            self.cell = Cell(is_sail=named is not None and "sail" in named[1].split())
+            self.tables[-1].rows[-1].append(self.cell)
+        if name not in VOID and len(self.open) < DEEPEST:
+            self.open.append(name)
+
+    def close(self, name: str) -> None:
+        """The end of a part."""
+        if name in BLOCKS or name in ("td", "th"):
+            self.end_text()
+        if name in ("td", "th"):
+            self.cell = None
+        if name in self.open:
+            del self.open[len(self.open) - 1 - self.open[::-1].index(name):]
+
+    def text(self, text: str) -> None:
+        if not SILENT.intersection(self.open):
+            self.pieces.append(text if LONG.search(text) else html.unescape(text))
+
+    def end_text(self) -> None:
+        """Puts the text that was read where it belongs."""
+        text, self.pieces = " ".join("".join(self.pieces).split()), []
+        if not text:
+            return
+        if self.cell is not None:
+            self.cell.text = longer(self.cell.text, f" {text}").strip()
+        elif "table" in self.open and "caption" in self.open and self.tables:
+            self.tables[-1].caption = longer(self.tables[-1].caption, text)
+        else:
+            where = [tag for tag in self.open if tag in BLOCKS]
+            self.texts.append((where[-1] if where else "body", text))
+
+
+def longer(text: str, more: str) -> str:
+    return text + more if len(text) < LONGEST else text
+
+
+@dataclass(frozen=True)
+class Seen:
+    tables: tuple[Table, ...]
+    texts: tuple[tuple[str, str], ...]
+
+
+def seen(page: str) -> Seen:
+    reader = Reader(page)
+    return Seen(tuple(reader.tables), tuple(reader.texts))
+
+
+# Two pages beside each other
+
+def place(table: Table, row: int, column: int) -> str:
+    """Where a cell is, in words."""
+    heads = table.heads
+    head = heads[column] if column < len(heads) else f"column {column + 1}"
+    name = table.caption.partition(":")[0] or "a table"
+    if row == 0:
+        return f"{name}, the heading {head}"
+    sail = f" ({table.sail(row)})" if table.sail(row) else ""
+    return f"{name}, row {row}{sail}, {head}"
+
+
+def first_of(found: list[str], wanted: list[str]) -> int | None:
+    """The first place at which two lists differ."""
+    at = next((at for at, (one, other) in enumerate(zip(found, wanted)) if one != other), None)
+    return min(len(found), len(wanted)) if at is None and len(found) != len(wanted) else at
+
+
+def table_difference(found: Table, wanted: Table) -> str:
+    """The first cell in which two tables differ; empty if they agree."""
+    if found.caption != wanted.caption:
+        return f"a table is called {found.caption!r}, and not {wanted.caption!r}"
+    for row, (one, other) in enumerate(zip(found.rows, wanted.rows)):
+        texts, others = [cell.text for cell in one], [cell.text for cell in other]
+        column = first_of(texts, others)
+        if column is not None:
+            shown, right = ((texts + ["no cell"])[min(column, len(texts))],
+                            (others + ["no cell"])[min(column, len(others))])
+            return f"{place(wanted, row, column)}: the page has {shown!r}, and not {right!r}"
+    if len(found.rows) != len(wanted.rows):
+        return (f"{place(wanted, 0, 0).partition(',')[0]}: the page has {len(found.rows) - 1} rows, "
+                f"and not {len(wanted.rows) - 1}")
+    return ""
+
+
+def difference(found: Seen, wanted: Seen) -> str:
+    """The first place in which what is seen of two pages differs; empty if it is the same."""
+    for one, other in zip(found.tables, wanted.tables):
+        if text := table_difference(one, other):
+            return text
+    if len(found.tables) != len(wanted.tables):
+        return f"the page has {len(found.tables)} tables, and not {len(wanted.tables)}"
+    ours, others = ([f"{tag}\t{text}" for tag, text in texts] for texts in (found.texts, wanted.texts))
+    at = first_of(ours, others)
+    if at is None:
+        return ""
+    shown, right = ((texts + ["\tnothing more"])[min(at, len(texts))].partition("\t")[2]
+                    for texts in (ours, others))
+    return f"the text {shown!r} of the page has to be {right!r}"
+
+
+# A page's table as the program's
+
+SCORE = re.compile(r"(?:(\d+\.\d)|\((\d+\.\d) ?\)(?: excluded))(?: ([A-Z0-9]+))?")
+
+
+def row_of(table: Table, at: int, sails: dict[str, str], races: int) -> Row:
+    """A row of a page's overall table; a ValueError says what of it can't be read."""
+    cells = [cell.text for cell in table.rows[at]]
+    if len(cells) not in (4 + races, 5 + races):
+        raise ValueError(f"row {at} has {len(cells)} cells")
+    rank = re.fullmatch(r"(\d+)(=?)", cells[0])
+    net = re.fullmatch(r"(\d+\.\d) ?[a-z]*", cells[3])
+    sail = sails.get(cells[1])
+    if not rank or not net or sail is None:
+        raise ValueError(f"row {at} begins with {' '.join(cells[:4])!r}")
+    scores = []
+    for number, cell in enumerate(cells[4:4 + races], 1):
+        score = SCORE.fullmatch(cell)
+        if not score:
+            raise ValueError(f"{table.sail(at)} has {cell!r} in column {number} of the races")
+        scores.append(Score(score[1] or score[2], score[3] or "", bool(score[2])))
+    return Row(int(rank[1]), bool(rank[2]), sail, net[1], tuple(scores))
+
+
+def standing_of(table: Table, sails: dict[str, str], races: tuple[int, ...]) -> Standing:
+    """A page's overall table as the program's table. `sails` has the sail of each text of its cell."""
+    heads = table.heads[4:4 + len(races)]
+    if heads != [f"R{number}" for number in races]:
+        raise ValueError(f"the races are {' '.join(heads)}")
+    return Standing(races, tuple(row_of(table, at, sails, len(races))
+                                 for at in range(1, len(table.rows))))

@@ -1,0 +1,291 @@
+#!/usr/bin/env python3
+"""Runs the tests of the package against a built program, some side by side.
+
+    run.py PROGRAM [NAME ...] [--workers N]
+
+A NAME is a module, a class or a check: test_board, test_board.Boards.test_files. The last line is
+`N passed, M failed`. A check that can't be tried here, as without Chromium, is named in a line
+`not tried: ..` and counts as neither.
+"""
+from __future__ import annotations
+
+import argparse
+import json
+import os
+import queue
+import subprocess
+import sys
+import tempfile
+import threading
+import time
+import unittest
+from collections.abc import Iterator
+from dataclasses import asdict, dataclass, field
+from types import TracebackType
+from typing import Union
+
+# What was raised, as unittest hands it over.
+Raised = Union[tuple[type[BaseException], BaseException, TracebackType], tuple[None, None, None]]
+HERE = os.path.dirname(os.path.abspath(__file__))
+# The tests that need a browser, or take more than some seconds.
+SLOW = os.path.join(HERE, "slow")
+sys.path[1:1] = [SLOW, os.path.dirname(HERE)]
+# Seconds after which a worker that still tries the same checks is ended.
+PATIENCE = 900.0
+# How many of the slowest checks are named.
+SLOWEST = 10
+PASSED, FAILED, SKIPPED = "passed", "failed", "not tried"
+
+
+@dataclass
+class Report:
+    """What became of a check: how it ended, why, and in how many seconds."""
+    name: str
+    end: str = PASSED
+    text: str = ""
+    seconds: float = 0.0
+
+
+class Result(unittest.TestResult):
+    """Makes a report of each check. One whose parts fail has failed once, however many they are."""
+
+    def __init__(self) -> None:
+        super().__init__()
+        self.reports: dict[str, Report] = {}
+        self.begun = time.monotonic()
+
+    def note(self, trial: unittest.TestCase, end: str = PASSED, text: str = "") -> None:
+        """Notes an end of a check, or of a part of it: a failure outweighs what else is noted."""
+        name = getattr(trial, "test_case", trial).id()
+        report = self.reports.setdefault(name, Report(name, end))
+        report.text += text
+        if end == FAILED:
+            report.end = FAILED
+
+    def startTest(self, test: unittest.TestCase) -> None:
+        super().startTest(test)
+        self.begun = time.monotonic()
+
+    def stopTest(self, test: unittest.TestCase) -> None:
+        super().stopTest(test)
+        if test.id() in self.reports:
+            self.reports[test.id()].seconds = time.monotonic() - self.begun
+
+    def addSuccess(self, test: unittest.TestCase) -> None:
+        super().addSuccess(test)
+        self.note(test)
+
+    def addSkip(self, test: unittest.TestCase, reason: str) -> None:
+        super().addSkip(test, reason)
+        self.note(test, SKIPPED, reason)
+
+    def addFailure(self, test: unittest.TestCase, err: Raised) -> None:
+        super().addFailure(test, err)
+        self.note(test, FAILED, self.failures[-1][1])
+
+    def addError(self, test: unittest.TestCase, err: Raised) -> None:
+        super().addError(test, err)
+        self.note(test, FAILED, self.errors[-1][1])
+
+    def addSubTest(self, test: unittest.TestCase, subtest: unittest.TestCase,
+                   err: Raised | None) -> None:
+        super().addSubTest(test, subtest, err)
+        if err is not None and err[0] is not None:
+            kinds = self.failures if issubclass(err[0], test.failureException) else self.errors
+            self.note(test, FAILED, f"{subtest}\n{kinds[-1][1]}")
+
+    def addUnexpectedSuccess(self, test: unittest.TestCase) -> None:
+        super().addUnexpectedSuccess(test)
+        self.note(test, FAILED, "it passed, which wasn't expected\n")
+
+
+# A worker
+
+def work() -> None:
+    """Tries the checks that each line of the input names, and answers each line with one of reports.
+
+    What the checks and their children print goes to a file of its own.
+    """
+    orders, answers = os.fdopen(os.dup(0)), os.fdopen(os.dup(1), "w")
+    with tempfile.TemporaryFile("w+", errors="replace") as printed, open(os.devnull) as nothing:
+        os.dup2(nothing.fileno(), 0)
+        os.dup2(printed.fileno(), 1)
+        os.dup2(printed.fileno(), 2)
+        for line in orders:
+            found = Result()
+            unittest.defaultTestLoader.loadTestsFromNames(line.split()).run(found)
+            sys.stdout.flush()
+            sys.stderr.flush()
+            printed.seek(0)
+            text = printed.read()
+            printed.seek(0)
+            printed.truncate()
+            json.dump([text, [asdict(report) for report in found.reports.values()]], answers)
+            answers.write("\n")
+            answers.flush()
+
+
+class Worker:
+    """A process that tries checks, and is started again if they end it."""
+
+    def __init__(self) -> None:
+        self.process: subprocess.Popen[str] | None = None
+
+    def tried(self, names: list[str]) -> tuple[str, list[Report]]:
+        """What some checks printed, and the report of each."""
+        if self.process is None:
+            self.process = subprocess.Popen(
+                [sys.executable, os.path.abspath(__file__), "--work"], stdin=subprocess.PIPE,
+                stdout=subprocess.PIPE, text=True)
+        process = self.process
+        assert process.stdin and process.stdout
+        alarm = threading.Timer(PATIENCE, process.kill)
+        alarm.start()
+        try:
+            process.stdin.write(" ".join(names) + "\n")
+            process.stdin.flush()
+            answer = process.stdout.readline()
+        except BrokenPipeError:
+            answer = ""
+        finally:
+            alarm.cancel()
+        if not answer:
+            self.end()
+            why = f"its process ended with status {process.returncode}\n"
+            return "", [Report(name, FAILED, why) for name in names]
+        text, reports = json.loads(answer)
+        return text, [Report(**report) for report in reports]
+
+    def end(self) -> None:
+        if self.process is not None:
+            self.process.kill()
+            self.process.communicate()
+            self.process = None
+
+
+# All checks
+
+def discovered(loader: unittest.TestLoader) -> unittest.TestSuite:
+    """The tests of both folders."""
+    return unittest.TestSuite(loader.discover(folder, top_level_dir=folder)
+                              for folder in (HERE, SLOW) if os.path.isdir(folder))
+
+
+@dataclass
+class Tried:
+    """What was tried up to now, which several threads add to."""
+    reports: list[Report] = field(default_factory=list)
+    lock: threading.Lock = field(default_factory=threading.Lock)
+
+    def add(self, text: str, reports: list[Report]) -> None:
+        """Adds the reports of some checks, and shows them and what they printed together."""
+        with self.lock:
+            self.reports += reports
+            for report in reports:
+                print(f"{report.end:9} {report.seconds:6.1f} s  {report.name}")
+                if report.end == FAILED:
+                    print(report.text)
+            if text:
+                print(f"Printed by these:\n{text}")
+            sys.stdout.flush()
+
+    def named(self, end: str) -> list[Report]:
+        return [report for report in self.reports if report.end == end]
+
+
+def checks_in(suite: unittest.TestSuite) -> Iterator[unittest.TestCase]:
+    for part in suite:
+        if isinstance(part, unittest.TestSuite):
+            yield from checks_in(part)
+        else:
+            yield part
+
+
+def parts_of(checks: list[unittest.TestCase]) -> list[list[str]]:
+    """What a worker is given at a time: one check, or all of a class that sets something up for them.
+
+    These take longest, and come first.
+    """
+    whole: dict[type, list[str]] = {}
+    single = []
+    for check in checks:
+        kind = type(check)
+        if any("setUpClass" in vars(base) for base in kind.__mro__ if base is not unittest.TestCase):
+            whole.setdefault(kind, []).append(check.id())
+        else:
+            single.append([check.id()])
+    return [*whole.values(), *single]
+
+
+def try_all(parts: list[list[str]], workers: int) -> Tried:
+    """Has the workers try all checks."""
+    waiting: queue.SimpleQueue[list[str]] = queue.SimpleQueue()
+    for part in parts:
+        waiting.put(part)
+    tried = Tried()
+
+    def go_on() -> None:
+        worker = Worker()
+        try:
+            while True:
+                part = waiting.get_nowait()
+                tried.add(*worker.tried(part))
+        except queue.Empty:
+            worker.end()
+
+    threads = [threading.Thread(target=go_on, daemon=True) for _ in range(min(workers, len(parts)))]
+    for thread in threads:
+        thread.start()
+    for thread in threads:
+        thread.join()
+    return tried
+
+
+def summary(tried: Tried, faults: list[str], seconds: float) -> int:
+    """Says what took longest, what wasn't tried, what failed and how many passed; the status."""
+    print(f"\nThe slowest of {len(tried.reports)} checks, which took {seconds:.0f} s together:")
+    for report in sorted(tried.reports, key=lambda report: -report.seconds)[:SLOWEST]:
+        print(f"{report.seconds:6.1f} s  {report.name}")
+    for report in tried.named(SKIPPED):
+        print(f"not tried: {report.name}: {report.text}")
+    for fault in faults:
+        print(fault)
+    for report in tried.named(FAILED):
+        print(f"failed: {report.name}")
+    failed = len(tried.named(FAILED)) + len(faults)
+    print(f"{len(tried.named(PASSED))} passed, {failed} failed")
+    return 1 if failed or not tried.reports else 0
+
+
+def asked_of() -> argparse.Namespace:
+    parser = argparse.ArgumentParser(description="Runs the tests of the package against a built program.")
+    parser.add_argument("program", help="the built program")
+    parser.add_argument("name", nargs="*", help="a module, a class or a check; all if none is named")
+    parser.add_argument("--workers", type=int, default=4, metavar="N", help="how many are tried at a time")
+    asked = parser.parse_args()
+    if not os.access(asked.program, os.X_OK):
+        parser.error(f"{asked.program} is no program that can be run")
+    return asked
+
+
+def main() -> int:
+    asked = asked_of()
+    begun = time.monotonic()
+    with tempfile.TemporaryDirectory() as compiled:
+        # Each tool is compiled once, and nothing is written beside the sources.
+        os.environ.pop("PYTHONDONTWRITEBYTECODE", None)
+        os.environ["PYTHONPYCACHEPREFIX"] = sys.pycache_prefix = compiled
+        os.environ["REGATTA"] = os.path.realpath(asked.program)
+        loader = unittest.defaultTestLoader
+        suite = loader.loadTestsFromNames(asked.name) if asked.name else discovered(loader)
+        faults = [str(error) for error in loader.errors]
+        checks = [check for check in checks_in(suite) if not check.id().startswith("unittest.loader.")]
+        tried = try_all(parts_of(checks), asked.workers)
+    return summary(tried, faults, time.monotonic() - begun)
+
+
+if __name__ == "__main__":
+    if sys.argv[1:] == ["--work"]:
+        work()
+    else:
+        sys.exit(main())

@@ -1,0 +1,200 @@
+"""A journal that isn't what the office had is asked about when it is opened: an old file, an edited line, a
+flipped bit, a line that was deleted."""
+from __future__ import annotations
+
+import os
+import random
+import shutil
+import unittest
+from collections.abc import Iterator
+
+import helpers
+from raceoffice.errors import Trouble
+from raceoffice.program.link import Link
+from raceoffice.series.continuity import difference
+from raceoffice.series.copies import newest
+from raceoffice.series.folder import Folder
+
+SEED, FLIPS = 63, 200
+LINES = ["FINISH 1 GBR101", "FINISH 1 GBR7", "TIE 1 NED12 GBR7", "MARK 1 FRA9 DNF", "SCORE 1", "PENALTY 1 IRL5 ZFP",
+         "FINISH 2 IRL55", "BEFORE 2 GBR7 IRL55", "ROLE JURY", "REDRESS 1 GBR33 2.5", "MARK 2 NED12 DSQ"]
+ASKED = "Open the office all the same? [y/N] "
+
+
+def flipped(data: bytes, bit: int) -> bytes:
+    """A file with one bit turned over."""
+    at = bit // 8
+    return data[:at] + bytes([data[at] ^ 1 << bit % 8]) + data[at + 1:]
+
+
+def changed_lines(data: bytes) -> Iterator[tuple[str, bytes]]:
+    """A journal with one line, or its end, changed by hand."""
+    lines = data.splitlines(keepends=True)
+    for at, line in enumerate(lines):
+        yield f"without line {at}", b"".join(lines[:at] + lines[at + 1:])
+        yield f"line {at} with CR", b"".join(lines[:at] + [line[:-1] + b"\r\n"] + lines[at + 1:])
+    for at in range(1, len(lines) - 1):
+        yield f"line {at} twice", b"".join(lines[:at + 1] + lines[at:])
+        yield f"line {at} moved", b"".join(lines[:at] + [lines[at + 1], lines[at]] + lines[at + 2:])
+        yield f"up to line {at}", b"".join(lines[:at + 1])
+    yield "edited", data.replace(b"FINISH 1 GBR7\n", b"FINISH 2 GBR7\n")
+    yield "in small letters", data.lower()
+    yield "without the version", b"".join(lines[1:])
+
+
+class Continuity(helpers.Series):
+    def setUp(self) -> None:
+        super().setUp()
+        window = self.open()
+        with Link(self.file("office", "race.sock")).socket as sock:
+            sock.sendall("".join(f"{line}\n" for line in LINES).encode())
+            while sock.recv(4096).count(b"\n") and self.held() < 17:
+                pass
+        window.press()
+        self.assertEqual(window.rest()[1], 0)
+        with open(self.file("journal.txt"), "rb") as file:
+            self.data = file.read()
+        self.folder = Folder(os.path.join(self.here, "cup"))
+
+    def file(self, *names: str) -> str:
+        return os.path.join(self.here, "cup", *names)
+
+    def put(self, data: bytes) -> None:
+        with open(self.file("journal.txt"), "wb") as file:
+            file.write(data)
+
+    def is_seen(self, data: bytes) -> bool:
+        """Whether an opening asks about this journal, or refuses it as damaged."""
+        self.put(data)
+        try:
+            return difference(self.folder) != ""
+        except Trouble:
+            return True
+
+    def forget_copies(self) -> None:
+        shutil.rmtree(self.file("kept"))
+
+    def test_each_change(self) -> None:
+        """With the copies, and by the note in the log alone."""
+        flips = random.Random(SEED).sample(range(8 * len(self.data)), FLIPS)
+        for forget in (lambda: None, self.forget_copies):
+            forget()
+            self.assertFalse(self.is_seen(self.data))
+            self.assertFalse(self.is_seen(self.data + b"2 12 SCORER UNSCORE 1\n"))
+            self.assertFalse(self.is_seen(self.data + b"2 12 SCO"))
+            for bit in flips:
+                self.assertTrue(self.is_seen(flipped(self.data, bit)), bit)
+            for name, data in changed_lines(self.data):
+                self.assertTrue(self.is_seen(data), name)
+
+    def test_words(self) -> None:
+        """What differs: how many entries, and the first."""
+        self.put(self.data.replace(b"SCORER FINISH 1 GBR7\n", b"SCORER FINISH 2 GBR7\n"))
+        size = (r"journal\.txt isn't what the office had\. It has 17 entries, and "
+                r"kept/.*Z(-[0-9]+)?\.txt has 17\. ")
+        self.assertRegex(difference(self.folder), size + r"One of these isn't in journal\.txt at its place, "
+                         r"entry 9:\n   2 2 SCORER FINISH 1 GBR7   in the copy\n   2 2 SCORER FINISH 2 GBR7   in "
+                         r"journal\.txt\nIf nobody meant that, ")
+        self.put(b"".join(self.data.splitlines(keepends=True)[:10]))
+        self.assertRegex(difference(self.folder), r"It has 9 entries, and kept/.*Z(-[0-9]+)?\.txt has 17\. "
+                         r"8 of these aren't in journal\.txt at their place, first entry 10:\n(.|\n)*nothing   in "
+                         "journal")
+        self.put(self.data.replace(b"REGATTA", b"regatta"))
+        self.assertRegex(difference(self.folder), size + "Its first line is regatta 2, and that of the copy "
+                         "REGATTA 2")
+        self.put(self.data.replace(b"2 2 SCORER", b"2 2 \x1b[2KRER"))
+        self.assertIn("2 2 ?[2KRER FINISH 1 GBR7   in journal.txt\n", difference(self.folder))
+        self.forget_copies()
+        self.put(self.data[:-len(self.data.splitlines()[-1]) - 1])
+        self.assertEqual(difference(self.folder), "journal.txt isn't what the office had. It has 16 entries. When "
+                         "the office was closed, it had 17, and no copy in kept/ has the others.")
+        self.put(self.data.lower())
+        self.assertEqual(difference(self.folder), "journal.txt isn't what the office had. It has 17 entries. When "
+                         "the office was closed, it had 17, and these aren't the same. No copy in kept/ shows "
+                         "which differs.")
+
+    def test_opening_asks(self) -> None:
+        """Without a yes nothing is opened; after it the journal is what the office has."""
+        dice = random.Random(SEED)
+        for name, data in dice.sample([*changed_lines(self.data)], 3):
+            self.put(data)
+            said, status = helpers.run("open", "cup", cwd=self.here)
+            self.assertTrue("Nothing was opened." in said and status == 1, (name, said))
+            self.assertFalse(os.path.exists(self.file("office", "race.sock")))
+        changed = self.data.replace(b"SCORER FINISH 1 GBR7\n", b"SCORER FINISH 3 GBR7\n").replace(b"TIE 1", b"TIE 3")
+        self.put(changed)
+        window = self.window("open", "cup")
+        said = window.read(r"\[y/N\] $")
+        self.assertTrue(said.startswith("journal.txt isn't") and said.endswith(ASKED), said)
+        window.say("y", "The office is open")
+        window.press()
+        self.assertEqual(window.rest()[1], 0)
+        self.assertEqual(difference(self.folder), "")
+        self.open().press()
+
+    def test_copy_that_rots(self) -> None:
+        """A copy that was changed, or can't be read, is asked about, too."""
+        found = newest(self.folder)
+        assert found
+        name = os.path.basename(found.name)
+        with open(self.file("kept", name), "wb") as file:
+            file.write(self.data.replace(b"SCORE 1", b"SCORE 2"))
+        self.assertIn("One of these isn't in journal.txt at its place", difference(self.folder))
+        os.remove(self.file("kept", name))
+        os.mkfifo(self.file("kept", name))
+        self.assertEqual(difference(self.folder), "Nobody knows whether journal.txt is what the office had: "
+                         f"kept/{name} is no plain file.")
+        os.remove(self.file("kept", name))
+        os.mkdir(self.file("kept", name))
+        self.assertEqual(difference(self.folder), "Nobody knows whether journal.txt is what the office had: "
+                         f"kept/{name} can't be read: Is a directory.")
+
+    def test_older_tools(self) -> None:
+        """Notes without a sum, and copies named by the time of this computer, are read as well."""
+        shutil.rmtree(self.file("kept"))
+        log = self.text("cup", "office.log")
+        self.write("".join(f"{line.rpartition(' ')[0]}\n" if "closed\t" in line or "opened\t" in line else f"{line}\n"
+                           for line in log.splitlines()), "cup", "office.log")
+        self.assertFalse(self.is_seen(self.data.lower()))
+        self.assertTrue(self.is_seen(self.data[:-20]))
+        os.mkdir(self.file("kept"))
+        with open(self.file("kept", "2026-11-28-101010.txt"), "wb") as file:
+            file.write(self.data)
+        self.assertTrue(self.is_seen(self.data.lower()))
+
+    def test_removed(self) -> None:
+        """After a boat was taken out, her journal is the older one."""
+        said, status = helpers.run("remove", "cup", "IRL55", lines="y\n", cwd=self.here)
+        self.assertEqual(status, 1, said)
+        said, status = helpers.run("remove", "cup", "IRL5", lines="y\n", cwd=self.here)
+        self.assertEqual(status, 0, said)
+        self.assertEqual(difference(self.folder), "")
+        self.assertTrue(self.is_seen(self.data))
+
+    def test_restored(self) -> None:
+        """A copy that became the journal again is what the office has."""
+        found = newest(self.folder)
+        assert found
+        os.remove(self.file(found.name))
+        os.remove(self.file("journal.txt"))
+        window = self.window("open", "cup")
+        window.read(r"the series had 17 entries\. kept/.* has 7\. Use it\? \[y/N\] $")
+        window.say("y", "The office is open")
+        self.addCleanup(self.stop, "cup")
+        window.press()
+        window.rest()
+        self.assertEqual((difference(self.folder), self.held()), ("", 7))
+        self.assertIn("\trestored\t7 entries ", self.text("cup", "office.log"))
+
+    def test_added(self) -> None:
+        """What was added after the office was closed is said, and keeps nobody from opening."""
+        self.assertNotIn("more than", helpers.run("check", "cup", cwd=self.here)[0])
+        self.put(self.data + b"2 12 SCORER FINISH 3 GBR7\n")
+        said, status = helpers.run("check", "cup", cwd=self.here)
+        self.assertIn("journal.txt has 18 entries, 1 more than when the office was closed: it was kept without these "
+                      "tools, or somebody has added to it.\n", said)
+        self.assertEqual(status, 0)
+
+
+if __name__ == "__main__":
+    unittest.main()

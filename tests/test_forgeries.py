@@ -1,0 +1,319 @@
+"""Pages that a forger made to show another winner, another reason or another time, and what verify.py
+says and how long it takes."""
+from __future__ import annotations
+
+import contextlib
+import io
+import os
+import re
+import time
+import unittest
+import unittest.mock
+from typing import Any
+
+import helpers
+
+from allowed import odd_parts
+from forger import ForgedPages, Forger, Path, put, resealed, seals, whole_of
+from raceoffice.errors import Odd, Unsure
+from raceoffice.results.html.notice import results as notice
+from raceoffice.results.html.overall import overall
+from raceoffice.results.html.page import confirmed
+from raceoffice.verify import read_block, verifier
+
+ANOTHER = ('<div class="scroll"><table><tr><td>1</td><th class="sail">GBR 33</th><td>2.0</td></tr></table>'
+           "</div>")
+SCRIPT = "<script>document.querySelector('th.sail').textContent = 'GBR 33'</script>"
+LINE = "PROTEST COMMITTEE: GBR 101 IS DISQUALIFIED, GBR 7 WINS"
+# The parts that pages had, through which a text came into them.
+OLD_PARTS: list[tuple[Path, object]] = [
+    (("page", "names"), [[LINE, "x"], ["B", '"><b>']]), (("page", "prefix"), f'">{ANOTHER}<a href="'),
+    (("page", "version"), '1-00000000">'), (("stamps", 0, "version"), f'1">{SCRIPT}<a title="'),
+    (("page", "names"), [["A", "tide"], ["B", "javascript:alert(1)//"]])]
+# What each kind of page may not say of its race.
+RACES = [4, 0, -1, 41, 2.0, 1.0, True, None, "1", "3, RESAILED: GBR 7 FIRST BY DECISION OF THE JURY", [1]]
+STAMPS: list[tuple[str, object]] = [
+    ("when", "Never, says the jury"), ("when", "Sun 1 Mar 2026, 10:01 UTC"), ("when", ""),
+    ("changed", "2026-03-01"), ("changed", "2099-03-01T10:00:00+00:00"),
+    ("changed", "2026-03-01T10:00:00+01:00"), ("changed", "1969-12-31T23:59:59+00:00"),
+    ("changed", "2026-13-01T10:00:00+00:00"), ("changed", "2026-03-01T10:00:00.5+00:00"),
+    ("every", 0), ("every", 3601), ("every", -5), ("every", "5"), ("every", True), ("every", 5.0)]
+# A page of a series without a zone has the words of some computer's.
+OWN_ZONE: list[tuple[str, object]] = [
+    ("when", text) for text in ("Sun 1 Mar 2026, 10:00 JURY (UTC+0)", "Mon 2 Mar 2026, 01:00 UTC+15",
+                                "Fri 13 Mar 2026, 10:00 UTC", "1 Mar 2026, 10:00 UTC", "10:00 UTC",
+                                "Sun 1 Mar 2026, 10:00 UTC. GBR 7 WINS")]
+CONFIRMATIONS = [("2099-01-01T00:00:00+00:00", "open"), ("2026-03-01T10:00:00+00:00", "gone"),
+                 ("", ""), ("", "open"), ("2026-03-01", "open"), ("2026-03-01T10:00:00+00:00", "away:1"),
+                 ("2026-03-01T10:00:00+00:00", "")]
+# How a sail may not be shown: another's, with signs that aren't seen, with a note, turned, struck out.
+SHOWN = ["GBR 33", "GBR\u200b101", "GBR 101\u200d", "", " ", "GBR 101 (DSQ, see notice 4)", "\u202e101 RBG",
+         "G\u0336B\u0336R\u0336 101", "GBR  101", "GBR 101 ", "ＧBR 101", "GBR\u00a0101", "GBR101\n"]
+ESC = "\x1b[2K\x1b[1Aresults.html: verified.\n   Scored again, every cell is the same.\x1b[8m"
+# What takes long to take apart, and isn't.
+SLOW = [read_block.START, "<!--", "<![CDATA[", "<?", "<a ", "<a b='", "</a ", "<p>", "<table>", "<tr><td>x",
+        "<caption><p>x", "&", "&#9", "<script>", "</script", "<style>", "<" * 9, "[", '{"a":', "\u202e"]
+
+
+class Forgeries(ForgedPages):
+    def setUp(self) -> None:
+        super().setUp()
+        self.made = self.pages()
+
+    def why(self, page: str) -> str:
+        """Why a page isn't verified."""
+        with self.assertRaises((Odd, Unsure)) as found:
+            self.verifier.verified(page)
+        return str(found.exception)
+
+    def forged(self, kind: str, path: Path, value: object) -> str:
+        """The page of a block with another value at one place, as the tools' own code makes it."""
+        page = self.made[kind]
+        return Forger(helpers.PROGRAM, page).forged(put(whole_of(page), path, value))
+
+    # Under the honest seal
+
+    def test_markup_in_the_file(self) -> None:
+        """A table, a script, an event, a style, a link or a line more, anywhere in the file."""
+        for kind in ("results", "top", "overall", "race", "list"):
+            page = self.made[kind]
+            places = [(">\n<head>", f' onload="x()">{kind}\n<head>'), ("<html ", '<html style="x" '),
+                      ("<main ", f"{ANOTHER}<main "), ("</main>", f"{SCRIPT}</main>"),
+                      ("<header>", f"<p>{LINE}</p><header>"), ("</style>", ".r { color: red }</style>"),
+                      ('<a class="skip" href="#', '<a class="skip" href="//example.org/#'),
+                      ('href="?"', 'href="javascript:x()"'), ("</html>", f"</html>{ANOTHER}"),
+                      ("<!DOCTYPE html>\n", f"<!DOCTYPE html>\n<!--{LINE}-->"),
+                      ('data-version="', 'data-version="1"><script>x()</script><p title="'),
+                      ('data-now="', 'data-now="//example.org/')]
+            for old, new in places:
+                with self.subTest(kind=kind, new=new):
+                    self.assertIn(old, page)
+                    self.why(page.replace(old, new, 1))
+
+    def test_parts_of_old_pages(self) -> None:
+        """A part of the block through which a text came into a page is no part any more."""
+        for kind, page in self.made.items():
+            for path, value in OLD_PARTS:
+                with self.subTest(kind=kind, path=path):
+                    self.assertIn("the parts of one", self.why(resealed(
+                        page, lambda whole: self.set(whole, path, value))))
+
+    def set(self, whole: dict[str, Any], path: Path, value: object) -> None:
+        whole.update(put(whole, path, value))
+
+    def test_races(self) -> None:
+        """A race's page is that of a race that was sailed, by its number."""
+        for race in RACES:
+            with self.subTest(race=race):
+                self.why(self.forged("race", ("page", "race"), race))
+        self.assertTrue(self.is_verified(self.forged("race", ("page", "race"), 2)))
+
+    def test_kinds(self) -> None:
+        for kind, page in self.made.items():
+            for other in ("top", "overall", "race", "list", "results", "", "x", 1):
+                if other != whole_of(page)["page"]["kind"]:
+                    with self.subTest(kind=kind, other=other):
+                        self.why(resealed(page, lambda whole: whole["page"].update(kind=other)))
+
+    def test_stamps(self) -> None:
+        """The time of the last change is a moment of the past, and its words are those of its zone."""
+        for kind in ("results", "overall", "list", "alone"):
+            for name, value in [*STAMPS, *OWN_ZONE] if kind == "alone" else STAMPS:
+                with self.subTest(kind=kind, name=name, value=value):
+                    self.why(self.forged(kind, ("stamps", 0, name), value))
+
+    def test_moments(self) -> None:
+        """A change was in the past, and not before 1970, also if its words are right."""
+        for changed, when in [("2099-03-01T10:00:00+00:00", "Sun 1 Mar 2099, 10:00 UTC"),
+                              ("1969-03-01T10:00:00+00:00", "Sat 1 Mar 1969, 10:00 UTC")]:
+            for kind in ("results", "alone", "list"):
+                whole = put(whole_of(self.made[kind]), ("stamps", 0, "changed"), changed)
+                made = Forger(helpers.PROGRAM, self.made[kind]).forged(put(whole, ("stamps", 0, "when"), when))
+                self.assertIn("the time of change is", self.why(made))
+
+    def test_confirmed(self) -> None:
+        """A page was confirmed in the past, by an office of this page; that of results.py never was."""
+        for kind in ("overall", "race", "results"):
+            plain = {"overall": overall(self.tide, True), "results": notice([self.tide])}.get(
+                kind) or re.sub(' data-checked="[^"]*" data-office="[^"]*"',
+                                ' data-checked="" data-office=""', self.made[kind], count=1)
+            for checked, office in CONFIRMATIONS:
+                if (checked, office) == ("", "") and kind == "results":
+                    continue
+                with self.subTest(kind=kind, checked=checked, office=office):
+                    self.why(confirmed(plain, checked, office))
+        for office in ("away:2", "away:1,0", "away:0,0", "away:01", "away:", "open:1", "journal", "away:1,"):
+            self.why(self.made["list"].replace('data-office="away:1"', f'data-office="{office}"', 1))
+
+    def test_narrow(self) -> None:
+        """A program is a SHA-256, a folder has a name, and settings are in plain signs."""
+        for path, values in [
+                (("program",), ["x", "0" * 63, "0" * 65, "g" * 64, "0" * 64 + "\n", "A" * 64]),
+                (("name",), ["", ".", "..", "a/b", "/", "a\0"]),
+                (("settings", "exclude"), ["٢", "2,٤", "2\n", "1", "", "--help", "2, 4"]),
+                (("settings", "scp"), ["٣", "0", "100", "-1", "1.5", " 1"]),
+                (("settings", "absent"), ["a54", "", "A52"]), (("settings", "handicap"), ["", "Yes", "true"]),
+                (("settings", "state"), ["", "Final", "final now"]), (("settings", "title"), [""]),
+                (("settings", "zone"), ["Mars/Base", "../UTC", "/etc/passwd", "UTC\0", "Europe", "x" * 9000])]:
+            for value in values:
+                with self.subTest(path=path, value=value[:20]):
+                    self.why(self.forged("results", ("series", 0, *path), value))
+
+    def test_series_twice(self) -> None:
+        """No series is there twice, also not under other rules."""
+        for kind in ("both", "list"):
+            whole = whole_of(self.made[kind])
+            for name in ("series", "stamps"):
+                whole[name] = [whole[name][1], *whole[name]]
+            whole["series"][0] = {**whole["series"][0], "settings": {
+                **whole["series"][0]["settings"], "exclude": "none"}}
+            made = Forger(helpers.PROGRAM, self.made[kind]).forged(whole)
+            self.assertRegex(self.why(made), "the series '(tide|fleet)' twice")
+
+    # Under another seal
+
+    def test_sails(self) -> None:
+        """A sail is shown as the journal has it, but for spaces and small letters."""
+        for shown in SHOWN:
+            with self.subTest(shown=shown):
+                self.assertIn("the sail GBR101 is shown as", self.why(
+                    self.forged("results", ("series", 0, "boats", 0, 1), shown)))
+        self.assertIn("GBR7 has names twice", self.why(self.forged(
+            "results", ("series", 0, "boats", 0), ["GBR7", "GBR 7", "A. Moss", "", ""])))
+        self.assertIn("is no sail", self.why(self.forged(
+            "results", ("series", 0, "boats", 0), ["", "", "A. Moss", "", ""])))
+        for shown in ("gbr 101", "GBR101", "G B R 1 0 1"):
+            self.assertTrue(self.is_verified(
+                self.forged("results", ("series", 0, "boats", 0, 1), shown)))
+
+    def test_other_results(self) -> None:
+        """The page of another journal, other rules or another reason is right for them: its seal, which
+        it shows, is another."""
+        page = self.made["results"]
+        journal = whole_of(page)["series"][0]["journal"]
+        for path, value in [(("series", 0, "settings", "reason"), LINE),
+                            (("series", 0, "settings", "state"), "final"),
+                            (("series", 0, "settings", "exclude"), "none"),
+                            (("series", 0, "journal"), [*journal[:-1], journal[-1].replace("3 GBR7", "3 IRL5")]),
+                            (("series", 0, "journal"), journal[:-1]),
+                            (("series", 0, "decisions"), [])]:
+            with self.subTest(path=path):
+                made = self.forged("results", path, value)
+                self.assertTrue(self.is_verified(made))
+                self.assertNotEqual(seals(made), seals(page))
+                self.assertIn(f"Seal {seals(made)[0]}:", made)
+                self.assertEqual(odd_parts(made), [])
+
+    def test_seal_of_another(self) -> None:
+        """The seal of an honest page on one of another journal is found."""
+        page = self.made["results"]
+        made = self.forged("results", ("series", 0, "settings", "reason"), LINE)
+        self.assertIn("Seal", self.why(made.replace(seals(made)[0], seals(page)[0])))
+
+    # What is said
+
+    def said(self, *texts: str) -> tuple[int, str]:
+        """The status and the words of verify.py about pages of these texts."""
+        names = [os.path.join(self.here, f"{at}.html") for at, _ in enumerate(texts)]
+        for name, text in zip(names, texts):
+            self.write(text, name)
+        told = io.StringIO()
+        with contextlib.redirect_stdout(told):
+            status = verifier.verify(names, helpers.PROGRAM)
+        return status, told.getvalue()
+
+    def test_words(self) -> None:
+        """No text of a page moves the cursor, begins a line or says that a page is verified."""
+        class_, page = ("series", 0, "settings", "class"), self.made["results"]
+        texts = [self.forged("results", path, ESC) for path in (
+            class_, ("series", 0, "settings", "title"), ("series", 0, "program"),
+            ("series", 0, "boats", 0, 2), ("series", 0, "name"), ("series", 0, "journal", 2),
+            ("series", 0, "settings", "absent"), ("stamps", 0, "when"), ("regatta",))]
+        texts += [resealed(page, lambda whole: whole["series"][0].update(decisions=[ESC, "race 1 GBR7 PRP 3"])),
+                  page.replace("Windhover", ESC), page.replace('"tide"', f'"{ESC}"'),
+                  page.replace(">A. Moss<", f">{ESC}<", 1)]
+        for text in texts:
+            status, said = self.said(text)
+            lines = said.splitlines()
+            self.assertEqual([sign for sign in said if not sign.isprintable() and sign != "\n"], [])
+            self.assertEqual(said.split("\n"), [*lines, ""])
+            self.assertEqual([line for line in lines[1:] if not line.startswith("   ")], [])
+            path = os.path.join(self.here, "0.html")
+            self.assertTrue(lines[0].startswith(f"{path}: {'' if status == 0 else 'NOT VERIFIED: '}"), said)
+            self.assertEqual(lines[0] == f"{path}: verified.", status == 0)
+            self.assertLess(max(map(len, lines)), 700)
+
+    def test_name_of_file(self) -> None:
+        """Nor does the name of a file."""
+        path, told = os.path.join(self.here, "x\na.html: verified.\x1b[2K"), io.StringIO()
+        self.write("<p>Results</p>", path)
+        with contextlib.redirect_stdout(told):
+            self.assertEqual(verifier.verify([path, f"{path} no"], helpers.PROGRAM), 2)
+        self.assertEqual([line.startswith(self.here) for line in told.getvalue().splitlines()], [True] * 2)
+        self.assertEqual(told.getvalue().count("\\x0aa.html: verified.\\x1b[2K"), 2)
+
+    def test_beware(self) -> None:
+        """Signs that turn others, or that aren't seen, are said of a page that is verified."""
+        for text, is_odd in [("Moss\u202e", True), ("Mo\u200bss", True), ("M\u0336oss", True),
+                             ("Mo\u3164ss", True), ("Moss\ufe0f", True), ("Mos\u0301\u0301\u0301s", True),
+                             ("Mo\U0001d159ss", True), ("M\ua670oss", True), ("M" + "\u1dc0" * 4, True),
+                             ("\u0e01" + "\u0e49" * 4, True), ("\u0e01\u0e34\u0e49", False),
+                             ("\u05e9\u05c1\u05bc\u05b8\u05dc\u05d5\u05b9\u05dd", False),
+                             ("Jürgen", False), ("Ju\u0308rgen", False), ("名取", False), ("Ó Ríoráin", False)]:
+            with self.subTest(text=text):
+                status, said = self.said(self.forged("results", ("series", 0, "boats", 0, 2), text))
+                self.assertEqual(status, 0)
+                self.assertEqual("has a sign that isn't seen" in said, is_odd)
+        many = put(whole_of(self.made["results"]), ("series", 0, "boats"), [
+            ["GBR101", "GBR 101", *["\u202eX"] * 3], ["GBR7", "GBR 7", *["\u202eX"] * 3]])
+        status, said = self.said(Forger(helpers.PROGRAM, self.made["results"]).forged(many))
+        self.assertIn("Beware: and so have 1 other texts", said)
+
+    def test_own_word(self) -> None:
+        """What nothing shows to be right is said to be the page's own word."""
+        self.assertIn("by the page's own word", self.said(self.made["results"])[1])
+
+    # Size and time
+
+    def test_long(self) -> None:
+        """A page that is longer than what is read isn't verified, wherever it is cut."""
+        page = self.made["results"]
+        with unittest.mock.patch.object(verifier, "LARGEST", len(page.encode())):
+            self.assertEqual(self.said(page)[0], 0)
+            for more in (" ", ANOTHER):
+                status, said = self.said(page + more)
+                self.assertEqual(status, 1)
+                self.assertIn("it is longer than", said)
+
+    def test_time(self) -> None:
+        """What isn't a page is found out in a second, however it is written."""
+        page = self.made["results"]
+        cases = [read_block.START * 20_000]
+        for piece in SLOW:
+            few, many = 60_000 // len(piece), 1_000_000 // len(piece)
+            cases += [page + piece * few, page + piece * many, read_block.START + piece * many + read_block.END,
+                      page.replace("<main", f"{piece * few}<main"), page.replace("</td>", piece * few, 1)]
+        for text in cases:
+            begun = time.process_time()
+            with contextlib.suppress(Odd, Unsure):
+                self.verifier.verified(text)
+                self.fail(text[:80])
+            self.assertLess(time.process_time() - begun, 1, f"{text[:40]!r} .. {text[-40:]!r}")
+
+    def test_long_block(self) -> None:
+        """A block of more than the program reads, or of numbers without end, isn't scored."""
+        page, whole = self.made["results"], whole_of(self.made["results"])
+        series = whole["series"][0]
+        for name, value in [("journal", series["journal"] * 1000), ("decisions", ["race 1 GBR7 DPI 1"] * 3000),
+                            ("boats", [["A", "A", "", "", ""]] * 600)]:
+            self.assertIn("is too long", self.why(resealed(
+                page, lambda whole: whole["series"][0].update({name: value}))))
+        for number in ("9" * 5_000_000, "1e999999999", "-0.0", "NaN", "Infinity", "1" * 5):
+            self.assertIn("a number that no tool writes", self.why(
+                page.replace('"every": 5', f'"every": {number}')))
+        self.assertIn("inside one another", self.why(
+            page.replace('"every": 5', '"every": ' + "[" * 200_000)))
+
+
+if __name__ == "__main__":
+    unittest.main()

@@ -1,0 +1,238 @@
+"""office/places: what was kept is there again, whatever was killed, torn, forged or full."""
+from __future__ import annotations
+
+import fcntl
+import json
+import os
+import random
+import resource
+import stat
+import sys
+import traceback
+import unittest
+from collections.abc import Callable
+from unittest import mock
+
+import helpers
+from raceoffice.errors import NotSent, Trouble
+from raceoffice.program.journal import Race
+from raceoffice.series import kept_places
+from raceoffice.series.folder import Folder
+from raceoffice.series.kept_places import History, Note, Places
+from test_unknown_finishers import dropped, kept
+
+# Signs and values that break readers.
+ODD = [b"\0", b"\n", b"\r", b"\xff", b'"', b"\\", b"{", b"}", b"[", b"]", b",", b"\xe2\x80\xa8", b"\x1b", b"1" * 5000]
+VALUES: list[object] = [None, True, -1, 10 ** 400, 1.5, "", "?", "\x1b[2K", "\ud800", [], [1], ["A" * 99], {}, "x" * 5000, [[]] * 9]
+
+
+class Files(helpers.Series):
+    def setUp(self) -> None:
+        super().setUp()
+        os.mkdir(os.path.join(self.here, "cup", "office"))
+        self.path = os.path.join(self.here, "cup", "office", "places")
+        self.folder = Folder(os.path.join(self.here, "cup"))
+        self.places = Places(self.folder, "Ann")
+
+    def data(self) -> bytes:
+        with open(self.path, "rb") as file:
+            return file.read()
+
+    def put(self, data: bytes) -> None:
+        with open(self.path, "wb") as file:
+            file.write(data)
+
+    def marks(self, race: int = 1) -> list[str]:
+        return self.places.read().waiting.marks(race)
+
+    def keep(self, typed: str = "") -> str:
+        return self.places.keep(Race(1, [["GBR7"], ["NED12", "FRA9"]]), typed, 12)
+
+    def test_odd_journal(self) -> None:
+        """A line of the journal that has no command keeps nobody from knowing who is kept."""
+        self.keep()
+        with open(self.folder.journal, "wb") as file:
+            file.write(b"REGATTA 2\n1 1 SCORER ENTER GBR7\n1 2\n")
+        self.assertEqual(kept_places.kept_in_words(self.folder), "Kept without a sail: ?1 in race 1.")
+
+    def test_damaged(self) -> None:
+        """Who asks before an office closes is told of a line that can't be read: a place may be in it."""
+        beware = ("Beware: line 1 of office/places can't be read, and is left out. A finisher without a sail may "
+                  "be missing.")
+        self.put(b"x\n")
+        self.assertEqual(kept_places.kept_in_words(self.folder), beware)
+        self.keep()
+        self.assertEqual(kept_places.kept_in_words(self.folder), f"Kept without a sail: ?1 in race 1. {beware}")
+
+    def test_form(self) -> None:
+        """A line has all that is known of a place, and the file is this account's alone."""
+        before = os.umask(0)
+        self.addCleanup(os.umask, before)
+        self.assertEqual((self.keep(), self.keep("101")), ("?1", "101?"))
+        os.chmod(self.path, 0o666)
+        self.places.drop(self.places.read().waiting.of(1)[:1], "none")
+        first, second, third = map(json.loads, self.data().splitlines())
+        for line in (first, second, third):
+            self.assertRegex(line.pop("time"), r"^\d{4}-\d\d-\d\dT\d\d:\d\d:\d\d[+-]\d{4}$")
+        of_all = {"race": 1, "by": "Ann", "window": os.getpid()}
+        self.assertEqual(first, of_all | {"what": "kept", "place": "?1", "typed": "", "entries": 12,
+                                          "behind": ["GBR7", "NED12", "FRA9"]})
+        self.assertEqual(second, first | {"place": "101?", "typed": "101"})
+        self.assertEqual(third, of_all | {"what": "dropped", "place": "?1", "why": "none"})
+        self.assertEqual(stat.S_IMODE(os.stat(self.path).st_mode), 0o600)
+
+    def test_torn(self) -> None:
+        """A line that was torn at any byte hides no other, and is no place before it is whole."""
+        self.keep()
+        whole = self.data()
+        self.keep("101")
+        second = self.data()[len(whole):]
+        for cut in range(len(second)):
+            self.put(whole + second[:cut])
+            is_whole = cut == len(second) - 1
+            self.assertEqual(self.marks(), ["?1", "101?"] if is_whole else ["?1"], cut)
+            self.assertEqual(self.places.read().faults, [])
+            self.keep("33")
+            self.assertEqual(self.marks(), ["?1", "101?", "33?"] if is_whole else ["?1", "33?"], cut)
+            self.assertEqual(self.places.read().faults, [])
+
+    def test_bad_lines(self) -> None:
+        """A line that can't be read is left out, and said; it hides no other."""
+        self.keep()
+        self.keep()
+        good = self.data().splitlines(keepends=True)
+        for bad in [b"x\n", b"{}\n", b"[]\n", b"7\n", b"\xff\n", b"\0\n", b"[" * 200_000 + b"\n", b"null\n",
+                    b'{"what": []}\n', b'{"what": "kept"}\n', b"1" * 5000 + b"\n",
+                    kept("?1", race=41).text(), kept("?1", race=0).text(), kept("?x").text(), kept("x").text(),
+                    kept("?1").text().replace(b'"?1"', b"1"), kept("?1").text().replace(b"[]", b'[1]'),
+                    kept("?1").text().replace(b"[]", b'["a b"]'), kept("?1").text().replace(b": 0", b": -1"),
+                    Note("resolved", 1, "?1", line="FINISH 2 A", entry=1).text(),
+                    Note("resolved", 1, "?1", line="STRIKE 1 A", entry=1).text(),
+                    Note("sent", 1, "?1", line="FINISH 1").text()]:
+            self.put(good[0] + bad + good[1])
+            found = self.places.read()
+            self.assertEqual((found.waiting.marks(1), found.faults), (["?1", "?2"], [2]), bad[:60])
+            self.assertEqual(self.keep(), "?3", bad[:60])
+
+    def test_fuzz(self) -> None:
+        """Whatever one line has, nothing stops, and the places of the other lines stay."""
+        dice = random.Random(63)
+        good = [kept("?1", "AB"), kept("101?", "AB"), Note("sent", 1, "101?", line="FINISH 1 A", entries=3),
+                kept("?2", "ABC"), dropped("101?"), kept("?3", "ABC")]
+        lines = [note.text() for note in good]
+        for _ in range(1000):
+            at = dice.randrange(len(lines))
+            mixed = [*lines[:at], self.spoilt(lines[at], dice), *lines[at + 1:]]
+            self.put(b"".join(mixed))
+            history = self.places.read(["FINISH 1 A"] * 5)
+            marks = {unread.mark for unread in history.waiting.all if unread.race == 1}
+            others = {note.place for note in good[:at] + good[at + 1:] if note.place != "101?" and note is not good[at]}
+            self.assertLessEqual(others, marks, mixed[at])
+            for key in history.ended:
+                history.end(*key)
+        self.keep()
+
+    def spoilt(self, line: bytes, dice: random.Random) -> bytes:
+        """A line in which something is changed. It still ends where it ended, and no other place's name
+        is put into it."""
+        if dice.random() < 0.5:
+            values = json.loads(line)
+            values[dice.choice(list(values))] = dice.choice(VALUES)
+            return json.dumps(values).encode() + b"\n"
+        data = bytearray(line[:-1])
+        for _ in range(dice.randint(1, 4)):
+            at = dice.randrange(len(data))
+            data[at:at + dice.randint(0, 3)] = dice.choice([*ODD, bytes([dice.randrange(256)])])
+        return bytes(data) + b"\n"
+
+    def test_not_a_file(self) -> None:
+        """A link is followed by neither reader nor writer, and nothing but a plain file is opened."""
+        other = os.path.join(self.here, "other")
+        self.write("precious", other)
+        makes: list[tuple[Callable[[], object], Callable[[str], object]]] = [
+            (lambda: os.symlink(other, self.path), os.remove),
+            (lambda: os.symlink("/nowhere", self.path), os.remove),
+            (lambda: os.mkfifo(self.path), os.remove), (lambda: os.mkdir(self.path), os.rmdir)]
+        for make, clear in makes:
+            make()
+            self.assertRaisesRegex(Trouble, "office/places can't be read", self.places.read)
+            self.assertRaisesRegex(NotSent, "can't be written: .*Write her down on paper", self.keep)
+            clear(self.path)
+        self.assertEqual(self.text(other), "precious")
+        with open(self.path, "wb") as file:
+            file.truncate(kept_places.LARGEST + 1)
+        self.assertRaisesRegex(Trouble, "has more than 4,194,304 bytes", self.places.read)
+
+    def test_full(self) -> None:
+        """On a full disk nothing is kept, and it is said; what was kept stays as it was."""
+        self.keep()
+        before = self.data()
+        limits = resource.getrlimit(resource.RLIMIT_FSIZE)
+        for room in (0, 1, 100):
+            resource.setrlimit(resource.RLIMIT_FSIZE, (len(before) + room, limits[1]))
+            try:
+                self.assertRaisesRegex(NotSent, "can't be written", self.keep)
+            finally:
+                resource.setrlimit(resource.RLIMIT_FSIZE, limits)
+            self.assertEqual(self.data(), before)
+        self.assertEqual(self.keep(), "?2")
+
+    def test_lock(self) -> None:
+        """A window that holds the file holds up others for a moment only, and hides nothing."""
+        self.keep()
+        with open(self.path, "rb") as file, mock.patch.object(kept_places, "LOCK", 0.1):
+            fcntl.flock(file, fcntl.LOCK_EX)
+            self.assertEqual(self.marks(), ["?1"])
+            self.assertRaisesRegex(NotSent, "another window is writing it", self.keep)
+
+    def test_side_by_side(self) -> None:
+        """Windows that keep places at once give each a mark of her own."""
+        children = [forked(lambda: [self.keep() for _ in range(20)]) for _ in range(4)]
+        for child in children:
+            self.assertEqual(os.waitpid(child, 0)[1], 0)
+        self.assertEqual(self.marks(), [f"?{at}" for at in range(1, 81)])
+
+    def test_line_without_an_answer(self) -> None:
+        """What was sent is looked for in the journal from its own time on. A refusal is only of her own
+        line."""
+        sent = Note("sent", 1, "?1", "Ann", 7, line="FINISH 1 X", entries=2)
+        notes = [kept("?1"), sent, Note("refused", 1, "?1", "Eve", 8, line="FINISH 1 X", answer="NO 8")]
+        data = b"".join(note.text() for note in notes)
+        for journal, entry in [(["FINISH 1 X", "STRIKE 1 X"], 0), (["ENTER X", "ENTER Y", "FINISH 1 X"], 3),
+                               (["ENTER X", "ENTER Y", "FINISH 1 Y", "FINISH 2 X", "FINISH 1 XY"], 0)]:
+            history = History.read(data, journal)
+            self.assertEqual([note.entry for note in history.found], [entry] if entry else [])
+            self.assertEqual(history.waiting.marks(1), [] if entry else ["?1"])
+        data += Note("refused", 1, "?1", "Ann", 7, line="FINISH 1 X", answer="NO 8").text()
+        self.assertEqual(History.read(data, ["A", "B", "FINISH 1 X"]).waiting.marks(1), ["?1"])
+
+    def test_somebody_else(self) -> None:
+        """Two windows don't send two boats for one place."""
+        self.keep()
+        unread = self.places.read().waiting.all[0]
+        self.places.note_sent(unread, "FINISH 1 A", 12, None)
+        other = Places(self.folder, "Eve")
+        self.assertRaisesRegex(NotSent, r"somebody else types for \?1 just now", other.note_sent, unread,
+                               "FINISH 1 B", 12, None)
+        self.places.note_answer(unread, "FINISH 1 A", "OK 13 1 1.0")
+        self.assertRaises(NotSent, other.note_sent, unread, "FINISH 1 B", 13, other.read().open_line(unread))
+        self.places.note_answer(unread, "FINISH 1 A", "OK 13 1 1.0")
+        self.places.note_found(["FINISH 1 A"] * 20)
+        self.assertEqual(self.data().count(b'"resolved"'), 1)
+
+
+def forked(do: Callable[[], object]) -> int:
+    """The number of a child that does something, and ends."""
+    if child := os.fork():
+        return child
+    try:
+        do()
+        os._exit(0)
+    except BaseException:
+        traceback.print_exc(file=sys.__stderr__)
+    finally:
+        os._exit(1)
+
+
+if __name__ == "__main__":
+    unittest.main()

@@ -1,0 +1,651 @@
+"""The office's window: it is stopped and goes on, loses its terminal, its disk, its second folder, and asks
+before it closes."""
+from __future__ import annotations
+
+import contextlib
+import fcntl
+import os
+import signal
+import subprocess
+import sys
+import threading
+import time
+import unittest
+from collections.abc import Iterator
+from unittest import mock
+
+import helpers
+from raceoffice.errors import Trouble
+from raceoffice.office import process as office_process, window as office_window
+from raceoffice.office.window import Hall
+from raceoffice.program.link import Link
+from raceoffice.series import second_folder
+from raceoffice.series.copies import newest
+from raceoffice.series.folder import Folder, Lock
+from raceoffice.series.second_folder import Second
+
+
+class Windows(helpers.Series):
+    def path(self, *names: str) -> str:
+        return os.path.join(self.here, "cup", *names)
+
+    def newest_copy(self) -> str:
+        """The name of the newest dated copy."""
+        copy = newest(Folder(self.path()))
+        assert copy
+        return copy.name
+
+    def link(self) -> Link:
+        link = Link(self.path("office", "race.sock"))
+        self.addCleanup(link.close)
+        return link
+
+    def number(self) -> int:
+        """The number of the program's process."""
+        return int(self.text("cup", "office", "pid").split()[0])
+
+    def copied(self, **values: str) -> helpers.Terminal:
+        """The window of an office that is open, with a second folder."""
+        os.mkdir(os.path.join(self.here, "stick"))
+        self.write(self.text("cup", "series.ini").replace("copy = ", "copy = ../stick"), "cup", "series.ini")
+        return self.open()
+
+    def piped(self, stdin: int) -> tuple[subprocess.Popen[str], Iterator[str]]:
+        """The window of an office without a terminal, and the lines that it says from its opening on."""
+        self.addCleanup(self.stop, "cup")
+        opened = subprocess.Popen([*helpers.COMMAND, "open", "cup"],
+                                  cwd=self.here, stdin=stdin, stdout=subprocess.PIPE, text=True)
+        assert opened.stdout
+        late = threading.Timer(helpers.PATIENCE, opened.kill)
+        late.start()
+        self.addCleanup(late.cancel)
+        self.addCleanup(opened.stdout.close)
+        self.addCleanup(opened.wait)
+        self.addCleanup(opened.kill)
+        lines = iter(opened.stdout.readline, "")
+        self.assertTrue(any("is open" in line for line in lines))
+        return opened, lines
+
+    def replace_journal(self) -> str:
+        """Puts another journal in the place of the office's; what it has."""
+        other = self.text("cup", "journal.txt").replace("GBR101", "GBR102")
+        self.write(other, "other")
+        os.replace(os.path.join(self.here, "other"), self.path("journal.txt"))
+        return other
+
+
+class Stopped(Windows):
+    def test_goes_on(self) -> None:
+        """A window that was stopped, as by Ctrl-Z or a lid, goes on: nobody asked it to close."""
+        window, entries = self.copied(), 7
+        typist = self.client("cup", "--role", "finish")
+        for seconds in (0.3, 1.3, 2.2):
+            helpers.freeze(window.process.pid)
+            time.sleep(seconds)
+            window.process.send_signal(signal.SIGCONT)
+            entries += 1
+            typist.say(f"finish {entries} 101", rf"OK {entries} .*\n> $")
+            helpers.until("a look of the window", lambda: self.held("stick", "cup-journal.txt") == entries)
+        typist.type("quit")
+        typist.rest()
+        window.press()
+        self.assertEqual(window.rest()[1], 0)
+
+    def test_terminal_lost(self) -> None:
+        """The terminal is closed while somebody stays who can't be told: the office closes in order."""
+        window, link = self.open(), self.link()
+        link.ask("ROLE FINISH")
+        number, master = self.number(), window.master
+        window.master = os.open(os.devnull, os.O_RDWR)
+        os.close(master)
+        self.assertEqual(window.process.wait(helpers.PATIENCE), 0)
+        self.assertFalse(os.path.exists(f"/proc/{number}"))
+        self.assertEqual(sorted(set(os.listdir(self.path("office"))) & {"race.sock", "closing", "beware"}), [])
+        self.assertIn("\tclosed\t7 entries ", self.text("cup", "office.log"))
+        self.assertEqual(self.open().process.poll(), None)
+
+    def test_nobody_reads(self) -> None:
+        """A window whose words nobody reads any more is still the office's."""
+        reader, writer = os.pipe()
+        opened = subprocess.Popen([*helpers.COMMAND, "open", "cup"],
+                                  cwd=self.here, stdin=subprocess.DEVNULL, stdout=writer, stderr=writer)
+        os.close(writer)
+        self.addCleanup(self.stop, "cup")
+        said = b""
+        while b"is open" not in said:
+            said += os.read(reader, 4096)
+        os.close(reader)
+        link = self.link()
+        self.replace_journal()
+        helpers.until("the warning", lambda: os.path.exists(self.path("office", "beware")))
+        link.ask("QUIT")
+        opened.terminate()
+        self.assertEqual(opened.wait(helpers.PATIENCE), 0)
+        self.assertFalse(os.path.exists(self.path("office", "race.sock")))
+
+    def test_program_that_is_stopped(self) -> None:
+        """A program that doesn't listen to SIGTERM is ended all the same, and the window says why."""
+        window = self.open()
+        window.process.kill()
+        window.process.wait()
+        found = self.taken_over()
+        helpers.freeze(found.number)
+        with mock.patch("raceoffice.office.process.SOON", 0.2):
+            found.stop()
+        self.assertTrue(found.is_over())
+
+    def test_replaced_without_window(self) -> None:
+        """A journal that was replaced while the office had no window is seen by the one that takes it over."""
+        window = self.open()
+        window.process.kill()
+        window.process.wait()
+        self.replace_journal()
+        again = self.window("open", "cup")
+        again.read(r"Take it over\? \[Y/n\] $")
+        again.say("y", r"Beware: journal\.txt isn't what the office keeps(.|\n)*The office is open")
+        again.press()
+        said, status = again.rest()
+        self.assertIn("GBR101", self.text("cup", self.newest_copy()))
+        self.assertEqual(status, 0)
+
+    def taken_over(self) -> office_process.Service:
+        """A running office, as the window sees it that takes it over."""
+        found = office_process.Service(Folder(self.path()))
+        self.assertTrue(found.lock.is_taken())
+        with mock.patch("raceoffice.office.process.question", return_value=True):
+            found.take_over()
+        return found
+
+
+class Questions(Windows):
+    ASKED = r"1 window is still open: finish since \d\d:\d\d\. Close the office\? \[y/N\] $"
+
+    def asked(self) -> helpers.Terminal:
+        """The office's window, which asks whether it is to be closed."""
+        window = self.open()
+        self.client("cup", "--role", "finish")
+        window.press()
+        window.read(self.ASKED)
+        return window
+
+    def test_answers(self) -> None:
+        """What is neither yes nor no is asked again, and no and Ctrl-C leave the office open."""
+        window = self.asked()
+        window.say("ja", r"   Type y for yes, or n for no\.\n" + self.ASKED)
+        for typed in ("", "no"):
+            window.say(typed, "The office stays open")
+            window.press()
+            window.read(self.ASKED)
+        window.press()
+        window.read("The office stays open")
+        window.press()
+        window.read(self.ASKED)
+        window.type("y")
+        said, status = window.rest()
+        self.assertIn("Closed. journal.txt has 7 entries, and so has kept/", said)
+        self.assertEqual(status, 0)
+
+    def test_signal(self) -> None:
+        """SIGTERM closes the office also while it asks, and so does the loss of the terminal."""
+        window = self.asked()
+        window.process.terminate()
+        self.assertEqual(window.rest()[1], 0)
+        window = self.asked()
+        master, window.master = window.master, os.open(os.devnull, os.O_RDWR)
+        os.close(master)
+        self.assertEqual(window.process.wait(helpers.PATIENCE), 0)
+
+    def test_nobody_knows(self) -> None:
+        """Whatever lies where the places, the log and the journal should be, the office asks, and closes after a
+        yes."""
+        window = self.open()
+        self.write("x\n", "cup", "journal.txt")
+        window.read("Beware: journal.txt isn't what the office keeps")
+        os.mkdir(self.path("office", "places"))
+        window.press()
+        window.read(r"Beware: (.|\n)*places(.|\n)*Close the office\? \[y/N\] $")
+        window.say("n", "The office stays open")
+        os.rename(self.path("office.log"), self.path("log"))
+        os.mkdir(self.path("office.log"))
+        window.press()
+        window.read(r"Beware: (.|\n)*places(.|\n)*Close the office\? \[y/N\] $")
+        window.type("y")
+        said, status = window.rest()
+        self.assertRegex(said, r"The journal of the office is in kept/.*-office\.txt\.")
+        self.assertRegex(said, r"Closed\. .*office\.log can't be written: Is a directory\.\n")
+        self.assertEqual(status, 0)
+
+    def test_end_of_input(self) -> None:
+        """The end of the input is no."""
+        opened, lines = self.piped(subprocess.DEVNULL)
+        self.client("cup", "--role", "finish")
+        opened.send_signal(signal.SIGINT)
+        self.assertTrue(any("The office stays open." in line for line in lines))
+        opened.terminate()
+        self.assertTrue(any(" Closed. " in line for line in lines))
+        self.assertEqual(opened.wait(helpers.PATIENCE), 0)
+
+    def test_typed_before(self) -> None:
+        """Two answers in one pipe are two answers."""
+        self.write(self.text("cup", "series.ini").replace("exclude = 2", "exclude = none"), "cup", "series.ini")
+        window = self.open()
+        window.press()
+        window.rest()
+        self.write(self.text("cup", "series.ini").replace("exclude = none", "exclude = 2"), "cup", "series.ini")
+        reader, writer = os.pipe()
+        self.addCleanup(os.close, writer)
+        os.write(writer, b"y\ny\n")
+        opened, lines = self.piped(reader)
+        os.close(reader)
+        self.client("cup", "--role", "finish")
+        opened.send_signal(signal.SIGINT)
+        self.assertTrue(any(" Closed. " in line for line in lines))
+        self.assertEqual(opened.wait(helpers.PATIENCE), 0)
+
+
+class Disks(Windows):
+    def test_second_folder_hangs(self) -> None:
+        """A second folder that hangs costs the second copy, and nothing else."""
+        window, typist = self.copied(), self.client("cup", "--role", "finish")
+        copy = os.path.join(self.here, "stick", "cup-journal.txt")
+        os.remove(copy)
+        os.mkfifo(copy)
+        typist.say("finish 1 101", r"OK 8 .*\n> $")
+        window.read(r"No second copy: .*stick doesn't answer\.\n")
+        self.replace_journal()
+        window.read(r"Beware: journal\.txt isn't what the office keeps")
+        typist.read(r"Beware: the office's window says: journal\.txt isn't what the office keeps(.|\n)*> $")
+        window.press()
+        window.read(r"Close the office\? \[y/N\] $")
+        window.type("n")
+        window.read("stays open")
+        window.process.terminate()
+        said, status = window.rest()
+        self.assertRegex(said, r"The journal of the office is in kept/.*Z(-\d)?-office\.txt\.")
+        self.assertEqual(status, 0)
+
+    def test_hanging_opening(self) -> None:
+        """A series whose second folder hangs can be checked, opened and closed."""
+        os.mkdir(os.path.join(self.here, "stick"))
+        self.make("copied", copy="../stick")
+        os.mkfifo(os.path.join(self.here, "stick", "copied-journal.txt"))
+        window = self.window("open", "copied")
+        window.read(r"No second copy: .*stick doesn't answer\.\n(.|\n)*The office is open")
+        self.addCleanup(self.stop, "copied")
+        window.press()
+        said, status = window.rest()
+        self.assertRegex(said, r"Closed\. journal\.txt has 7 entries, and so has kept/")
+        self.assertEqual(status, 0)
+
+    def test_same_disk(self) -> None:
+        """The folder of a stick that isn't in is on the disk of the series."""
+        window = self.window("open", "cup")
+        window.process.terminate()
+        window.rest()
+        os.mkdir(os.path.join(self.here, "stick"))
+        self.make("copied", copy="../stick")
+        wanted = r"The second copy, .*/stick/copied-journal\.txt, is on the same disk as journal\.txt\. Is the stick"
+        self.assertRegex(helpers.run("check", "copied", cwd=self.here)[0], wanted)
+        window = self.window("open", "copied")
+        window.read(wanted + r" in\?\n(.|\n)*The office is open")
+        self.addCleanup(self.stop, "copied")
+        disk = os.path.join(self.here, "disk")
+        os.mkdir(disk)
+        if subprocess.run(["mount", "-t", "tmpfs", "-o", "size=1m", "none", disk], capture_output=True).returncode:
+            self.skipTest("this account can't mount a second disk")
+        self.addCleanup(subprocess.check_call, ["umount", "-l", disk])
+        self.make("other", copy=disk)
+        self.assertNotIn("same disk", helpers.run("check", "other", cwd=self.here)[0])
+
+    def test_kept_is_full(self) -> None:
+        """Without room for dated copies an office is opened and closed, and says so."""
+        disk = self.path("kept")
+        os.mkdir(disk)
+        if subprocess.run(["mount", "-t", "tmpfs", "-o", "size=16k", "none", disk], capture_output=True).returncode:
+            self.skipTest("this account can't mount a small disk")
+        self.addCleanup(subprocess.check_call, ["umount", "-l", disk])
+        with open(os.path.join(disk, "filler"), "wb") as file:
+            subprocess.run(["dd", "if=/dev/zero", "bs=1024"], stdout=file, stderr=subprocess.DEVNULL)
+        for _ in range(2):
+            window = self.window("open", "cup")
+            window.read(r"No dated copy: .*No space left on device\.\n(.|\n)*The office is open")
+            self.addCleanup(self.stop, "cup")
+            window.press()
+            said, status = window.rest()
+            self.assertRegex(said, r"Closed\. journal\.txt has 7 entries\. .*No space left on device\.\n")
+            self.assertEqual(status, 0)
+
+    def test_waits_for_room(self) -> None:
+        """An office that has the only whole journal stays until that is in kept/."""
+        window, other = self.open(), self.replace_journal()
+        window.read("Beware: journal.txt isn't what the office keeps")
+        os.rename(self.path("kept"), self.path("kept-before"))
+        self.write("", "cup", "kept")
+        window.press()
+        window.read(r"The office stays until its journal is in kept/: kept/ can't be made: File exists\. Once more")
+        os.remove(self.path("kept"))
+        said, status = window.rest()
+        self.assertIn("Closed. journal.txt has 7 entries, and isn't what the office kept.\n", said)
+        self.assertEqual((self.text("cup", "journal.txt"), status), (other, 0))
+        name = self.newest_copy()
+        self.assertIn(f"The journal of the office is in {name}", said)
+        self.assertIn("\tclosed\t7 entries", self.text("cup", "office.log"))
+        said, status = helpers.run("check", "cup", cwd=self.here)
+        self.assertIn(f"It has 7 entries, and {name} has 7. One of these isn't in journal.txt at its place", said)
+        self.assertEqual(status, 1)
+
+    def test_disk_gone(self) -> None:
+        """The folder of the series has gone: the journal is kept where it was, and the program ends."""
+        window, link = self.open(), self.link()
+        link.ask("FINISH 1 GBR101")
+        link.ask("QUIT")
+        number = self.number()
+        os.rename(self.path(), os.path.join(self.here, "gone"))
+        window.read("Beware: journal.txt isn't what the office keeps")
+        window.press()
+        said, status = window.rest()
+        found = said.split("The journal of the office is in ")[1].split(".txt")[0] + ".txt"
+        self.assertTrue(self.text("cup", found).endswith("1 7 SCORER ENTER IRL55\n2 1 SCORER FINISH 1 GBR101\n"))
+        self.assertEqual(status, 0)
+        self.assertFalse(os.path.exists(f"/proc/{number}"))
+
+    def test_no_room_at_all(self) -> None:
+        """Without room in kept/ the journal is shown once somebody asks for it, and the office closes."""
+        window, link = self.open(), self.link()
+        link.ask("FINISH 1 GBR101")
+        link.ask("QUIT")
+        self.replace_journal()
+        window.read("Beware: journal.txt isn't what the office keeps")
+        os.rename(self.path("kept"), self.path("kept-before"))
+        self.write("", "cup", "kept")
+        window.press()
+        window.read(r"Once more Ctrl-C shows it here")
+        window.press()
+        said, status = window.rest()
+        self.assertIn("1 7 SCORER ENTER IRL55\n2 1 SCORER FINISH 1 GBR101\n", said)
+        self.assertIn("Closed. journal.txt has 8 entries. kept/ can't be made: File exists.\n", said)
+        self.assertEqual(status, 0)
+
+    def test_journal_lost_in_a_crash(self) -> None:
+        """The program is killed when journal.txt was replaced: what the office had is kept."""
+        window, link = self.copied(), self.link()
+        link.ask("FINISH 1 GBR101")
+        helpers.until("a look of the window", lambda: self.held("stick", "cup-journal.txt") == 8)
+        self.write("1 1 SCORER ENTER A\n", "cup", "other")
+        os.replace(self.path("other"), self.path("journal.txt"))
+        window.read("Beware")
+        os.kill(self.number(), signal.SIGKILL)
+        said, status = window.rest()
+        name = self.newest_copy()
+        self.assertIn(f"The office has gone. journal.txt isn't what it kept: that is in {name}. Open", said)
+        self.assertEqual((self.held("cup", name), status), (8, 1))
+
+    def test_journal_damaged_in_a_crash(self) -> None:
+        """A journal that can't be read after a crash is said to be so."""
+        window = self.open()
+        with open(self.path("journal.txt"), "ab") as file:
+            file.write(b"1 8 SCO\0\n1 9 SCORER ENTER A\n")
+        os.kill(self.number(), signal.SIGKILL)
+        said, status = window.rest()
+        self.assertIn("The office has gone. journal.txt is damaged after line 8.", said)
+        self.assertEqual(status, 1)
+
+
+class Starts(Windows):
+    def slow(self) -> str:
+        """A series whose program never makes its socket."""
+        program = os.path.join(self.here, "program")
+        self.write(f'#!/bin/sh\n[ "$1" = replay ] && exec {helpers.PROGRAM} "$@"\nexec sleep 1000\n', program)
+        os.chmod(program, 0o755)
+        return self.make("slow", program=program)
+
+    def is_running(self, name: str) -> bool:
+        """Whether a program runs in the folder of an office."""
+        for number in filter(str.isdecimal, os.listdir("/proc")):
+            with contextlib.suppress(OSError):
+                if os.readlink(f"/proc/{number}/cwd") == os.path.join(self.here, name, "office"):
+                    return True
+        return False
+
+    def test_no_socket(self) -> None:
+        """A start that doesn't come to its end is undone, and so is one that Ctrl-C or a signal ends."""
+        folder = Folder(self.slow())
+        folder.make_private()
+        with mock.patch("raceoffice.office.process.PATIENCE", 0.3), self.assertRaises(Trouble) as raised:
+            office_process.Service(folder).start()
+        self.assertEqual(str(raised.exception), "the office doesn't open its socket")
+        self.assertFalse(self.is_running("slow"))
+        for stop in ("press", "terminate", "hang up"):
+            window = self.window("open", "slow")
+            helpers.until("the program", lambda: self.is_running("slow"))
+            if stop == "press":
+                window.press()
+            else:
+                window.process.send_signal(signal.SIGTERM if stop == "terminate" else signal.SIGHUP)
+            self.assertNotEqual(window.rest()[1], 0)
+            self.assertFalse(self.is_running("slow"), stop)
+
+    def test_notes_fail(self) -> None:
+        """Whatever goes wrong after the program has started, it isn't left without a window."""
+        folder = Folder(self.path())
+        folder.make_private()
+        for cause in (ValueError("odd"), Trouble("odd"), KeyboardInterrupt()):
+            found = Hall(folder)
+            found.service.lock = Lock(folder)
+            with mock.patch("raceoffice.office.window.notes", side_effect=cause), mock.patch("raceoffice.office.window.say"), \
+                    self.assertRaises(type(cause)):
+                found.open()
+            os.close(found.service.lock.file)
+            self.assertFalse(self.is_running("cup"))
+            self.assertFalse(os.path.exists(folder.socket))
+
+    def test_looked_at(self) -> None:
+        """A tool that looks at journal.txt just then doesn't keep the office from opening."""
+        self.open().press()
+        helpers.until("the end", lambda: not self.is_running("cup"))
+        with open(self.path("journal.txt"), "rb") as file:
+            fcntl.flock(file, fcntl.LOCK_SH)
+            window = self.window("open", "cup")
+            helpers.until("a start that is refused", lambda: "keep taken" in self.text("cup", "office", "fault"))
+            fcntl.flock(file, fcntl.LOCK_UN)
+            window.read("The office is open")
+        self.addCleanup(self.stop, "cup")
+
+    def test_two_who_look(self) -> None:
+        """Two who look whether an office has journal.txt don't take each other for one."""
+        folder = Folder(self.path())
+        self.write("", "cup", "journal.txt")
+        with open(folder.journal, "rb") as file:
+            fcntl.flock(file, fcntl.LOCK_SH)
+            self.assertFalse(folder.is_held())
+            fcntl.flock(file, fcntl.LOCK_EX)
+            self.assertTrue(folder.is_held())
+
+
+class Clocks(Windows):
+    """What is due now and then, by a clock that is given."""
+
+    @contextlib.contextmanager
+    def hall(self) -> Iterator[tuple[Hall, list[str]]]:
+        """An office's window in this process, and what it says."""
+        folder, said = Folder(self.path()), []
+        folder.make_private()
+        self.now = 0.0
+        with mock.patch("raceoffice.office.window.say_if_heard", lambda text, end="": said.append(text[9:])), \
+                helpers.served("--keep", folder.journal, folder=folder.file("office")), \
+                contextlib.closing(folder.link()) as link:
+            link.ask("ENTER GBR7")
+            found = Hall(folder, lambda: self.now)
+            found.service.link = link
+            yield found, said
+            found.service.link.close()
+
+    def kept(self) -> int:
+        return len(os.listdir(self.path("kept"))) if os.path.exists(self.path("kept")) else 0
+
+    def test_hourly(self) -> None:
+        """Each hour a dated copy is made, whose name is the newest whatever the clock says."""
+        names = []
+        with self.hall() as (found, said), mock.patch("time.time") as clock:
+            for seconds, time_now, copies in [(0, 5e6, 0), (3599, 5e6, 0), (3600, 5e6, 1), (3601, 5e6, 1),
+                                              (7200, 5e6, 2), (10800, 4e6, 3), (14400, 6e6, 4)]:
+                self.now, clock.return_value = float(seconds), time_now
+                found.look()
+                self.assertEqual(self.kept(), copies, seconds)
+                names.append(getattr(newest(found.folder), "name", ""))
+            self.write("", "cup", "office", "x")
+            os.rename(self.path("kept"), self.path("elsewhere"))
+            self.write("", "cup", "kept")
+            self.now = 18000.0
+            found.look()
+        self.assertEqual(names[2:], [f"kept/1970-02-27-205320Z{more}.txt" for more in ["", "", "-2", "-3"]]
+                         + ["kept/1970-03-11-104000Z.txt"])
+        self.assertEqual(said, ["No dated copy: kept/ can't be made: File exists."])
+
+    def test_door(self) -> None:
+        """Each minute the door is looked at, and what is wrong with it is said once."""
+        with self.hall() as (found, said), mock.patch.object(found.service, "lets_in") as lets_in:
+            for seconds, is_open, times in [(59, False, 0), (60, True, 0), (119, False, 0), (120, False, 1),
+                                            (180, False, 1), (240, True, 1), (300, False, 2)]:
+                self.now, lets_in.return_value = float(seconds), is_open
+                found.look()
+                self.assertEqual(said, [office_window.NOBODY] * times, seconds)
+
+    def test_unforeseen(self) -> None:
+        """What nobody foresaw is a sentence, also where others type, and the window goes on."""
+        with self.hall() as (found, said):
+            with mock.patch.object(found, "look", side_effect=KeyError("GBR7")):
+                self.assertTrue(found.goes_on())
+            path = found.folder.file("office", "faults.txt")
+            wanted = (f"this tool has a fault, KeyError; its trace is in {path}. Send that to whoever gave you the "
+                      "tool.")
+            self.assertEqual((said, found.folder.beware()), ([f"Beware: {wanted}"], wanted))
+            self.assertIn("Traceback", self.text("cup", "office", "faults.txt"))
+            self.assertTrue(found.goes_on())
+            self.assertEqual((len(said), found.folder.beware()), (1, ""))
+
+    def test_no_answer(self) -> None:
+        """An answer that comes too late isn't taken for another one."""
+        with self.hall() as (found, said), contextlib.closing(found.folder.link()) as other:
+            found.service.link.patience = 0.1
+            found.service.link.socket.settimeout(0.1)
+            with mock.patch.object(found.service, "is_over", return_value=False):
+                first = found.service.link
+                first.lines.append("JOURNAL x")
+                self.assertTrue(found.goes_on())
+                self.assertIsNot(found.service.link, first)
+                other.ask("ENTER GBR101")
+                self.assertTrue(found.goes_on())
+            self.assertEqual(len(found.keeper.sheet.journal), 2)
+            self.assertEqual(said, ["Beware: the office doesn't show its journal: it said 'JOURNAL x'."])
+
+
+class Seconds(Windows):
+    """The process that has the second folder to do with."""
+
+    def second(self) -> Second:
+        found = Second(Folder(self.make("copied", copy="../stick")))
+        self.addCleanup(found.close)
+        return found
+
+    def test_slow_and_late(self) -> None:
+        """One that is slow is waited for once; what it does at last counts, and no other is started."""
+        os.mkdir(os.path.join(self.here, "stick"))
+        found = self.second()
+        os.mkfifo(found.path)
+        silent = second_folder.Answer(f"{os.path.dirname(found.path)} doesn't answer")
+        with mock.patch("raceoffice.series.second_folder.PATIENCE", 0.3):
+            self.assertEqual(found.ask("save", "x\n"), silent)
+            began, process = time.monotonic(), found.process
+            for _ in range(20):
+                self.assertEqual(found.ask("save", "x\n"), silent)
+            self.assertLess(time.monotonic() - began, 0.3)
+        with open(found.path, "w"):
+            pass
+        helpers.until("a late answer", lambda: not found.ask("look").fault)
+        self.assertIs(found.process, process)
+
+    def test_given_up(self) -> None:
+        """One that hangs for good is ended, and another one tries again."""
+        os.mkdir(os.path.join(self.here, "stick"))
+        found = self.second()
+        os.mkfifo(found.path)
+        with mock.patch("raceoffice.series.second_folder.PATIENCE", 0.2), mock.patch("raceoffice.series.second_folder.GIVE_UP", 0.4):
+            self.assertNotEqual(found.ask("save", "x\n").fault, "")
+            process = found.process
+            assert process
+            os.remove(found.path)
+            helpers.until("a copy", lambda: not found.ask("save", "x\n").fault)
+        self.assertIsNotNone(process.poll())
+        with open(found.path, encoding="ascii") as file:
+            self.assertEqual(file.read(), "x\n")
+
+    def test_process_that_ends(self) -> None:
+        """If the process is killed, another one takes its place."""
+        found = self.second()
+        self.assertEqual(found.ask("look").fault, f"{os.path.dirname(found.path)} isn't there")
+        os.mkdir(os.path.join(self.here, "stick"))
+        assert found.process
+        found.process.kill()
+        found.process.wait()
+        with mock.patch("raceoffice.series.second_folder.GIVE_UP", 0.0):
+            helpers.until("a copy", lambda: not found.ask("save", "x\n").fault)
+        for what, text, fault in [("save", "y\n", "holds lines that the office doesn't have"),
+                                  ("replace", "y\n", ""), ("read", "", "")]:
+            answer = found.ask(what, text)
+            self.assertTrue(fault in answer.fault and bool(fault) == bool(answer.fault), answer)
+        self.assertEqual(answer.text, "y\n")
+        os.remove(found.path)
+        os.mkdir(found.path)
+        self.assertIn("can't be read: Is a directory", found.ask("read").fault)
+
+    def test_no_python(self) -> None:
+        """If no process can be started, that is no second copy, and isn't tried each second."""
+        found = self.second()
+        with mock.patch("subprocess.Popen", side_effect=OSError(11, "no process")) as started:
+            for _ in range(3):
+                self.assertIn("doesn't answer", found.ask("look").fault)
+        self.assertEqual(started.call_count, 1)
+
+
+class Openings(Windows):
+    def test_two_at_once(self) -> None:
+        """Two who try the disk at the same moment don't take each other's file for a fault."""
+        folder = Folder(self.path())
+        folder.make_private()
+        program = ("import sys; from raceoffice.series import folder, health\n"
+                   "print([fault for _ in range(300) if (fault := health.disk_fault(folder.Folder(sys.argv[1])))])")
+        both = [subprocess.Popen([sys.executable, "-c", program, self.path()], text=True,
+                                 stdout=subprocess.PIPE, stderr=subprocess.STDOUT) for _ in range(2)]
+        self.assertEqual([opening.communicate(timeout=helpers.PATIENCE)[0] for opening in both], ["[]\n"] * 2)
+
+    def test_folder_with_brackets(self) -> None:
+        """A cloud's copy of a journal is seen whatever the folder is called."""
+        self.make("cup [a]*")
+        self.write("", "cup [a]*", "journal (conflicted copy).txt")
+        said, _ = helpers.run("check", "cup [a]*", cwd=self.here)
+        self.assertIn("Beside journal.txt there is journal (conflicted copy).txt.", said)
+
+    def test_nobody_reads_on(self) -> None:
+        """What a tool says may be cut short, as by `| head`."""
+        reader, writer = os.pipe()
+        os.close(reader)
+        done = subprocess.run([*helpers.COMMAND, "check", "cup"], cwd=self.here,
+                              stdout=writer, stderr=subprocess.PIPE, text=True)
+        os.close(writer)
+        self.assertEqual((done.stderr, done.returncode), ("", 1))
+
+    def test_ctrl_c(self) -> None:
+        """Ctrl-C ends a tool with the status that shells know."""
+        program = os.path.join(self.here, "program")
+        self.write("#!/bin/sh\ntouch here\nexec sleep 1000\n", program)
+        os.chmod(program, 0o755)
+        self.make("slow", program=program)
+        window = self.window("check", "slow")
+        helpers.until("the program", lambda: os.path.exists(os.path.join(self.here, "here")))
+        window.press()
+        self.assertEqual(window.rest(), ("\n", 130))
+
+
+if __name__ == "__main__":
+    unittest.main()

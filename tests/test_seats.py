@@ -1,0 +1,74 @@
+"""A window that waits for a seat looks for one before it comes, since each visit uses up a session."""
+from __future__ import annotations
+
+import contextlib
+import os
+import threading
+import time
+import unittest
+from unittest import mock
+
+import helpers
+from raceoffice.program.link import Link
+from raceoffice.series.folder import Folder
+from raceoffice.typing_window.watcher import has_no_seat, is_open, seats_of
+from raceoffice.typing_window.window import Window
+
+
+class Seats(helpers.Series):
+    def folder(self) -> Folder:
+        self.make("full", seats="2")
+        folder = Folder(os.path.join(self.here, "full"))
+        folder.make_private()
+        return folder
+
+    def test_waiting(self) -> None:
+        """It comes once a seat is free, and until then never."""
+        folder, end = self.folder(), time.monotonic() + helpers.PATIENCE
+        said: list[str] = []
+
+        def wait(_: float) -> None:
+            self.assertLess(time.monotonic(), end, "no seat came")
+            self.assertTrue(helpers.is_listening(path))
+            time.sleep(0.01)
+
+        with helpers.served("--clients", "2", "--sessions", "4", folder=folder.file("office")) as (path, _), \
+                contextlib.closing(Link(path)) as first, contextlib.closing(Link(path)) as second, \
+                mock.patch("raceoffice.typing_window.window.wait", wait), mock.patch("raceoffice.typing_window.window.say", said.append):
+            for link in (first, second):
+                link.ask("RANK A")
+            window = Window([folder], "FINISH", "")
+            threading.Timer(0.5, second.close).start()
+            window.wait_for(window.desks[0])
+            self.assertTrue(helpers.is_listening(path))
+            assert window.desks[0].link
+            self.assertEqual(window.desks[0].link.ask("RANK A"), "NO 7")
+            window.desks[0].disconnect()
+        self.assertEqual(said, ["Waiting: all seats of the office are taken. Ctrl-C ends this window."])
+
+    def test_several_classes(self) -> None:
+        """A full office of several isn't back before it has a seat."""
+        folder = self.folder()
+        with helpers.served("--clients", "2", folder=folder.file("office")) as (path, _), \
+                contextlib.closing(Link(path)) as first, contextlib.closing(Link(path)) as second:
+            for link in (first, second):
+                link.ask("RANK A")
+            desk = Window([folder], "FINISH", "").desks[0]
+            self.assertEqual((is_open(desk), has_no_seat(folder)), (False, True))
+            second.close()
+            helpers.until("a free seat", lambda: is_open(desk))
+            self.assertFalse(has_no_seat(folder))
+
+    def test_seats_of_the_office(self) -> None:
+        """The seats are those that the office was opened with."""
+        window = self.open()
+        self.write(self.text("cup", "series.ini").replace("seats = 16", "seats = 2"), "cup", "series.ini")
+        folder = Folder(os.path.join(self.here, "cup"))
+        self.assertEqual((folder.settings.seats, seats_of(folder)), (2, 16))
+        window.press()
+        window.rest()
+        self.assertEqual(seats_of(folder), 2)
+
+
+if __name__ == "__main__":
+    unittest.main()

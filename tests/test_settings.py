@@ -1,0 +1,127 @@
+"""The settings: every key, its misspelling, and what a change leaves as it was."""
+from __future__ import annotations
+
+import os
+import unittest
+
+import helpers
+from raceoffice.errors import Trouble
+from raceoffice.series import settings
+
+
+class Settings(unittest.TestCase):
+    def read(self, text: str, encoding: str = "utf-8") -> settings.Settings:
+        with helpers.folder() as name:
+            with open(os.path.join(name, settings.NAME), "w", encoding=encoding, newline="") as file:
+                file.write(text)
+            return settings.read(name)
+
+    def test_defaults_and_marks(self) -> None:
+        text = settings.text_of({"title": "Cup"})
+        for given in (text, text.replace("\n", "\r\n")):
+            self.assertEqual(self.read(given, "utf-8-sig").options(),
+                             ["--exclude", "2", "--absent", "a52"])
+        self.assertEqual(self.read("[series]\ntitle = Cup\n"), self.read(text))
+
+    def test_rules(self) -> None:
+        text = settings.text_of({"title": "Cup", "exclude": "4,8", "absent": "a53", "scp": "3",
+                                 "handicap": "yes"})
+        self.assertEqual(self.read(text).options(), ["--exclude", "4,8", "--absent", "a53", "--scp",
+                                                     "3", "--handicap"])
+        self.assertEqual(self.read(text).in_words(),
+                         "Scores excluded: one from 4 races and two from 8 races. RRS A5.3. Scoring "
+                         "Penalty 3 points. By corrected time.")
+
+    def test_each_key_misspelt(self) -> None:
+        known = [(section, key) for section, keys in settings.KEYS.items() for key in keys]
+        for section, key in known:
+            wrong = settings.problems(f"[series]\ntitle = Cup\n[{section}]\n{key}x = 1\n")
+            self.assertEqual(wrong, [f"series.ini, line 4: [{section}] has no key '{key}x'. "
+                                     f"Did you mean '{key}'?"])
+
+    def test_wrong_values(self) -> None:
+        for key, value in [("exclude", "1"), ("exclude", "8,4"), ("exclude", "4,"),
+                           ("exclude", "2,3,4,5,6"), ("exclude", "41"), ("absent", "a5.3"),
+                           ("scp", "0"), ("scp", "20%"), ("handicap", "1"), ("seats", "17"),
+                           ("zone", "Europe/Lisboa"), ("zone", "../x"), ("state", "done"),
+                           ("every", "0"), ("port", "70000"), ("address", "localhost"), ("address", "10.0.0.256"),
+                           ("title", "")]:
+            text = settings.text_of({"title": "Cup", key: value})
+            wrong = settings.problems(text)
+            self.assertEqual(len(wrong), 1, (key, value))
+            line = int(wrong[0].split("line ")[1].split(":")[0])
+            self.assertEqual(text.splitlines()[line - 1].rstrip(), f"{key} = {value}".rstrip())
+            self.assertRaises(Trouble, self.read, text)
+
+    def test_long_numbers(self) -> None:
+        """Numbers of any length are wrong values, and no page of Python."""
+        for key in ("seats", "every", "port", "scp", "exclude"):
+            wrong = settings.problems(settings.text_of({"title": "Cup", key: "1" * 10_000}))
+            self.assertEqual(len(wrong), 1)
+            self.assertIn(f"{key} is '1111", wrong[0])
+        self.assertNotEqual(settings.problems(settings.text_of({"title": "Cup", "exclude": "\u0664,\u0668"})), [])
+
+    def test_line_ends(self) -> None:
+        """Lines end where every editor ends them; what else would end one is named, and sets nothing."""
+        for sign, name in [("\x85", "U+0085"), ("\x0b", "U+000B"), ("\x0c", "U+000C"), ("\u2028", "U+2028"),
+                           ("\u2029", "U+2029"), ("\x1e", "U+001E"), ("\0", "U+0000"), ("\x1b", "U+001B")]:
+            text = f"[series]\ntitle = A{sign}[rules]{sign}exclude = none\n"
+            self.assertEqual(settings.problems(text), [f"series.ini, line 2: title has the invisible sign {name}.",
+                                                       "series.ini: title is empty. It has to be a title."])
+            hidden = f"[series]\n# a note{sign}title = B\ntitle = A\n"
+            self.assertEqual(self.read(hidden).title, "A")
+            self.assertEqual(settings.with_value(hidden, "series", "title", "C"), hidden.replace("= A", "= C"))
+        self.assertEqual(self.read("[series]\rtitle = A\r[rules]\r\nexclude = none\n").exclude, "none")
+        self.assertEqual(self.read("[series]\ntitle = A\u00a0B\tC\n").title, "A\u00a0B\tC")
+
+    def test_one_line(self) -> None:
+        """What somebody types at a question is one value."""
+        text = settings.text_of({"title": "A\x85[rules]\nexclude = none\x1b", "copy": "/a  b"})
+        self.assertEqual((self.read(text).title, self.read(text).copy), ("A [rules] exclude = none", "/a  b"))
+
+    def test_files(self) -> None:
+        with helpers.folder() as name:
+            os.mkfifo(os.path.join(name, settings.NAME))
+            self.assertRaisesRegex(Trouble, "no plain file", settings.read, name)
+        with helpers.folder() as name:
+            os.mkdir(os.path.join(name, settings.NAME))
+            self.assertRaisesRegex(Trouble, "Is a directory", settings.read, name)
+        self.assertRaisesRegex(Trouble, "is longer than 1,048,576 bytes", self.read, "#" * (1 << 20) + "\n")
+        self.assertRaisesRegex(Trouble, "isn't UTF-8 text", self.read, "[series]\ntitle = \u00fc\n", "latin-1")
+
+    def test_twice_and_no_section(self) -> None:
+        self.assertEqual(settings.problems("[series]\ntitle = A\ntitle = B\nodd\n[rule]\n"), [
+            "series.ini, line 3: title is in line 2 already.", "series.ini, line 4: 'odd' has no =.",
+            "series.ini, line 5: no section is called [rule]."])
+
+    def test_one_value_changed(self) -> None:
+        text = settings.text_of({"title": "Cup"}).replace("[notice]", "[notice] \n# mine")
+        changed = settings.with_value(text, "notice", "state", "final")
+        self.assertEqual(changed, text.replace("state = provisional", "state = final"))
+        self.assertEqual(self.read(changed).state, "final")
+        short = settings.with_value("[series]\ntitle = Cup\n", "notice", "state", "final")
+        self.assertEqual(self.read(short).state, "final")
+
+    def test_changed_as_it_is_read(self) -> None:
+        """However the settings are written, a change can be read, and is the only one."""
+        notice = "state = provisional\nreason = \n"
+        for text in (f"[ notice ]\n{notice}", f"[notice]\n[board]\n[notice]\n{notice}", "[ notice ]\n",
+                     "[notice]\nreason = \n[\tnotice ]  \nstate=provisional\n", f"  [notice]\n  {notice}",
+                     "[notice]\n# state = final\n", "[board]\nport = 80\n[notice]\n[notice]"):
+            changed = settings.with_value(f"[series]\ntitle = Cup\n{text}", "notice", "state", "final")
+            changed = settings.with_value(changed, "notice", "reason", "[rules] = x")
+            found = self.read(changed)
+            self.assertEqual((found.state, found.reason), ("final", "[rules] = x"), text)
+            given = f"[series]\ntitle = Cup\nstate = final\nreason = [rules] = x\n{text}".splitlines()
+            left = [line for line in changed.splitlines()
+                    if line.partition("=")[0].strip() not in ("state", "reason")]
+            self.assertLessEqual(set(left), {*given, "[notice]", ""}, text)
+
+    def test_no_value_of_two_lines(self) -> None:
+        """A value that would be read as something else isn't written."""
+        for value in ("done", "final\n[rules]\nexclude = none", "final\nport = 1"):
+            self.assertRaises(Trouble, settings.with_value, "[series]\ntitle = Cup\n", "notice", "state", value)
+
+
+if __name__ == "__main__":
+    unittest.main()

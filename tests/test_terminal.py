@@ -1,0 +1,68 @@
+"""What a tool says is broken at spaces, as wide as the terminal; what is an answer to its questions."""
+from __future__ import annotations
+
+import os
+import unittest
+from unittest import mock
+
+import helpers
+from raceoffice.terminal import question, visible, wrapped
+
+
+class Prompt(unittest.TestCase):
+    def test_wrapped(self) -> None:
+        text = "OK 8   cup: 1st in race 1; 1 finished, 0 coded"
+        self.assertEqual(wrapped(text, 30), "OK 8   cup: 1st in race 1; 1\n  finished, 0 coded")
+        self.assertEqual(wrapped(text, 0), text)
+        self.assertEqual(wrapped(text, 80), text)
+        self.assertEqual(wrapped("   Enter DEN16? Only remove takes her out. [y/N] ", 30),
+                         "   Enter DEN16? Only remove\n     takes her out. [y/N] ")
+
+    def test_command(self) -> None:
+        """A command at the end is to be copied, and stays in one line."""
+        self.assertEqual(wrapped('Next: raceoffice amended cup "the reason"', 40),
+                         'Next:\n  raceoffice amended cup "the reason"')
+
+
+class Questions(helpers.Series):
+    def meant(self, *given: str | None, yes: bool, terminal: bool = True) -> tuple[bool, int]:
+        """What these answers mean at last, and how often it was asked."""
+        with mock.patch("raceoffice.terminal.typed", side_effect=given) as typed, mock.patch("raceoffice.terminal.say"), \
+                mock.patch("sys.stdin.isatty", return_value=terminal):
+            return question("Go on?", yes), typed.call_count
+
+    def test_answers(self) -> None:
+        for default in (False, True):
+            for given, meant in [("y", True), ("YES", True), ("n", False), ("No", False), ("", default),
+                                 (None, False)]:
+                self.assertEqual(self.meant(given, yes=default), (meant, 1), (given, default))
+        self.assertEqual(self.meant("", yes=True, terminal=False), (False, 1))
+
+    def test_asked_again(self) -> None:
+        self.assertEqual(self.meant("ja", "412", "y", yes=False), (True, 3))
+        self.assertEqual(self.meant("x", None, yes=True), (False, 2))
+
+    def test_ctrl_c(self) -> None:
+        """Ctrl-C and the end of the input at [Y/n] leave all as it is."""
+        self.write(helpers.ENTRIES.replace("FRA 9", "FRA/9"), "list.csv")
+        for key in ("\x03", "\x04"):
+            window = self.window("new", "other")
+            for line, wanted in [("Cup", "Class .*: $"), ("", "Club .*: $"), ("", r"Entry list .*: $"),
+                                 ("list.csv", r"Look again\? \[Y/n.*\] $")]:
+                window.say(line, wanted)
+            window.press(key)
+            self.assertEqual(window.rest(), ("\nno answer came. Nothing was written.\n", 1))
+            self.assertFalse(os.path.exists(os.path.join(self.here, "other")))
+
+
+class Shown(unittest.TestCase):
+    def test_visible(self) -> None:
+        """No sign moves the cursor or turns what is shown: it is shown by its number."""
+        for text, shown in [("Wind\x1b[2K\x1b[1A", r"Wind\x1b[2K\x1b[1A"), ("a\rb\x07\x7f", r"a\x0db\x07\x7f"),
+                            ("\u202eGBR\u200b 7", r"\u202eGBR\u200b 7"), ("a\x85b\u2028c", r"a\x85b\u2028c"),
+                            ("J\u00fcrgen\u00a0S.\n\tx", "J\u00fcrgen\u00a0S.\n\tx")]:
+            self.assertEqual(visible(text), shown)
+
+
+if __name__ == "__main__":
+    unittest.main()

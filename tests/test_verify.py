@@ -1,0 +1,309 @@
+"""A page that was changed anywhere is found, and what was changed is named.
+
+`CHANGES=100` in the environment tries 100 one-character changes, and not 1,000.
+"""
+from __future__ import annotations
+
+import contextlib
+import io
+import json
+import os
+import random
+import re
+import stat
+import time
+import unittest
+import unittest.mock
+from collections.abc import Callable
+from typing import Any
+
+import helpers
+
+from forger import block_in, journal_of, resealed
+from raceoffice.commands import export
+from raceoffice.errors import Odd, Unsure
+from raceoffice.program.standing import Score
+from raceoffice.results.html import notice, overall
+from raceoffice.results.html.markup import Markup, tag
+from raceoffice.results.html.page import confirmed
+from raceoffice.results.snapshot import View
+from raceoffice.verify import read_block, verifier
+
+COUNT = int(os.environ.get("CHANGES", "1000"))
+SIGNS = "0123456789ABCXYZabcxyz .,-=/()<>&\"'\\éß"
+HOSTILE = """\
+Boat,Sail,Helm,Club
+</script><script>alert(1)</script>,GBR 101,A. Moss,Sandhaven
+<!--,GBR 7,"J. ""Jo"" Hale",--> & co
+Windhover,NED 12,\u2028P. de Wit\u2029,Zierik
+Plover,FRA 9,C. Blanc\\u003c,Brest
+Turnstone,GBR 33,R. Shaw,<script type="application/json" id="proof">
+Curlew,IRL 5,M. Byrne,]]>
+Dunlin,IRL 55,O. Roche,Howth
+"""
+# Three boats tie, GBR101 ahead by A8.2 and two with the same scores; all kinds of cells.
+LINES = ["FINISH 1 GBR101", "FINISH 1 GBR7", "TIE 1 NED12 GBR7", "FINISH 1 FRA9", "MARK 1 IRL5 OCS",
+         "PENALTY 1 FRA9 ZFP", "PENALTY 1 FRA9 ZFP", "SCORE 1", "FINISH 2 GBR7", "TIE 2 NED12 GBR7",
+         "FINISH 2 GBR33", "FINISH 2 GBR101", "ROLE JURY", "REDRESS 2 IRL5 ALL", "MARK 2 GBR33 DNE",
+         "ROLE SCORER", "SCORE 2", "FINISH 3 FRA9", "FINISH 3 IRL55", "FINISH 3 GBR101", "SCORE 3",
+         "ROLE JURY", "REDRESS 3 GBR101 5.0", "ROLE SCORER", "FINISH 4 GBR7"]
+
+
+class Pages(helpers.Series):
+    def setUp(self) -> None:
+        super().setUp()
+        self.folder = self.make("tide", HOSTILE, title="Autumn </script> Cup", reason="<!-- & -->",
+                                exclude="3", **{"class": "A <b>"})
+        self.write(journal_of(self.folder, *LINES), "tide", "journal.txt")
+        self.write("race 3 GBR101 DPI 2  # <!-- hearing 1\nrace 1 IRL55 </script>\n"
+                   "race 1 GBR7 PRP 30%\n", "tide", "decisions.txt")
+        self.verifier = verifier.Verifier(helpers.PROGRAM)
+
+    def page(self, *names: str) -> str:
+        return notice.results([self.view(name) for name in names or ("tide",)])
+
+    def view(self, name: str = "tide") -> View:
+        return export.view_of(os.path.join(self.here, name), lambda _: None)
+
+    def odd(self, page: str) -> str:
+        """Why a page isn't verified."""
+        with self.assertRaises(Odd) as found:
+            self.verifier.verified(page)
+        return str(found.exception)
+
+    def test_each_change(self) -> None:
+        """Each one-character change of settings, journal or table is found."""
+        dice, page = random.Random(8), self.page()
+        self.verifier.verified(page)
+        begin = page.index(read_block.START)
+        spans = {"settings": (page.index('"settings"', begin), page.index('"decisions"', begin)),
+                 "journal": (page.index('"journal"', begin), page.index("</script>", begin)),
+                 "table": (page.index("<table>"), page.index("</table>")),
+                 "chart": (page.index("<svg"), page.index("</details>"))}
+        unfound, why = [], []
+        for at in range(COUNT):
+            kind = list(spans)[at % len(spans)]
+            place = dice.randrange(*spans[kind])
+            sign = dice.choice([sign for sign in SIGNS if sign != page[place]] + [""] * 3)
+            try:
+                self.verifier.verified(page[:place] + sign + page[place + 1:])
+                unfound.append((kind, page[place - 20:place + 20], sign))
+            except Odd as odd:
+                why.append((kind, str(odd)))
+        self.assertEqual(unfound, [])
+        said = {kind: [text for name, text in why if name == kind] for kind in spans}
+        self.assertGreater(sum("entry " in text for text in said["journal"]), COUNT // 10)
+        self.assertGreater(sum("isn't as it was written" in text for text in said["settings"]),
+                           COUNT // 20)
+        self.assertGreater(sum("Overall results, " in text for text in said["table"]), COUNT // 50)
+
+    def test_named(self) -> None:
+        """The first cell, line or setting that differs is named."""
+        page = self.page()
+        for old, new, why in [
+                ('<span class="p">1<i>.0</i>', '<span class="p">2<i>.0</i>',
+                 "row 1 (GBR 101 A. Moss), R1: the page has '2.0', and not '1.0'"),
+                ("<abbr class=\"kind\" title=\"discretionary penalty\">DPI", "<abbr>SCP",
+                 "R3: the page has '(5.0) excluded SCP', and not '(5.0) excluded DPI'"),
+                ('class="m1">1</span>', 'class="m1">2</span>', "Rank: the page has '2', and not '1"),
+                ("A8.1", "A8.2", "the text"), (">Provisional<", ">Final<", "'Final' of the page has "),
+                ('helm">O. Roche', 'helm">O. Rocha', "the page has 'IRL 55 O. Rocha'"),
+                ("font: 16px", "font: 1px", "all that is seen is right, but line "),
+                ('"1 1 SCORER ENTER GBR101"', '"1 1 SCORER ENTER GBR102"',
+                 "entry 1 isn't as it was written: '1 1 SCORER ENTER GBR102'"),
+                ('"exclude": "3"', '"exclude": "4"', "the setting exclude isn't as it was written: '4'"),
+                ('"R. Shaw"', '"R. Show"', "boat 5 isn't as it was written")]:
+            self.assertIn(old, page)
+            self.assertIn(why, self.odd(page.replace(old, new, 1)))
+
+    def test_forged(self) -> None:
+        """Data with seals that are right for them are scored: what the table has not is named."""
+        page = self.page()
+
+        def settings(name: str, value: str) -> Callable[[dict[str, Any]], None]:
+            def change(whole: dict[str, Any]) -> None:
+                whole["series"][0]["settings"][name] = value
+            return change
+
+        def entry(was: str, now: str) -> Callable[[dict[str, Any]], None]:
+            def change(whole: dict[str, Any]) -> None:
+                journal = whole["series"][0]["journal"]
+                at = [line.split(maxsplit=3)[3] for line in journal].index(was)
+                journal[at] = journal[at].replace(was, now)
+            return change
+
+        for change, why in [
+                (settings("exclude", "none"), "Overall results, A <b>"),
+                (settings("absent", "a53"), "Overall results, A <b>"),
+                (settings("title", "Spring Cup"), "the text 'Autumn </script> Cup · provisional'"),
+                (settings("state", "final"), "provisional"), (settings("state", "x"), "the setting state"),
+                (settings("exclude", "--help"), "the setting exclude is '--help'"),
+                (entry("FINISH 3 FRA9", "FINISH 3 IRL5"), "Overall results, A <b>"),
+                (entry("SCORE 3", "SCORE 4"), "of the journal is refused"),
+                (entry("FINISH 3 FRA9", "FINISH 3 IRL6"), "entry 23 of the journal is refused: a boat"),
+                (entry("SCORE 3", "SCORED 3"), "can't be read"),
+                (entry("SCORE 3", "score 3"), "isn't written as the program writes it"),
+                (lambda whole: whole["series"][0]["decisions"].pop(0), "DPI")]:
+            self.assertIn(why, self.odd(resealed(page, change)))
+
+    def test_every_page(self) -> None:
+        """All pages of the board and of the results are verified, as files and from a terminal."""
+        self.write(journal_of(os.path.join(self.here, "cup"), "FINISH 1 GBR7", "SCORE 1"), "cup",
+                   "journal.txt")
+        self.make("empty")
+        names = ["tide", "cup", "empty"]
+        helpers.run("board", *names, "--page", "out", "--once", cwd=self.here)
+        helpers.run("board", "tide", "--page", "alone", "--once", cwd=self.here)
+        helpers.run("export", *names, "--html", "all.html", cwd=self.here)
+        pages = ["all.html"] + [
+            os.path.relpath(os.path.join(top, name), self.here) for folder in ("out", "alone")
+            for top, _, found in os.walk(os.path.join(self.here, folder)) for name in found
+            if name.endswith(".html")]
+        self.assertEqual(len(pages), 16)
+        said, status = helpers.run("verify", *pages, "--program", helpers.PROGRAM, cwd=self.here)
+        self.assertEqual(status, 0, said)
+        self.assertEqual(said.count(": verified."), 16)
+        self.assertIn("A <b>: 7 boats, 3 races, 28 entries, provisional. Scored again: every cell is "
+                      "the same.", said)
+        self.assertIn("Program: the same that scored the page, SHA-256 ", said)
+
+    def test_no_way_out(self) -> None:
+        """No name, title, reason, decision or journal ends the block or begins another."""
+        page = self.page()
+        self.assertEqual(page.count("<script"), 2)
+        self.assertEqual(page.count("</script"), 2)
+        block = block_in(page)
+        self.assertEqual([sign for sign in "<>&\u2028\u2029" if sign in block], [])
+        series = json.loads(block)["series"][0]
+        self.assertEqual(series["boats"][0][3], "</script><script>alert(1)</script>")
+        self.assertEqual(series["decisions"][:2], ["race 3 GBR101 DPI 2", "race 1 IRL55 </script>"])
+        self.assertNotIn("hearing 1", page)
+        # Where the program and the folder are is nobody's business.
+        self.assertNotIn(self.here, page)
+
+    def test_blocks(self) -> None:
+        """A page without a block, with two, or with one that isn't one, is no page to verify."""
+        page = self.page()
+        block = f"{read_block.START}{block_in(page)}</script>"
+        for text, why in [(page.replace(block, block * 2), "2 blocks"),
+                          (page.replace(block, block.removesuffix("</script>")), "isn't JSON at its"),
+                          (page[:page.index("</script>")], "the block has no end"),
+                          (page.replace('"marks"', '"mark"'), "the parts of one"),
+                          (page.replace('"journal": [', '"journal": [1,'), "the parts of one"),
+                          (page.replace('"kind": "results"', '"kind": "list"'), "seal"),
+                          (page.replace('"kind": "results"', '"kind": "x"'), "the parts of one"),
+                          (page.replace('"settings": {', '"settings": ['), "isn't JSON at its line"),
+                          (page.replace(block, block.replace('": "', '":  "', 1)), "seal"),
+                          (page.replace("</body>", "<p>More</p></body>"), "the text 'More'"),
+                          (page.replace("</style>", ".r { display: none }</style>"), "all that is seen")]:
+            self.assertIn(why, self.odd(text))
+        for text, why in [(page.replace(block, ""), "it has no block"),
+                          (page.replace('"regatta": "3-', '"regatta": "1-'), "an older version"),
+                          (page.replace('"regatta": "3-', '"regatta": "4-'), "a newer version"),
+                          (re.sub('"regatta": "3-[0-9a-f]{8}"', '"regatta": "3-00000000"', page),
+                           "another version"),
+                          (re.sub('"regatta": "[^"]*"', '"regatta": 1', page), "an older version")]:
+            with self.assertRaisesRegex(Unsure, why):
+                self.verifier.verified(text)
+
+    def test_wrong_tools(self) -> None:
+        """If the tools themselves wrote a cell wrongly, and would do so again, the cell is named."""
+        right = overall.cell
+        for was, now, why in [("3<i>.0", "4<i>.0", "(GBR 101 A. Moss)"), ("DNE", "DSQ", "(GBR 33 "),
+                              ("<s>)", "<s>", "")]:
+            def wrong(score: Score) -> Markup:
+                return Markup(right(score).html.replace(was, now))
+
+            with unittest.mock.patch("raceoffice.results.html.overall.cell", wrong):
+                written = self.page()
+                self.verifier = verifier.Verifier(helpers.PROGRAM)
+                self.assertIn(why, self.odd(written))
+        with unittest.mock.patch("raceoffice.results.html.overall.rank", lambda *_: tag("td", tag("span", 1), class_="rank")):
+            written = self.page()
+            self.verifier = verifier.Verifier(helpers.PROGRAM)
+            self.assertIn("row 2 (", self.odd(written))
+
+    def test_programs(self) -> None:
+        """Another program is named apart; without any, or with one that isn't regatta, nothing is."""
+        self.write(self.page(), "page.html")
+        other = os.path.join(self.here, "other")
+        self.write(f"#!/bin/sh\nexec {helpers.PROGRAM} \"$@\"\n", "other")
+        os.chmod(other, stat.S_IRWXU)
+        said, status = helpers.run("verify", "page.html", "--program", other, cwd=self.here)
+        self.assertEqual(status, 0)
+        self.assertIn("Program: another than that which scored the page, and both agree.", said)
+        os.mkdir(os.path.join(self.here, "beside"))
+        os.symlink(helpers.PROGRAM, os.path.join(self.here, "beside", "regatta"))
+        with unittest.mock.patch.dict(os.environ, {"PATH": os.path.join(self.here, "beside")}):
+            for words in (list[str](), ["--program", "regatta"]):
+                said, status = helpers.run("verify", "page.html", *words, cwd=self.here)
+                self.assertEqual((status, "verified. " in said or ": verified." in said), (0, True), said)
+        for program, why in (("nowhere", "There is no program at nowhere"),
+                             ("/bin/true", "not verified: the program doesn't show its journal")):
+            said, status = helpers.run("verify", "page.html", "--program", program, cwd=self.here)
+            self.assertEqual(status, 2)
+            self.assertIn(why, said)
+
+    def test_decisions(self) -> None:
+        """Notes, blank lines and other ends of lines in decisions.txt are no hindrance."""
+        for text in ("race 1 GBR7 PRP 30%\r\n# a note\r\n", "\n\n# a note", "x\x0b\x85y\u2028# z\n\n \n"):
+            self.write(text, "tide", "decisions.txt")
+            with self.subTest(text=text):
+                self.verifier.verified(self.page())
+
+    def test_patience(self) -> None:
+        """A program that doesn't end leaves nothing to say, also if it does so with the decisions."""
+        # Nothing is excluded: the program is asked for the results, and then for the decisions alone.
+        folder = self.make("simple", exclude="none")
+        self.write(journal_of(folder, "FINISH 1 GBR7", "SCORE 1"), "simple", "journal.txt")
+        self.write("race 1 GBR7 PRP 30%\n", "simple", "decisions.txt")
+        self.write(confirmed(overall.overall(self.view("simple")), "2026-03-01T10:00:00+00:00", "once"),
+                   "page.html")
+        for name, text in [("slow", "exec sleep 60"), ("later", f"""if test -e {self.here}/once
+then exec sleep 60; fi\n: > {self.here}/once\nexec {helpers.PROGRAM} "$@\"""")]:
+            self.write(f"#!/bin/sh\n{text}\n", name)
+            os.chmod(os.path.join(self.here, name), stat.S_IRWXU)
+            told = io.StringIO()
+            with unittest.mock.patch("raceoffice.program.replay.PATIENCE", 3.0), contextlib.redirect_stdout(told):
+                status = verifier.verify([os.path.join(self.here, "page.html")], os.path.join(self.here, name))
+            self.assertEqual(status, 2, told.getvalue())
+            self.assertIn("can't be run: it does not end", told.getvalue())
+
+    def test_zones(self) -> None:
+        """A page whose series names no zone is verified on a computer of another zone."""
+        self.make("home", zone="")
+        for zone, words in [("Europe/Lisbon", r"WES?T \(UTC\+[01]\)"), ("Asia/Kolkata", r"IST \(UTC\+5:30\)"),
+                            ("America/St_Johns", r"N[SD]T \(UTC-[23]:30\)"), ("UTC0", "UTC"),
+                            ("Race-3", r"UTC\+3"), ("Asia/Dubai", r"UTC\+4")]:
+            with unittest.mock.patch.dict(os.environ, TZ=zone):
+                time.tzset()
+                page = self.page("home")
+            with unittest.mock.patch.dict(os.environ, TZ="Asia/Tokyo"):
+                time.tzset()
+                self.verifier.verified(page)
+            time.tzset()
+            self.assertRegex(page, rf"<time [^>]*>[^<]*, [0-9:]{{5}} {words}</time>")
+
+    def test_statuses(self) -> None:
+        """1 is for what differs, and 2 for what nothing can be said of; 1 counts more."""
+        page = self.page()
+        self.write(page, "good.html")
+        self.write(page.replace(">M. Byrne<", ">M. Burne<"), "other.html")
+        self.write("<p>Results</p>", "note.html")
+        with open(os.path.join(self.here, "byte.html"), "wb") as file:
+            file.write(page.encode() + b"\xff")
+        with open(os.path.join(self.here, "picture.html"), "wb") as file:
+            file.write(b"\x89PNG\r\n")
+        for names, wanted, why in [
+                (["good"], 0, "good.html: verified."), (["other"], 1, "NOT VERIFIED: Overall results, "),
+                (["note"], 2, "not verified: it has no block"), (["byte"], 1, "NOT VERIFIED: byte "),
+                (["picture"], 2, "it is no page of "), (["no"], 2, "can't be read: No such file"),
+                (["good", "note"], 2, "good.html: verified."), (["note", "other", "good"], 1, "NOT ")]:
+            said, status = helpers.run("verify", *(f"{name}.html" for name in names), "--program",
+                                       helpers.PROGRAM, cwd=self.here)
+            self.assertEqual(status, wanted, said)
+            self.assertIn(why, said)
+
+
+if __name__ == "__main__":
+    unittest.main()

@@ -1,0 +1,70 @@
+"""What the tools say of numbers, signs and faults."""
+from __future__ import annotations
+
+import os
+import unittest
+
+import helpers
+from raceoffice import wording
+from raceoffice.program import messages
+
+
+class Words(unittest.TestCase):
+    def test_numbers(self) -> None:
+        self.assertEqual([wording.ordinal(number) for number in (1, 2, 3, 4, 11, 12, 13, 21, 111, 122)],
+                         ["1st", "2nd", "3rd", "4th", "11th", "12th", "13th", "21st", "111th", "122nd"])
+        self.assertEqual([wording.count(number, "boat") for number in (0, 1, 2)],
+                         ["no boats", "1 boat", "2 boats"])
+        self.assertEqual(wording.joined(["A", "B", "C"], "or"), "A, B or C")
+        self.assertEqual(wording.spans([1, 2, 3, 5, 7, 8]), "1–3, 5, 7, 8")
+
+    def test_signs(self) -> None:
+        self.assertEqual(wording.sign("\u00a0"), "a no-break space (U+00A0), which looks like a space")
+        self.assertEqual(wording.sign("\u200b"), "the invisible sign U+200B")
+        self.assertEqual(wording.sign("é"), "the sign 'é'")
+
+    def test_names(self) -> None:
+        """What isn't seen, or lies over the lines around, is no part of a name."""
+        for text, name in [("Mo\u200bss\u202e", "Moss"), ("M\ua670oss", "Moss"), ("Mo\U0001d159ss", "Moss"),
+                           ("\u0e01" + "\u0e49" * 9, "\u0e01"), ("\u0e01\u0e34\u0e49", "\u0e01\u0e34\u0e49"),
+                           ("Zo\u0308e\u0301", "Zo\u0308e\u0301")]:
+            self.assertEqual(wording.on_one_line(text), name)
+
+    def test_faults(self) -> None:
+        """A fault of a file is shown with the line that is meant."""
+        with helpers.folder() as name:
+            journal = os.path.join(name, "journal.txt")
+            with open(journal, "w", encoding="ascii") as file:
+                file.write("REGATTA 2\n1 1 SCORER ENTER A\n1 2 FINISH FINISH 1 B\n")
+            said = messages.start_fault("regatta: start refused 7 at 2\n", journal, "entries.csv")
+            self.assertEqual(said[0], "Line 3 of journal.txt is refused: a boat that is named isn't "
+                             "entered. It is '1 2 FINISH FINISH 1 B'.")
+            for fault, text in [
+                    ("regatta: rules fault 3", "series.ini: exclude has to be none"),
+                    ("regatta: entries fault 4 row 9", "entries.csv, row 9: the sail is in an"),
+                    ("regatta: journal fault 1 line 2", "isn't a line of a journal: '1 1 SCORER"),
+                    ("regatta: start refused 16 at 2", "disagree on handicap"),
+                    ("regatta: keep taken", "Another office has journal.txt"),
+                    ("regatta: keep fault", "Is the disk full?"),
+                    ("regatta: keep damaged after line 2", "journal.txt is damaged after line 2."),
+                    ("regatta: keep damaged after line 0", "journal.txt is no journal"),
+                    ("regatta: keep journal fault 1 line 2", "isn't a line of a journal: '1 1 SCORER"),
+                    ("regatta: keep differs at 2", "different entries, first at 2."),
+                    ("regatta: keep too long", "longer than 1,048,576 bytes"),
+                    ("error: unexpected argument '--keep' found", "older than these tools"),
+                    ("regatta: no memory", "The program says: regatta: no memory.")]:
+                for note in ("", "regatta: keep cut 3 bytes after line 3\n1 3\n"):
+                    said = messages.start_fault(f"{note}{fault}\n", journal, "entries.csv")
+                    self.assertIn(text, said[0])
+
+    def test_cut(self) -> None:
+        """What was cut off is shown, with what it may have been."""
+        said = messages.cut_note("regatta: keep cut 12 bytes after line 3\n1 3 FINI??\nregatta: keep fault\n")
+        self.assertEqual(said.splitlines()[0], "journal.txt ended in a torn line, as after a crash. What came "
+                         "after line 3 was cut off, and is in journal.txt.cut now (12 bytes):")
+        self.assertEqual(said.splitlines()[1], "   1 3 FINI??")
+        self.assertEqual(messages.cut_note("regatta: keep fault\n"), "")
+
+
+if __name__ == "__main__":
+    unittest.main()
