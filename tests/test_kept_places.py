@@ -19,6 +19,7 @@ from raceoffice.program.journal import Race
 from raceoffice.series import kept_places
 from raceoffice.series.folder import Folder
 from raceoffice.series.kept_places import History, Note, Places
+from raceoffice.typing_window.session import Desk
 from test_unknown_finishers import dropped, kept
 
 # Signs and values that break readers.
@@ -162,6 +163,31 @@ class Files(helpers.Series):
         with open(self.path, "wb") as file:
             file.truncate(kept_places.LARGEST + 1)
         self.assertRaisesRegex(Trouble, "has more than 4,194,304 bytes", self.places.read)
+
+    def test_largest(self) -> None:
+        """A file never grows beyond what is read of one, so that no place is lost by another."""
+        self.keep()
+        before = self.data()
+        self.put(before + b" " * (kept_places.LARGEST - len(before) - 300) + b"\n")
+        self.assertEqual(self.keep(), "?2")
+        self.assertRaisesRegex(NotSent, "would have more than .*Write her down on paper", self.keep)
+        self.assertEqual(self.marks(), ["?1", "?2"])
+
+    def test_gone(self) -> None:
+        """A place that isn't noted any more, since somebody has removed the file, isn't kept again."""
+        self.keep()
+        os.remove(self.path)
+        self.assertRaisesRegex(NotSent, r"\?1 of race 1 isn't noted any more", self.places.keep_again, 1, "?1")
+
+    def test_unreadable_just_then(self) -> None:
+        """Who was told that her place is kept doesn't keep it twice, though the file can't be read just then."""
+        said: list[str] = []
+        desk = Desk(self.folder, "FINISH", "Ann", said.append, bool)
+        with mock.patch.object(desk.places, "data", side_effect=Trouble("it can't be read")):
+            self.assertTrue(desk.keep_place(Race(1)))
+        self.assertIn("?1 keeps her place", said[-1])
+        self.assertRaisesRegex(NotSent, "office/places can't be read", desk.undo)
+        self.assertEqual(self.marks(), ["?1"])
 
     def test_full(self) -> None:
         """On a full disk nothing is kept, and it is said; what was kept stays as it was."""
