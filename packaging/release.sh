@@ -52,6 +52,7 @@ common() {
     python3 -B "$source/packaging/pages.py" "$source/docs" "$tree/$documents/html"
     install -m 644 "$source/packaging/raceoffice.desktop" "$tree/share/applications/raceoffice.desktop"
     proof > "$tree/$documents/PROOF"
+    find "$tree/share" -type f -exec chmod 644 {} +
 }
 
 # What was proved and tried, and by what.
@@ -82,7 +83,7 @@ archive() {
     (cd "$room/$name" && find . -type f -printf '%P\n' | sort | xargs sha256sum > "$room/sums" && mv "$room/sums" SHA256SUMS)
     settle "$room/$name"
     tar -C "$room" --sort=name --format=gnu --owner=0 --group=0 --numeric-owner -c "$name" \
-        | xz -6 -T1 --check=crc64 > "$room/$name.tar.xz"
+        | xz -1 -T1 --check=crc64 > "$room/$name.tar.xz"
 }
 
 debian_package() {
@@ -102,7 +103,7 @@ debian_package() {
     done
     (cd "$root" && find usr -type f | sort | xargs md5sum > DEBIAN/md5sums)
     settle "$root"
-    dpkg-deb --root-owner-group --threads-max=1 -Zxz -z6 --build "$root" "$room/regatta_$version-1_amd64.deb"
+    dpkg-deb --root-owner-group --threads-max=1 -Zxz -z1 --build "$root" "$room/regatta_$version-1_amd64.deb"
 }
 
 commit=$(git rev-parse HEAD)
