@@ -1,5 +1,5 @@
 #!/usr/bin/env python3
-"""Makes the manual pages, from the help texts of the command and of both programs, and the completion of bash.
+"""Makes the manual pages, from the help texts of the command and of both programs, and bash's completion.
 
     packaging/manual.py DATE MANUAL COMPLETION REGATTA TIMES
 
@@ -24,7 +24,7 @@ from raceoffice import cli, version  # noqa: E402
 # The programs as they are installed, with what each does.
 PROGRAMS = {"regatta": "score one series of races under Appendix A of the Racing Rules of Sailing",
             "regatta-times": "correct the times of a race by the boats' ratings"}
-HTML = "/usr/share/doc/regatta/html/guide.html"
+HTML = "/usr/share/doc/regatta/html"
 WIDTH = 76
 CODE = re.compile("`([^`]*)`")
 # The paths of pages in the sources, as an installation has them.
@@ -39,9 +39,9 @@ def plain(text: str) -> str:
 
 def prose(text: str) -> str:
     """A paragraph; what is in backquotes is bold."""
-    text = PAGE.sub(lambda found: f"`{os.path.dirname(HTML)}/{found[1].lower()}.html`", " ".join(text.split()))
+    text = PAGE.sub(lambda found: f"`{HTML}/{found[1].lower()}.html`", " ".join(text.split()))
     parts = CODE.split(text)
-    return plain("") + "".join(f"\\fB{plain(part)}\\fP" if at % 2 else plain(part) for at, part in enumerate(parts))
+    return "".join(f"\\fB{plain(part)}\\fP" if at % 2 else plain(part) for at, part in enumerate(parts))
 
 
 def as_it_is(text: str) -> str:
@@ -55,7 +55,8 @@ def is_block(part: str) -> bool:
 
 def section(name: str, parts: list[str]) -> str:
     """A section of a page, with its paragraphs and its indented blocks; nothing if it has none."""
-    shown = [f".PP\n.RS 4\n{as_it_is(part)}\n.RE" if is_block(part) else f".PP\n{prose(part)}" for part in parts]
+    shown = [f".PP\n.RS 4\n{as_it_is(part)}\n.RE" if is_block(part) else f".PP\n{prose(part)}"
+             for part in parts]
     return "\n".join([f".SH {name}", *shown]) + "\n" if parts else ""
 
 
@@ -84,7 +85,7 @@ def head(name: str, text: str, date: str) -> str:
 
 def see_also(names: list[str]) -> str:
     listed = ", ".join(f"\\fB{plain(name)}\\fP(1)" for name in names)
-    return f".SH SEE ALSO\n{listed}\n.PP\nThe guide: {plain(HTML)}\n"
+    return f".SH SEE ALSO\n{listed}\n.PP\nThe guide: {plain(HTML)}/guide.html\n"
 
 
 def command_page(name: str, text: str, parser: argparse.ArgumentParser, date: str) -> str:
@@ -173,7 +174,8 @@ complete -F _raceoffice raceoffice
 
 def completion() -> str:
     """What bash completes of a command line: commands, options, roles, and folders or files."""
-    cases = [f"            {name}) words='{' '.join(long_options(parser_of(name)))}' ;;\n" for name in cli.COMMANDS]
+    cases = [f"            {name}) words='{' '.join(long_options(parser_of(name)))}' ;;\n"
+             for name in cli.COMMANDS]
     return COMPLETION.replace("@commands@", " ".join(cli.COMMANDS)).replace("@options@", "".join(cases))
 
 

@@ -3,8 +3,8 @@
 
     packaging/pages.py DOCS FOLDER
 
-It reads the Markdown that these pages use, and a fault names a line with any other. A link to a page that isn't
-among them becomes its text.
+It reads the Markdown that these pages use, and a fault names a line with any other. A link to a page that
+isn't among them becomes its text.
 """
 from __future__ import annotations
 
@@ -41,7 +41,8 @@ ODD_START = re.compile(r">| {1,3}\S|[-=*_]{3,}$|[*+] ")
 CODE = re.compile("`[^`]*`")
 # The parts of a line: code, a link, bold, italic, and any other text.
 INLINE = re.compile(r"`(?P<code>[^`]+)`|\[(?P<text>(?:`[^`]*`|[^\[\]`])+)\]\((?P<target>[^)\s]+)\)"
-                    r"|\*\*(?P<bold>(?:`[^`]*`|[^*`])+)\*\*|\*(?P<italic>(?:`[^`]*`|[^*`])+)\*|(?P<plain>[^`\[*]+|.)")
+                    r"|\*\*(?P<bold>(?:`[^`]*`|[^*`])+)\*\*|\*(?P<italic>(?:`[^`]*`|[^*`])+)\*"
+                    r"|(?P<plain>[^`\[*]+|.)")
 TAGS = {"bold": "strong", "italic": "em"}
 
 
@@ -180,7 +181,8 @@ def page(name: str, text: str) -> str:
         body = together(links, *blocks(Lines(text.splitlines())))
     except (Fault, ValueError) as cause:
         raise SystemExit(f"{name}.md: {cause}") from None
-    head = tag("head", tag("meta", charset="utf-8"), raw("style", STYLE), tag("title", f"Regatta: {PAGES[name]}"),
+    title = tag("title", f"Regatta: {PAGES[name]}")
+    head = tag("head", tag("meta", charset="utf-8"), title, raw("style", STYLE),
                tag("meta", name="viewport", content="width=device-width, initial-scale=1"))
     return document(tag("html", head, tag("body", body), lang="en"))
 

@@ -1,8 +1,8 @@
 #!/usr/bin/env bash
 # Makes a release of the commit that is checked out: an archive and a Debian package.
 #   packaging/release.sh VERSION LOG
-# LOG is what tests/gate.sh printed of this commit. Both files come to packaging/out, with their SHA-256. The same
-# commit, log and programs give the same bytes.
+# LOG is what tests/gate.sh printed of this commit. Both files come to packaging/out, with their SHA-256. The
+# same commit, log and programs give the same bytes.
 set -euo pipefail
 export LC_ALL=C TZ=UTC
 umask 022
@@ -80,14 +80,15 @@ archive() {
     cp /usr/share/common-licenses/Apache-2.0 "$room/$name/LICENSE"
     cp "$source/packaging/debian/copyright" "$room/$name/COPYRIGHT"
     cp "$source/packaging/INSTALL" "$room/$name/INSTALL"
-    (cd "$room/$name" && find . -type f -printf '%P\n' | sort | xargs sha256sum > "$room/sums" && mv "$room/sums" SHA256SUMS)
+    (cd "$room/$name" && find . -type f -printf '%P\n' | sort | xargs sha256sum) > "$room/sums"
+    mv "$room/sums" "$room/$name/SHA256SUMS"
     settle "$room/$name"
     tar -C "$room" --sort=name --format=gnu --owner=0 --group=0 --numeric-owner -c "$name" \
         | xz -1 -T1 --check=crc64 > "$room/$name.tar.xz"
 }
 
 debian_package() {
-    local root=$room/root documents=$room/root/usr/share/doc/regatta libc file
+    local root=$room/root documents=$room/root/usr/share/doc/regatta libc size file
     mkdir -p "$root/DEBIAN" "$root/usr/share/lintian/overrides"
     cp -R "$tree"/. "$root/usr"
     install -m 644 "$source/packaging/debian/copyright" "$documents/copyright"
@@ -95,8 +96,9 @@ debian_package() {
     sed "s/@version@/$version/; s/@commit@/$commit/; s/@date@/$(date -R -d "@$SOURCE_DATE_EPOCH")/" \
         "$source/packaging/debian/changelog" | gzip -9n > "$documents/changelog.Debian.gz"
     # The newest GLIBC that the programs name is the least that they need.
+    size=$(du -sk --apparent-size "$root/usr" | cut -f 1)
     libc=$(grep -aoh 'GLIBC_2\.[0-9.]*' "${programs[@]}" | sort -uV | tail -n 1)
-    sed "s/@version@/$version/; s/@libc@/${libc#GLIBC_}/; s/@size@/$(du -sk --apparent-size "$root/usr" | cut -f 1)/" \
+    sed "s/@version@/$version/; s/@libc@/${libc#GLIBC_}/; s/@size@/$size/" \
         "$source/packaging/debian/control" > "$root/DEBIAN/control"
     for file in postinst prerm; do
         install -m 755 "$source/packaging/debian/$file" "$root/DEBIAN/$file"

@@ -1,8 +1,8 @@
 #!/usr/bin/env bash
 # The whole test: the gate, then the checks of the built program and its tools.
 #   tests/gate.sh
-# It begins with the commit, or says that there are changes, and the kit that proves; the programs' SHA-256 comes
-# before the last line, which is `N passed, M failed` of both. The status is 1 if anything failed.
+# It begins with the commit, or says that there are changes, and with the kit that proves. The SHA-256 of both
+# programs comes before the last line, `N passed, M failed` of both. The status is 1 if anything failed.
 set -uo pipefail
 cd "$(dirname "$(realpath "$0")")/.." || exit
 printed=$(mktemp)

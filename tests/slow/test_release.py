@@ -18,11 +18,12 @@ ARCHIVE, PACKAGE = f"regatta-{VERSION}-x86_64.tar.xz", f"regatta_{VERSION}-1_amd
 KIT = "rattle-kit-0 logic 0123456789abcdef"
 # What a release is made of, besides the programs.
 PARTS = ["raceoffice", "docs", "packaging", ".gitignore"]
+LEFT_OUT = shutil.ignore_patterns("__pycache__", "out", "commit.txt")
 PROGRAMS = {"crates/regatta/out/regatta": helpers.PROGRAM, "crates/times/out/times": helpers.TIMES}
 # A commit has this author and this date, and so the same name in each clone.
 GIT = {"GIT_CONFIG_GLOBAL": "/dev/null", "GIT_CONFIG_NOSYSTEM": "1", "PATH": os.environ["PATH"],
-       **{f"GIT_{who}_{what}": text for who in ("AUTHOR", "COMMITTER")
-          for what, text in {"NAME": "A. Moss", "EMAIL": "moss@example.org", "DATE": "1790000000 +0200"}.items()}}
+       **{f"GIT_{who}_{what}": text for who in ("AUTHOR", "COMMITTER") for what, text in {
+           "NAME": "A. Moss", "EMAIL": "moss@example.org", "DATE": "1790000000 +0200"}.items()}}
 
 
 class Clone:
@@ -33,7 +34,7 @@ class Clone:
         for part in PARTS:
             source, place = os.path.join(helpers.TOP, part), os.path.join(folder, part)
             if os.path.isdir(source):
-                shutil.copytree(source, place, ignore=shutil.ignore_patterns("__pycache__", "out", "commit.txt"))
+                shutil.copytree(source, place, ignore=LEFT_OUT)
             else:
                 shutil.copy(source, place)
         for path, program in PROGRAMS.items():
@@ -43,14 +44,15 @@ class Clone:
             self.git(*words)
         self.commit = self.git("rev-parse", "HEAD").strip()
         sums = self.ran("sha256sum", *PROGRAMS)[1].splitlines()
-        self.log = [f"commit {self.commit}", f"kit {KIT}", "205 passed, 0 failed", *sums, "301 passed, 0 failed"]
+        self.log = [f"commit {self.commit}", f"kit {KIT}", "205 passed, 0 failed", *sums,
+                    "301 passed, 0 failed"]
 
     def file(self, *names: str) -> str:
         return os.path.join(self.folder, *names)
 
     def ran(self, *words: str, umask: int = -1) -> tuple[int, str]:
-        done = subprocess.run(words, cwd=self.folder, text=True, stdout=subprocess.PIPE, stderr=subprocess.STDOUT,
-                              env=GIT, umask=umask, timeout=10 * helpers.PATIENCE)
+        done = subprocess.run(words, cwd=self.folder, env=GIT, umask=umask, text=True, stdout=subprocess.PIPE,
+                              stderr=subprocess.STDOUT, timeout=10 * helpers.PATIENCE)
         return done.returncode, done.stdout
 
     def git(self, *words: str) -> str:
@@ -114,12 +116,16 @@ class Releases(unittest.TestCase):
     def command(self, prefix: str) -> list[str]:
         """The command of what is unpacked there, with nothing of this tree's or of this computer's
         environment, and no other program on its PATH."""
-        return ["/usr/bin/env", "-i", f"PATH={prefix}/bin", f"HOME={self.here}", "TERM=dumb", "LC_ALL=C.UTF-8",
-                f"{prefix}/bin/raceoffice"]
+        return ["/usr/bin/env", "-i", f"PATH={prefix}/bin", f"HOME={self.here}", "TERM=dumb",
+                "LC_ALL=C.UTF-8", f"{prefix}/bin/raceoffice"]
 
     def plays(self, prefix: str) -> None:
         with tempfile.TemporaryDirectory() as folder:
             guide.Play(folder, command=self.command(prefix)).run(guide.read())
+
+    def alike(self, one: str, other: str) -> None:
+        with open(one, "rb") as first, open(other, "rb") as second:
+            self.assertTrue(first.read() == second.read(), f"{one} isn't {other}")
 
     def test_again(self) -> None:
         """The same commit, elsewhere and under another umask, gives the same bytes."""
@@ -146,9 +152,7 @@ class Releases(unittest.TestCase):
             theirs = files_of(os.path.join(other, folder))
             self.assertLessEqual(set(theirs), set(files_of(os.path.join(prefix, folder))))
             for name in theirs:
-                with open(os.path.join(prefix, folder, name), "rb") as one, \
-                        open(os.path.join(other, folder, name), "rb") as two:
-                    self.assertTrue(one.read() == two.read(), name)
+                self.alike(os.path.join(prefix, folder, name), os.path.join(other, folder, name))
         self.plays(prefix)
 
     def test_proof(self) -> None:
@@ -158,8 +162,7 @@ class Releases(unittest.TestCase):
         for line in (f"commit  {self.clone.commit}", f"kit     {KIT}", f"    {self.clone.log[-1]}"):
             self.assertIn(line, said)
         for path, name in zip(PROGRAMS, ("regatta", "regatta-times")):
-            with open(self.clone.file(path), "rb") as one, open(os.path.join(prefix, "bin", name), "rb") as two:
-                self.assertTrue(one.read() == two.read(), name)
+            self.alike(self.clone.file(path), os.path.join(prefix, "bin", name))
         self.assertEqual(ended(self, *self.command(prefix), "--version", cwd=prefix),
                          f"raceoffice {VERSION}, commit {self.clone.commit[:12]}\n")
 
@@ -174,8 +177,8 @@ class Releases(unittest.TestCase):
             text = ended(self, "gzip", "-cd", os.path.join(share, "man", "man1", page), cwd=share)
             self.assertIn(f"\n.SH NAME\n{page.removesuffix('.1.gz')} ".replace("-", "\\-"), text)
         complete = os.path.join(share, "bash-completion", "completions", "raceoffice")
-        script = (f"source {complete}; COMP_WORDS=(raceoffice ''); COMP_CWORD=1; _raceoffice raceoffice '' raceoffice; "
-                  "echo \"${COMPREPLY[@]}\"")
+        script = (f"source {complete}; COMP_WORDS=(raceoffice ''); COMP_CWORD=1; "
+                  "_raceoffice raceoffice '' raceoffice; echo \"${COMPREPLY[@]}\"")
         self.assertEqual(set(ended(self, "bash", "-c", script, cwd=share).split()) - {"--help", "--version"},
                          set(COMMANDS))
 
@@ -266,7 +269,8 @@ def lines_of(path: str) -> list[str]:
 
 def files_of(folder: str, *left_out: str) -> list[str]:
     """The files below a folder, by their paths from there, in order."""
-    found = [os.path.relpath(os.path.join(place, name), folder) for place, _, names in os.walk(folder) for name in names]
+    found = [os.path.relpath(os.path.join(place, name), folder)
+             for place, _, names in os.walk(folder) for name in names]
     return sorted(set(found) - set(left_out))
 
 
