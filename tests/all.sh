@@ -40,7 +40,7 @@ part 'the stored runs of examples/' "$here/../examples/check.sh" "$program"
 part 'the links of the pages' "$here/../bench/links.py"
 part 'docs/STATEMENT.md as its script makes it' "$here/../bench/statement.py" --check
 part_with "$TIMES" 'corrected times beside exact fractions' "$here/times_exact.py" "$TIMES"
-part_with mypy 'the types of raceoffice/ and tests/' env MYPYPATH="$here/..:$here:$here/slow:$here/../bench" \
+MYPYPATH="$here/..:$here:$here/slow:$here/../bench" part_with mypy 'the types of raceoffice/ and tests/' \
     mypy --strict --python-version 3.10 --cache-dir "$room/types" --explicit-package-bases --follow-imports silent \
     "$here/../raceoffice" "$here"/*.py "$here"/slow/*.py
 part_with pyflakes3 'the names of raceoffice/ and tests/' pyflakes3 "$here/../raceoffice" "$here"

@@ -241,7 +241,7 @@ class Pages(helpers.Series):
             # A program that came with a page isn't the one that judges it, unless somebody says so by its path.
             os.symlink(other, os.path.join(self.here, "regatta"))
             for words, text in ([], "the same that"), (["--program", "./regatta"], "another than that"):
-                said, status = helpers.run("verify.py", "page.html", *words, cwd=self.here)
+                said, status = helpers.run("verify", "page.html", *words, cwd=self.here)
                 self.assertEqual((status, f"Program: {text}" in said), (0, True), said)
         for program, why in (("nowhere", "There is no program at nowhere"),
                              ("/bin/true", "not verified: the program doesn't show its journal")):
