@@ -15,7 +15,7 @@ import tempfile
 import threading
 from concurrent.futures import ThreadPoolExecutor
 
-from raceoffice.results.http import PATIENCE, SEATS, Server, begin, first_link, read_sheet
+from raceoffice.results.http_answers import PATIENCE, SEATS, Server, begin, first_link, read_sheet
 from season import BOATS, ENTRIES, RACES, journal, season, text
 
 TIMES = 3

@@ -2,12 +2,18 @@
 from __future__ import annotations
 
 import re
+import unicodedata
+from collections.abc import Callable
 
 # What Python calls printable and yet isn't seen, or lies over its neighbours: fillers, joiners, variants
-# of signs, strokes, and marks of which three are over one letter.
+# of signs, strokes, what encloses letters, and marks of which three are over one letter.
 UNSEEN = re.compile("[\u034f\u115f\u1160\u17b4\u17b5\u180b-\u180f\u2800\u3164\ufe00-\ufe0f\uffa0"
-                    "\U000e0100-\U000e01ef\u0334-\u0338\u0488\u0489\u20d0-\u20f0]"
+                    "\U00016fe4\U0001d159\U000e0100-\U000e01ef\u0334-\u0338\u0488\u0489\u1abe\u20d0-\u20f0"
+                    "\ua670-\ua672]"
                     "|(?<=[\u0300-\u036f]{2})[\u0300-\u036f]")
+# Where marks may be piled up: more of them than any writing has over one letter lie over the lines around.
+PILE = re.compile(r"[^\w\x00-\x7f]{4,}")
+MOST_MARKS = 3
 # Signs of a line that is said; longer ones are cut.
 MOST = 100
 
@@ -28,7 +34,22 @@ def is_odd(sign: str) -> bool:
 
 def has_odd(text: str) -> bool:
     """Whether a text has a sign that isn't seen, that turns the direction of others or strikes them."""
-    return any(map(is_odd, text)) or UNSEEN.search(text) is not None
+    return any(map(is_odd, text)) or UNSEEN.search(text) is not None or is_piled(text)
+
+
+def is_piled(text: str) -> bool:
+    """Whether a letter has more marks than any writing puts on one."""
+    for found in PILE.finditer(text):
+        marks = "".join("m" if unicodedata.category(sign) in ("Mn", "Me") else " " for sign in found[0])
+        if "m" * (MOST_MARKS + 1) in marks:
+            return True
+    return False
+
+
+def replaced(text: str, by: Callable[[str], str]) -> str:
+    """A text in which each sign that isn't seen, or is one of a pile of marks, is replaced."""
+    seen = UNSEEN.sub(lambda found: by(found[0]), text)
+    return PILE.sub(lambda found: "".join(map(by, found[0])) if is_piled(found[0]) else found[0], seen)
 
 
 def code_of(sign: str) -> str:
@@ -40,7 +61,7 @@ def code_of(sign: str) -> str:
 def plainly(text: str) -> str:
     """A text on one line of a terminal: what isn't seen is shown by its number."""
     seen = "".join(code_of(sign) if is_odd(sign) else sign for sign in text)
-    return UNSEEN.sub(lambda found: code_of(found[0]), seen)
+    return replaced(seen, code_of)
 
 
 def shortly(text: str, most: int = MOST) -> str:

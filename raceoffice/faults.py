@@ -14,8 +14,7 @@ from collections.abc import Callable, Iterator
 
 from raceoffice.characters import utf8
 from raceoffice.errors import Fault, Trouble
-from raceoffice.files import append_whole
-from raceoffice.series.folder import PRIVATE
+from raceoffice.files import PRIVATE, append_whole
 from raceoffice.terminal import print_any_sign, read_any_sign, say, sentence
 
 NAME = "faults.txt"

@@ -2,14 +2,15 @@
 from __future__ import annotations
 
 import contextlib
-import fcntl
 import os
 import secrets
 import stat
-import time
 
+from raceoffice import system
 from raceoffice.errors import NotThere, Trouble
 
+# The folder in that of a series which lets in this account alone.
+PRIVATE = "office"
 # A file of a series lets in this account alone.
 PRIVATE_MODE, PUBLIC_MODE = 0o600, 0o666
 # Seconds that an addition waits for another: that one's process may have been stopped.
@@ -18,7 +19,7 @@ PATIENCE = 1.0
 
 def opened_at_once(path: str, flags: int) -> int:
     """Opens a file. A pipe of this name holds nobody up."""
-    return os.open(path, flags | os.O_NONBLOCK)
+    return os.open(path, flags | system.AT_ONCE)
 
 
 def opened_as_ours(path: str, flags: int) -> int:
@@ -50,7 +51,7 @@ def place_of(path: str) -> str:
     """Where a file is. A link of this account's own is followed: another's may lead anywhere."""
     with contextlib.suppress(FileNotFoundError):
         found = os.lstat(path)
-        if stat.S_ISLNK(found.st_mode) and found.st_uid == os.geteuid():
+        if stat.S_ISLNK(found.st_mode) and found.st_uid == system.account():
             return os.path.realpath(path)
     return path
 
@@ -71,7 +72,7 @@ def mode_of(path: str) -> int | None:
 def write_fresh(path: str, data: bytes, mode: int, kept: int | None) -> None:
     """Makes a new file with these bytes, which are on the disk then. `kept` is the mode of an old file
     that it replaces."""
-    number = os.open(path, os.O_WRONLY | os.O_CREAT | os.O_EXCL | os.O_NOFOLLOW | os.O_CLOEXEC, mode)
+    number = os.open(path, os.O_WRONLY | os.O_CREAT | os.O_EXCL | system.NO_LINK, mode)
     with open(number, "wb") as file:
         # A stick's modes can't be changed, and are the same anyway.
         if kept is not None and kept != stat.S_IMODE(os.fstat(number).st_mode):
@@ -96,33 +97,11 @@ def replace_whole(path: str, data: bytes, is_public: bool = False) -> None:
         fresh = os.path.join(folder, f".{secrets.token_hex(8)}.new")
         write_fresh(fresh, data, PUBLIC_MODE if is_public else PRIVATE_MODE, kept)
         os.replace(fresh, place)
-        sync_folder(folder)
+        system.sync_folder(folder)
     except OSError as cause:
         with contextlib.suppress(OSError):
             os.remove(fresh)
         raise Trouble(f"{path} can't be written: {cause.strerror}") from None
-
-
-def sync_folder(path: str) -> None:
-    """Puts the names in a folder on the disk."""
-    number = os.open(path, os.O_RDONLY | os.O_CLOEXEC)
-    try:
-        os.fsync(number)
-    finally:
-        os.close(number)
-
-
-def is_locked(number: int) -> bool:
-    """Takes the lock of a file that is added to; whether it could, since one who has it may have been
-    stopped."""
-    end = time.monotonic() + PATIENCE
-    while time.monotonic() < end:
-        try:
-            fcntl.flock(number, fcntl.LOCK_EX | fcntl.LOCK_NB)
-            return True
-        except BlockingIOError:
-            time.sleep(0.01)
-    return False
 
 
 def is_torn(number: int) -> bool:
@@ -150,13 +129,14 @@ def append_whole(path: str, data: bytes, ended: bytes = b"", called: str = "") -
     `ended` is put before them if the file ends in a torn line, as after a power cut.
     """
     called = called or path
-    flags = os.O_RDWR | os.O_APPEND | os.O_CREAT | os.O_NOFOLLOW | os.O_NONBLOCK | os.O_CLOEXEC
+    flags = os.O_RDWR | os.O_APPEND | os.O_CREAT | system.NO_LINK | system.AT_ONCE
     try:
         number = os.open(path, flags, PRIVATE_MODE)
         try:
             if not stat.S_ISREG(os.fstat(number).st_mode):
                 raise Trouble(f"{called} can't be written: it is no plain file")
-            is_alone = is_locked(number)
+            # One who has the lock may have been stopped.
+            is_alone = system.take_lock(number, PATIENCE)
             write_all(number, (ended if is_torn(number) else b"") + data, is_alone)
         finally:
             os.close(number)

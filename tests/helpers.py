@@ -218,8 +218,8 @@ def served(*words: str, name: str = "race.sock",
 
 def is_listening(path: str) -> bool:
     """Whether a program listens at a socket's file, which is there a moment before that."""
-    from raceoffice.program.link import sockets_at
-    return os.path.exists(path) and True in sockets_at(path)
+    from raceoffice import system
+    return os.path.exists(path) and True in system.sockets_at(path)
 
 
 def kill_office(folder: str) -> None:

@@ -2,7 +2,9 @@
  *
  * NOTED names a file to which a line is added before each call, with the names of its files:
  *   write PATH SIZE · fsync PATH · fdatasync PATH · rename PATH PATH · reply BYTES
- * A reply is what is sent to a socket, up to its first line end.
+ * A reply is what is sent to a socket, up to its first line end. If NOTED_YIELDS is set, there is a line
+ *   yield
+ * before each time that a thread lets others go first.
  * NOTED_STOP is the number of the line before whose call the program stops itself (SIGSTOP), counted
  * from 1. Without it the program never does.
  */
@@ -19,7 +21,7 @@
 #include <sys/syscall.h>
 #include <unistd.h>
 
-static int notes = -1;
+static int notes = -1, yields;
 static unsigned long stopping;
 static atomic_ulong lines;
 
@@ -27,6 +29,7 @@ __attribute__((constructor)) static void begin(void) {
     const char *path = getenv("NOTED"), *stop = getenv("NOTED_STOP");
     if (path)
         notes = open(path, O_WRONLY | O_CREAT | O_APPEND | O_CLOEXEC, 0600);
+    yields = getenv("NOTED_YIELDS") != NULL;
     stopping = stop ? strtoul(stop, NULL, 10) : 0;
 }
 
@@ -71,6 +74,12 @@ ssize_t send(int fd, const void *bytes, size_t size, int flags) {
     note(line, snprintf(line, sizeof line, "reply %.*s\n", length < 100 ? (int)length : 100,
                         (const char *)bytes));
     return syscall(SYS_sendto, fd, bytes, size, flags, NULL, 0);
+}
+
+int sched_yield(void) {
+    if (yields)
+        note("yield\n", 6);
+    return (int)syscall(SYS_sched_yield);
 }
 
 int fsync(int fd) {

@@ -435,7 +435,8 @@ class Moments(unittest.TestCase):
     """Times with their zones, as a calendar has them."""
 
     def test_zones(self) -> None:
-        from raceoffice.program.journal import Series, Standing
+        from raceoffice.program.journal import Series
+        from raceoffice.program.standing import Standing
         from raceoffice.results.snapshot import View
         from raceoffice.series import settings
         shown = [("Europe/Lisbon", (2026, 11, 26, 8, 52), "Thu 26 Nov 2026, 08:52 WET (UTC+0)"),

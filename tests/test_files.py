@@ -131,12 +131,6 @@ class Added(helpers.Series):
         self.log("QUIT")
         self.assertEqual([entry.line for entry in self.folder.logged()], [f"Eva X{' ' * 8}?", "QUIT"])
 
-    def test_odd_windows(self) -> None:
-        """A log in which somebody has written names no window by a path."""
-        for number in ("1\0", f"../proc/{os.getpid()}", "x", "9" * 5000):
-            self.write(f"2026-11-26T09:00:00+0000\t{number}\tAnn\t2\tSCORER\tcame\t\n", "cup", "office.log")
-            self.assertEqual(self.folder.windows(os.path.basename(sys.argv[0])), {})
-
     def test_old_logs(self) -> None:
         """A carriage return that an older log has in a name parts no line."""
         self.write("2026-11-26T09:00:00+0000\t1\tEva\rX\t2\tSCORER\tSCORE 1\tOK 10\n", "cup", "office.log")

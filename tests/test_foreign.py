@@ -7,7 +7,7 @@ from unittest import mock
 
 import helpers
 from raceoffice.errors import Trouble
-from raceoffice.program.journal import Standing
+from raceoffice.program.standing import Standing
 from raceoffice.series.folder import Folder
 from raceoffice.series.run_program import Program
 

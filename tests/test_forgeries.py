@@ -255,6 +255,9 @@ class Forgeries(ForgedPages):
         """Signs that turn others, or that aren't seen, are said of a page that is verified."""
         for text, is_odd in [("Moss\u202e", True), ("Mo\u200bss", True), ("M\u0336oss", True),
                              ("Mo\u3164ss", True), ("Moss\ufe0f", True), ("Mos\u0301\u0301\u0301s", True),
+                             ("Mo\U0001d159ss", True), ("M\ua670oss", True), ("M" + "\u1dc0" * 4, True),
+                             ("\u0e01" + "\u0e49" * 4, True), ("\u0e01\u0e34\u0e49", False),
+                             ("\u05e9\u05c1\u05bc\u05b8\u05dc\u05d5\u05b9\u05dd", False),
                              ("Jürgen", False), ("Ju\u0308rgen", False), ("名取", False), ("Ó Ríoráin", False)]:
             with self.subTest(text=text):
                 status, said = self.said(self.forged("results", ("series", 0, "boats", 0, 2), text))

@@ -49,6 +49,12 @@ FAULTS = [
 CUTS = [("1 2 SCORER ENTER B", "1 2 SCORER ENTER B"), ("1 2 SC\0\n", "1 2 SC??"), ("\0\0", "??")]
 
 
+def entries(length: int) -> list[str]:
+    """A journal of so many entries: a boat finishes, and is struck, again and again."""
+    race = ["FINISH 1 A", "STRIKE 1 A"]
+    return ["1 1 SCORER ENTER A", *(f"1 {at} SCORER {race[at % 2]}" for at in range(2, length + 1))]
+
+
 class Keeping(Kept):
     def test_starts(self) -> None:
         for kept, journal, boats, wanted in STARTS:
@@ -63,6 +69,21 @@ class Keeping(Kept):
                     link.close()
                     self.killed(office)
                     self.assertEqual(self.text(), wanted)
+
+    def test_long_journal(self) -> None:
+        """A start of 4,097 entries is kept in batches, ranked, shown and gone on from, and so is what was kept of
+        it. No other check has a journal of this length."""
+        lines = entries(4097)
+        whole = VERSION + "".join(f"{line}\n" for line in lines)
+        self.write(self.journal, whole)
+        for length in (4097, 4098):
+            office, link = self.opened("--journal", self.journal)
+            self.assertEqual(link.ask("RANK A")[:6], "RANK 1")
+            self.assertEqual(link.sheet().journal[:4097], tuple(lines))
+            self.assertEqual(self.text()[:len(whole)], whole)
+            self.assertTrue(link.ask(f"ENTER {length}").startswith(f"OK {length + 1} "))
+            self.assertEqual(self.text().count("\n"), length + 2)
+            self.killed(office)
 
     def test_faults(self) -> None:
         """A file with a fault is named, and stays as it was."""

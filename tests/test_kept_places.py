@@ -19,7 +19,7 @@ from raceoffice.program.journal import Race
 from raceoffice.series import kept_places
 from raceoffice.series.folder import Folder
 from raceoffice.series.kept_places import History, Note, Places
-from test_unread import dropped, kept
+from test_unknown_finishers import dropped, kept
 
 # Signs and values that break readers.
 ODD = [b"\0", b"\n", b"\r", b"\xff", b'"', b"\\", b"{", b"}", b"[", b"]", b",", b"\xe2\x80\xa8", b"\x1b", b"1" * 5000]

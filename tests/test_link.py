@@ -13,7 +13,7 @@ import unittest
 from collections.abc import Iterator
 
 import helpers
-from raceoffice import wording
+from raceoffice.program import messages
 from raceoffice.errors import NoSeat, Trouble
 from raceoffice.program import link as links
 from raceoffice.program.link import Link, remove_socket
@@ -66,7 +66,7 @@ class Replies(unittest.TestCase):
                 self.assertEqual(answer.startswith("NO "), bool(number), text[:60])
                 if number:
                     self.assertEqual(answer, f"NO {number}", text[:60])
-                    self.assertEqual(wording.refusal(answer), wording.NUMBERS[int(number)])
+                    self.assertEqual(messages.refusal(answer), messages.NUMBERS[int(number)])
                     met.add(int(number))
         return met
 
@@ -79,7 +79,7 @@ class Replies(unittest.TestCase):
                 with open(path, "w", encoding="ascii") as file:
                     file.write(journal)
                 met |= self.refused(lines, "--journal", path)
-        self.assertEqual(met | {1}, set(wording.NUMBERS))
+        self.assertEqual(met | {1}, set(messages.NUMBERS))
 
 
 @contextlib.contextmanager

@@ -11,7 +11,7 @@ import helpers
 
 from allowed import odd_parts
 from forger import MARKUP, ForgedPages
-from raceoffice.results import http
+from raceoffice.results import http_answers
 from raceoffice.results.html import assets, markup
 from raceoffice.results.html.markup import NOTHING, Markup, raw, separated, tag, together
 
@@ -126,11 +126,11 @@ class Source(unittest.TestCase):
 class Policy(ForgedPages):
     def test_policy(self) -> None:
         """What a browser may run is the script that comes with the tools, whatever a page holds."""
-        fixed = http.Text.of("text/html", b"<p>x</p>").policy
+        fixed = http_answers.Text.of("text/html", b"<p>x</p>").policy
         self.assertEqual(fixed.count("sha256-"), 1)
         for page in (*self.pages().values(), f"<script>alert(1)</script>{MARKUP}"):
-            self.assertEqual(http.Text.of("text/html", page.encode()).policy, fixed)
-        self.assertEqual(http.Text.of("text/csv", b"").policy, "default-src 'none'")
+            self.assertEqual(http_answers.Text.of("text/html", page.encode()).policy, fixed)
+        self.assertEqual(http_answers.Text.of("text/csv", b"").policy, "default-src 'none'")
 
     def test_table(self) -> None:
         """The table of what is allowed finds what isn't."""

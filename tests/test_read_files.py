@@ -17,6 +17,7 @@ from raceoffice.corrected import sheets, times
 from raceoffice.decisions import decision_lines
 from raceoffice.errors import Trouble
 from raceoffice.program import journal, replay
+from raceoffice.program.standing import Score, Standing
 from raceoffice.series import entry_list, headings, read_list, settings
 from raceoffice.series.folder import Folder, entries_of
 from raceoffice.typing_window import batch
@@ -163,9 +164,9 @@ class Readers(unittest.TestCase):
         def text(data: bytes) -> list[str]:
             return data.decode("ascii", "replace").splitlines()
 
-        self.each("table", lambda data: journal.Standing.read(text(data)))
+        self.each("table", lambda data: Standing.read(text(data)))
         self.each("table", lambda data: replay.sheet_of(text(data)))
-        self.each("table", lambda data: journal.Score.read(data.decode("ascii", "replace")))
+        self.each("table", lambda data: Score.read(data.decode("ascii", "replace")))
         self.each("journal", lambda data: journal.Series.read(text(data)))
 
     def test_series_files(self) -> None:
@@ -186,7 +187,7 @@ class Readers(unittest.TestCase):
 
             def log(data: bytes) -> None:
                 write("office.log", data)
-                folder.logged(), folder.windows()
+                folder.logged()
 
             self.each("journal", journal)
             self.each("log", log)

@@ -20,7 +20,7 @@ from concurrent.futures import ThreadPoolExecutor
 import helpers
 from raceoffice import faults
 from raceoffice.commands import board
-from raceoffice.results import http, server
+from raceoffice.results import http_answers, server
 
 # Loopback addresses: the flood's, and that of an honest phone.
 FLOOD, HONEST = "127.0.0.2", "127.0.0.3"
@@ -219,7 +219,7 @@ class Faults(unittest.TestCase):
     def test_fault_of_an_answer(self) -> None:
         """What goes wrong in an answer is noted, and the next phone is answered."""
         texts, notes, port = Failing(), [], helpers.free_port(self)
-        shown = http.Board()
+        shown = http_answers.Board()
         shown.texts = texts
         server.Listener("127.0.0.1", port, shown, notes.append).start()
         for texts.is_broken, wanted in ((True, b""), (False, b"HTTP/1.1 404")):
@@ -234,7 +234,7 @@ class Faults(unittest.TestCase):
         patient = unittest.mock.patch.object(server, "PATIENCE", 300.0)
         patient.start()
         self.addCleanup(patient.stop)
-        shown, port = http.Board(), helpers.free_port(self)
+        shown, port = http_answers.Board(), helpers.free_port(self)
         shown.put({"/": ("text/plain", b"short"), "/long": ("text/plain", b"long" * 1_000_000)})
         server.Listener("127.0.0.1", port, shown, self.fail).start()
         with contextlib.ExitStack() as stack:

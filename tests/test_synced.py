@@ -83,6 +83,22 @@ class Synced(Kept):
         self.assertEqual(self.noted()[0], "reply JOURNAL 3")
         self.killed(office)
 
+    def test_nobody_to_wait_for(self) -> None:
+        """A client alone waits for no others before a sync, and two don't wait for each other where nothing has to
+        be put on the disk."""
+        office, link = self.opened(**self.noting, NOTED_YIELDS="1")
+        other = self.client()
+        for sail in "ABCDE":
+            link.ask(f"ENTER {sail}")
+        for client in (other, link) * 5:
+            client.ask("RANK A")
+        self.assertEqual(self.noted().count("yield"), 0)
+        # Two who both enter boats wait for each other, so that they may share a sync.
+        for at, client in enumerate((other, link) * 5):
+            client.ask(f"ENTER {at}")
+        self.assertGreater(self.noted().count("yield"), 0)
+        self.killed(office)
+
     def test_batches(self) -> None:
         """A hundred boats need three syncs."""
         sails = range(100, 200)

@@ -21,7 +21,7 @@ import helpers
 from forger import block_in, journal_of, resealed
 from raceoffice.commands import export
 from raceoffice.errors import Odd, Unsure
-from raceoffice.program import journal as journals
+from raceoffice.program.standing import Score
 from raceoffice.results.html import notice, overall
 from raceoffice.results.html.markup import Markup, tag
 from raceoffice.results.html.page import confirmed
@@ -208,7 +208,7 @@ class Pages(helpers.Series):
         right = overall.cell
         for was, now, why in [("3<i>.0", "4<i>.0", "(GBR 101 A. Moss)"), ("DNE", "DSQ", "(GBR 33 "),
                               ("<s>)", "<s>", "")]:
-            def wrong(score: journals.Score) -> Markup:
+            def wrong(score: Score) -> Markup:
                 return Markup(right(score).html.replace(was, now))
 
             with unittest.mock.patch("raceoffice.results.html.overall.cell", wrong):

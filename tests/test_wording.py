@@ -6,6 +6,7 @@ import unittest
 
 import helpers
 from raceoffice import wording
+from raceoffice.program import messages
 
 
 class Words(unittest.TestCase):
@@ -22,13 +23,20 @@ class Words(unittest.TestCase):
         self.assertEqual(wording.sign("\u200b"), "the invisible sign U+200B")
         self.assertEqual(wording.sign("é"), "the sign 'é'")
 
+    def test_names(self) -> None:
+        """What isn't seen, or lies over the lines around, is no part of a name."""
+        for text, name in [("Mo\u200bss\u202e", "Moss"), ("M\ua670oss", "Moss"), ("Mo\U0001d159ss", "Moss"),
+                           ("\u0e01" + "\u0e49" * 9, "\u0e01"), ("\u0e01\u0e34\u0e49", "\u0e01\u0e34\u0e49"),
+                           ("Zo\u0308e\u0301", "Zo\u0308e\u0301")]:
+            self.assertEqual(wording.on_one_line(text), name)
+
     def test_faults(self) -> None:
         """A fault of a file is shown with the line that is meant."""
         with helpers.folder() as name:
             journal = os.path.join(name, "journal.txt")
             with open(journal, "w", encoding="ascii") as file:
                 file.write("REGATTA 2\n1 1 SCORER ENTER A\n1 2 FINISH FINISH 1 B\n")
-            said = wording.start_fault("regatta: start refused 7 at 2\n", journal, "entries.csv")
+            said = messages.start_fault("regatta: start refused 7 at 2\n", journal, "entries.csv")
             self.assertEqual(said[0], "Line 3 of journal.txt is refused: a boat that is named isn't "
                              "entered. It is '1 2 FINISH FINISH 1 B'.")
             for fault, text in [
@@ -46,16 +54,16 @@ class Words(unittest.TestCase):
                     ("error: unexpected argument '--keep' found", "older than these tools"),
                     ("regatta: no memory", "The program says: regatta: no memory.")]:
                 for note in ("", "regatta: keep cut 3 bytes after line 3\n1 3\n"):
-                    said = wording.start_fault(f"{note}{fault}\n", journal, "entries.csv")
+                    said = messages.start_fault(f"{note}{fault}\n", journal, "entries.csv")
                     self.assertIn(text, said[0])
 
     def test_cut(self) -> None:
         """What was cut off is shown, with what it may have been."""
-        said = wording.cut_note("regatta: keep cut 12 bytes after line 3\n1 3 FINI??\nregatta: keep fault\n")
+        said = messages.cut_note("regatta: keep cut 12 bytes after line 3\n1 3 FINI??\nregatta: keep fault\n")
         self.assertEqual(said.splitlines()[0], "journal.txt ended in a torn line, as after a crash. What came "
                          "after line 3 was cut off, and is in journal.txt.cut now (12 bytes):")
         self.assertEqual(said.splitlines()[1], "   1 3 FINI??")
-        self.assertEqual(wording.cut_note("regatta: keep fault\n"), "")
+        self.assertEqual(messages.cut_note("regatta: keep fault\n"), "")
 
 
 if __name__ == "__main__":

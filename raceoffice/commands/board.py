@@ -22,9 +22,10 @@ import subprocess
 import sys
 import time
 
+from raceoffice import system
 from raceoffice.errors import Trouble
 from raceoffice.faults import WRITTEN, guarded, status_of, written
-from raceoffice.results.http import Board, addresses
+from raceoffice.results.http_answers import Board, addresses
 from raceoffice.results.publish import Files, Site, served
 from raceoffice.results.server import Listener
 from raceoffice.results.source import Source
@@ -242,7 +243,7 @@ def stop(number: int, _frame: object) -> None:
 
 def run(asked: argparse.Namespace) -> int:
     look_at(asked)
-    for number in (signal.SIGINT, signal.SIGTERM, signal.SIGHUP):
+    for number in system.STOPS:
         signal.signal(number, stop)
     try:
         return status_of(lambda: show(asked), asked.folder[0])

@@ -32,13 +32,15 @@ from raceoffice.decisions.points import Decided, decided
 from raceoffice.errors import Trouble
 from raceoffice.faults import status_of
 from raceoffice.program.link import Link, Sheet
+from raceoffice.program.messages import refusal
 from raceoffice.program.replay import Line
-from raceoffice.results.source import Source, replayed
+from raceoffice.results.source import Source
 from raceoffice.series.folder import Folder
 from raceoffice.series.lost_lines import UNANSWERED
+from raceoffice.series.run_program import replayed
 from raceoffice.series.settings import Settings
 from raceoffice.terminal import command_name, question, say, sentence
-from raceoffice.wording import count, refusal
+from raceoffice.wording import count
 
 WHO = "decisions"
 

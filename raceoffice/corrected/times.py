@@ -9,21 +9,23 @@ from collections.abc import Sequence
 from dataclasses import dataclass
 from fractions import Fraction
 
+from raceoffice import system
 from raceoffice.corrected.sheets import Entry, entries_of, for_program
 from raceoffice.errors import Trouble
 from raceoffice.program.find import found_program
 from raceoffice.program.journal import Race, Series
 from raceoffice.program.link import Link, Sheet
-from raceoffice.program.replay import in_memory, not_run, options_of
-from raceoffice.results.source import replayed
+from raceoffice.program.messages import refusal
+from raceoffice.program.replay import not_run
 from raceoffice.series import entry_list
 from raceoffice.series.folder import Folder
 from raceoffice.series.headings import rating_columns
 from raceoffice.series.lost_lines import UNANSWERED
 from raceoffice.series.read_list import as_csv, bytes_of, name_of, table_of
+from raceoffice.series.run_program import replayed
 from raceoffice.series.settings import lines_of, text_in
 from raceoffice.terminal import question, say
-from raceoffice.wording import count, duration, refusal
+from raceoffice.wording import count, duration
 
 WHO = "times"
 SHEETS, RULES = "times", "rules.ini"
@@ -204,10 +206,9 @@ class Desk:
         words = ["--race", str(race), "--system", self.rules.system, "--rounding", self.rules.rounding,
                  *(["--overnight"] if race in self.rules.overnight else [])]
         try:
-            with in_memory({"--entries": ratings}) as files:
-                return subprocess.run([self.rules.program, "sums", *words, *options_of(files)], input=sheet,
-                                      capture_output=True, timeout=PATIENCE,
-                                      pass_fds=list(files.values()))
+            with system.lent({"--entries": ratings}) as (files, numbers):
+                return subprocess.run([self.rules.program, "sums", *words, *files], input=sheet,
+                                      capture_output=True, timeout=PATIENCE, pass_fds=numbers)
         except (OSError, subprocess.TimeoutExpired) as cause:
             raise not_run(self.rules.program, cause) from cause
 

@@ -12,8 +12,9 @@ from dataclasses import dataclass
 from raceoffice.decisions.decision_lines import AVERAGES, NAME, PENALTIES, Ruling, in_words, rulings_of
 from raceoffice.decisions.held import HARD, Holding, cleared, holdings, marked, reinstated, restored
 from raceoffice.errors import Trouble
-from raceoffice.program.journal import Race, Score, Series, Standing
+from raceoffice.program.journal import Race, Series
 from raceoffice.program.replay import Line, scored
+from raceoffice.program.standing import Score, Standing
 from raceoffice.wording import joined
 
 # The codes whose points are the score for Did Not Finish, under RRS A5.2 and A5.3.

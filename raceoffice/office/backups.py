@@ -6,11 +6,11 @@ import contextlib
 
 from raceoffice.errors import Trouble
 from raceoffice.program.link import Sheet
-from raceoffice.results.source import replayed
 from raceoffice.series import copies
 from raceoffice.series.continuity import first_entries
 from raceoffice.series.folder import VERSION, Folder
 from raceoffice.series.kept_places import Places
+from raceoffice.series.run_program import replayed
 from raceoffice.series.second_folder import Second, places_copy_of
 
 CHANGED = "journal.txt isn't what the office keeps: somebody has changed or replaced it"

@@ -8,13 +8,15 @@ import subprocess
 import time
 from collections.abc import Iterator
 
+from raceoffice import system
 from raceoffice.errors import Gone, Trouble
-from raceoffice.files import opened_as_ours, replace_whole
-from raceoffice.program.link import Link, remove_socket, sockets_at
-from raceoffice.series.folder import PRIVATE, Folder, Lock, is_tool
+from raceoffice.files import PRIVATE, opened_as_ours, replace_whole
+from raceoffice.program.link import Link, remove_socket
+from raceoffice.program.messages import cut_note, without_note
+from raceoffice.series.folder import Folder, Lock
 from raceoffice.series.run_program import Program, serve_words
+from raceoffice.series.windows import OFFICE, Presence, open_windows
 from raceoffice.terminal import question, say
-from raceoffice.wording import cut_note, without_note
 
 # The number of clients after which the program ends. Closing uses up the rest, so that it ends by
 # itself, with its table.
@@ -36,6 +38,7 @@ class Service:
         self.process: subprocess.Popen[bytes] | None = None
         self.number = 0
         self.link: Link
+        self.presence: Presence | None = None
 
     # Its beginning
 
@@ -103,7 +106,7 @@ class Service:
                 number, window, since = file.read().split()
         except (OSError, ValueError):
             raise Trouble("the office is being opened in another window") from None
-        if is_tool(window, "open"):
+        if window in open_windows(self.folder, OFFICE):
             raise Trouble(f"the office is open in another window, since {since} (process {window})")
         if not question(f"The office is open since {since}, but its window has gone. Take it over?",
                         True):
@@ -119,6 +122,7 @@ class Service:
 
     def note_pid(self) -> None:
         """Notes the program's process and this window's."""
+        self.presence = self.presence or Presence(self.folder, OFFICE)
         replace_whole(self.file("pid"), f"{self.number} {os.getpid()} {time.strftime('%H:%M')}\n".encode())
 
     # What it says
@@ -151,7 +155,7 @@ class Service:
 
     def lets_in(self) -> bool:
         """Whether the program still lets clients in: not after its last session."""
-        return True in sockets_at(self.folder.socket)
+        return True in system.sockets_at(self.folder.socket)
 
     # Its end
 
@@ -172,7 +176,7 @@ class Service:
 
     def has_others(self) -> bool:
         """Whether there are clients beside this window."""
-        return len(sockets_at(self.folder.socket)) > 1
+        return len(system.sockets_at(self.folder.socket)) > 1
 
     def leave(self) -> None:
         """Leaves as the last client, and waits for the program's end."""
@@ -218,7 +222,7 @@ class Service:
 def stops_deferred() -> Iterator[None]:
     """Lets a signal that ends this window come only after the program that it starts has been noted: else
     the program would stay, and nobody would know of it."""
-    handlers = {number: signal.getsignal(number) for number in (signal.SIGINT, signal.SIGHUP, signal.SIGTERM)}
+    handlers = {number: signal.getsignal(number) for number in system.STOPS}
     caught = {number: handler for number, handler in handlers.items() if callable(handler)}
     came: list[int] = []
     for number in caught:

@@ -13,27 +13,28 @@ import sys
 import time
 from collections.abc import Callable
 
+from raceoffice import system
 from raceoffice.errors import Fault, Trouble
 from raceoffice.faults import guarded, in_words
 from raceoffice.office.backups import Keeper
 from raceoffice.office.process import LEAVE, Service
 from raceoffice.program.link import Sheet, remove_socket
-from raceoffice.results.source import rules_of
+from raceoffice.program.messages import moved
 from raceoffice.series import entry_list
 from raceoffice.series.continuity import difference, note_of
 from raceoffice.series.folder import Folder, clock
 from raceoffice.series.health import changes_of_rules, is_full, notes, remove_probes, rules_before, summary
 from raceoffice.series.kept_places import kept_in_words
 from raceoffice.series.lost_lines import unsaved
-from raceoffice.series.run_program import Program
+from raceoffice.series.run_program import Program, rules_of
+from raceoffice.series.windows import BOARD, TYPING, open_windows
 from raceoffice.terminal import (TYPED, YES_OR_NO, Once, command_name, is_yes, question, say, say_if_heard,
                                  sentence)
-from raceoffice.wording import count, moved
+from raceoffice.wording import count
 
 # Seconds between two looks at the journal, at the door, and between two dated copies; and between two
 # looks for a signal.
 LOOK, DOOR, DATED, TICK = 1.0, 60.0, 3600.0, 0.2
-STOPS = {signal.SIGINT, signal.SIGHUP, signal.SIGTERM}
 NOBODY = "The office lets nobody in any more. Close it by Ctrl-C, and open it again."
 
 
@@ -104,7 +105,7 @@ class Hall:
     def start(self) -> None:
         """Removes what a crash has left, says what it has cost, and starts the program. A signal that
         comes meanwhile ends both."""
-        for number in STOPS - {signal.SIGINT}:
+        for number in system.STOPS - {signal.SIGINT}:
             if signal.getsignal(number) != signal.SIG_IGN:
                 signal.signal(number, lambda *_: sys.exit(1))
         self.folder.set_closing(False)
@@ -126,7 +127,7 @@ class Hall:
         self.folder.log("", "", " ".join(self.folder.settings.options()), "opened",
                         note_of(self.keeper.data()))
         # From here on a signal waits until it is asked for.
-        signal.pthread_sigmask(signal.SIG_BLOCK, STOPS)
+        system.hold_stops()
         say_if_heard(f"{said}\n{clock()} The office is open. Ctrl-C closes it.")
 
     # While it is open
@@ -135,7 +136,7 @@ class Hall:
         """Copies the journal until the office is closed or has gone; the status."""
         while True:
             time.sleep(TICK)
-            number = stop_asked()
+            number = system.stop_that_waits()
             if number and self.is_to_close(number):
                 return self.close()
             if self.looks.has_come() and not self.goes_on():
@@ -211,7 +212,7 @@ class Hall:
         """Who may still type, and which places are kept, or why nobody knows; empty if there is nothing."""
         try:
             with guarded(self.folder.path):
-                windows = list(self.folder.windows("type").values())
+                windows = list(open_windows(self.folder, TYPING).values())
                 kept = kept_in_words(self.folder)
         except Trouble as trouble:
             return f"Beware: {sentence(trouble)}"
@@ -231,7 +232,7 @@ class Hall:
                 return meant
             if given is not None:
                 say_if_heard(f"{YES_OR_NO}\n{text}", end="")
-            if number := stop_asked():
+            if number := system.stop_that_waits():
                 say_if_heard("")
                 return number != signal.SIGINT
             if self.looks.has_come() and not self.goes_on():
@@ -290,7 +291,7 @@ class Hall:
         end = time.monotonic() + LEAVE
         while self.service.has_others():
             if time.monotonic() > end:
-                windows = list(self.folder.windows().values())
+                windows = list(open_windows(self.folder, TYPING, BOARD).values())
                 raise Trouble(f"still there after {LEAVE:g} seconds: "
                               + (", ".join(windows) or "somebody who isn't in office.log"))
             self.save(self.service.link.sheet())
@@ -309,7 +310,7 @@ class Hall:
             except Trouble as trouble:
                 self.say_once("last", f"The office stays until its journal is in kept/: {trouble}. Once more "
                               "Ctrl-C shows it here, and closes the office.")
-            if stop_asked():
+            if system.stop_that_waits():
                 say_if_heard("\n".join(sheet.journal))
                 return ""
             time.sleep(LOOK)
@@ -357,10 +358,3 @@ def typed_now() -> str | None:
         return TYPED.line(TICK)
     except EOFError:
         return "n"
-
-
-def stop_asked() -> signal.Signals | None:
-    """The signal that waits, if one does. To wait for one here isn't safe: after SIGCONT,
-    `sigtimedwait` may return at the end of its time what no signal has said."""
-    came = signal.sigtimedwait(STOPS, 0)
-    return signal.Signals(came.si_signo) if came else None

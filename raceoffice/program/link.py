@@ -2,14 +2,12 @@
 from __future__ import annotations
 
 import collections
-import contextlib
-import glob
 import os
 import re
-import socket
 import stat
 from dataclasses import dataclass
 
+from raceoffice import system
 from raceoffice.characters import utf8
 from raceoffice.errors import Gone, NoSeat, Trouble
 
@@ -17,12 +15,6 @@ from raceoffice.errors import Gone, NoSeat, Trouble
 # 500 boats, 40 races and 8,192 entries has less than a quarter of that.
 PATIENCE = 10.0
 LARGEST = 4 << 20
-
-# What the kernel says of each Unix socket that has a path: its flags, its number and the path. A
-# listening socket has this flag.
-SOCKETS = "/proc/net/unix"
-SOCKET = re.compile(rb"^\S+: \S+ \S+ (\S+) \S+ \S+ +(\d+) (.+)$", re.MULTILINE)
-LISTENS = 1 << 16
 
 
 @dataclass(frozen=True)
@@ -49,15 +41,11 @@ class Link:
     def __init__(self, path: str, patience: float = PATIENCE) -> None:
         self.lines: collections.deque[str] = collections.deque()
         self.rest, self.patience = b"", patience
-        self.socket = socket.socket(socket.AF_UNIX, socket.SOCK_STREAM)
+        self.socket = system.socket_of_office()
         self.socket.settimeout(patience)
         try:
-            # The path of a socket may have 107 bytes, and a folder's may have more.
-            folder = os.open(os.path.dirname(path) or ".", os.O_PATH)
-            try:
-                self.socket.connect(f"/proc/self/fd/{folder}/{os.path.basename(path)}")
-            finally:
-                os.close(folder)
+            with system.short_name(path) as name:
+                self.socket.connect(name)
         except OSError as cause:
             self.close()
             raise unreachable(path, cause) from None
@@ -124,46 +112,6 @@ class Link:
         return Trouble(f"the office said {text!r}, which nobody had asked for")
 
 
-def folders_of_sockets() -> dict[int, str]:
-    """By the number of a socket, the folder of a process that has it open."""
-    found = {}
-    for name in glob.iglob("/proc/[0-9]*/fd/[0-9]*"):
-        # A process may end meanwhile, and those of other accounts aren't shown.
-        with contextlib.suppress(OSError):
-            opened = os.readlink(name)
-            if opened.startswith("socket:["):
-                found[int(opened[8:-1])] = os.readlink(f"{name.split('/fd/')[0]}/cwd")
-    return found
-
-
-def sockets_at(path: str, ours: bool = True) -> list[bool]:
-    """Of each socket that an office made at this path, or accepted there, whether it listens.
-
-    `ours` says whether this account made the file there.
-    """
-    try:
-        with open(SOCKETS, "rb") as file:
-            said = file.read()
-    except OSError as cause:
-        raise Trouble(f"nobody can say whether an office is still at {path}: {SOCKETS} can't be "
-                      f"read: {cause.strerror}. The file stays as it is") from None
-    asked, folders, found = os.path.realpath(path), folders_of_sockets(), []
-    for flags, number, name in SOCKET.findall(said):
-        name = os.fsdecode(name)
-        if os.path.basename(name) != os.path.basename(path):
-            continue
-        # The name is that which the office was given, and may start at the office's own folder.
-        folder = folders.get(int(number))
-        if folder is not None or os.path.isabs(name):
-            same = os.path.realpath(os.path.join(folder or "/", name)) == asked
-        else:
-            # This is an office of another account, which may only have made a file of that account.
-            same = not ours
-        if same:
-            found.append(bool(int(flags, 16) & LISTENS))
-    return found
-
-
 def remove_socket(path: str) -> bool:
     """Removes the file that an office left at this path, and says whether one was there.
 
@@ -179,7 +127,7 @@ def remove_socket(path: str) -> bool:
     if not stat.S_ISSOCK(file.st_mode):
         raise Trouble(f"{path} is no file that an office leaves. It stays as it is")
     # Who connects uses up one of an office's --sessions, so the kernel is asked first.
-    found = sockets_at(path, file.st_uid == os.geteuid())
+    found = system.sockets_at(path, file.st_uid == system.account())
     if any(found) or not found and is_answered(path):
         raise Trouble(f"an office is open at {path}: find its window, and press Ctrl-C there")
     if found:

@@ -2,18 +2,18 @@
 they ask what the program would say."""
 from __future__ import annotations
 
-import contextlib
 import hashlib
 import os
 import re
 import subprocess
-from collections.abc import Iterator, Mapping, Sequence
+from collections.abc import Sequence
 from dataclasses import dataclass
 
+from raceoffice import system
 from raceoffice.errors import Trouble
-from raceoffice.program.journal import Standing
 from raceoffice.program.link import Sheet
-from raceoffice.wording import refusal
+from raceoffice.program.messages import refusal
+from raceoffice.program.standing import Standing
 
 # Seconds that the program may take for a replay, and for each 1,000 bytes of its journal: of a full series
 # it prints the table once for each race.
@@ -30,34 +30,15 @@ class Line:
         return self.text
 
 
-@contextlib.contextmanager
-def in_memory(files: Mapping[str, bytes | None]) -> Iterator[dict[str, int]]:
-    """Files that a program reads by their numbers, by the options that name them; none of them is kept."""
-    with contextlib.ExitStack() as stack:
-        found = {}
-        for option, data in files.items():
-            if data is not None:
-                found[option] = os.memfd_create(option)
-                stack.callback(os.close, found[option])
-                with open(found[option], "wb", closefd=False) as file:
-                    file.write(data)
-        yield found
-
-
-def options_of(files: Mapping[str, int]) -> list[str]:
-    """The options of files in memory, as words of a command."""
-    return [word for option, number in files.items() for word in (option, f"/proc/self/fd/{number}")]
-
-
 def ran(program: str, words: list[str], typed: str = "", journal: bytes | None = None,
         boats: bytes | None = None) -> subprocess.CompletedProcess[str]:
     """A replay of these lines, run to its end, after the journal and the entry list that are given. The
     cause of a Trouble is why the program can't be run, or doesn't end."""
     try:
-        with in_memory({"--journal": journal, "--entries": boats}) as files:
-            return subprocess.run([program, "replay", *words, *options_of(files)], input=typed,
-                                  capture_output=True, encoding="utf-8", errors="replace",
-                                  timeout=patience(journal), pass_fds=list(files.values()))
+        with system.lent({"--journal": journal, "--entries": boats}) as (files, numbers):
+            return subprocess.run([program, "replay", *words, *files], input=typed, capture_output=True,
+                                  encoding="utf-8", errors="replace", timeout=patience(journal),
+                                  pass_fds=numbers)
     except (OSError, subprocess.TimeoutExpired) as cause:
         raise not_run(program, cause) from cause
 

@@ -5,7 +5,7 @@ import textwrap
 from collections.abc import Sequence
 
 from raceoffice.decisions.points import words_of
-from raceoffice.program.journal import Row, Score
+from raceoffice.program.standing import Row, Score
 from raceoffice.results.html.overall import tie_words
 from raceoffice.results.html.page import MEANING
 from raceoffice.results.html.sealing import seal_words

@@ -10,14 +10,14 @@ import contextlib
 import errno
 import os
 import re
-import resource
 import socket
 import threading
 import traceback
 from collections.abc import Callable, Iterator
 
+from raceoffice import system
 from raceoffice.errors import Trouble
-from raceoffice.results.http import LARGEST, Board, Request, answer, told
+from raceoffice.results.http_answers import LARGEST, Board, Request, answer, told
 
 # Seconds that a request may take, and as many again for its answer.
 PATIENCE = 5.0
@@ -85,7 +85,7 @@ class Listener:
         self.unfinished: collections.Counter[str] = collections.Counter()
         self.slow: collections.Counter[str] = collections.Counter()
         self.door = door_at(address, port)
-        self.room = room_made() - SPARE
+        self.room = system.room_for_files(ROOM) - SPARE
         self.visits: set[asyncio.Task[None]] = set()
 
     def start(self) -> None:
@@ -175,14 +175,6 @@ def door_at(address: str, port: int) -> socket.socket:
             raise Trouble(f"this computer doesn't have the address {address}") from None
         raise Trouble(f"port {port} can't be used: {os.strerror(cause.errno or 0)}. Another program may "
                       "have it: take another, as --http 8081") from None
-
-
-def room_made() -> int:
-    """How many files and connections this process may have from now on."""
-    _, hard = resource.getrlimit(resource.RLIMIT_NOFILE)
-    room = ROOM if hard == resource.RLIM_INFINITY else min(ROOM, hard)
-    resource.setrlimit(resource.RLIMIT_NOFILE, (room, hard))
-    return room
 
 
 def trace_of(cause: BaseException) -> str:

@@ -12,7 +12,8 @@ from dataclasses import dataclass, field
 
 from raceoffice import time_zones
 from raceoffice.decisions.points import Decided
-from raceoffice.program.journal import Race, Row, Score, Series, Standing, tie_break
+from raceoffice.program.journal import Race, Series
+from raceoffice.program.standing import Row, Score, Standing, tie_break
 from raceoffice.results.spreadsheet import Cell, as_number, csv_of
 from raceoffice.series.entry_list import Boat
 from raceoffice.series.settings import Settings

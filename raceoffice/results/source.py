@@ -8,32 +8,21 @@ import os
 from raceoffice.decisions import decision_lines
 from raceoffice.decisions.points import Decided, decided
 from raceoffice.errors import Trouble
-from raceoffice.program.journal import Series, Standing, last_scored
+from raceoffice.program.journal import Series, last_scored
 from raceoffice.program.link import Link, Sheet
-from raceoffice.program.replay import digest_of, nets_before_exclusion, printed, sheet_of
+from raceoffice.program.replay import digest_of, nets_before_exclusion
+from raceoffice.program.standing import Standing
 from raceoffice.results.snapshot import CHANGED, View, labelled
 from raceoffice.series import entry_list, settings
 from raceoffice.series.folder import Folder
 from raceoffice.series.last_change import is_changed_since, time_of_entry, time_of_notice, time_of_rules
+from raceoffice.series.run_program import replayed, rules_of
 from raceoffice.series.settings import Settings
+from raceoffice.series.windows import BOARD, Presence
 from raceoffice.terminal import command_name, sentence
 
 # Seconds that an office may take for its answer.
 PATIENCE = 5.0
-
-
-def replayed(folder: Folder, options: list[str]) -> Sheet:
-    """The sheet of a series under these rules, from the folder's own files."""
-    if os.path.exists(folder.journal):
-        return sheet_of(printed(folder.program, options, "SHOW\nQUIT\n", folder.parts()[0]))
-    return sheet_of(printed(folder.program, options, "SHOW\nQUIT\n", boats=entry_list.given(folder.entries)))
-
-
-def rules_of(options: list[str]) -> dict[str, object]:
-    """The rules of a settings file from the options that an office was opened with."""
-    words = dict(zip(options, options[1:] + [""]))
-    return {"exclude": words.get("--exclude", "2"), "absent": words.get("--absent", "a52"),
-            "scp": words.get("--scp", ""), "handicap": "--handicap" in words}
 
 
 def now() -> datetime.datetime:
@@ -47,6 +36,7 @@ class Source:
     def __init__(self, path: str) -> None:
         self.folder = Folder(path)
         self.link: Link | None = None
+        self.presence: Presence | None = None
         self.view: View | None = None
         self.office, self.checked = "away", now()
         self.settings = self.folder.settings
@@ -108,6 +98,7 @@ class Source:
         if self.link is None:
             self.link = Link(self.folder.socket, PATIENCE)
             self.rules = self.opened_rules()
+            self.presence = Presence(self.folder, BOARD)
             self.log("came")
         return self.link
 
@@ -116,6 +107,8 @@ class Source:
         if self.link is not None:
             self.link.close()
             self.link = None
+            if self.presence:
+                self.presence.close()
             self.log("left")
 
     def log(self, what: str) -> None:

@@ -8,11 +8,11 @@ from raceoffice.errors import Trouble
 from raceoffice.files import replace_whole
 from raceoffice.program.journal import Race, Series
 from raceoffice.program.link import Sheet
-from raceoffice.results.source import replayed
 from raceoffice.series import entry_list, settings
 from raceoffice.series.folder import Folder
 from raceoffice.series.kept_places import kept_in_words
 from raceoffice.series.last_change import mark_of
+from raceoffice.series.run_program import replayed
 from raceoffice.terminal import question, say, typed
 from raceoffice.wording import count, joined, on_one_line
 

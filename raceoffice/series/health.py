@@ -6,20 +6,21 @@ import errno
 import glob
 import os
 import re
-import socket
 import stat
 
+from raceoffice import system
 from raceoffice.characters import is_utf8
 from raceoffice.errors import Trouble
-from raceoffice.program.journal import Change, Series, changes
-from raceoffice.results.source import replayed
+from raceoffice.files import PRIVATE
+from raceoffice.program.journal import Series
+from raceoffice.program.standing import Change, changes
 from raceoffice.series import entry_list
 from raceoffice.series.continuity import added
 from raceoffice.series.copies import best_copy, lines_in
-from raceoffice.series.folder import PRIVATE, Folder
+from raceoffice.series.folder import Folder
 from raceoffice.series.kept_places import kept_in_words
 from raceoffice.series.read_list import bytes_of
-from raceoffice.series.run_program import Program
+from raceoffice.series.run_program import Program, replayed
 from raceoffice.series.second_folder import second_of
 from raceoffice.terminal import sentence
 from raceoffice.wording import count, joined
@@ -156,12 +157,8 @@ def is_full(folder: Folder) -> bool:
 
 def make_socket(path: str) -> None:
     """Makes a socket at this path, which may be longer than the 107 bytes of a socket's."""
-    folder = os.open(os.path.dirname(path), os.O_PATH)
-    try:
-        with socket.socket(socket.AF_UNIX) as made:
-            made.bind(f"/proc/self/fd/{folder}/{os.path.basename(path)}")
-    finally:
-        os.close(folder)
+    with system.socket_of_office() as made, system.short_name(path) as name:
+        made.bind(name)
 
 
 def probe_of(folder: Folder) -> str:

@@ -6,16 +6,16 @@ import re
 
 from raceoffice.errors import Trouble
 from raceoffice.files import replace_whole
-from raceoffice.program.journal import Standing, changes
+from raceoffice.program.messages import moved, refusal
 from raceoffice.program.replay import ran
-from raceoffice.results.source import replayed
+from raceoffice.program.standing import Standing, changes
 from raceoffice.series import copies, entry_list
 from raceoffice.series.continuity import difference, note_of, parts_of
 from raceoffice.series.folder import Folder, Lock
-from raceoffice.series.run_program import Program
+from raceoffice.series.run_program import Program, replayed
 from raceoffice.series.second_folder import second_of
 from raceoffice.terminal import question, say
-from raceoffice.wording import count, moved, refusal
+from raceoffice.wording import count
 
 
 def sails_of(line: str) -> list[str]:

@@ -7,12 +7,13 @@ import subprocess
 
 from raceoffice.errors import Trouble
 from raceoffice.files import replace_whole
-from raceoffice.program.journal import Standing
-from raceoffice.program.replay import ran
+from raceoffice.program.link import Sheet
+from raceoffice.program.messages import start_fault
+from raceoffice.program.replay import printed, ran, sheet_of
+from raceoffice.program.standing import Standing
 from raceoffice.series.entry_list import given
 from raceoffice.series.folder import Folder
 from raceoffice.terminal import sentence
-from raceoffice.wording import start_fault
 
 
 class Program:
@@ -89,3 +90,17 @@ def serve_words(folder: Folder, sessions: int) -> list[str]:
     return [os.path.abspath(folder.program), "serve", "--socket", "race.sock", "--keep", folder.journal,
             "--clients", str(folder.settings.seats), "--sessions", str(sessions),
             *folder.settings.options()]
+
+
+def replayed(folder: Folder, options: list[str]) -> Sheet:
+    """The sheet of a series under these rules, from the folder's own files."""
+    if os.path.exists(folder.journal):
+        return sheet_of(printed(folder.program, options, "SHOW\nQUIT\n", folder.parts()[0]))
+    return sheet_of(printed(folder.program, options, "SHOW\nQUIT\n", boats=given(folder.entries)))
+
+
+def rules_of(options: list[str]) -> dict[str, object]:
+    """The rules of a settings file from the options that an office was opened with."""
+    words = dict(zip(options, options[1:] + [""]))
+    return {"exclude": words.get("--exclude", "2"), "absent": words.get("--absent", "a52"),
+            "scp": words.get("--scp", ""), "handicap": "--handicap" in words}

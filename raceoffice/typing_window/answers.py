@@ -1,11 +1,13 @@
 """What an answer of the office means, in words: a boat's place, whose scores moved, how a race is."""
 from __future__ import annotations
 
-from raceoffice.program.journal import Plan, Race, Standing, changes
+from raceoffice.program.journal import Plan, Race
+from raceoffice.program.messages import ROLES, moved, rank_of, refusal
+from raceoffice.program.standing import Standing, changes
 from raceoffice.series.unknown_finishers import Waiting
 from raceoffice.typing_window.knowledge import Book
 from raceoffice.typing_window.parse import FINISHING
-from raceoffice.wording import ROLES, count, duration, joined, moved, ordinal, rank_of, refusal
+from raceoffice.wording import count, duration, joined, ordinal
 
 
 def answer_line(book: Book, line: str, answer: str, prefix: str = "") -> str:

@@ -2,9 +2,10 @@
 from __future__ import annotations
 
 from raceoffice.errors import NotSent
+from raceoffice.program.messages import ROLES
 from raceoffice.typing_window.parse import COMMANDS, FIRST, OTHERS, SAILS, boats_meant
 from raceoffice.typing_window.session import Desk, marked
-from raceoffice.wording import ROLES, joined
+from raceoffice.wording import joined
 
 
 class Unsure(NotSent):

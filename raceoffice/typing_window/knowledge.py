@@ -5,8 +5,9 @@ from __future__ import annotations
 from collections.abc import Iterable
 
 from raceoffice.errors import NotSent
-from raceoffice.program.journal import Race, Series, Standing
+from raceoffice.program.journal import Race, Series
 from raceoffice.program.link import Sheet
+from raceoffice.program.standing import Standing
 from raceoffice.series import entry_list
 from raceoffice.series.folder import Folder
 from raceoffice.typing_window.parse import race_number, short

@@ -10,8 +10,10 @@ from collections.abc import Callable
 from dataclasses import dataclass
 
 from raceoffice.errors import NotSent, Trouble
-from raceoffice.program.journal import Plan, Race, Standing, plan_of_abandoning
+from raceoffice.program.journal import Plan, Race, plan_of_abandoning
 from raceoffice.program.link import Link
+from raceoffice.program.messages import refusal
+from raceoffice.program.standing import Standing
 from raceoffice.series import settings
 from raceoffice.series.entry_list import near
 from raceoffice.series.folder import Folder
@@ -27,7 +29,7 @@ from raceoffice.typing_window.knowledge import Book
 from raceoffice.typing_window.parse import (FIRST, MAY, Reader, Unclear, boat_meant, boats_meant, digits_of,
                                             race_number, short)
 from raceoffice.typing_window.undo import reversal
-from raceoffice.wording import count, joined, refusal
+from raceoffice.wording import count, joined
 
 
 @dataclass(frozen=True)

@@ -3,10 +3,11 @@ from __future__ import annotations
 
 from raceoffice.errors import NotSent
 from raceoffice.program.journal import Race, Series
+from raceoffice.program.messages import ROLES
 from raceoffice.series.unknown_finishers import Unread
 from raceoffice.typing_window.knowledge import Book
 from raceoffice.typing_window.parse import FINISHING
-from raceoffice.wording import ROLES, joined
+from raceoffice.wording import joined
 
 
 def reversal(book: Book, number: int) -> str:

@@ -4,13 +4,13 @@ from __future__ import annotations
 import contextlib
 import os
 import select
-import signal
 import threading
 import time
 
+from raceoffice import system
 from raceoffice.errors import Trouble
-from raceoffice.program.link import sockets_at
-from raceoffice.series.folder import PRIVATE, Folder
+from raceoffice.files import PRIVATE
+from raceoffice.series.folder import Folder
 from raceoffice.typing_window.session import Desk
 
 try:
@@ -44,7 +44,7 @@ class Watcher(threading.Thread):
         self.at_prompt, self.begun, self.prompts, self.interrupted = False, False, 0, 0
         # The window's own thread, which makes this one.
         self.window = threading.get_ident()
-        signal.signal(signal.SIGUSR1, self.interrupt)
+        system.on_interruption(self.interrupt)
 
     def ask(self, prompt: str) -> str:
         """A line from the prompt, at which it may be interrupted. What was typed by then is kept,
@@ -69,7 +69,7 @@ class Watcher(threading.Thread):
         readline.insert_text(self.half)
         self.half = ""
 
-    def interrupt(self, *_: object) -> None:
+    def interrupt(self) -> None:
         # The prompt that is meant may have been answered, and another come, before the signal.
         if self.at_prompt and self.prompts == self.interrupted:
             self.at_prompt = False
@@ -87,7 +87,7 @@ class Watcher(threading.Thread):
             # What comes from an office is news only if nobody has sent a line meanwhile.
             if is_news and self.at_prompt and self.prompts == prompt:
                 self.interrupted = prompt
-                signal.pthread_kill(self.window, signal.SIGUSR1)
+                system.interrupt(self.window)
                 time.sleep(LOOK)
 
     def is_heard(self, patience: float) -> bool:
@@ -129,7 +129,7 @@ def is_open(desk: Desk) -> bool:
     """Whether an office lets clients in, has a free seat, and isn't closing. To ask the system costs the
     office nothing."""
     with contextlib.suppress(Trouble):
-        found = sockets_at(desk.folder.socket)
+        found = system.sockets_at(desk.folder.socket)
         return not desk.folder.is_closing() and True in found and not is_full(desk.folder, found)
     return False
 
@@ -143,7 +143,7 @@ def is_full(folder: Folder, sockets: list[bool]) -> bool:
 def has_no_seat(folder: Folder) -> bool:
     """Whether an office is full, as far as the system tells."""
     with contextlib.suppress(Trouble):
-        return is_full(folder, sockets_at(folder.socket))
+        return is_full(folder, system.sockets_at(folder.socket))
     return False
 
 
@@ -152,8 +152,6 @@ def seats_of(folder: Folder) -> int:
     changed since it was opened."""
     with contextlib.suppress(OSError, ValueError, IndexError):
         with open(folder.file(PRIVATE, "pid"), encoding="ascii") as file:
-            number = file.read().split()[0]
-        with open(f"/proc/{number}/cmdline", "rb") as command:
-            words = command.read().split(b"\0")
+            words = system.command_of(int(file.read().split()[0]))
         return int(words[words.index(b"--clients") + 1])
     return folder.settings.seats

@@ -5,14 +5,15 @@ import contextlib
 import os
 import select
 import sys
-import termios
 import time
 from collections.abc import Callable
 
+from raceoffice import system
 from raceoffice.errors import Fault, NoSeat, NotSent, Trouble
 from raceoffice.faults import guarded
 from raceoffice.series.folder import Folder
 from raceoffice.series.unknown_finishers import Unread, in_words
+from raceoffice.series.windows import BOARD, TYPING, Presence, open_windows
 from raceoffice.terminal import question, say, sentence, visible
 from raceoffice.typing_window.classes import Unsure, choosing, desk_meant, greeting
 from raceoffice.typing_window.parse import COMMANDS, FIRST
@@ -31,6 +32,7 @@ class Window:
     def __init__(self, folders: list[Folder], role: str, name: str) -> None:
         self.desks = [Desk(folder, role, name, say, self.ask) for folder in folders]
         self.watcher = Watcher(self.desks)
+        self.present: list[Presence] = []
         # The places that were kept in several classes for one finisher.
         self.twins: list[list[tuple[Desk, Unread]]] = []
 
@@ -70,6 +72,7 @@ class Window:
             except Trouble as trouble:
                 say(f"Beware: {trouble}, that of {desk.folder.name}. The others go on.")
         self.log(desk, "came")
+        self.present.append(Presence(desk.folder, TYPING, desk.name or desk.role.lower()))
 
     def say_kept(self, desks: list[Desk] | None = None) -> None:
         """Says who is without a sail."""
@@ -81,6 +84,8 @@ class Window:
 
     def leave(self) -> None:
         """Leaves all offices."""
+        for presence in self.present:
+            presence.close()
         for desk in self.desks:
             self.log(desk, "left")
             if desk.link:
@@ -346,7 +351,7 @@ def heard(desk: Desk) -> Trouble:
 
 def seats_taken(desk: Desk, trouble: Trouble) -> str:
     """Who has the seats, if that is the trouble."""
-    windows = ", ".join(desk.folder.windows().values())
+    windows = ", ".join(open_windows(desk.folder, TYPING, BOARD).values())
     return f": {windows}" if isinstance(trouble, NoSeat) and windows else ""
 
 
@@ -361,5 +366,5 @@ def typed_already() -> str:
     data = b""
     while select.select([0], [], [], 0.05)[0] and (more := os.read(0, 65536)):
         data += more
-    termios.tcflush(0, termios.TCIFLUSH)
+    system.forget_typed()
     return data.decode("utf-8", "replace")

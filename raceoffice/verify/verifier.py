@@ -11,9 +11,11 @@ from raceoffice import characters
 from raceoffice.decisions.points import Decided, decided
 from raceoffice.errors import Odd, Trouble, Unsure
 from raceoffice.faults import guarded
-from raceoffice.program.journal import Series, Standing
+from raceoffice.program.journal import Series
 from raceoffice.program.link import Sheet
+from raceoffice.program.messages import refusal
 from raceoffice.program.replay import developed, digest_of, nets_before_exclusion, scored
+from raceoffice.program.standing import Standing
 from raceoffice.results.html import page
 from raceoffice.results.html.listing import listing
 from raceoffice.results.html.notice import results
@@ -26,7 +28,7 @@ from raceoffice.terminal import say, sentence
 from raceoffice.verify import read_block
 from raceoffice.verify.read_block import Kept, found_in, moment_of, wrong_confirmation
 from raceoffice.verify.visible import difference, first_of, place, seen, standing_of
-from raceoffice.wording import count, refusal
+from raceoffice.wording import count
 
 CONFIRMED = re.compile('<!DOCTYPE html>\n<html lang="en" data-live="(?:yes|no)" data-every="[0-9]{1,4}" '
                        'data-checked="([0-9T:+-]{0,40})" data-office="([a-z0-9:,]{0,500})" ')

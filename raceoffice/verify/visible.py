@@ -6,7 +6,7 @@ import re
 from collections.abc import Iterator
 from dataclasses import dataclass, field
 
-from raceoffice.program.journal import Row, Score, Standing
+from raceoffice.program.standing import Row, Score, Standing
 
 # Parts that end a text; all others are inside one.
 BLOCKS = {"h1", "h2", "p", "li", "dt", "dd", "caption", "summary", "title", "text", "label", "header",

@@ -20,9 +20,10 @@ from by_rules import Decision
 from raceoffice.commands import decisions
 from raceoffice.decisions import decision_lines, points as decision_points
 from raceoffice.errors import Trouble
-from raceoffice.program import journal as journals, replay
+from raceoffice.program import replay
 from raceoffice.program.link import Link
 from raceoffice.program.replay import Line
+from raceoffice.program.standing import Standing
 
 COUNT = int(os.environ.get("DECISIONS", "40"))
 KINDS = ["DPI", "PRP", "T1", "SCP", "TLE", "NSC", "AVG", "DUTY", "REINSTATE"]
@@ -172,7 +173,7 @@ class Rules(unittest.TestCase):
     def compare(self, made: Made, table: tuple[str, ...], decisions: list[Decision]) -> None:
         """Compares each score of the table with that of the rules."""
         right = by_rules.settled(made.series, decisions)
-        found = decision_points.cells_of(journals.Standing.read(list(table)))
+        found = decision_points.cells_of(Standing.read(list(table)))
         self.assertEqual({place: Fraction(score.points) for place, score in found.items()}, right)
 
     def record_kept(self, made: Made, decisions: list[Decision]) -> None:

@@ -13,7 +13,8 @@ import browser
 import helpers
 
 from forger import journal_of
-from raceoffice.program import journal as journals, replay
+from raceoffice.program import replay
+from raceoffice.program.standing import Standing
 from raceoffice.results.html import chart
 from test_page import APART, PALE, SIZES, SMALL, WEEK, season
 from test_verify import LINES
@@ -204,7 +205,7 @@ class Results(Made):
                 file.write(right)
             done = subprocess.run([helpers.PROGRAM, "replay", "--exclude", "2,4", "--journal", path],
                                   input="", capture_output=True, text=True)
-            self.assertEqual(found[race - 1], journals.Standing.read(done.stdout.splitlines()))
+            self.assertEqual(found[race - 1], Standing.read(done.stdout.splitlines()))
 
     def test_full_journal(self) -> None:
         """A journal without room for more lines has results, and no chart."""

@@ -6,7 +6,7 @@ import unittest
 
 import guide
 import helpers
-from raceoffice import wording
+from raceoffice.program import messages
 from raceoffice.typing_window import parse
 
 ROLES = {"finish": "FINISH", "jury": "JURY", "scorer": "SCORER"}
@@ -61,7 +61,7 @@ class Guide(unittest.TestCase):
         table = self.text.partition("\n## If a line is refused")[2].partition("\n##")[0]
         said = re.findall(r"^\| ([^|]*) \| [^|]* \|$", table, re.MULTILINE)[1:]
         self.assertGreater(len(said), 5)
-        self.assertEqual([text for text in said if text not in wording.NUMBERS.values()], [])
+        self.assertEqual([text for text in said if text not in messages.NUMBERS.values()], [])
 
     def test_roles(self) -> None:
         """The lines of each role are those that the program takes of it."""

@@ -8,6 +8,7 @@ import unittest
 
 import helpers
 from raceoffice.program import journal as journals
+from raceoffice.program.standing import Row, Standing, changes, tie_break
 
 COUNT = 300
 
@@ -45,14 +46,14 @@ def correction_of(dice: random.Random, race: int, boats: list[str]) -> list[str]
         [f"BEFORE {race} {boat} {other}"]])
 
 
-def played(lines: list[str], *options: str) -> tuple[list[str], journals.Standing]:
+def played(lines: list[str], *options: str) -> tuple[list[str], Standing]:
     """The journal and the table after these lines."""
     text = "\n".join([*lines, "SHOW", "QUIT", ""])
     out = subprocess.run([helpers.PROGRAM, "replay", *options], input=text, text=True,
                          capture_output=True).stdout.splitlines()
     start = next(at for at, line in enumerate(out) if line.startswith("JOURNAL ")) + 1
     end = start + int(out[start - 1].split()[1])
-    return out[start:end], journals.Standing.read(out[end:out.index("END")])
+    return out[start:end], Standing.read(out[end:out.index("END")])
 
 
 class Records(unittest.TestCase):
@@ -69,17 +70,17 @@ class Records(unittest.TestCase):
         self.assertEqual(set(rules), {"A8.1", "A8.2", ""})
         self.assertGreater(cells, COUNT)
 
-    def rules_of_ties(self, standing: journals.Standing) -> list[str]:
+    def rules_of_ties(self, standing: Standing) -> list[str]:
         """The rule that broke each tie of neighbours; nothing where they share a rank."""
         rules = []
         for better, worse in zip(standing.rows, standing.rows[1:]):
             if better.net == worse.net and standing.races:
-                found = journals.tie_break(standing.races, better, worse)
+                found = tie_break(standing.races, better, worse)
                 rules.append(found.rule if found else "")
                 self.assertEqual(found is None, better.rank == worse.rank)
         return rules
 
-    def agree(self, series: journals.Series, standing: journals.Standing, row: journals.Row) -> int:
+    def agree(self, series: journals.Series, standing: Standing, row: Row) -> int:
         """Compares a boat's scores with her races; how many had a place alone."""
         plain = 0
         for number, score in zip(standing.races, row.scores):
@@ -126,7 +127,7 @@ class Records(unittest.TestCase):
         lines = ["ENTER A", "ENTER B", "FINISH 1 A", "FINISH 1 B", "SCORE 1"]
         _, before = played(lines)
         _, after = played(lines + ["MARK 1 A RET"])
-        moved = journals.changes(before, after)
+        moved = changes(before, after)
         self.assertEqual([(change.after.sail, change.before.rank, change.after.rank,
                            [(number, a.points, b.points + b.code) for number, a, b in change.races])
                           for change in moved],

@@ -5,7 +5,7 @@ has a colour, a dash, a mark and a label of its own. The table has all boats.
 """
 from __future__ import annotations
 
-from raceoffice.program.journal import Row
+from raceoffice.program.standing import Row
 from raceoffice.results.html.markup import NOTHING, Markup, separated, tag, together
 from raceoffice.results.snapshot import View
 

@@ -4,7 +4,7 @@ from __future__ import annotations
 from collections.abc import Sequence
 
 from raceoffice.decisions.points import words_of
-from raceoffice.program.journal import Row, Score, tie_break
+from raceoffice.program.standing import Row, Score, tie_break
 from raceoffice.results.html.markup import NOTHING, Markup, separated, tag, together
 from raceoffice.results.html.page import (bar, code, finding, foot, head, key, name_heads, points, tenths,
                                           who, whole)

@@ -14,6 +14,7 @@ from collections.abc import Mapping
 from dataclasses import dataclass
 from email.utils import formatdate
 
+from raceoffice import system
 from raceoffice.results.html import assets
 
 # How many bytes a request may have.
@@ -26,7 +27,6 @@ WORDS = {301: "The page is at the address with a slash at its end.",
          404: "There is no such page here.", 405: "This board can only be read.",
          408: "The request took too long.", 431: "The request is too long."}
 SAFE = {"X-Content-Type-Options": "nosniff", "Referrer-Policy": "no-referrer"}
-LOCAL = re.compile(r"\|-- (\S+)\s+/32 host LOCAL")
 
 
 @dataclass(frozen=True)
@@ -145,10 +145,6 @@ def addresses() -> list[str]:
             found.append(probe.getsockname()[0])
         except OSError:
             pass
-    try:
-        with open("/proc/net/fib_trie", encoding="ascii") as file:
-            found += LOCAL.findall(file.read())
-    except OSError:
-        pass
+    found += system.addresses_in_networks()
     outside = [text for text in dict.fromkeys(found) if not text.startswith("127.")]
     return outside or ["127.0.0.1"]

@@ -1,0 +1,143 @@
+"""What the program's answers and faults say, and how boats moved, in words."""
+from __future__ import annotations
+
+import os
+import re
+
+from raceoffice.program.standing import Change, Row, Score
+from raceoffice.wording import count, ordinal
+
+# What each number of a reply says. The guide's table has these words, and a check compares them.
+NUMBERS = {
+    1: "the computer has no memory left for this line",
+    2: "the journal is full: it holds 8,192 entries",
+    3: "this seat has used up its numbers",
+    4: "your role doesn't send this line",
+    5: "500 boats are entered, and no more fit",
+    6: "she is entered already",
+    7: "a boat that is named isn't entered",
+    8: "she is in the finishing order of this race already: strike her first if she is to be moved",
+    9: "she, or the other boat, isn't in the finishing order of this race",
+    10: "she holds DSQ, DNE or redress in this race, and only the jury clears that",
+    11: "she has nine penalties of this kind in this race, and no more fit",
+    12: "she has no code, penalty or redress in this race",
+    13: "this race counts already",
+    14: "this race doesn't count",
+    15: "nobody has finished in this race",
+    16: "a series by corrected time takes TIME, and any other takes FINISH, TIE and BEFORE",
+    20: "the line is longer than 80 letters",
+    21: "the line is empty, or its first word isn't known; help lists the lines",
+    22: "the line has too few words, or too many",
+    23: "this is no sail: 1 to 12 letters, digits and dashes",
+    24: "this is no race: a number from 1 to 40",
+    25: "this is no redress: ALL, PRIOR, or points from 1.0 to 999.9, with one decimal at most",
+    26: "this is no code, or no kind of penalty",
+    27: "this is no role: FINISH, JURY or SCORER",
+    29: "these are no seconds: a whole number from 0 to 999,999",
+}
+ROLES = {"FINISH": "the finish", "JURY": "the jury", "SCORER": "the scorer"}
+
+
+def refusal(answer: str) -> str:
+    """Why a line was refused, from its answer."""
+    number = answer.removeprefix("NO ")
+    return NUMBERS.get(int(number) if re.fullmatch("[0-9]{1,3}", number) else 0,
+                       "an answer that isn't known here; docs/FORMATS.md may know it")
+RULES = {1: "scp has to be 1 to 99", 6: "absent, scp or exclude is written wrongly"}
+JOURNAL = {1: "isn't a line of a journal", 2: "is after the 8,192nd entry",
+           4: "names a version that this program doesn't read"}
+LIST = {1: "no column has the heading Sail", 2: "the row ends before the column of sails",
+        3: "what is in the column of sails is no sail", 4: "the sail is in an earlier row",
+        5: "500 boats were read before"}
+# What the program says of journal.txt, which it keeps.
+DAMAGED = ("journal.txt is damaged after line {0}. If a crash did that, all that was answered is in the lines "
+           "up to it. In its folder this keeps those alone:\n"
+           "   head -n {0} journal.txt > good.txt\n   cp good.txt journal.txt\n"
+           "Otherwise compare it with the copies in kept/.")
+NO_JOURNAL = "journal.txt is no journal: none of its lines is whole. Compare it with the copies in kept/."
+KEPT = {
+    "taken": "Another office has journal.txt, which wasn't opened here. End that one first.",
+    "fault": "journal.txt can't be opened, or can't be put on the disk. Is the disk full? May this "
+             "account write the file? It must be a plain file with one name, and nobody else may change, "
+             "move or remove it while the office is open.",
+    "too long": "journal.txt is longer than 1,048,576 bytes.",
+    "damaged after line 0": NO_JOURNAL,
+    r"damaged after line (\d+)": DAMAGED,
+    r"differs at (\d+)": "journal.txt and the journal that the office was to begin with have different "
+                         "entries, first at {}.",
+}
+
+
+def without_note(said: str) -> str:
+    """What the program said, without its note of what it cut off."""
+    return re.sub(r"^regatta: keep cut .*\n.*\n", "", said)
+
+
+def cut_note(said: str) -> str:
+    """The note of what the program cut off, in words; empty if it cut nothing off."""
+    found = re.match(r"regatta: keep cut (\d+) bytes after line (\d+)\n(.*)\n", said)
+    if not found:
+        return ""
+    return (f"journal.txt ended in a torn line, as after a crash. What came after line {found[2]} was cut "
+            f"off, and is in journal.txt.cut now ({count(int(found[1]), 'byte')}):\n   {found[3]}\n"
+            "Nobody had an answer to that. If it was meant, type it again from its fourth word on.")
+
+
+def start_fault(said: str, journal: str, entries: str) -> list[str]:
+    """What the program said when it didn't start, in words; a line of the journal is shown."""
+    said = without_note(said)
+    for pattern, text in KEPT.items():
+        if found := re.search(f"^regatta: keep {pattern}$", said, re.MULTILINE):
+            return [text.format(*found.groups())]
+    if found := re.search(r"^regatta: rules fault (\d)", said, re.MULTILINE):
+        why = RULES.get(int(found[1]), "exclude has to be none, or up to four rising numbers")
+        return [f"series.ini: {why}."]
+    name, entries = os.path.basename(journal), os.path.basename(entries)
+    if found := re.search(r"^regatta: entries fault (\d) row (\d+)", said, re.MULTILINE):
+        return [f"{entries}, row {found[2]}: {LIST.get(int(found[1]), said.strip())}."]
+    if found := re.search(r"^regatta: (?:keep )?journal fault (\d) line (\d+)", said, re.MULTILINE):
+        return [f"Line {found[2]} of {name} {JOURNAL.get(int(found[1]), 'is at fault')}: "
+                f"{line_of(journal, int(found[2]))!r}.", "Compare it with the copies in kept/."]
+    if found := re.search(r"^regatta: start refused (\d+) at (\d+)", said, re.MULTILINE):
+        if found[1] == "16":
+            return ["The journal and series.ini disagree on handicap: yes takes a journal with "
+                    "corrected times, and no takes one with finishes."]
+        place = int(found[2]) + line_of(journal, 1).startswith("REGATTA")
+        return [f"Line {place} of {name} is refused: {refusal('NO ' + found[1])}. It is "
+                f"{line_of(journal, place)!r}.",
+                "Has somebody edited it? Compare it with the copies in kept/."]
+    if "regatta: input too long" in said:
+        return [f"{name} or {entries} is longer than 1,048,576 bytes."]
+    if "regatta: device fault" in said:
+        return [f"The program can't read {name} or {entries}, or can't make its socket in office/."]
+    if "'--keep'" in said:
+        return ["The program is older than these tools: it can't keep a journal. Use the one that came with "
+                "them."]
+    return [f"The program says: {said.strip() or 'nothing'}."]
+
+
+def line_of(path: str, number: int) -> str:
+    """A line of a file, cut after 80 letters; empty if there is none."""
+    try:
+        with open(path, encoding="utf-8", errors="replace") as file:
+            return next((line.rstrip("\n")[:80] for at, line in enumerate(file, 1)
+                         if at == number), "")
+    except OSError:
+        return ""
+
+
+def rank_of(row: Row) -> str:
+    return ordinal(row.rank) + (" (tied)" if row.shared else "")
+
+
+def score_of(score: Score) -> str:
+    return score.points + (f"/{score.code}" if score.code else "")
+
+
+def moved(change: Change, boat: str) -> str:
+    """How a boat moved: her rank, her net and her scores."""
+    was, now = change.before, change.after
+    rank = f"{rank_of(was)} to {rank_of(now)}" if rank_of(was) != rank_of(now) else rank_of(now)
+    net = f"net {was.net} to {now.net}" if was.net != now.net else f"net {now.net}"
+    cells = [f"race {number}: {score_of(a)} to {score_of(b)}" for number, a, b in change.races]
+    return f"{boat}: {rank}, {net}" + (f" ({'; '.join(cells)})" if cells else "")

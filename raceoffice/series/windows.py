@@ -1,0 +1,76 @@
+"""The windows of a series that are open: each holds the lock of a file of its own in office/windows for as
+long as its process lives, by whatever name that was started."""
+from __future__ import annotations
+
+import contextlib
+import os
+import time
+
+from raceoffice import system
+from raceoffice.files import PRIVATE
+from raceoffice.series.folder import Folder
+
+FOLDER = "windows"
+OFFICE, TYPING, BOARD = "office", "typing", "board"
+# How often a window tries: one that looks for windows that have gone may take its file for one of theirs.
+TRIES = 10
+
+
+class Presence:
+    """Shows that this window is open, of which kind it is, and who types there. On a full disk it isn't shown."""
+
+    def __init__(self, folder: Folder, kind: str, who: str = "") -> None:
+        self.path = folder.file(PRIVATE, FOLDER, str(os.getpid()))
+        self.file = -1
+        text = f"{kind}\t{who or kind} since {time.strftime('%H:%M')}\n"
+        with contextlib.suppress(OSError):
+            os.makedirs(os.path.dirname(self.path), mode=0o700, exist_ok=True)
+            for _ in range(TRIES):
+                if self.is_held():
+                    os.truncate(self.file, 0)
+                    os.write(self.file, text.encode("utf-8", "replace"))
+                    return
+
+    def is_held(self) -> bool:
+        """Takes the lock of a file that has this window's number; whether nobody has removed the file."""
+        self.file = os.open(self.path, os.O_RDWR | os.O_CREAT | system.NO_LINK, 0o600)
+        if system.take_lock(self.file):
+            with contextlib.suppress(FileNotFoundError):
+                if os.path.samestat(os.fstat(self.file), os.stat(self.path)):
+                    return True
+        os.close(self.file)
+        self.file = -1
+        return False
+
+    def close(self) -> None:
+        """The window isn't open any more."""
+        if self.file >= 0:
+            with contextlib.suppress(OSError):
+                os.remove(self.path)
+            os.close(self.file)
+            self.file = -1
+
+
+def open_windows(folder: Folder, *kinds: str) -> dict[str, str]:
+    """The windows of these kinds that are open, or of all, by the numbers of their processes: who types there,
+    and since when."""
+    place, found = folder.file(PRIVATE, FOLDER), {}
+    with contextlib.suppress(OSError):
+        for number in sorted(os.listdir(place)):
+            kind, _, who = text_of(os.path.join(place, number)).partition("\t")
+            if who and (kind in kinds or not kinds):
+                found[number] = who
+    return found
+
+
+def text_of(path: str) -> str:
+    """What an open window says of itself; empty if it has gone: then its file is removed."""
+    with contextlib.suppress(OSError):
+        file = os.open(path, os.O_RDONLY | system.NO_LINK | system.AT_ONCE)
+        try:
+            if not system.take_lock(file, is_shared=True):
+                return os.read(file, 1000).decode("utf-8", "replace").strip()
+            os.remove(path)
+        finally:
+            os.close(file)
+    return ""

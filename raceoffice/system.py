@@ -1,0 +1,216 @@
+"""All that Linux does in its own way: locks, sockets and who has them, files in memory, what it tells of
+processes, terminals.
+
+No other module knows it. On another system this can be loaded, too: there no office can be opened, and no
+file is ever another's.
+"""
+from __future__ import annotations
+
+import contextlib
+import glob
+import os
+import re
+import signal
+import socket
+import sys
+import tempfile
+import time
+from collections.abc import Callable, Iterator, Mapping
+
+from raceoffice.errors import Trouble
+
+if sys.platform == "linux":
+    import fcntl
+    import resource
+    import termios
+
+LINUX = sys.platform == "linux"
+# What opening a file may be told: it is closed in programs that are started, no link is followed, and a
+# pipe of its name holds nobody up.
+OWN = getattr(os, "O_CLOEXEC", 0)
+NO_LINK = OWN | getattr(os, "O_NOFOLLOW", 0)
+AT_ONCE = OWN | getattr(os, "O_NONBLOCK", 0)
+# What the kernel says of each Unix socket that has a path: its flags, its number and the path. A
+# listening socket has this flag.
+SOCKETS = "/proc/net/unix"
+SOCKET = re.compile(rb"^\S+: \S+ \S+ (\S+) \S+ \S+ +(\d+) (.+)$", re.MULTILINE)
+LISTENS = 1 << 16
+# An address of this computer in the kernel's table of networks.
+LOCAL = re.compile(r"\|-- (\S+)\s+/32 host LOCAL")
+# The signals that end a window.
+STOPS = {signal.SIGINT, signal.SIGTERM, getattr(signal, "SIGHUP", signal.SIGTERM)}
+
+
+def only_linux(what: str) -> None:
+    """A Trouble on any other system."""
+    if not LINUX:
+        raise Trouble(f"{what} needs Linux")
+
+
+# Files
+
+def account() -> int:
+    """The number of this account, as files have it."""
+    return os.geteuid() if hasattr(os, "geteuid") else 0
+
+
+def take_lock(number: int, patience: float = 0.0, is_shared: bool = False) -> bool:
+    """Takes the lock of an open file, for which it waits so many seconds; whether it could."""
+    end = time.monotonic() + patience
+    while LINUX:
+        try:
+            fcntl.flock(number, (fcntl.LOCK_SH if is_shared else fcntl.LOCK_EX) | fcntl.LOCK_NB)
+            return True
+        except BlockingIOError:
+            if time.monotonic() >= end:
+                return False
+            time.sleep(0.01)
+    return True
+
+
+def sync_folder(path: str) -> None:
+    """Puts the names in a folder on the disk."""
+    if os.name == "nt":
+        return
+    number = os.open(path, os.O_RDONLY | OWN)
+    try:
+        os.fsync(number)
+    finally:
+        os.close(number)
+
+
+@contextlib.contextmanager
+def lent(files: Mapping[str, bytes | None]) -> Iterator[tuple[list[str], list[int]]]:
+    """Files that a program reads and nobody keeps, by the options that name them: the words of its command,
+    and the numbers that it has to be given."""
+    words: list[str] = []
+    numbers: list[int] = []
+    with contextlib.ExitStack() as stack:
+        for option, data in files.items():
+            if data is None:
+                continue
+            if LINUX:
+                number = os.memfd_create(option)
+                path = f"/proc/self/fd/{number}"
+                stack.callback(os.close, number)
+                numbers.append(number)
+            else:
+                number, path = tempfile.mkstemp()
+                stack.callback(os.remove, path)
+                stack.callback(os.close, number)
+            with open(number, "wb", closefd=False) as file:
+                file.write(data)
+            words += [option, path]
+        yield words, numbers
+
+
+def room_for_files(most: int) -> int:
+    """Lets this process have as many files and connections, if it may; how many it may have."""
+    if not LINUX:
+        return min(most, 256)
+    _, hard = resource.getrlimit(resource.RLIMIT_NOFILE)
+    room = most if hard == resource.RLIM_INFINITY else min(most, hard)
+    resource.setrlimit(resource.RLIMIT_NOFILE, (room, hard))
+    return room
+
+
+# Sockets
+
+def socket_of_office() -> socket.socket:
+    only_linux("an office")
+    return socket.socket(socket.AF_UNIX, socket.SOCK_STREAM)
+
+
+@contextlib.contextmanager
+def short_name(path: str) -> Iterator[str]:
+    """The name by which a socket is reached: it may have 107 bytes, and the path of a folder may have more."""
+    folder = os.open(os.path.dirname(path) or ".", os.O_PATH | OWN)
+    try:
+        yield f"/proc/self/fd/{folder}/{os.path.basename(path)}"
+    finally:
+        os.close(folder)
+
+
+def folders_of_sockets() -> dict[int, str]:
+    """By the number of a socket, the folder of a process that has it open."""
+    found = {}
+    for name in glob.iglob("/proc/[0-9]*/fd/[0-9]*"):
+        # A process may end meanwhile, and those of other accounts aren't shown.
+        with contextlib.suppress(OSError):
+            opened = os.readlink(name)
+            if opened.startswith("socket:["):
+                found[int(opened[8:-1])] = os.readlink(f"{name.split('/fd/')[0]}/cwd")
+    return found
+
+
+def sockets_at(path: str, ours: bool = True) -> list[bool]:
+    """Of each socket that an office made at this path, or accepted there, whether it listens.
+
+    `ours` says whether this account made the file there.
+    """
+    try:
+        with open(SOCKETS, "rb") as file:
+            said = file.read()
+    except OSError as cause:
+        raise Trouble(f"nobody can say whether an office is still at {path}: {SOCKETS} can't be "
+                      f"read: {cause.strerror}. The file stays as it is") from None
+    asked, folders, found = os.path.realpath(path), folders_of_sockets(), []
+    for flags, number, name in SOCKET.findall(said):
+        name = os.fsdecode(name)
+        if os.path.basename(name) != os.path.basename(path):
+            continue
+        # The name is that which the office was given, and may start at the office's own folder.
+        folder = folders.get(int(number))
+        if folder is not None or os.path.isabs(name):
+            same = os.path.realpath(os.path.join(folder or "/", name)) == asked
+        else:
+            # This is an office of another account, which may only have made a file of that account.
+            same = not ours
+        if same:
+            found.append(bool(int(flags, 16) & LISTENS))
+    return found
+
+
+def addresses_in_networks() -> list[str]:
+    """This computer's addresses, as far as the system lists them."""
+    with contextlib.suppress(OSError), open("/proc/net/fib_trie", encoding="ascii") as file:
+        return LOCAL.findall(file.read())
+    return []
+
+
+# Processes
+
+def command_of(number: int) -> list[bytes]:
+    """The words with which a process was started; none if it has ended."""
+    with contextlib.suppress(OSError), open(f"/proc/{number}/cmdline", "rb") as file:
+        return file.read().split(b"\0")
+    return []
+
+
+def hold_stops() -> None:
+    """From now on a signal that would end this window waits until it is asked for."""
+    signal.pthread_sigmask(signal.SIG_BLOCK, STOPS)
+
+
+def stop_that_waits() -> int:
+    """The signal that waits, or 0. To wait for one here isn't safe: after SIGCONT, `sigtimedwait` may return
+    at the end of its time what no signal has said."""
+    came = signal.sigtimedwait(STOPS, 0)
+    return came.si_signo if came else 0
+
+
+def on_interruption(call: Callable[[], object]) -> None:
+    """Has the main thread call this when another thread interrupts it."""
+    signal.signal(signal.SIGUSR1, lambda *_: call())
+
+
+def interrupt(thread: int) -> None:
+    """Interrupts a thread, whatever it waits for."""
+    signal.pthread_kill(thread, signal.SIGUSR1)
+
+
+# Terminals
+
+def forget_typed() -> None:
+    """Throws away what has been typed and wasn't read."""
+    termios.tcflush(0, termios.TCIFLUSH)
