@@ -15,7 +15,7 @@ from collections.abc import Callable, Iterator
 from raceoffice.characters import utf8
 from raceoffice.errors import Fault, Trouble
 from raceoffice.files import PRIVATE, append_whole
-from raceoffice.terminal import print_any_sign, read_any_sign, say, sentence
+from raceoffice.terminal import print_any_sign, read_any_sign, say, say_json, sentence
 
 NAME = "faults.txt"
 # What a shell says of a command that Ctrl-C has ended.
@@ -70,6 +70,11 @@ def temporary(data: bytes) -> str:
             file.write(data)
         return path
     return ""
+
+
+def tell_json(text: str) -> None:
+    """Tells a program why it gets no answer."""
+    say_json({"trouble": text})
 
 
 def status_of(work: Callable[[], int], folder: str = "", tell: Callable[[str], None] = say,

@@ -123,7 +123,7 @@ def socket_of_office() -> socket.socket:
 
 @contextlib.contextmanager
 def short_name(path: str) -> Iterator[str]:
-    """The name by which a socket is reached: it may have 107 bytes, and the path of a folder may have more."""
+    """The name by which a socket is reached: it may have 107 bytes, and a folder's path may have more."""
     folder = os.open(os.path.dirname(path) or ".", os.O_PATH | OWN)
     try:
         yield f"/proc/self/fd/{folder}/{os.path.basename(path)}"

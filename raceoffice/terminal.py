@@ -2,6 +2,7 @@
 from __future__ import annotations
 
 import io
+import json
 import os
 import select
 import sys
@@ -61,6 +62,11 @@ def read_any_sign() -> None:
 
 def say(text: str) -> None:
     print(wrapped(visible(text)), flush=True)
+
+
+def say_json(value: object) -> None:
+    """Prints a value for programs, in signs that every terminal has."""
+    print(json.dumps(value, indent=1), flush=True)
 
 
 def visible(text: str) -> str:

@@ -195,9 +195,9 @@ class Pages(helpers.Series):
                           (page.replace("</style>", ".r { display: none }</style>"), "all that is seen")]:
             self.assertIn(why, self.odd(text))
         for text, why in [(page.replace(block, ""), "it has no block"),
-                          (page.replace('"regatta": "2-', '"regatta": "1-'), "an older version"),
-                          (page.replace('"regatta": "2-', '"regatta": "3-'), "a newer version"),
-                          (re.sub('"regatta": "2-[0-9a-f]{8}"', '"regatta": "2-00000000"', page),
+                          (page.replace('"regatta": "3-', '"regatta": "1-'), "an older version"),
+                          (page.replace('"regatta": "3-', '"regatta": "4-'), "a newer version"),
+                          (re.sub('"regatta": "3-[0-9a-f]{8}"', '"regatta": "3-00000000"', page),
                            "another version"),
                           (re.sub('"regatta": "[^"]*"', '"regatta": 1', page), "an older version")]:
             with self.assertRaisesRegex(Unsure, why):

@@ -10,6 +10,7 @@ open: races that aren't scored, and finishers without a sail.
 
 The status is 0 if it was said, 1 if not, and 130 after Ctrl-C.
 
+    raceoffice provisional cup
     raceoffice final cup
     raceoffice amended cup fleet "Appeal upheld: FRA 9 is reinstated in race 2"
 """

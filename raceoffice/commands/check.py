@@ -1,9 +1,12 @@
 """Says what is wrong with a series, and opens nothing.
 
-    raceoffice check FOLDER [FOLDER ...]
+    raceoffice check FOLDER [FOLDER ...] [--json]
 
 It looks at the settings (series.ini), the entry list, the journal (journal.txt) and its copies, the disk
 and the program. What only should be known is said, too.
+
+With --json it prints a list with an object for each series: `folder`, `faults` (what keeps it shut), `asks`
+(what `open` would ask), `notes`, and, if it has no faults, `summary` and `rules`.
 
 The status is 0 if each series can be opened, 1 if something keeps an office shut or `open` would ask, and
 130 after Ctrl-C.
@@ -13,29 +16,56 @@ The status is 0 if each series can be opened, 1 if something keeps an office shu
 from __future__ import annotations
 
 import argparse
+from dataclasses import asdict, dataclass
 
-from raceoffice.faults import status_of
+from raceoffice.faults import status_of, tell_json
 from raceoffice.office.backups import same_disk
 from raceoffice.series.continuity import difference
 from raceoffice.series.folder import Folder
 from raceoffice.series.health import faults, list_notes, notes, summary
 from raceoffice.series.second_folder import second_of
-from raceoffice.terminal import say
+from raceoffice.terminal import say, say_json
 
 
-def check(path: str) -> int:
-    """Says all that would keep a series from being opened; the status."""
+@dataclass(frozen=True)
+class Checked:
+    """What was found of a series: what keeps it shut, what `open` would ask, and what should be known."""
+    folder: str
+    faults: list[str]
+    asks: str
+    notes: list[str]
+    summary: str = ""
+    rules: str = ""
+
+    def in_words(self) -> list[str]:
+        said = [*self.faults, *self.notes, *([self.asks] if self.asks else [])]
+        if not self.faults:
+            said.append(f"{self.folder} can be opened{' if somebody agrees' if self.asks else ''}: "
+                        f"{self.summary}\n{self.rules}")
+        return said
+
+
+def checked(path: str) -> Checked:
+    """Looks at a series."""
     folder = Folder(path)
     wrong = faults(folder)
     changed = "" if wrong else difference(folder)
-    for text in [*wrong, *notes(folder), *list_notes(folder), second_note(folder), changed]:
-        if text:
-            say(text)
+    known = [text for text in [*notes(folder), *list_notes(folder), second_note(folder)] if text]
     if wrong:
-        return 1
-    say(f"{path} can be opened{' if somebody agrees' if changed else ''}: {summary(folder)}\n"
-        f"{folder.settings.in_words()}")
-    return 1 if changed else 0
+        return Checked(path, wrong, changed, known)
+    return Checked(path, wrong, changed, known, summary(folder), folder.settings.in_words())
+
+
+def check(paths: list[str], is_json: bool) -> int:
+    """Says all that would keep series from being opened; the status."""
+    found = []
+    for path in paths:
+        found.append(checked(path))
+        for text in [] if is_json else found[-1].in_words():
+            say(text)
+    if is_json:
+        say_json([asdict(one) for one in found])
+    return 1 if any(one.faults or one.asks for one in found) else 0
 
 
 def second_note(folder: Folder) -> str:
@@ -49,7 +79,9 @@ def second_note(folder: Folder) -> str:
 
 def arguments(parser: argparse.ArgumentParser) -> None:
     parser.add_argument("folder", nargs="+", help="the folder of a series")
+    parser.add_argument("--json", action="store_true", help="print what was found for programs")
 
 
 def run(asked: argparse.Namespace) -> int:
-    return status_of(lambda: max([check(path) for path in asked.folder]), asked.folder[0])
+    tell = tell_json if asked.json else say
+    return status_of(lambda: check(asked.folder, asked.json), asked.folder[0], tell)

@@ -1,6 +1,6 @@
 """Decisions for which the program has no line: penalties in percent, time limits, averages.
 
-    raceoffice decisions [show|check|send] FOLDER
+    raceoffice decisions [show|check|send] FOLDER [--json]
 
 They are the lines of decisions.txt in the series' folder:
 
@@ -13,9 +13,13 @@ They are the lines of decisions.txt in the series' folder:
     race 2 K12 REINSTATE         what the jury gave her there goes, what the committee gave stays
 
 `show` lists what each comes to, and the lines that the journal lacks. `check` names each decision
-that isn't in the scores as it has to be; its status is 1 if there is one. `send` asks, and sends the
-lines to the open office. Text after # is a note. The status of `show`, too, is 1 if a decision isn't in the
-scores; that of `send` is 1 if a line wasn't taken. After Ctrl-C it is 130.
+that isn't in the scores as it has to be. `send` asks, and sends the lines to the open office. Text after # is
+a note.
+
+The status is 0 if all are in the scores, 1 if one isn't or a line wasn't taken, and 130 after Ctrl-C.
+
+With --json `show` and `check` print an object: `decisions`, each with its `text`, `line`, `points`, `held`,
+`why`, `is_kept` and `lines`; `stale`, what isn't in the scores as it has to be; and `unexplained`.
 
     raceoffice decisions cup
     raceoffice decisions send cup
@@ -30,7 +34,7 @@ from raceoffice.decisions import decision_lines
 from raceoffice.decisions.held import holdings
 from raceoffice.decisions.points import Decided, decided
 from raceoffice.errors import Trouble
-from raceoffice.faults import status_of
+from raceoffice.faults import status_of, tell_json
 from raceoffice.program.link import Link, Sheet
 from raceoffice.program.messages import refusal
 from raceoffice.program.replay import Line
@@ -39,7 +43,7 @@ from raceoffice.series.folder import Folder
 from raceoffice.series.lost_lines import UNANSWERED
 from raceoffice.series.run_program import replayed
 from raceoffice.series.settings import Settings
-from raceoffice.terminal import command_name, question, say, sentence
+from raceoffice.terminal import command_name, question, say, say_json, sentence
 from raceoffice.wording import count
 
 WHO = "decisions"
@@ -134,6 +138,22 @@ def show(desk: Desk) -> int:
     return 1 if found.stale else 0
 
 
+def value_of(state: State) -> dict[str, object]:
+    """The decisions for programs."""
+    found = [{"text": str(verdict.ruling), "line": verdict.ruling.line, "points": verdict.points,
+              "held": verdict.held, "why": verdict.why, "is_kept": verdict.is_kept,
+              "lines": [vars(line) for line in verdict.lines]} for verdict in state.decided.verdicts]
+    return {"decisions": found, "stale": state.decided.stale,
+            "unexplained": [text.strip() for text in unexplained(state)]}
+
+
+def show_json(desk: Desk) -> int:
+    """Prints all decisions for programs; the status is 1 if one isn't in the scores as it has to be."""
+    state = desk.state()
+    say_json(value_of(state))
+    return 1 if state.decided.stale else 0
+
+
 def check(desk: Desk) -> int:
     """Names the decisions that aren't in the scores as they have to be; the status."""
     state = desk.state()
@@ -178,7 +198,7 @@ def done(folder: str, what: str) -> int:
     """Does a command; the status."""
     desk = Desk(folder)
     try:
-        return {"show": show, "check": check, "send": send}[what](desk)
+        return {"show": show, "check": check, "send": send, "json": show_json}[what](desk)
     finally:
         if desk.link:
             desk.link.close()
@@ -187,7 +207,12 @@ def done(folder: str, what: str) -> int:
 def arguments(parser: argparse.ArgumentParser) -> None:
     parser.add_argument("what", nargs="?", default="show", choices=["show", "check", "send"])
     parser.add_argument("folder", help="the folder of a series")
+    parser.add_argument("--json", action="store_true", help="print what was found for programs")
+    parser.set_defaults(complain=parser.error)
 
 
 def run(asked: argparse.Namespace) -> int:
-    return status_of(lambda: done(asked.folder, asked.what), asked.folder)
+    if asked.json and asked.what == "send":
+        asked.complain("--json goes with show and check")
+    what = "json" if asked.json else asked.what
+    return status_of(lambda: done(asked.folder, what), asked.folder, tell_json if asked.json else say)

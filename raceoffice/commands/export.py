@@ -1,9 +1,10 @@
 """The results of one or more series as files: a page, CSV, or a text for a mail.
 
-    raceoffice export FOLDER [FOLDER ...] [--html F] [--csv F] [--semicolons] [--text]
+    raceoffice export FOLDER [FOLDER ...] [--html F] [--csv F] [--semicolons] [--json F] [--text]
 
 They are those of journal.txt, whether an office is open or not. The page has all series and can be
-printed for the notice board; `raceoffice verify` checks it. Nothing is sent to an office.
+printed for the notice board; `raceoffice verify` checks it. The JSON is a list with the results of each
+series; points are texts, since they are exact to a tenth. Nothing is sent to an office.
 
 The status is 0 if all was written, 1 if not, and 130 after Ctrl-C.
 
@@ -23,7 +24,8 @@ from raceoffice.files import replace_whole
 from raceoffice.program.replay import developed
 from raceoffice.results.html.notice import results
 from raceoffice.results.mail import mail
-from raceoffice.results.snapshot import View, csv_heads, csv_row, labels_of
+from raceoffice.results.html.sealing import version_of
+from raceoffice.results.snapshot import View, as_json, csv_heads, csv_row, labels_of, results_value
 from raceoffice.results.source import Source
 from raceoffice.results.spreadsheet import Cell, csv_of
 from raceoffice.terminal import say, sentence, visible
@@ -68,6 +70,7 @@ def arguments(parser: argparse.ArgumentParser) -> None:
     parser.add_argument("--csv", metavar="F", help="write CSV into this file")
     parser.add_argument("--semicolons", action="store_true",
                         help="CSV with semicolons, and commas in decimals")
+    parser.add_argument("--json", metavar="F", help="write JSON into this file")
     parser.add_argument("--text", action="store_true", help="print a text for a mail")
     parser.set_defaults(complain=parser.error)
 
@@ -76,8 +79,8 @@ def look_at(asked: argparse.Namespace) -> None:
     """Says which options don't go together, or what is missing."""
     if asked.semicolons and not asked.csv:
         asked.complain("--semicolons goes with --csv")
-    if not (asked.html or asked.csv or asked.text):
-        asked.complain("nothing is asked for: add --html F, --csv F or --text")
+    if not (asked.html or asked.csv or asked.json or asked.text):
+        asked.complain("nothing is asked for: add --html F, --csv F, --json F or --text")
 
 
 def views_of(folders: Sequence[str]) -> list[View]:
@@ -96,12 +99,14 @@ def write(asked: argparse.Namespace, views: list[View]) -> None:
         replace_whole(asked.html, results(views).encode(), True)
     if asked.csv:
         replace_whole(asked.csv, csv_of(rows_of(views), asked.semicolons), True)
+    if asked.json:
+        replace_whole(asked.json, as_json([results_value(view, version_of(view)) for view in views]), True)
     if asked.text:
         say(mail(views))
     else:
         said = ", ".join(f"{view.label} ({count(len(view.standing.rows), 'boat')}, "
                          f"{count(len(view.standing.races), 'race')})" for view in views)
-        say(f"{' and '.join(path for path in (asked.html, asked.csv) if path)}: {said}")
+        say(f"{' and '.join(path for path in (asked.html, asked.csv, asked.json) if path)}: {said}")
 
 
 def run(asked: argparse.Namespace) -> int:

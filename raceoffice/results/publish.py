@@ -17,7 +17,7 @@ from raceoffice.results.html import listing, page
 from raceoffice.results.html.overall import overall
 from raceoffice.results.html.race import one_race
 from raceoffice.results.html.sealing import version_of
-from raceoffice.results.snapshot import View, labels_of, now_json, results_csv, results_json
+from raceoffice.results.snapshot import View, labels_of, as_json, now_json, results_csv, results_value
 from raceoffice.results.source import Source
 
 HTML, CSV, JSON = "text/html; charset=utf-8", "text/csv; charset=utf-8", "application/json"
@@ -97,7 +97,7 @@ class Site:
             found |= self.kept(view.name, version, functools.partial(self.of_series, view), fresh,
                                source.checked, self.office(source))
             found |= {f"{here}results.csv": (CSV, results_csv(view)),
-                      f"{here}results.json": (JSON, results_json(view, version)),
+                      f"{here}results.json": (JSON, as_json(results_value(view, version))),
                       f"{here}now.json": (JSON, now_json(version, source.checked,
                                                          self.office(source)))}
         return found

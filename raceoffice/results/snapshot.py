@@ -181,7 +181,7 @@ def results_csv(view: View) -> bytes:
     return csv_of([csv_heads(races), *(csv_row(view, row, races) for row in view.standing.rows)])
 
 
-def results_json(view: View, version: str) -> bytes:
+def results_value(view: View, version: str) -> dict[str, object]:
     """The same for programs; points are texts, since they are exact to a tenth."""
     shown = view.settings
 
@@ -194,12 +194,15 @@ def results_json(view: View, version: str) -> bytes:
                 "helm": boat.helm, "boat": boat.name, "club": boat.club, "net": row.net,
                 "total": view.totals.get(row.sail, row.net), "scores": scores}
 
-    whole = {"title": shown.title, "class": shown.group, "club": shown.club, "state": shown.state,
-             "reason": shown.reason, "changed": view.local(view.changed).isoformat(),
-             "version": version, "rules": shown.options(), "races": view.standing.races,
-             "stale": view.decided.stale,
-             "boats": [boat_of(row) for row in view.standing.rows]}
-    return json.dumps(whole, ensure_ascii=False, indent=1).encode() + b"\n"
+    return {"title": shown.title, "class": shown.group, "club": shown.club, "state": shown.state,
+            "reason": shown.reason, "changed": view.local(view.changed).isoformat(),
+            "version": version, "rules": shown.options(), "races": view.standing.races,
+            "stale": view.decided.stale,
+            "boats": [boat_of(row) for row in view.standing.rows]}
+
+
+def as_json(value: object) -> bytes:
+    return json.dumps(value, ensure_ascii=False, indent=1).encode() + b"\n"
 
 
 def now_json(version: str, checked: datetime.datetime, office: str, **more: object) -> bytes:

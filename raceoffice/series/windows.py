@@ -17,7 +17,7 @@ TRIES = 10
 
 
 class Presence:
-    """Shows that this window is open, of which kind it is, and who types there. On a full disk it isn't shown."""
+    """Shows that this window is open, of which kind it is, and who types there; not on a full disk."""
 
     def __init__(self, folder: Folder, kind: str, who: str = "") -> None:
         self.path = folder.file(PRIVATE, FOLDER, str(os.getpid()))
@@ -52,8 +52,8 @@ class Presence:
 
 
 def open_windows(folder: Folder, *kinds: str) -> dict[str, str]:
-    """The windows of these kinds that are open, or of all, by the numbers of their processes: who types there,
-    and since when."""
+    """The windows of these kinds that are open, or of all, by the numbers of their processes: who types
+    there, and since when."""
     place, found = folder.file(PRIVATE, FOLDER), {}
     with contextlib.suppress(OSError):
         for number in sorted(os.listdir(place)):

@@ -1,10 +1,10 @@
-"""Verifies pages of results: has the program score the journal that a page carries, and compares each cell."""
+"""Verifies pages of results: the program scores the journal that a page carries, and each cell is compared."""
 from __future__ import annotations
 
 import datetime
 import os
 import re
-from collections.abc import Sequence
+from collections.abc import Iterable, Sequence
 from dataclasses import dataclass
 
 from raceoffice import characters
@@ -24,7 +24,7 @@ from raceoffice.results.html.race import one_race
 from raceoffice.results.html.sealing import Carried, seal_words
 from raceoffice.results.snapshot import View, labelled
 from raceoffice.series.settings import Settings, rows_of
-from raceoffice.terminal import say, sentence
+from raceoffice.terminal import say, say_json, sentence
 from raceoffice.verify import read_block
 from raceoffice.verify.read_block import Kept, found_in, moment_of, wrong_confirmation
 from raceoffice.verify.visible import difference, first_of, place, seen, standing_of
@@ -199,6 +199,15 @@ def part(lines: list[str], at: int) -> str:
 
 # What is said
 
+def value_of(rebuilt: Rebuilt, program: str) -> dict[str, object]:
+    """What was found right with a page, for programs."""
+    series = [{"name": view.label, "boats": len(view.standing.rows), "races": len(view.standing.races),
+               "entries": view.series.entries, "state": view.settings.state, "seal": seal_words(view),
+               "changed": view.changed.isoformat(), "program": view.program, "beware": bewares(view)}
+              for view in rebuilt.views]
+    return {"series": series, "program": digest_of(program)}
+
+
 def report(rebuilt: Rebuilt, program: str) -> list[str]:
     """What was found right with a page, and whether the program is the same."""
     lines = []
@@ -248,28 +257,43 @@ def text_in(path: str) -> str:
         raise Odd(f"byte {cause.start + 1} of the file isn't UTF-8") from None
 
 
-def outcome(verifier: Verifier, path: str) -> tuple[int, list[str]]:
-    """The status of a page, and what is said of it."""
+@dataclass(frozen=True)
+class Outcome:
+    """What became of a page, and what is said of it, to people and to programs."""
+    status: int
+    lines: tuple[str, ...]
+    value: dict[str, object]
+
+
+def outcome(verifier: Verifier, path: str) -> Outcome:
+    """Verifies a page."""
     try:
         with guarded("", Odd, Unsure, ValueError):
             rebuilt = verifier.verified(text_in(path))
-            return VERIFIED, [f"{path}: verified.", *report(rebuilt, verifier.program)]
+            return Outcome(VERIFIED, (f"{path}: verified.", *report(rebuilt, verifier.program)),
+                           {"page": path, "result": "verified", **value_of(rebuilt, verifier.program)})
     except Odd as odd:
-        return DIFFERS, [f"{path}: NOT VERIFIED: {sentence(characters.shortly(str(odd), MESSAGE))}"]
-    except (Unsure, Trouble, ValueError) as why:
-        return UNSURE, [f"{path}: not verified: {sentence(characters.shortly(str(why), MESSAGE))}"]
+        status, what, why = DIFFERS, "NOT VERIFIED", characters.shortly(str(odd), MESSAGE)
+    except (Unsure, Trouble, ValueError) as trouble:
+        status, what, why = UNSURE, "not verified", characters.shortly(str(trouble), MESSAGE)
+    return Outcome(status, (f"{path}: {what}: {sentence(why)}",),
+                   {"page": path, "result": "differs" if status == DIFFERS else "unsure", "why": why})
 
 
-def verify(pages: Sequence[str], program: str) -> int:
+def verify(pages: Sequence[str], program: str, is_json: bool = False) -> int:
     """Verifies pages and says what was found; the status."""
     if not os.access(program, os.X_OK):
-        say(characters.plainly(f"There is no program at {program}: build it, or name one with --program."))
-        return UNSURE
-    verifier, found = Verifier(program), set()
+        raise Trouble(f"There is no program at {program}: build it, or name one with --program.")
+    verifier, found = Verifier(program), []
     for path in pages:
-        status, lines = outcome(verifier, path)
-        say("\n".join(map(characters.plainly, lines)))
-        found.add(status)
-    if DIFFERS in found:
-        return DIFFERS
-    return UNSURE if UNSURE in found else VERIFIED
+        found.append(outcome(verifier, path))
+        if not is_json:
+            say("\n".join(map(characters.plainly, found[-1].lines)))
+    if is_json:
+        say_json([one.value for one in found])
+    return worst(one.status for one in found)
+
+
+def worst(statuses: Iterable[int]) -> int:
+    """The status of pages together: one that differs comes before one of which nothing can be said."""
+    return max(statuses, key=[VERIFIED, UNSURE, DIFFERS].index)

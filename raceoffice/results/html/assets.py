@@ -2,15 +2,12 @@
 from __future__ import annotations
 
 import functools
-import os
-
-HERE = os.path.dirname(os.path.abspath(__file__))
+import importlib.resources
 
 
 @functools.cache
 def text_of(name: str) -> str:
-    with open(os.path.join(HERE, name), encoding="utf-8") as file:
-        return file.read()
+    return importlib.resources.files("raceoffice.results.html").joinpath(name).read_text(encoding="utf-8")
 
 
 def style() -> str:
