@@ -9,6 +9,7 @@ import shutil
 import subprocess
 import tempfile
 import time
+from typing import Any
 
 PROGRAMS = ["chromium", "chromium-browser", "google-chrome", "google-chrome-stable"]
 PATIENCE = 60.0
@@ -48,7 +49,7 @@ class Browser:
         self.ask("Page.enable")
         self.ask("Runtime.enable")
 
-    def next(self, end: float) -> dict:
+    def next(self, end: float) -> dict[str, Any]:
         """The next thing that it says."""
         while b"\0" not in self.rest:
             if not select.select([self.into], [], [], max(0.0, end - time.monotonic()))[0]:
@@ -57,9 +58,10 @@ class Browser:
                 raise AssertionError("the browser has gone")
             self.rest += data
         text, _, self.rest = self.rest.partition(b"\0")
-        return json.loads(text)
+        said: dict[str, Any] = json.loads(text)
+        return said
 
-    def ask(self, method: str, **values: object) -> dict:
+    def ask(self, method: str, **values: object) -> dict[str, Any]:
         self.count += 1
         message = {"id": self.count, "method": method, "params": values}
         if self.session:
@@ -70,7 +72,8 @@ class Browser:
             pass
         if "error" in heard:
             raise AssertionError(f"{method}: {heard['error']}")
-        return heard["result"]
+        result: dict[str, Any] = heard["result"]
+        return result
 
     def size(self, width: int, height: int = 844, dark: bool = False, scale: float = 1,
              media: str = "") -> None:
@@ -88,7 +91,7 @@ class Browser:
             pass
         self.run("document.fonts.ready.then(() => new Promise(requestAnimationFrame))")
 
-    def run(self, script: str):
+    def run(self, script: str) -> Any:
         """What a script gives."""
         result = self.ask("Runtime.evaluate", expression=script, awaitPromise=True,
                           returnByValue=True)

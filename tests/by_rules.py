@@ -4,6 +4,7 @@ from __future__ import annotations
 
 import copy
 import math
+from collections.abc import Mapping
 from dataclasses import dataclass, field
 from fractions import Fraction
 
@@ -62,7 +63,8 @@ class Series:
 
     def place_points(self, number: int) -> dict[str, Fraction]:
         """RRS A4, A6.1, A7: boats with a code are out, and tied boats share their places' points."""
-        points, place = {}, 1
+        points: dict[str, Fraction] = {}
+        place = 1
         for group in self.races[number].order:
             there = [sail for sail in group if not self.races[number].boat(sail).code]
             shared = sum(range(place, place + len(there)))
@@ -163,7 +165,7 @@ def outcome(series: Series, decisions: list[Decision]) -> dict[Decision, Fractio
     return found
 
 
-def finishers(series: Series, number: int, found: dict[Decision, object]) -> dict[str, Fraction]:
+def finishers(series: Series, number: int, found: Mapping[Decision, object]) -> dict[str, Fraction]:
     """The boats with a place, when those that are TLE or NSC are out."""
     given = [decision for decision in found if not why_not(series, decision)]
     return without(series, given).place_points(number)

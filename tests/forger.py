@@ -11,11 +11,12 @@ import re
 import subprocess
 import unittest.mock
 from collections.abc import Callable, Iterator
+from typing import Any
 
 import helpers
 
 from raceoffice.commands import export
-from raceoffice.errors import Trouble
+from raceoffice.errors import Odd, Trouble, Unsure
 from raceoffice.program import replay
 from raceoffice.results.html import page as pages, sealing
 from raceoffice.results.html.listing import listing
@@ -43,11 +44,12 @@ def block_in(page: str) -> str:
     return page[begin:page.index(read_block.END, begin)]
 
 
-def whole_of(page: str) -> dict:
-    return json.loads(block_in(page))
+def whole_of(page: str) -> dict[str, Any]:
+    whole: dict[str, Any] = json.loads(block_in(page))
+    return whole
 
 
-def sealed(whole: dict) -> str:
+def sealed(whole: dict[str, Any]) -> str:
     """The text of a block with marks and seal that are right for it, as far as they can be made."""
     whole = {name: value for name, value in whole.items() if name != "seal"}
     with contextlib.suppress(Exception):
@@ -71,7 +73,7 @@ def with_block(page: str, block: str) -> str:
     return page.replace(block_in(page), block, 1)
 
 
-def resealed(page: str, change: Callable[[dict], object]) -> str:
+def resealed(page: str, change: Callable[[dict[str, Any]], object]) -> str:
     """The page with its block changed, and with the seals of its series in its text made again."""
     whole = whole_of(page)
     old = [seal_words(series) for series in whole["series"]]
@@ -103,10 +105,10 @@ def leaves(value: object, path: Path = ()) -> Iterator[tuple[Path, object]]:
         yield path, value
 
 
-def put(whole: dict, path: Path, value: object) -> dict:
+def put(whole: dict[str, Any], path: Path, value: object) -> dict[str, Any]:
     """The block with another value there."""
     fresh = copy.deepcopy(whole)
-    place = fresh
+    place: Any = fresh
     for name in path[:-1]:
         place = place[name]
     place[path[-1]] = value
@@ -139,9 +141,10 @@ class Forger:
     def __init__(self, program: str, page: str) -> None:
         self.verifier, self.page = verifier.Verifier(program), page
 
-    def forged(self, whole: dict) -> str:
+    def forged(self, whole: dict[str, Any]) -> str:
         text = sealed(whole)
         found = verifier.CONFIRMED.match(self.page)
+        assert found
         try:
             with unchecked():
                 kept = read_block.kept_of(whole)
@@ -149,7 +152,10 @@ class Forger:
             made_page = pages.confirmed(made.text, *found.groups())
             return with_block(made_page, text)
         except Exception:  # noqa: BLE001
-            return resealed(self.page, lambda old: (old.clear(), old.update(whole)))
+            def replace(old: dict[str, Any]) -> None:
+                old.clear()
+                old.update(whole)
+            return resealed(self.page, replace)
 
 
 @contextlib.contextmanager
@@ -218,6 +224,6 @@ class ForgedPages(helpers.Series):
         """Whether a page is verified; any other end than those of verify.py is a fault."""
         try:
             self.verifier.verified(page)
-        except (read_block.Odd, read_block.Unsure, Trouble):
+        except (Odd, Unsure, Trouble):
             return False
         return True

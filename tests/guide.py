@@ -61,20 +61,27 @@ class Window:
         self.terminal = helpers.Terminal(*helpers.COMMAND, *words[1:], cwd=self.folder, PATH="/nowhere",
                                          PYTHONPATH=self.folder)
 
+    @property
+    def running(self) -> helpers.Terminal:
+        """The terminal in which something runs."""
+        if not self.terminal:
+            raise Wrong("nothing is running in this window")
+        return self.terminal
+
     def lines(self) -> list[str]:
         """The whole lines that have come."""
-        *lines, self.terminal.text = self.terminal.text.split("\n")
+        *lines, self.running.text = self.running.text.split("\n")
         return [line.rstrip().replace(self.port, SHOWN_PORT) for line in lines]
 
     def asked(self) -> str:
         """The question or prompt at which the tool waits, if it does."""
-        part = self.terminal.text
-        is_asking = ASKS.search(part) and "\n" not in part and not self.terminal.more(QUIET)
+        part = self.running.text
+        is_asking = ASKS.search(part) and "\n" not in part and not self.running.more(QUIET)
         return part if is_asking else ""
 
     def end(self) -> None:
-        self.terminal.process.wait(helpers.PATIENCE)
-        self.terminal.close()
+        self.running.process.wait(helpers.PATIENCE)
+        self.running.close()
         self.terminal = None
 
 
@@ -103,7 +110,7 @@ class Box:
     def skip(self) -> None:
         """Leaves out what was printed since the last box."""
         self.note("...")
-        while self.window.terminal.more(QUIET):
+        while self.window.running.more(QUIET):
             pass
         self.window.lines()
 
@@ -113,7 +120,7 @@ class Box:
 
     def is_over(self) -> bool:
         """Takes one step; whether nothing is left to do."""
-        window, terminal = self.window, self.window.terminal
+        window, terminal = self.window, self.window.running
         self.take(window.lines())
         text = terminal.text
         if asked := window.asked():
@@ -158,10 +165,10 @@ class Box:
         typed = self.shown[place][len(asked):]
         if not typed and asked.endswith("> "):
             # The window waits, and something else happens.
-            return not self.window.terminal.more(helpers.PATIENCE)
-        self.window.terminal.text = ""
+            return not self.window.running.more(helpers.PATIENCE)
+        self.window.running.text = ""
         self.went.append((asked + typed).rstrip())
-        self.window.terminal.type(typed.replace(SHOWN_PORT, self.window.port))
+        self.window.running.type(typed.replace(SHOWN_PORT, self.window.port))
         return False
 
 
@@ -211,17 +218,17 @@ class Play:
                     raise Wrong(f"docs/GUIDE.md: after its last box the window {name} printed\n"
                                 + "\n".join(more))
 
-    def step(self, guide: str, step: re.Match) -> str:
+    def step(self, guide: str, step: re.Match[str]) -> str:
         place = f"docs/GUIDE.md, line {guide[:step.start()].count(chr(10)) + 1}"
         try:
             if step[3]:
                 self.kill(step[3])
-                return step[0]
+                return str(step[0])
             went = self.box(step[1].split(), step[2])
         except (Wrong, OSError, AssertionError) as cause:
             raise Wrong(f"{place}: {cause}") from None
         if plain(went) == plain(step[2]):
-            return step[0]
+            return str(step[0])
         if not self.fill:
             raise Wrong(f"{place}, shows\n{step[2]}but what came is\n{went}")
         return f"```{step[1]}\n{went}```"

@@ -17,6 +17,7 @@ import termios
 import time
 import unittest
 from collections.abc import Callable, Iterator
+from typing import Any
 
 TOP = os.path.dirname(os.path.dirname(os.path.abspath(__file__)))
 # The command as an installation makes it, run with the package of this folder.
@@ -83,7 +84,8 @@ def free_port(trial: unittest.TestCase) -> int:
     """A port for a board, until the trial has ended."""
     holder = held_port()
     trial.addCleanup(holder.close)
-    return holder.getsockname()[1]
+    port: int = holder.getsockname()[1]
+    return port
 
 
 def replayed(*words: str, lines: str | bytes = b"") -> tuple[str, str, int]:
@@ -94,10 +96,12 @@ def replayed(*words: str, lines: str | bytes = b"") -> tuple[str, str, int]:
 def ran(*words: str, lines: str | bytes = b"", **more: object) -> tuple[str, str, int]:
     """What the program prints and says for these words, over this input, and its status."""
     data = lines.encode() if isinstance(lines, str) else lines
-    given = {} if "stdin" in more else {"input": data}
-    done = subprocess.run([PROGRAM, *words], timeout=PATIENCE,
-                          **{"stdout": subprocess.PIPE, "stderr": subprocess.PIPE, **given, **more})
-    return *((part or b"").decode("ascii", "replace") for part in (done.stdout, done.stderr)), done.returncode
+    given: dict[str, Any] = {} if "stdin" in more else {"input": data}
+    given.update(stdout=subprocess.PIPE, stderr=subprocess.PIPE)
+    given.update(more)
+    done = subprocess.run([PROGRAM, *words], timeout=PATIENCE, **given)
+    printed, said = ((part or b"").decode("ascii", "replace") for part in (done.stdout, done.stderr))
+    return printed, said, done.returncode
 
 
 def states(number: int, leader: bool = False) -> set[str]:
@@ -199,7 +203,7 @@ class Window(Terminal):
 
 @contextlib.contextmanager
 def served(*words: str, name: str = "race.sock",
-           folder: str | None = None) -> Iterator[tuple[str, subprocess.Popen]]:
+           folder: str | None = None) -> Iterator[tuple[str, subprocess.Popen[str]]]:
     """A program that serves, and the path of its socket, whose file it leaves behind."""
     with contextlib.ExitStack() as stack:
         folder = folder or stack.enter_context(tempfile.TemporaryDirectory())
@@ -209,6 +213,7 @@ def served(*words: str, name: str = "race.sock",
         serving = subprocess.Popen([PROGRAM, "serve", "--socket", name, *words], cwd=folder,
                                    stdin=subprocess.DEVNULL, stdout=subprocess.PIPE,
                                    stderr=subprocess.DEVNULL, text=True)
+        assert serving.stdout
         stack.enter_context(contextlib.closing(serving.stdout))
         stack.callback(serving.wait)
         stack.callback(serving.kill)

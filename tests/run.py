@@ -29,7 +29,7 @@ Raised = Union[tuple[type[BaseException], BaseException, TracebackType], tuple[N
 HERE = os.path.dirname(os.path.abspath(__file__))
 # The tests that need a browser, or take more than some seconds.
 SLOW = os.path.join(HERE, "slow")
-sys.path.insert(1, SLOW)
+sys.path[1:1] = [SLOW, os.path.dirname(HERE)]
 # Seconds after which a worker that still tries the same checks is ended.
 PATIENCE = 900.0
 # How many of the slowest checks are named.

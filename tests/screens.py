@@ -113,6 +113,7 @@ def page_of(program: str, here: str) -> str:
     with subprocess.Popen([sys.executable, "-m", "raceoffice", "board", os.path.join(here, "dragon"), "--page",
                            os.path.join(here, "out")], stdout=subprocess.PIPE, text=True, cwd=TOP) as window:
         # The pages are those of a board that is there, not those that are made once.
+        assert window.stdout
         while not window.stdout.readline().startswith("Pages are in"):
             pass
         window.terminate()

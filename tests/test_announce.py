@@ -179,7 +179,7 @@ class Moments(unittest.TestCase):
                 for at, (line, answer) in enumerate(lines)]
 
     def minute(self, when: datetime.datetime | None) -> int | None:
-        return when and when.minute
+        return when.minute if when else None
 
     def test_entry(self) -> None:
         logged = self.log(("FINISH 1 A", "OK 3"), ("SCORE 1", "OK 4"), ("SCORE 1", "OK 4"),

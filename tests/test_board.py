@@ -18,6 +18,8 @@ import subprocess
 import threading
 import time
 import unittest
+from dataclasses import dataclass
+from typing import Any
 from concurrent.futures import ThreadPoolExecutor
 
 import helpers
@@ -44,7 +46,8 @@ class Relay:
     """A relay of the board to an office, which counts the lines that the board sends."""
 
     def __init__(self, path: str) -> None:
-        self.real, self.lines = f"{path}.real", []
+        self.real = f"{path}.real"
+        self.lines: list[str] = []
         os.rename(path, self.real)
         self.door = socket.socket(socket.AF_UNIX)
         self.door.bind(path)
@@ -68,8 +71,19 @@ class Relay:
                 to.sendall(data)
 
 
+@dataclass(frozen=True)
+class Answer:
+    """An answer to a request."""
+    status: int
+    data: bytes
+    headers: http.client.HTTPMessage
+
+    def getheader(self, name: str) -> str | None:
+        return self.headers.get(name)
+
+
 class Boards(helpers.Series):
-    def board(self, *folders: str, **values: str) -> tuple[helpers.Window, str]:
+    def board(self, *folders: str, **values: str) -> tuple[helpers.Terminal, str]:
         """A board for phones, and what it says before it waits."""
         self.port = helpers.free_port(self)
         window = self.window("board", *(folders or ("cup",)), "--http", str(self.port))
@@ -81,18 +95,19 @@ class Boards(helpers.Series):
             link.sendall(data)
             return b"".join(iter(lambda: link.recv(65536), b""))
 
-    def get(self, path: str, method: str = "GET", **headers: str) -> http.client.HTTPResponse:
-        """An answer, with its body as `data`."""
+    def get(self, path: str, method: str = "GET", **headers: str | None) -> Answer:
+        """What the board answers."""
         link = http.client.HTTPConnection("127.0.0.1", self.port, timeout=15)
-        link.request(method, path, headers={name.replace("_", "-"): value
+        link.request(method, path, headers={name.replace("_", "-"): value or ""
                                             for name, value in headers.items()})
         answer = link.getresponse()
-        answer.data = answer.read()
+        data = answer.read()
         link.close()
-        return answer
+        return Answer(answer.status, data, answer.headers)
 
-    def now(self, name: str = "cup") -> dict:
-        return json.loads(self.get(f"/{name}/now.json").data)
+    def now(self, name: str = "cup") -> dict[str, Any]:
+        found: dict[str, Any] = json.loads(self.get(f"/{name}/now.json").data)
+        return found
 
     def send(self, *lines: str, name: str = "cup") -> None:
         link = Link(os.path.join(self.here, name, "office", "race.sock"))
@@ -141,7 +156,9 @@ class Boards(helpers.Series):
         plain, packed = self.get("/cup/"), self.get("/cup/", Accept_Encoding="br, gzip")
         self.assertEqual(gzip.decompress(packed.data), plain.data)
         self.assertEqual(packed.getheader("Content-Encoding"), "gzip")
-        script = re.search(rb"<script>(.*?)</script>", plain.data, re.DOTALL)[1]
+        found = re.search(rb"<script>(.*?)</script>", plain.data, re.DOTALL)
+        assert found
+        script = found[1]
         digest = base64.b64encode(hashlib.sha256(script).digest()).decode()
         for answer in (plain, packed):
             self.assertEqual({name: answer.getheader(name) for name in (

@@ -31,7 +31,7 @@ class Tree(unittest.TestCase):
             self.assertRegex(text, rf"usage: raceoffice {name}")
 
     def test_wrong(self) -> None:
-        for words in ([], ["nothing"], ["check"], ["final", "--json"], ["board", "x", "--once", "--http"],
+        for words in (list[str](), ["nothing"], ["check"], ["final", "--json"], ["board", "x", "--once", "--http"],
                       ["decisions", "send", "x", "--json"], ["export", "x"]):
             said, status = helpers.run(*words)
             self.assertEqual((status, "usage: raceoffice" in said, "Traceback" in said), (2, True, False), said)

@@ -11,7 +11,7 @@ from unittest import mock
 import helpers
 from raceoffice import faults
 from raceoffice.commands import board
-from raceoffice.errors import Trouble
+from raceoffice.errors import Fault, Trouble
 from raceoffice.office.window import Hall
 from raceoffice.results.publish import Files, Site
 from raceoffice.results.source import Source
@@ -36,7 +36,7 @@ class Guarded(helpers.Series):
         faults.WRITTEN.clear()
 
     def fault(self, folder: str) -> str:
-        with self.assertRaises(faults.Fault) as raised, faults.guarded(folder):
+        with self.assertRaises(Fault) as raised, faults.guarded(folder):
             broken()
         return str(raised.exception)
 
@@ -70,7 +70,7 @@ class Guarded(helpers.Series):
         for kind in (Trouble, Odd, KeyboardInterrupt):
             with self.assertRaises(kind) as raised, faults.guarded(self.folder, Odd):
                 raise kind("why")
-            self.assertNotIsInstance(raised.exception, faults.Fault)
+            self.assertNotIsInstance(raised.exception, Fault)
 
     def test_statuses(self) -> None:
         """What a tool's work comes to."""

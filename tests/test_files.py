@@ -8,6 +8,7 @@ import subprocess
 import sys
 import threading
 import unittest
+from collections.abc import Callable
 from unittest import mock
 
 import helpers
@@ -138,8 +139,11 @@ class Added(helpers.Series):
 
     def test_side_by_side(self) -> None:
         """Lines of several windows don't mix, and one that has been stopped holds nobody up for long."""
-        threads = [threading.Thread(target=lambda at=at: [self.log(f"RANK {at}{'x' * 5000}") for _ in range(20)])
-                   for at in range(4)]
+        def log(at: int) -> None:
+            for _ in range(20):
+                self.log(f"RANK {at}{'x' * 5000}")
+
+        threads = [threading.Thread(target=log, args=(at,)) for at in range(4)]
         for thread in threads:
             thread.start()
         for thread in threads:
@@ -177,7 +181,8 @@ class Added(helpers.Series):
 
     def test_torn_journal(self) -> None:
         """What a crash has torn off is never added to a file that has another name, or is a link."""
-        for name, make in (("linked", os.link), ("symbolic", os.symlink)):
+        makes: dict[str, Callable[[str, str], object]] = {"linked": os.link, "symbolic": os.symlink}
+        for name, make in makes.items():
             folder = Folder(self.make(name))
             self.write("1 1 SCORER ENTER A\n1 2 SC", name, "journal.txt")
             self.write("other", name, "other")

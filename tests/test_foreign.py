@@ -3,6 +3,7 @@ from __future__ import annotations
 
 import os
 import unittest
+from collections.abc import Callable
 from unittest import mock
 
 import helpers
@@ -31,8 +32,9 @@ class Foreign(helpers.Series):
         self.write("1 1 SCORER ENTER A\n", "foreign", "journal.txt")
         program, options = Program(folder), folder.settings.options()
         with mock.patch("raceoffice.program.replay.PATIENCE", 0.1):
-            for asked in (program.start_faults, program.begin, lambda: program.standing(options),
-                          lambda: program.table(options)):
+            calls: list[Callable[[], object]] = [program.start_faults, program.begin, lambda: program.standing(options),
+                                                 lambda: program.table(options)]
+            for asked in calls:
                 with self.assertRaises(Trouble) as raised:
                     asked()
                 self.assertEqual(str(raised.exception),

@@ -9,6 +9,7 @@ import re
 import time
 import unittest
 import unittest.mock
+from typing import Any
 
 import helpers
 
@@ -97,7 +98,7 @@ class Forgeries(ForgedPages):
                     self.assertIn("the parts of one", self.why(resealed(
                         page, lambda whole: self.set(whole, path, value))))
 
-    def set(self, whole: dict, path: Path, value: object) -> None:
+    def set(self, whole: dict[str, Any], path: Path, value: object) -> None:
         whole.update(put(whole, path, value))
 
     def test_races(self) -> None:

@@ -5,6 +5,7 @@ import os
 import subprocess
 import unittest
 from unittest import mock
+from collections.abc import Callable
 
 import helpers
 from raceoffice.errors import Trouble
@@ -37,7 +38,7 @@ class Survey(helpers.Series):
         if subprocess.run(["mount", "-t", "tmpfs", "-o", "size=96k", "none", disk],
                           capture_output=True).returncode:
             self.skipTest("this account can't mount a small disk")
-        self.addCleanup(subprocess.run, ["umount", "-l", disk], check=True)
+        self.addCleanup(subprocess.check_call, ["umount", "-l", disk])
         folder = self.make("disk/full")
         with open(os.path.join(folder, "filler"), "wb") as file:
             file.write(b"\0" * (60 << 10))
@@ -57,7 +58,7 @@ class Survey(helpers.Series):
         if subprocess.run(["mount", "-t", "tmpfs", "-o", "size=160k", "none", disk],
                           capture_output=True).returncode:
             self.skipTest("this account can't mount a small disk")
-        self.addCleanup(subprocess.run, ["umount", "-l", disk], check=True)
+        self.addCleanup(subprocess.check_call, ["umount", "-l", disk])
         self.make("disk/full")
         window = self.open("disk/full")
         typist = self.client("disk/full", "--role", "finish")
@@ -128,8 +129,10 @@ class Survey(helpers.Series):
         """The socket's folder has to be this account's."""
         folder = self.folder()
         os.rmdir(folder.file("office"))
-        for made, why in [(lambda path: self.write("", path), "can't be made: File exists"),
-                          (lambda path: os.symlink(self.here, path), "isn't a folder of this account")]:
+        cases: list[tuple[Callable[[str], object], str]] = [
+            (lambda path: self.write("", path), "can't be made: File exists"),
+            (lambda path: os.symlink(self.here, path), "isn't a folder of this account")]
+        for made, why in cases:
             made(folder.file("office"))
             with self.assertRaises(Trouble) as raised:
                 folder.make_private()

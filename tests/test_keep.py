@@ -71,19 +71,23 @@ class Keeping(Kept):
                     self.assertEqual(self.text(), wanted)
 
     def test_long_journal(self) -> None:
-        """A start of 4,097 entries is kept in batches, ranked, shown and gone on from, and so is what was kept of
-        it. No other check has a journal of this length."""
+        """A start of 4,097 entries is kept in batches. A client who comes to this number is answered, shown it, and
+        goes on. No other check has a journal of this length."""
         lines = entries(4097)
         whole = VERSION + "".join(f"{line}\n" for line in lines)
         self.write(self.journal, whole)
-        for length in (4097, 4098):
-            office, link = self.opened("--journal", self.journal)
-            self.assertEqual(link.ask("RANK A")[:6], "RANK 1")
-            self.assertEqual(link.sheet().journal[:4097], tuple(lines))
-            self.assertEqual(self.text()[:len(whole)], whole)
-            self.assertTrue(link.ask(f"ENTER {length}").startswith(f"OK {length + 1} "))
-            self.assertEqual(self.text().count("\n"), length + 2)
-            self.killed(office)
+        office, link = self.opened("--journal", self.journal)
+        self.assertEqual(link.sheet().journal, tuple(lines))
+        self.assertEqual(self.text(), whole)
+        self.killed(office)
+        self.write(self.kept, whole[:-len(lines[-1]) - 1])
+        office, link = self.opened()
+        for line, reply in [("ENTER B", "OK 4097 1= 0.0"), ("RANK B", "RANK 1= 0.0"), ("ENTER B", "NO 6"),
+                            ("ENTER C", "OK 4098 1= 0.0"), ("RANK B", "RANK 1= 0.0")]:
+            self.assertEqual(link.ask(line), reply)
+            self.assertEqual(link.sheet().journal[:4096], tuple(lines[:-1]))
+        self.killed(office)
+        self.assertEqual(self.text().count("\n"), 4099)
 
     def test_faults(self) -> None:
         """A file with a fault is named, and stays as it was."""

@@ -19,11 +19,12 @@ from raceoffice.program.journal import Race
 from raceoffice.series import kept_places
 from raceoffice.series.folder import Folder
 from raceoffice.series.kept_places import History, Note, Places
+from raceoffice.typing_window.session import Desk
 from test_unknown_finishers import dropped, kept
 
 # Signs and values that break readers.
 ODD = [b"\0", b"\n", b"\r", b"\xff", b'"', b"\\", b"{", b"}", b"[", b"]", b",", b"\xe2\x80\xa8", b"\x1b", b"1" * 5000]
-VALUES = [None, True, -1, 10 ** 400, 1.5, "", "?", "\x1b[2K", "\ud800", [], [1], ["A" * 99], {}, "x" * 5000, [[]] * 9]
+VALUES: list[object] = [None, True, -1, 10 ** 400, 1.5, "", "?", "\x1b[2K", "\ud800", [], [1], ["A" * 99], {}, "x" * 5000, [[]] * 9]
 
 
 class Files(helpers.Series):
@@ -149,10 +150,11 @@ class Files(helpers.Series):
         """A link is followed by neither reader nor writer, and nothing but a plain file is opened."""
         other = os.path.join(self.here, "other")
         self.write("precious", other)
-        for make, clear in [(lambda: os.symlink(other, self.path), os.remove),
-                            (lambda: os.symlink("/nowhere", self.path), os.remove),
-                            (lambda: os.mkfifo(self.path), os.remove),
-                            (lambda: os.mkdir(self.path), os.rmdir)]:
+        makes: list[tuple[Callable[[], object], Callable[[str], object]]] = [
+            (lambda: os.symlink(other, self.path), os.remove),
+            (lambda: os.symlink("/nowhere", self.path), os.remove),
+            (lambda: os.mkfifo(self.path), os.remove), (lambda: os.mkdir(self.path), os.rmdir)]
+        for make, clear in makes:
             make()
             self.assertRaisesRegex(Trouble, "office/places can't be read", self.places.read)
             self.assertRaisesRegex(NotSent, "can't be written: .*Write her down on paper", self.keep)
@@ -161,6 +163,31 @@ class Files(helpers.Series):
         with open(self.path, "wb") as file:
             file.truncate(kept_places.LARGEST + 1)
         self.assertRaisesRegex(Trouble, "has more than 4,194,304 bytes", self.places.read)
+
+    def test_largest(self) -> None:
+        """A file never grows beyond what is read of one, so that no place is lost by another."""
+        self.keep()
+        before = self.data()
+        self.put(before + b" " * (kept_places.LARGEST - len(before) - 300) + b"\n")
+        self.assertEqual(self.keep(), "?2")
+        self.assertRaisesRegex(NotSent, "would have more than .*Write her down on paper", self.keep)
+        self.assertEqual(self.marks(), ["?1", "?2"])
+
+    def test_gone(self) -> None:
+        """A place that isn't noted any more, since somebody has removed the file, isn't kept again."""
+        self.keep()
+        os.remove(self.path)
+        self.assertRaisesRegex(NotSent, r"\?1 of race 1 isn't noted any more", self.places.keep_again, 1, "?1")
+
+    def test_unreadable_just_then(self) -> None:
+        """Who was told that her place is kept doesn't keep it twice, though the file can't be read just then."""
+        said: list[str] = []
+        desk = Desk(self.folder, "FINISH", "Ann", said.append, bool)
+        with mock.patch.object(desk.places, "data", side_effect=Trouble("it can't be read")):
+            self.assertTrue(desk.keep_place(Race(1)))
+        self.assertIn("?1 keeps her place", said[-1])
+        self.assertRaisesRegex(NotSent, "office/places can't be read", desk.undo)
+        self.assertEqual(self.marks(), ["?1"])
 
     def test_full(self) -> None:
         """On a full disk nothing is kept, and it is said; what was kept stays as it was."""

@@ -10,6 +10,7 @@ import os
 import random
 import unittest
 from collections.abc import Callable, Iterator
+from typing import Any
 
 import helpers
 
@@ -37,7 +38,7 @@ class Leaves(ForgedPages):
         return [table.caption for table in found.tables] + cells + [
             text for tag, text in found.texts if tag != "time" and "Last changed" not in text]
 
-    def honest(self, whole: dict, page: str) -> str:
+    def honest(self, whole: dict[str, Any], page: str) -> str:
         """The page of this kind that the tools write of the series with these seals."""
         views = {seals(notice([view]))[0]: view for view in (self.tide, self.fleet)}
         mine, said = [views[seal] for seal in seals(page)], whole["page"]
@@ -49,7 +50,7 @@ class Leaves(ForgedPages):
             return one_race(mine[0], said["race"], said["among"])
         return overall(mine[0], said.get("among", False), said["kind"] == "top")
 
-    def look(self, whole: dict, page: str, known: set[str]) -> str:
+    def look(self, whole: dict[str, Any], page: str, known: set[str]) -> str:
         """What is wrong with a page that is verified though its block was changed; empty if nothing is.
 
         With the seals of honest pages it shows what they show. No page has a tag, an attribute or an
@@ -79,7 +80,7 @@ class Leaves(ForgedPages):
                     with self.subTest(kind=kind, path=path, value=other):
                         self.leaf(fresh, forger.forged(fresh), path, page)
 
-    def leaf(self, whole: dict, made: str, path: Path, page: str) -> None:
+    def leaf(self, whole: dict[str, Any], made: str, path: Path, page: str) -> None:
         if path[0] in ("seal", "marks"):
             # The forger makes these again: the page is as it was.
             return
@@ -90,7 +91,7 @@ class Leaves(ForgedPages):
             self.assertNotEqual(seals(made), seals(page))
             self.assertEqual(odd_parts(made), [])
 
-    def at(self, whole: dict, path: Path) -> object:
+    def at(self, whole: dict[str, Any], path: Path) -> object:
         found: object = whole
         for name in path:
             found = found[name]  # type: ignore[index]
@@ -145,16 +146,16 @@ def places(value: object, path: Path = ()) -> Iterator[tuple[Path, object]]:
             yield from places(part, (*path, name))
 
 
-def mutated(dice: random.Random, whole: dict) -> dict:
+def mutated(dice: random.Random, whole: dict[str, Any]) -> dict[str, Any]:
     """The block after one to three changes."""
     for _ in range(dice.choice([1, 1, 1, 2, 3])):
-        change: Callable[[random.Random, dict], dict] = dice.choice(
+        change: Callable[[random.Random, dict[str, Any]], dict[str, Any]] = dice.choice(
             [changed_leaf, changed_leaf, changed_leaf, changed_part, moved_part])
         whole = change(dice, copy.deepcopy(whole))
     return whole
 
 
-def changed_leaf(dice: random.Random, whole: dict) -> dict:
+def changed_leaf(dice: random.Random, whole: dict[str, Any]) -> dict[str, Any]:
     """Another value of a leaf. Each part of a block has the same chance, however long it is."""
     every = [(path, value) for path, value in leaves(whole) if path[0] != "seal"]
     groups: dict[object, list[tuple[Path, object]]] = {}
@@ -176,7 +177,7 @@ def other_value(dice: random.Random, value: object, texts: list[object]) -> obje
     return value[:at] + MARKUP + value[at:]
 
 
-def changed_part(dice: random.Random, whole: dict) -> dict:
+def changed_part(dice: random.Random, whole: dict[str, Any]) -> dict[str, Any]:
     """A part taken out, added, named otherwise or there twice."""
     _, part = dice.choice(list(places(whole)))
     name = dice.choice(list(part)) if isinstance(part, dict) and part else None
@@ -196,7 +197,7 @@ def changed_part(dice: random.Random, whole: dict) -> dict:
     return whole
 
 
-def moved_part(dice: random.Random, whole: dict) -> dict:
+def moved_part(dice: random.Random, whole: dict[str, Any]) -> dict[str, Any]:
     """Two items of a list, or two parts of an object, in each other's place."""
     _, part = dice.choice([each for each in places(whole) if len(each[1]) > 1])  # type: ignore[arg-type]
     names = list(part) if isinstance(part, dict) else list(range(len(part)))  # type: ignore[arg-type]

@@ -223,6 +223,7 @@ class Ways(unittest.TestCase):
             refused.connect(path)
             helpers.until("the end at the door", lambda: not helpers.is_listening(path))
         self.assertEqual(serving.wait(helpers.PATIENCE), 3)
+        assert serving.stdout
         self.assertEqual(serving.stdout.read(), "TABLE 2 RACES\n1= A 0.0\n1= B 0.0\n")
 
     def test_no_descriptor(self) -> None:
@@ -291,6 +292,7 @@ class Ways(unittest.TestCase):
                 self.assertEqual(link.ask("ENTER B"), "OK 2 1= 0.0")
                 self.assertEqual(link.ask("QUIT"), "BYE")
             self.assertEqual(serving.wait(helpers.PATIENCE), 3)
+            assert serving.stdout
             self.assertEqual(serving.stdout.read(), "TABLE 2 RACES\n1= A 0.0\n1= B 0.0\n")
         self.assertTrue(remove_socket("race.sock"))
 

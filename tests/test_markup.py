@@ -36,9 +36,11 @@ class Read(HTMLParser):
         self.found.append((tag, attrs))
 
     def handle_data(self, data: str) -> None:
-        if self.found and isinstance(self.found[-1], str):
-            data = self.found.pop() + data
-        self.found.append(data)
+        before = self.found[-1] if self.found else None
+        if isinstance(before, str):
+            self.found[-1] = before + data
+        else:
+            self.found.append(data)
 
 
 class Builder(unittest.TestCase):

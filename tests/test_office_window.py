@@ -29,6 +29,12 @@ class Windows(helpers.Series):
     def path(self, *names: str) -> str:
         return os.path.join(self.here, "cup", *names)
 
+    def newest_copy(self) -> str:
+        """The name of the newest dated copy."""
+        copy = newest(Folder(self.path()))
+        assert copy
+        return copy.name
+
     def link(self) -> Link:
         link = Link(self.path("office", "race.sock"))
         self.addCleanup(link.close)
@@ -49,10 +55,13 @@ class Windows(helpers.Series):
         self.addCleanup(self.stop, "cup")
         opened = subprocess.Popen([*helpers.COMMAND, "open", "cup"],
                                   cwd=self.here, stdin=stdin, stdout=subprocess.PIPE, text=True)
+        assert opened.stdout
         late = threading.Timer(helpers.PATIENCE, opened.kill)
         late.start()
-        for cleanup in (late.cancel, opened.stdout.close, opened.wait, opened.kill):
-            self.addCleanup(cleanup)
+        self.addCleanup(late.cancel)
+        self.addCleanup(opened.stdout.close)
+        self.addCleanup(opened.wait)
+        self.addCleanup(opened.kill)
         lines = iter(opened.stdout.readline, "")
         self.assertTrue(any("is open" in line for line in lines))
         return opened, lines
@@ -136,7 +145,7 @@ class Stopped(Windows):
         again.say("y", r"Beware: journal\.txt isn't what the office keeps(.|\n)*The office is open")
         again.press()
         said, status = again.rest()
-        self.assertIn("GBR101", self.text("cup", newest(Folder(self.path())).name))
+        self.assertIn("GBR101", self.text("cup", self.newest_copy()))
         self.assertEqual(status, 0)
 
     def taken_over(self) -> office_process.Service:
@@ -199,7 +208,7 @@ class Questions(Windows):
         os.rename(self.path("office.log"), self.path("log"))
         os.mkdir(self.path("office.log"))
         window.press()
-        window.read(r"Beware: office\.log (.|\n)*Close the office\? \[y/N\] $")
+        window.read(r"Beware: (.|\n)*places(.|\n)*Close the office\? \[y/N\] $")
         window.type("y")
         said, status = window.rest()
         self.assertRegex(said, r"The journal of the office is in kept/.*-office\.txt\.")
@@ -284,7 +293,7 @@ class Disks(Windows):
         os.mkdir(disk)
         if subprocess.run(["mount", "-t", "tmpfs", "-o", "size=1m", "none", disk], capture_output=True).returncode:
             self.skipTest("this account can't mount a second disk")
-        self.addCleanup(subprocess.run, ["umount", "-l", disk], check=True)
+        self.addCleanup(subprocess.check_call, ["umount", "-l", disk])
         self.make("other", copy=disk)
         self.assertNotIn("same disk", helpers.run("check", "other", cwd=self.here)[0])
 
@@ -294,7 +303,7 @@ class Disks(Windows):
         os.mkdir(disk)
         if subprocess.run(["mount", "-t", "tmpfs", "-o", "size=16k", "none", disk], capture_output=True).returncode:
             self.skipTest("this account can't mount a small disk")
-        self.addCleanup(subprocess.run, ["umount", "-l", disk], check=True)
+        self.addCleanup(subprocess.check_call, ["umount", "-l", disk])
         with open(os.path.join(disk, "filler"), "wb") as file:
             subprocess.run(["dd", "if=/dev/zero", "bs=1024"], stdout=file, stderr=subprocess.DEVNULL)
         for _ in range(2):
@@ -318,7 +327,7 @@ class Disks(Windows):
         said, status = window.rest()
         self.assertIn("Closed. journal.txt has 7 entries, and isn't what the office kept.\n", said)
         self.assertEqual((self.text("cup", "journal.txt"), status), (other, 0))
-        name = newest(Folder(self.path())).name
+        name = self.newest_copy()
         self.assertIn(f"The journal of the office is in {name}", said)
         self.assertIn("\tclosed\t7 entries", self.text("cup", "office.log"))
         said, status = helpers.run("check", "cup", cwd=self.here)
@@ -367,9 +376,9 @@ class Disks(Windows):
         window.read("Beware")
         os.kill(self.number(), signal.SIGKILL)
         said, status = window.rest()
-        found = newest(Folder(self.path()))
-        self.assertIn(f"The office has gone. journal.txt isn't what it kept: that is in {found.name}. Open", said)
-        self.assertEqual((self.held("cup", found.name), status), (8, 1))
+        name = self.newest_copy()
+        self.assertIn(f"The office has gone. journal.txt isn't what it kept: that is in {name}. Open", said)
+        self.assertEqual((self.held("cup", name), status), (8, 1))
 
     def test_journal_damaged_in_a_crash(self) -> None:
         """A journal that can't be read after a crash is said to be so."""
@@ -564,6 +573,7 @@ class Seconds(Windows):
         with mock.patch("raceoffice.series.second_folder.PATIENCE", 0.2), mock.patch("raceoffice.series.second_folder.GIVE_UP", 0.4):
             self.assertNotEqual(found.ask("save", "x\n").fault, "")
             process = found.process
+            assert process
             os.remove(found.path)
             helpers.until("a copy", lambda: not found.ask("save", "x\n").fault)
         self.assertIsNotNone(process.poll())
@@ -575,6 +585,7 @@ class Seconds(Windows):
         found = self.second()
         self.assertEqual(found.ask("look").fault, f"{os.path.dirname(found.path)} isn't there")
         os.mkdir(os.path.join(self.here, "stick"))
+        assert found.process
         found.process.kill()
         found.process.wait()
         with mock.patch("raceoffice.series.second_folder.GIVE_UP", 0.0):

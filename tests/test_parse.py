@@ -3,23 +3,23 @@ from __future__ import annotations
 
 import itertools
 import unittest
+from typing import Any
 
-import helpers  # noqa: F401
-from raceoffice.errors import NotSent  # noqa: F401
-from raceoffice.typing_window.parse import Reader, race_number  # noqa: F401
+from raceoffice.errors import NotSent
+from raceoffice.typing_window.parse import Reader, race_number
 
 BOATS = ["GBR101", "GER101", "GBR7", "NED12", "FRA9", "GBR33", "IRL5", "IRL55", "DEN820", "GBR77", "GBR1042"]
 
 
-def reader(at: int | None = 3, boats: list[str] | None = None, **more: object) -> Reader:
+def reader(at: int | None = 3, boats: list[str] | None = None, **more: Any) -> Reader:
     return Reader(boats or BOATS, str, at, **more)
 
 
 class Spoken(unittest.TestCase):
-    def line(self, typed: str, asked: list[str] | None = None, yes: bool = True, **more: object) -> str:
+    def line(self, typed: str, asked: list[str] | None = None, yes: bool = True, **more: Any) -> str:
         """The line of what was typed; what was asked is added."""
         def ask(text: str) -> bool:
-            self.assertIsNotNone(asked, text)
+            assert asked is not None, text
             asked.append(text)
             return yes
         return reader(**more).line(typed, ask)
@@ -49,21 +49,22 @@ class Spoken(unittest.TestCase):
 
     def test_two_things(self) -> None:
         """A number that may be a race or a boat is asked, and sent as it was typed only after a yes."""
-        for typed, more, question, line in [
-                ("mark 3 ocs", {}, "3 may be a race or a boat.", "MARK 3 GBR33 OCS"),
-                ("strike 3", {}, "3 may be a race or a boat.", "STRIKE 3 GBR33"),
-                ("finish 3", {}, "3 may be a race or a boat.", "FINISH 3 GBR33"),
-                ("3 ocs", {}, "3 may be a race or a boat.", "MARK 3 GBR33 OCS"),
-                ("dnf 7", {"races": {1, 7}}, "7 may be a race or a boat.", "MARK 3 GBR7 DNF"),
-                ("strike 7", {"races": {7}}, "7 may be a race or a boat.", "STRIKE 3 GBR7"),
-                ("tie 3 12", {"boats": ["GBR3", "NED12"]}, "3 may be a race or a boat.", "TIE 3 GBR3 NED12"),
-                ("redress 7 12", {}, "7 may be a race or a boat.", "REDRESS 3 GBR7 12"),
-                ("ocs 33 12", {}, "33 may be a race or a boat.", "MARK 33 NED12 OCS"),
-                ("mark 33 12 ocs", {}, "33 may be a race or a boat.", "MARK 33 NED12 OCS"),
-                ("ret 5", {"boats": ["RET5", "IRL55"]}, "This may be MARK 3 RET5 RET or FINISH 3 RET5.", "MARK 3 RET5 RET"),
-                ("ret 5", {"boats": ["RET5", "IRL5"]}, "5 may be RET5 or IRL5.", "FINISH 3 RET5"),
-                ("time 3 33", {"is_timed": True}, "3 may be a race or a boat.", "TIME 3 GBR33 33"),
-                ("mark 2 a dsq", {"boats": ["2A", "A"]}, "This may be MARK 2 A DSQ or MARK 3 2A DSQ.", "MARK 2 A DSQ")]:
+        cases: list[tuple[str, dict[str, Any], str, str]] = [
+            ("mark 3 ocs", {}, "3 may be a race or a boat.", "MARK 3 GBR33 OCS"),
+            ("strike 3", {}, "3 may be a race or a boat.", "STRIKE 3 GBR33"),
+            ("finish 3", {}, "3 may be a race or a boat.", "FINISH 3 GBR33"),
+            ("3 ocs", {}, "3 may be a race or a boat.", "MARK 3 GBR33 OCS"),
+            ("dnf 7", {"races": {1, 7}}, "7 may be a race or a boat.", "MARK 3 GBR7 DNF"),
+            ("strike 7", {"races": {7}}, "7 may be a race or a boat.", "STRIKE 3 GBR7"),
+            ("tie 3 12", {"boats": ["GBR3", "NED12"]}, "3 may be a race or a boat.", "TIE 3 GBR3 NED12"),
+            ("redress 7 12", {}, "7 may be a race or a boat.", "REDRESS 3 GBR7 12"),
+            ("ocs 33 12", {}, "33 may be a race or a boat.", "MARK 33 NED12 OCS"),
+            ("mark 33 12 ocs", {}, "33 may be a race or a boat.", "MARK 33 NED12 OCS"),
+            ("ret 5", {"boats": ["RET5", "IRL55"]}, "This may be MARK 3 RET5 RET or FINISH 3 RET5.", "MARK 3 RET5 RET"),
+            ("ret 5", {"boats": ["RET5", "IRL5"]}, "5 may be RET5 or IRL5.", "FINISH 3 RET5"),
+            ("time 3 33", {"is_timed": True}, "3 may be a race or a boat.", "TIME 3 GBR33 33"),
+            ("mark 2 a dsq", {"boats": ["2A", "A"]}, "This may be MARK 2 A DSQ or MARK 3 2A DSQ.", "MARK 2 A DSQ")]
+        for typed, more, question, line in cases:
             asked: list[str] = []
             self.assertEqual(self.line(typed, asked, **more), line, typed)
             self.assertEqual(asked, [f"{question} Is {line} meant?"])

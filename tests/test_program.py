@@ -215,7 +215,7 @@ class Files(unittest.TestCase):
     def test_systems(self) -> None:
         """A journal of finishes is no start of corrected times, and the other way round."""
         said = "regatta: start refused 16 at 2\n"
-        for handicap, command in [(["--handicap"], "FINISH 1 A"), ([], "TIME 1 A 7")]:
+        for handicap, command in [(["--handicap"], "FINISH 1 A"), (list[str](), "TIME 1 A 7")]:
             self.write(f"1 1 SCORER ENTER A\n1 2 SCORER {command}\n")
             words = [*handicap, "--journal", self.journal]
             self.assertEqual(replayed(*words), ("", said, 1))

@@ -100,7 +100,10 @@ class Readers(unittest.TestCase):
 
     def test_ratings(self) -> None:
         for system in times.SYSTEMS:
-            self.each("list", lambda data, system=system: times.rated(data, "list.csv", self.chosen.randint(1, 40), system))
+            def read(data: bytes, system: str = system) -> None:
+                times.rated(data, "list.csv", self.chosen.randint(1, 40), system)
+
+            self.each("list", read)
 
     def test_sheets(self) -> None:
         """A sheet without a fault gives rows that the program can part."""

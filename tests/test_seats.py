@@ -24,7 +24,8 @@ class Seats(helpers.Series):
 
     def test_waiting(self) -> None:
         """It comes once a seat is free, and until then never."""
-        folder, said, end = self.folder(), [], time.monotonic() + helpers.PATIENCE
+        folder, end = self.folder(), time.monotonic() + helpers.PATIENCE
+        said: list[str] = []
 
         def wait(_: float) -> None:
             self.assertLess(time.monotonic(), end, "no seat came")
@@ -40,6 +41,7 @@ class Seats(helpers.Series):
             threading.Timer(0.5, second.close).start()
             window.wait_for(window.desks[0])
             self.assertTrue(helpers.is_listening(path))
+            assert window.desks[0].link
             self.assertEqual(window.desks[0].link.ask("RANK A"), "NO 7")
             window.desks[0].disconnect()
         self.assertEqual(said, ["Waiting: all seats of the office are taken. Ctrl-C ends this window."])

@@ -28,7 +28,11 @@ class Opening(helpers.Series):
         finally:
             link.close()
 
-    def answer(self, window: helpers.Window, talk: list[tuple[str, str | None]]) -> None:
+    def until_held(self, entries: int) -> None:
+        """Waits until the second folder's copy has so many entries."""
+        helpers.until("the copy", lambda: self.held("stick", "cup-journal.txt") == entries)
+
+    def answer(self, window: helpers.Terminal, talk: list[tuple[str, str | None]]) -> None:
         """Waits for each question, and answers it; None is no answer yet."""
         for asked, typed in talk:
             window.read(asked)
@@ -188,8 +192,7 @@ class Opening(helpers.Series):
             window.press()
             window.read(asked)
             typist.say(f"finish 1 {sail}", r"OK \d .*\n> $")
-            helpers.until("the copy", lambda entries=entries:
-                          self.held("stick", "cup-journal.txt") == entries)
+            self.until_held(entries)
             window.press()
             window.read("\nThe office stays open.\n")
         window.press()
@@ -279,8 +282,8 @@ class Opening(helpers.Series):
         window.press()
         window.rest()
         before = self.text("cup", "journal.txt")
-        said = helpers.run("remove", "cup", "DEN16", cwd=self.here)
-        self.assertEqual(said, ("DEN16 can't be taken out: entry 10, TIE 1 GBR7 DEN16, places another "
+        found = helpers.run("remove", "cup", "DEN16", cwd=self.here)
+        self.assertEqual(found, ("DEN16 can't be taken out: entry 10, TIE 1 GBR7 DEN16, places another "
                                 "boat beside her.\n", 1))
         self.write("\n".join(before.splitlines()[:10] + ["1 10 SCORER SCORE 1", ""]), "cup", "journal.txt")
         said, status = helpers.run("remove", "cup", "DEN16", cwd=self.here)

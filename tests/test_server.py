@@ -73,7 +73,7 @@ class Phones(helpers.Series):
 
     def assert_prompt(self, source: str = HONEST) -> None:
         """One of three phones is answered in time: others may use the processors meanwhile."""
-        took = []
+        took: list[float] = []
         while len(took) < 3 and min(took, default=PROMPT) >= PROMPT:
             begun = time.monotonic()
             self.assertEqual(self.asked("/cup/", source), 200)
@@ -206,11 +206,11 @@ class Phones(helpers.Series):
             return False
 
 
-class Failing(dict):
+class Failing(dict[str, http_answers.Text]):
     """Texts that can't be looked up as long as they are broken."""
     is_broken = True
 
-    def get(self, *words: object) -> None:
+    def get(self, *words: object) -> None:  # type: ignore[override]
         if self.is_broken:
             raise RuntimeError("no text today")
 
@@ -218,7 +218,8 @@ class Failing(dict):
 class Faults(unittest.TestCase):
     def test_fault_of_an_answer(self) -> None:
         """What goes wrong in an answer is noted, and the next phone is answered."""
-        texts, notes, port = Failing(), [], helpers.free_port(self)
+        texts, port = Failing(), helpers.free_port(self)
+        notes: list[str] = []
         shown = http_answers.Board()
         shown.texts = texts
         server.Listener("127.0.0.1", port, shown, notes.append).start()

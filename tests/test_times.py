@@ -5,7 +5,7 @@ import contextlib
 import os
 import re
 import unittest
-from collections.abc import Iterator
+from collections.abc import Iterator, Sequence
 from unittest import mock
 
 import helpers
@@ -266,7 +266,7 @@ class Sums(unittest.TestCase):
     def test_program(self) -> None:
         """Another program is no program of sums."""
         self.assertIn("nothing", times.in_words("", "a", "b", {}))
-        rows = {"ratings": [2, 4], "sheet": [7]}
+        rows: dict[str, Sequence[int]] = {"ratings": [2, 4], "sheet": [7]}
         for row, wanted in [(2, 2), (3, 4), (1, 1), (9, 9)]:
             self.assertEqual(times.in_words(f"times: ratings fault 8 row {row}: bad", "a", "b", rows),
                              f"b, row {wanted}: bad")

@@ -423,7 +423,7 @@ NO 8   Refused: she is in the finishing order of this race already
         os.mkdir(path)
         self.play(window, """
 > ?
-   Beware: """ + path + """ can't be read: Is a directory. A finisher without a sail may be missing.
+   Beware: """ + path + """ can't be read: it isn't a plain file. A finisher without a sail may be missing.
    Not sent: """ + path + """ can't be written: Is a directory. Write her down on paper.
 > ?1 none
    Not sent: """ + path + """ can't be written: Is a directory.
@@ -447,6 +447,7 @@ Race 1 is taken away: 3 lines, all taken.
         desk = Desk(Folder(os.path.join(self.here, "cup")), "FINISH", "", self.said.append, lambda _: True)
         desk.connect()
         self.addCleanup(desk.disconnect)
+        assert desk.link
         ask = desk.link.ask
 
         def asked(line: str) -> str:

@@ -3,11 +3,10 @@ from __future__ import annotations
 
 import unittest
 
-import helpers  # noqa: F401
-from raceoffice.errors import NotSent  # noqa: F401
-from raceoffice.program.journal import Race  # noqa: F401
-from raceoffice.series.kept_places import History, Note  # noqa: F401
-from raceoffice.series.unknown_finishers import Waiting, in_words  # noqa: F401
+from raceoffice.errors import NotSent
+from raceoffice.program.journal import Race
+from raceoffice.series.kept_places import History, Note
+from raceoffice.series.unknown_finishers import Waiting, in_words
 
 
 def race_of(*groups: str) -> Race:

@@ -15,6 +15,7 @@ import time
 import unittest
 import unittest.mock
 from collections.abc import Callable
+from typing import Any
 
 import helpers
 
@@ -119,11 +120,13 @@ class Pages(helpers.Series):
         """Data with seals that are right for them are scored: what the table has not is named."""
         page = self.page()
 
-        def settings(name: str, value: str) -> Callable[[dict], None]:
-            return lambda whole: whole["series"][0]["settings"].update({name: value})
+        def settings(name: str, value: str) -> Callable[[dict[str, Any]], None]:
+            def change(whole: dict[str, Any]) -> None:
+                whole["series"][0]["settings"][name] = value
+            return change
 
-        def entry(was: str, now: str) -> Callable[[dict], None]:
-            def change(whole: dict) -> None:
+        def entry(was: str, now: str) -> Callable[[dict[str, Any]], None]:
+            def change(whole: dict[str, Any]) -> None:
                 journal = whole["series"][0]["journal"]
                 at = [line.split(maxsplit=3)[3] for line in journal].index(was)
                 journal[at] = journal[at].replace(was, now)
@@ -232,9 +235,14 @@ class Pages(helpers.Series):
         os.mkdir(os.path.join(self.here, "beside"))
         os.symlink(helpers.PROGRAM, os.path.join(self.here, "beside", "regatta"))
         with unittest.mock.patch.dict(os.environ, {"PATH": os.path.join(self.here, "beside")}):
-            for words in ([], ["--program", "regatta"]):
+            for words in (list[str](), ["--program", "regatta"]):
                 said, status = helpers.run("verify", "page.html", *words, cwd=self.here)
                 self.assertEqual((status, "verified. " in said or ": verified." in said), (0, True), said)
+            # A program that came with a page isn't the one that judges it, unless somebody says so by its path.
+            os.symlink(other, os.path.join(self.here, "regatta"))
+            for words, text in ([], "the same that"), (["--program", "./regatta"], "another than that"):
+                said, status = helpers.run("verify", "page.html", *words, cwd=self.here)
+                self.assertEqual((status, f"Program: {text}" in said), (0, True), said)
         for program, why in (("nowhere", "There is no program at nowhere"),
                              ("/bin/true", "not verified: the program doesn't show its journal")):
             said, status = helpers.run("verify", "page.html", "--program", program, cwd=self.here)

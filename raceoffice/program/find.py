@@ -10,10 +10,9 @@ BUILT = os.path.join(TOP, "crates", "{0}", "out")
 
 
 def program_at(named: str) -> str:
-    """The file of a program that somebody names: by its path, or by its name alone."""
-    if os.path.dirname(named) or os.path.isfile(named):
-        return named
-    return found_program(named) or named
+    """The file of a program that somebody names: by its path, or by its name alone. What lies in the current
+    folder isn't meant by a name alone: it may have come with what is looked at."""
+    return named if os.path.dirname(named) else found_program(named) or named
 
 
 def found_program(name: str, *near: str) -> str:

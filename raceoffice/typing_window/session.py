@@ -381,7 +381,10 @@ class Desk:
         """Keeps the place of a finisher at the end of the order as it is now."""
         mark = self.places.keep(race, typed, len(self.book.sheet.journal))
         self.look_at_places()
-        self.done = Done(unread=self.unread.one(race.number, mark), what="kept", time=time.monotonic())
+        # What is on the disk may not be readable just then: she is kept all the same.
+        kept = next((unread for unread in self.unread.of(race.number) if unread.mark == mark), None)
+        self.done = Done(unread=kept, what="kept", why="" if kept else "office/places can't be read",
+                         time=time.monotonic())
         self.say(f"   {self.prefix}{why}{mark} keeps her place. Once she is known, type: {mark} and her sail "
                  "(or none)")
         return True

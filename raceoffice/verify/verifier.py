@@ -282,7 +282,7 @@ def outcome(verifier: Verifier, path: str) -> Outcome:
 
 def verify(pages: Sequence[str], program: str, is_json: bool = False) -> int:
     """Verifies pages and says what was found; the status."""
-    if not os.access(program, os.X_OK):
+    if not (os.path.dirname(program) and os.access(program, os.X_OK)):
         raise Trouble(f"There is no program at {program}: build it, or name one with --program.")
     verifier, found = Verifier(program), []
     for path in pages:

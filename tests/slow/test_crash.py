@@ -46,7 +46,7 @@ class Crashes(helpers.Series):
                  "--go-on"], cwd=self.here, stdin=lines, stdout=subprocess.PIPE,
                 stderr=subprocess.STDOUT, text=True)
 
-    def opened(self) -> tuple[helpers.Window, str]:
+    def opened(self) -> tuple[helpers.Terminal, str]:
         """The office's window, and what it says at its opening; a running office is taken over."""
         window = self.window("open", "cup")
         said = window.read(r"is open\.|\[Y/n\] $")
@@ -61,7 +61,8 @@ class Crashes(helpers.Series):
         return False
 
     def test_random_moments(self) -> None:
-        dice, answered = random.Random(5), {}
+        dice = random.Random(5)
+        answered: dict[int, str] = {}
         window, _ = self.opened()
         self.addCleanup(self.stop, "cup")
         for turn in range(TURNS):
@@ -86,7 +87,7 @@ class Crashes(helpers.Series):
         held = self.text("cup", "office.log").count("\n")
         helpers.until("the answers", lambda: self.text("cup", "office.log").count("\n") >= held + lines)
 
-    def crash(self, window: helpers.Window, kind: str, lines: int, seed: int) -> str:
+    def crash(self, window: helpers.Terminal, kind: str, lines: int, seed: int) -> str:
         """Kills office, window or both while three write; all that the writers have said."""
         writers = [self.writer(seed + at) for at in range(3)]
         number = int(self.text("cup", "office", "pid").split()[0])

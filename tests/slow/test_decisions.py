@@ -19,6 +19,7 @@ import helpers
 from by_rules import Decision
 from raceoffice.commands import decisions
 from raceoffice.decisions import decision_lines, points as decision_points
+from raceoffice.decisions.held import Holding, holdings
 from raceoffice.errors import Trouble
 from raceoffice.program import replay
 from raceoffice.program.link import Link
@@ -34,7 +35,9 @@ class Made:
     """A random series: as the rules see it, and as the lines of an office."""
 
     def __init__(self, dice: random.Random) -> None:
-        self.dice, self.lines = dice, []
+        self.dice = dice
+        # A late decision of the jury is a race, a boat and a code.
+        self.lines: list[Line | tuple[int, str, str]] = []
         boats = [f"B{at}" for at in range(dice.randint(3, 8))]
         races = range(1, dice.randint(2, 6) + 1)
         self.series = by_rules.Series(boats, {number: by_rules.Race() for number in races},
@@ -123,13 +126,15 @@ class Made:
 
 class Rules(unittest.TestCase):
     def setUp(self) -> None:
-        self.dice, self.kinds, self.stale = random.Random(50), collections.Counter(), 0
+        self.dice, self.stale = random.Random(50), 0
+        self.kinds: collections.Counter[str] = collections.Counter()
 
     def test_random_series(self) -> None:
         """Points, cells and stale lines are those of the rules, before and after late changes."""
         for _ in range(COUNT):
             made = Made(self.dice)
-            journal = replay.scored(helpers.PROGRAM, made.options, [], made.lines).journal
+            lines = [line for line in made.lines if isinstance(line, Line)]
+            journal = replay.scored(helpers.PROGRAM, made.options, [], lines).journal
             decisions = made.decisions()
             journal = self.kept(made, journal, decisions)
             made.lines = []
@@ -195,7 +200,7 @@ class Rules(unittest.TestCase):
                 lines.append(line)
                 continue
             number, boat, code = line
-            if decision_points.holdings(journal).get((number, boat), decision_points.Holding()).is_any:
+            if holdings(journal).get((number, boat), Holding()).is_any:
                 lines.append(Line("JURY", f"CLEAR {number} {boat}"))
             lines.append(Line("JURY", f"MARK {number} {boat} {code}"))
         journal = replay.scored(helpers.PROGRAM, made.options, journal, lines).journal
@@ -207,7 +212,7 @@ class Rules(unittest.TestCase):
         stale = {at for at, decision in enumerate(decisions, 1)
                  if self.is_stale(made, decision, wanted[decision])}
         texts = self.weighed(made, journal, decisions).stale
-        named = {int(re.match(r"decisions.txt, line (\d+): ", text)[1]) for text in texts}
+        named = {int(number) for text in texts for number in re.findall(r"^decisions.txt, line (\d+): ", text)}
         self.assertEqual(named, stale)
         self.stale += len(stale)
 
@@ -428,7 +433,7 @@ class Sent(helpers.Series):
         lines = desk.state().decided.lines
         self.assertEqual([line.text for line in lines][:3],
                          ["CLEAR 1 GBR7", "PENALTY 1 GBR7 ZFP", "REDRESS 1 GBR7 9.0"])
-        real, said = desk.link, []
+        real, said = desk.link, list[str]()
 
         class Gone:
             """A link on which the office goes after the first line."""
@@ -436,11 +441,13 @@ class Sent(helpers.Series):
             def ask(self, line: str) -> str:
                 if line.startswith("PENALTY"):
                     raise Trouble("the office has gone")
+                assert real
                 return real.ask(line)
 
-        desk.link = Gone()
-        with unittest.mock.patch("raceoffice.commands.decisions.say", said.append):
+        with unittest.mock.patch.object(desk, "link", Gone()), \
+                unittest.mock.patch("raceoffice.commands.decisions.say", said.append):
             self.assertEqual(desk.send(lines), 1)
+        assert real
         real.close()
         self.assertEqual(said[:4], [
             "Stopped at PENALTY 1 GBR7 ZFP: the office has gone.",

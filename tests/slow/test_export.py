@@ -10,6 +10,7 @@ import unittest
 from html.parser import HTMLParser
 
 import browser
+from browser import Browser
 import helpers
 
 from forger import journal_of
@@ -34,8 +35,8 @@ class Marks(HTMLParser):
 
     def handle_starttag(self, tag: str, attrs: list[tuple[str, str | None]]) -> None:
         values = dict(attrs)
-        self.ids += [values["id"]] if values.get("id") else []
-        self.links += [values["href"] for _ in [0] if values.get("href")]
+        self.ids += filter(None, [values.get("id")])
+        self.links += filter(None, [values.get("href")])
         self.links += [f"#{name}" for name in (values.get("aria-labelledby") or "").split()]
         if tag not in ("meta", "input", "link", "br"):
             self.open.append(tag)
@@ -231,9 +232,11 @@ class Results(Made):
 
 @unittest.skipUnless(browser.program(), "Chromium isn't installed")
 class Shown(Made):
+    browser: Browser
+
     @classmethod
     def setUpClass(cls) -> None:
-        cls.browser = browser.Browser()
+        cls.browser = Browser()
 
     @classmethod
     def tearDownClass(cls) -> None:

@@ -60,7 +60,7 @@ class Scripts(unittest.TestCase):
         folder = os.path.join(self.here, "only")
         os.mkdir(folder)
         for name in names:
-            os.symlink(shutil.which(name), os.path.join(folder, name))
+            os.symlink(shutil.which(name) or name, os.path.join(folder, name))
         return folder
 
 
@@ -101,7 +101,7 @@ class Merge(Scripts):
         shutil.copy(os.path.join(helpers.TOP, ".ci", "run"), os.path.join(self.here, ".ci"))
         # Whoever isn't root asks sudo.
         self.path = self.only("bash", "sh", "dirname", "realpath", "env", "timeout", "id", "printf")
-        os.symlink(shutil.which("env"), os.path.join(self.path, "sudo"))
+        os.symlink(shutil.which("env") or "env", os.path.join(self.path, "sudo"))
         self.stand_in("bin/apt-get", ("Setting up", 0))
 
     def test_installed(self) -> None:

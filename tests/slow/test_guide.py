@@ -18,6 +18,8 @@ def slug(heading: str) -> str:
 
 
 class Guide(unittest.TestCase):
+    text: str
+
     @classmethod
     def setUpClass(cls) -> None:
         cls.text = guide.read()
@@ -69,7 +71,7 @@ class Guide(unittest.TestCase):
         said: dict[str, set[str]] = {role: set() for role in parse.MAY}
         for whose, rows in re.findall(r"^\| \*\*([^*]*)\*\* \| \|\n((?:\| `.*\n)*)", table, re.MULTILINE):
             lines = re.findall(r"`([A-Z]+) ", rows)
-            for role in ROLES.values() if whose == "all" else map(ROLES.get, whose.split(" and ")):
+            for role in ROLES.values() if whose == "all" else [ROLES[one] for one in whose.split(" and ")]:
                 said[role].update(lines)
         self.assertEqual(said, parse.MAY)
 

@@ -58,7 +58,8 @@ def played(lines: list[str], *options: str) -> tuple[list[str], Standing]:
 
 class Records(unittest.TestCase):
     def test_random_series(self) -> None:
-        dice, rules, cells = random.Random(7), collections.Counter(), 0
+        dice, cells = random.Random(7), 0
+        rules: collections.Counter[str] = collections.Counter()
         for _ in range(COUNT):
             journal, standing = played(series_of(dice), "--absent", dice.choice(["a52", "a53"]),
                                        "--exclude", dice.choice(["none", "2", "3", "2,4"]))

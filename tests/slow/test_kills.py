@@ -13,6 +13,7 @@ import traceback
 import unittest
 from collections.abc import Callable
 from unittest import mock
+from typing import Any
 
 import helpers
 from raceoffice.errors import NotSent, Trouble
@@ -45,7 +46,7 @@ class Steps:
                 self.do()
 
     def wrapped(self, name: str, call: Callable[..., object]) -> Callable[..., object]:
-        def step(*words: object, **more: object) -> object:
+        def step(*words: Any, **more: Any) -> object:
             def half() -> None:
                 call(words[0], words[1][:len(words[1]) // 2])
             self.take(name, half if name == "write" else None)

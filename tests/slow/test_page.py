@@ -10,6 +10,7 @@ import subprocess
 import unittest
 
 import browser
+from browser import Browser
 import helpers
 from raceoffice.program.link import Link
 from test_board import RACE, SECOND
@@ -137,9 +138,11 @@ def season(races: int, seed: int, sails: list[str] | None = None) -> list[str]:
 
 @unittest.skipUnless(browser.program(), "Chromium isn't installed")
 class Pages(helpers.Series):
+    browser: Browser
+
     @classmethod
     def setUpClass(cls) -> None:
-        cls.browser = browser.Browser()
+        cls.browser = Browser()
 
     @classmethod
     def tearDownClass(cls) -> None:
@@ -423,7 +426,7 @@ class Pages(helpers.Series):
 
     # Out of date
 
-    def served(self, name: str) -> helpers.Window:
+    def served(self, name: str) -> helpers.Terminal:
         """A board, and its page open in the browser of a phone with a wrong clock."""
         port = helpers.free_port(self)
         window = self.window("board", name, "--http", str(port))
@@ -488,8 +491,8 @@ class Pages(helpers.Series):
 
         def is_new() -> bool:
             self.look_again()
-            return self.browser.run("[...document.querySelectorAll('thead th')].at(-2).textContent "
-                                    "=== 'R2'")
+            return bool(self.browser.run("[...document.querySelectorAll('thead th')].at(-2).textContent "
+                                         "=== 'R2'"))
 
         helpers.until("the second race", is_new)
         self.assertEqual(self.browser.run("""

@@ -71,7 +71,7 @@ def answers(path: str, text: bytes) -> bytes:
 
 
 @contextlib.contextmanager
-def frozen(serving: subprocess.Popen) -> Iterator[None]:
+def frozen(serving: subprocess.Popen[str]) -> Iterator[None]:
     """An office that is stopped, so that what clients do is there at once when it goes on."""
     helpers.freeze(serving.pid)
     try:
@@ -86,7 +86,7 @@ class Office(unittest.TestCase):
         self.addCleanup(holder.cleanup)
         self.here = holder.name
 
-    def serve(self, *words: str) -> tuple[str, subprocess.Popen]:
+    def serve(self, *words: str) -> tuple[str, subprocess.Popen[str]]:
         """An office, and the path of its socket."""
         stack = contextlib.ExitStack()
         self.addCleanup(stack.close)
@@ -137,9 +137,10 @@ class Office(unittest.TestCase):
         helpers.until("a seat that is free", comes)
         return found[0]
 
-    def ended(self, serving: subprocess.Popen, table: str) -> None:
+    def ended(self, serving: subprocess.Popen[str], table: str) -> None:
         """The office ends, and all that it has printed is this table."""
         self.assertEqual(serving.wait(helpers.PATIENCE), 0)
+        assert serving.stdout
         self.assertEqual(serving.stdout.read(), table)
 
 
@@ -226,7 +227,7 @@ class AtOnce(Office):
             sheets = {done.result() for done in watched}
         self.assertEqual(len(sheets), 1)
         sheet = sheets.pop()
-        printed, said, status = helpers.replayed("--journal", self.start(sheet.journal))
+        printed, said, status = helpers.replayed("--journal", self.start(list(sheet.journal)))
         self.assertEqual((printed.splitlines(), said, status), (list(sheet.table), "", 0))
 
 
