@@ -13,9 +13,9 @@ from typing import Union
 VOID = {"input", "meta"}
 SHAPES = {"circle", "line", "path", "polyline", "rect"}
 NAME = re.compile(r"[A-Za-z][A-Za-z0-9]*(?:-[a-z]+)*")
-# An address leads to a place in a page, or to a page of the same site.
+# An address leads to a place in a page, or to a page of the same site, perhaps to a place in it.
 ADDRESS = re.compile(r"\?|#[A-Za-z0-9-]+|(?:\.\./)?(?:(?!\.\.?/)[A-Za-z0-9%._~-]+/)?"
-                     r"[a-z0-9-]+\.(?:html|csv)")
+                     r"[a-z0-9-]+\.(?:html(?:#[A-Za-z0-9-]+)?|csv)")
 # What could end a script or a style sheet, or hide its end.
 END = re.compile("</|<!--")
 
