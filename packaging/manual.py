@@ -19,7 +19,7 @@ from collections.abc import Iterator
 
 sys.path.insert(1, os.path.dirname(os.path.dirname(os.path.abspath(__file__))))
 
-from raceoffice import cli, version  # noqa: E402
+from raceoffice import cli, version
 
 # The programs as they are installed, with what each does.
 PROGRAMS = {"regatta": "score one series of races under Appendix A of the Racing Rules of Sailing",

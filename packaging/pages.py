@@ -15,7 +15,7 @@ from collections.abc import Iterator
 
 sys.path.insert(1, os.path.dirname(os.path.dirname(os.path.abspath(__file__))))
 
-from raceoffice.results.html.markup import Markup, Part, document, raw, tag, together  # noqa: E402
+from raceoffice.results.html.markup import Markup, Part, document, raw, tag, together
 
 # Each page, and what it is called in the line of links at the top.
 PAGES = {"GUIDE": "Guide", "SCORING": "How a series is scored", "RULES": "The rules", "JURY": "Decisions",

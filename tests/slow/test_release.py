@@ -89,6 +89,8 @@ def ended(trial: unittest.TestCase, *words: str, cwd: str) -> str:
 @helpers.needs_times
 class Releases(unittest.TestCase):
     """A release, made once and unpacked as the archive and as the package."""
+    here: str
+    clone: Clone
 
     @classmethod
     def setUpClass(cls) -> None:
@@ -221,20 +223,22 @@ class Refusals(unittest.TestCase):
         """A log has to be of this commit and of these programs, whole and without a failure."""
         first, kit, *rest, last = self.clone.log
         other = f"commit {'0' * 40}"
-        for wanted, log in [("is of 'commit 000", [other, kit, *rest, last]),
-                            ("with changes'", [f"{first} with changes", kit, *rest, last]),
-                            ("is of", [first, other, kit, *rest, last]),
-                            ("is of ''", [kit, *rest, last]),
-                            ("ends in '301 passed, 2 failed'", [first, kit, *rest, "301 passed, 2 failed"]),
-                            ("ends in '0 passed, 0 failed'", [first, kit, *rest, "0 passed, 0 failed"]),
-                            ("ends in 'Killed'", [*self.clone.log, "Killed"]),
-                            ("ends in", [first, kit, *rest]),
-                            ("ends in ''", []),
-                            ("names no kit", [first, *rest, last]),
-                            ("regatta isn't the program", [first, kit, *rest[:-2], rest[-1], last]),
-                            ("times isn't the program", [first, kit, *rest[:-1], last])]:
+        logs: list[tuple[str, list[str]]] = [
+            ("is of 'commit 000", [other, kit, *rest, last]),
+            ("with changes'", [f"{first} with changes", kit, *rest, last]),
+            ("is of", [first, other, kit, *rest, last]),
+            ("is of ''", [kit, *rest, last]),
+            ("is of ''", []),
+            ("ends in '301 passed, 2 failed'", [first, kit, *rest, "301 passed, 2 failed"]),
+            ("ends in '0 passed, 0 failed'", [first, kit, *rest, "0 passed, 0 failed"]),
+            ("ends in 'Killed'", [*self.clone.log, "Killed"]),
+            ("ends in", [first, kit, *rest]),
+            ("names no kit", [first, *rest, last]),
+            ("regatta isn't the program", [first, kit, *rest[:-2], rest[-1], last]),
+            ("times isn't the program", [first, kit, *rest[:-1], last])]
+        for wanted, log in logs:
             with self.subTest(wanted=wanted):
-                self.refused(wanted if log else "is of ''", log)
+                self.refused(wanted, log)
 
     def test_version(self) -> None:
         self.refused(f"says {VERSION}, and not {VERSION}.1", self.clone.log, f"{VERSION}.1")
