@@ -33,7 +33,8 @@ GUIDE = os.path.join(helpers.TOP, "docs", "GUIDE.md")
 STEP = re.compile(r"^```([^\n]*)\n(.*?)^```$|^<!-- kill (\S+) -->$", re.MULTILINE | re.DOTALL)
 COMMAND = re.compile(r"\$ raceoffice ")
 # What varies from one play to the next, and what it is compared as.
-VARIES = [(re.compile(r"\b\d{4}-\d\d-\d\d-\d{6}Z?\b"), "DATE"), (re.compile(r"\b\d\d:\d\d(:\d\d)?\b"), "TIME"),
+VARIES = [(re.compile(r"\b\d{4}-\d\d-\d\d-\d{6}Z?\b"), "DATE"),
+          (re.compile(r"\b\d\d:\d\d(:\d\d)?\b"), "TIME"),
           (re.compile(r"http://[^/\s]+/(   \(or [^)]*\))?"), "ADDRESS")]
 # A question, or the prompt of those who type, and for how long nothing else comes then.
 ASKS, QUIET = re.compile(r"(> |[\]):?] )$"), 0.1

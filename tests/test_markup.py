@@ -138,7 +138,8 @@ class Policy(ForgedPages):
         """The table of what is allowed finds what isn't."""
         for page in self.pages().values():
             self.assertEqual(odd_parts(page), [])
-            for old, new in [("<main", "<img src=x><main"), ("<main", "<main onclick=x"), ("</b>", "</b><b style=x>"),
+            for old, new in [("<main", "<img src=x><main"), ("<main", "<main onclick=x"),
+                             ("</b>", "</b><b style=x>"),
                              ("</main>", "</main><script></script>"), ('class="skip"', 'class="skip x"'),
                              ('href="?"', 'href="//x"'), ("</style>", "p { background: url(x) }</style>"),
                              ("<main", "<!--x--><main"), ("</body>", "</object></body>"),

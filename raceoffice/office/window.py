@@ -279,11 +279,11 @@ class Hall:
 
     def stop(self, cause: Exception, beside: str) -> str:
         """Stops the program although others are there; what `save_last` gives."""
-        why = sentence(cause) if isinstance(cause, Trouble) else sentence(Fault(in_words(self.folder.path, cause)))
+        why = cause if isinstance(cause, Trouble) else Fault(in_words(self.folder.path, cause))
         with contextlib.suppress(Trouble):
             beside = beside or self.save_last(self.service.link.sheet())
         self.service.stop()
-        say_if_heard(f"{clock()} {why} The office is stopped without its windows.")
+        say_if_heard(f"{clock()} {sentence(why)} The office is stopped without its windows.")
         return beside
 
     def wait_for_others(self) -> None:
@@ -304,8 +304,8 @@ class Hall:
         while not self.save(sheet):
             try:
                 beside = self.keeper.keep_beside()
-                say_if_heard(f"{clock()} The journal of the office is in {beside}. Compare it with journal.txt "
-                             "before you open it again.")
+                say_if_heard(f"{clock()} The journal of the office is in {beside}. Compare it with "
+                             "journal.txt before you open it again.")
                 return beside
             except Trouble as trouble:
                 self.say_once("last", f"The office stays until its journal is in kept/: {trouble}. Once more "

@@ -50,8 +50,8 @@ LIST = {1: "no column has the heading Sail", 2: "the row ends before the column 
         3: "what is in the column of sails is no sail", 4: "the sail is in an earlier row",
         5: "500 boats were read before"}
 # What the program says of journal.txt, which it keeps.
-DAMAGED = ("journal.txt is damaged after line {0}. If a crash did that, all that was answered is in the lines "
-           "up to it. In its folder this keeps those alone:\n"
+DAMAGED = ("journal.txt is damaged after line {0}. If a crash did that, all that was answered is in the "
+           "lines up to it. In its folder this keeps those alone:\n"
            "   head -n {0} journal.txt > good.txt\n   cp good.txt journal.txt\n"
            "Otherwise compare it with the copies in kept/.")
 NO_JOURNAL = "journal.txt is no journal: none of its lines is whole. Compare it with the copies in kept/."

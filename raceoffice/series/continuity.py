@@ -84,8 +84,8 @@ def added(folder: Folder) -> str:
     noted, held = noted_end(folder.logged()), len(parts_of(folder.parts()[0])[1])
     if noted is None or noted.when != "closed" or held <= noted.entries:
         return ""
-    return (f"journal.txt has {count(held, 'entry', 'entries')}, {held - noted.entries} more than when the office "
-            "was closed: it was kept without raceoffice, or somebody has added to it.")
+    return (f"journal.txt has {count(held, 'entry', 'entries')}, {held - noted.entries} more than when the "
+            "office was closed: it was kept without raceoffice, or somebody has added to it.")
 
 
 def from_copy(data: bytes, held: bytes, copy: Copy) -> str:

@@ -159,7 +159,8 @@ class All(Scripts):
         """`run.py` counts each check once, and fails if there is nothing to try."""
         self.copy("run.py")
         parts = "for at in range(3):\n            with self.subTest(at=at): self.fail()"
-        for text, end in [(parts, ("0 passed, 1 failed", 1)), ("self.skipTest('')", ("0 passed, 0 failed", 0)),
+        for text, end in [(parts, ("0 passed, 1 failed", 1)),
+                          ("self.skipTest('')", ("0 passed, 0 failed", 0)),
                           ("self.fail()", ("0 passed, 1 failed", 1)), ("1 / 0", ("0 passed, 1 failed", 1)),
                           ("pass", ("1 passed, 0 failed", 0)), ("", ("0 passed, 0 failed", 1))]:
             body = f"class T(unittest.TestCase):\n    def test(self):\n        {text}\n" if text else ""
