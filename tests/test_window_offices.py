@@ -10,7 +10,7 @@ import unittest
 import helpers
 from raceoffice.errors import Trouble
 from raceoffice.series.folder import Folder
-from raceoffice.typing_window.session import Desk
+from raceoffice.typing_window.session import Session
 from raceoffice.typing_window.watcher import News, Watcher
 
 
@@ -124,9 +124,9 @@ class Offices(helpers.Series):
             door.bind(os.path.join(place, "race.sock"))
             door.listen()
             threading.Thread(target=lambda: door.accept()[0].close(), daemon=True).start()
-            desk = Desk(Folder(os.path.join(self.here, "cup")), "FINISH", "", print, bool)
-            self.assertRaises(Trouble, desk.connect)
-            self.assertIsNone(desk.link)
+            session = Session(Folder(os.path.join(self.here, "cup")), "FINISH", "", print, bool)
+            self.assertRaises(Trouble, session.connect)
+            self.assertIsNone(session.link)
 
     def test_block_and_crash(self) -> None:
         """When the office goes in the middle of a block, the rest isn't sent."""

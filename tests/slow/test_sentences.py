@@ -14,7 +14,7 @@ SCRIPT = os.path.join(helpers.TOP, "bench", "sentences.py")
 
 class Sentences(unittest.TestCase):
     def test_mutants(self) -> None:
-        """Each mutant refuses a right table or accepts a wrong one, and the fields are those of the sources."""
+        """Each mutant refuses a right table or accepts a wrong one; the fields are those of the sources."""
         done = subprocess.run([sys.executable, SCRIPT], capture_output=True, encoding="utf-8",
                               timeout=helpers.PATIENCE * 4)
         self.assertEqual(done.returncode, 0, done.stdout[-2000:] + done.stderr[-2000:])
