@@ -1,1 +1,1 @@
-"""A race office for sailing clubs: the tools around the proved program `regatta`."""
+"""A race office for sailing clubs: the package around the proved program `regatta`."""

@@ -113,7 +113,7 @@ def odd_parts(page: str) -> list[str]:
     if not style.startswith(assets.style()) or re.search(r"url|@import|expression|[\\<]", plain):
         odd.append(f"a style {plain[:80]!r}")
     if block != f"\n{read_block.block_of(page)}" or "<" in block:
-        odd.append("the block isn't what verify.py reads")
+        odd.append("the block isn't what `verify` reads")
     if script != assets.script():
         odd.append(f"a script {script[:40]!r}")
     return odd

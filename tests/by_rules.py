@@ -1,5 +1,5 @@
 """A series scored by the rules as docs/SCORING.md and the RRS state them, in exact fractions, with the
-decisions for which the program has no line. It shares no code with the tools or the program."""
+decisions for which the program has no line. It shares no code with the package or the program."""
 from __future__ import annotations
 
 import copy

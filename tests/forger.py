@@ -221,7 +221,7 @@ class ForgedPages(helpers.Series):
                 "results": notice([self.tide]), "both": notice([self.fleet, self.tide])}
 
     def is_verified(self, page: str) -> bool:
-        """Whether a page is verified; any other end than those of verify.py is a fault."""
+        """Whether a page is verified; any other end than those of `verify` is a fault."""
         try:
             self.verifier.verified(page)
         except (Odd, Unsure, Trouble):

@@ -1,4 +1,4 @@
-"""What the checks share: the program, offices and windows to try the tools with."""
+"""What the checks share: the program, offices and windows to try the package with."""
 from __future__ import annotations
 
 import contextlib

@@ -1,5 +1,5 @@
 #!/usr/bin/env python3
-"""Makes the pictures of the board in docs/ from the tools as they are: screens.py PROGRAM [FOLDER]
+"""Makes the pictures of the board in docs/ from the package as it is: screens.py PROGRAM [FOLDER]
 
 They show the series in tests/week on a phone, on a desk and on paper.
 """

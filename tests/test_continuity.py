@@ -191,8 +191,8 @@ class Continuity(helpers.Series):
         self.assertNotIn("more than", helpers.run("check", "cup", cwd=self.here)[0])
         self.put(self.data + b"2 12 SCORER FINISH 3 GBR7\n")
         said, status = helpers.run("check", "cup", cwd=self.here)
-        self.assertIn("journal.txt has 18 entries, 1 more than when the office was closed: it was kept without these "
-                      "tools, or somebody has added to it.\n", said)
+        self.assertIn("journal.txt has 18 entries, 1 more than when the office was closed: it was kept without "
+                      "raceoffice, or somebody has added to it.\n", said)
         self.assertEqual(status, 0)
 
 

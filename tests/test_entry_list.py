@@ -1,5 +1,5 @@
 """The entry list: what is wrong with one is said, in whatever form a program has saved it, and the program
-takes what the tools give it of every other."""
+takes what the package gives it of every other."""
 from __future__ import annotations
 
 import os

@@ -44,8 +44,8 @@ class Guarded(helpers.Series):
         """The trace is in the series' folder, once, and lets in this account alone."""
         Folder(self.folder).make_private()
         for _ in range(3):
-            self.assertEqual(self.fault(self.folder), f"this tool has a fault, IndexError; its trace is in {self.faults}. "
-                             "Send that to whoever gave you the tool")
+            self.assertEqual(self.fault(self.folder), f"raceoffice has a fault, IndexError; its trace is in {self.faults}. "
+                             "Send that to whoever gave you raceoffice")
         text = self.text("cup", "office", "faults.txt")
         self.assertEqual(text.count("IndexError: list index out of range"), 1)
         self.assertIn("in broken", text)
@@ -86,7 +86,7 @@ class Guarded(helpers.Series):
                                  (lambda: raises(BrokenPipeError), 5)]:
                 self.assertEqual(faults.status_of(work, "", told.append, 5), status)
         self.assertEqual((told[0], told[2]), ("why.", ""))
-        self.assertIn("this tool has a fault, ValueError; its trace is in", told[1])
+        self.assertIn("raceoffice has a fault, ValueError; its trace is in", told[1])
 
     def test_board(self) -> None:
         """A board goes on after a fault in what it reads and in what it makes, and shows the others."""
@@ -104,7 +104,7 @@ class Guarded(helpers.Series):
                 self.assertFalse(shown.look(sources))
             self.assertEqual([source.view is not None for source in sources], [True, True])
             self.assertTrue(shown.look(sources))
-        self.assertIn("this tool has a fault, KeyError", "\n".join(str(call) for call in said.mock_calls))
+        self.assertIn("raceoffice has a fault, KeyError", "\n".join(str(call) for call in said.mock_calls))
 
     def test_office(self) -> None:
         """The office's window goes on."""
@@ -114,7 +114,7 @@ class Guarded(helpers.Series):
                 mock.patch.object(hall, "service") as service:
             service.is_over.return_value = False
             self.assertTrue(hall.goes_on())
-        self.assertIn("this tool has a fault, IndexError", str(said.mock_calls))
+        self.assertIn("raceoffice has a fault, IndexError", str(said.mock_calls))
 
     def test_window(self) -> None:
         """The window of somebody who types goes on, and names the line."""
@@ -124,11 +124,11 @@ class Guarded(helpers.Series):
         typist = Window([Folder(self.folder)], "FINISH", "")
         with mock.patch("raceoffice.typing_window.window.say") as said, mock.patch.object(typist, "do", broken):
             self.assertEqual(typist.refused("finish 1 gbr 7"), "since this window has a fault")
-        self.assertRegex(str(said.mock_calls), "Beware: this tool has a fault, IndexError; .*is in the journal: finish 1 "
+        self.assertRegex(str(said.mock_calls), "Beware: raceoffice has a fault, IndexError; .*is in the journal: finish 1 "
                          "gbr 7")
         with mock.patch("raceoffice.typing_window.window.say") as said, mock.patch.object(typist, "take_news", broken):
             typist.take_news_safely()
-        self.assertIn("Beware: this tool has a fault, IndexError", str(said.mock_calls))
+        self.assertIn("Beware: raceoffice has a fault, IndexError", str(said.mock_calls))
 
 
 class Ends(helpers.Series):

@@ -67,7 +67,7 @@ class Forgeries(ForgedPages):
         return str(found.exception)
 
     def forged(self, kind: str, path: Path, value: object) -> str:
-        """The page of a block with another value at one place, as the tools' own code makes it."""
+        """The page of a block with another value at one place, as the package's own code makes it."""
         page = self.made[kind]
         return Forger(helpers.PROGRAM, page).forged(put(whole_of(page), path, value))
 
@@ -309,7 +309,7 @@ class Forgeries(ForgedPages):
             self.assertIn("is too long", self.why(resealed(
                 page, lambda whole: whole["series"][0].update({name: value}))))
         for number in ("9" * 5_000_000, "1e999999999", "-0.0", "NaN", "Infinity", "1" * 5):
-            self.assertIn("a number that no tool writes", self.why(
+            self.assertIn("a number that raceoffice never writes", self.why(
                 page.replace('"every": 5', f'"every": {number}')))
         self.assertIn("inside one another", self.why(
             page.replace('"every": 5', '"every": ' + "[" * 200_000)))

@@ -39,7 +39,7 @@ class Leaves(ForgedPages):
             text for tag, text in found.texts if tag != "time" and "Last changed" not in text]
 
     def honest(self, whole: dict[str, Any], page: str) -> str:
-        """The page of this kind that the tools write of the series with these seals."""
+        """The page of this kind that raceoffice writes of the series with these seals."""
         views = {seals(notice([view]))[0]: view for view in (self.tide, self.fleet)}
         mine, said = [views[seal] for seal in seals(page)], whole["page"]
         if said["kind"] == "results":
@@ -115,7 +115,7 @@ class Leaves(ForgedPages):
     # At random
 
     def test_mutations(self) -> None:
-        """Random changes of a block, with a page that the tools' own code makes of it."""
+        """Random changes of a block, with a page that the package's own code makes of it."""
         dice, pages = random.Random(SEED), list(self.pages().values())
         known = {seal for page in pages for seal in seals(page)}
         wrong, verified = [], 0

@@ -127,7 +127,7 @@ class Source(unittest.TestCase):
 
 class Policy(ForgedPages):
     def test_policy(self) -> None:
-        """What a browser may run is the script that comes with the tools, whatever a page holds."""
+        """What a browser may run is the script of the package, whatever a page holds."""
         fixed = http_answers.Text.of("text/html", b"<p>x</p>").policy
         self.assertEqual(fixed.count("sha256-"), 1)
         for page in (*self.pages().values(), f"<script>alert(1)</script>{MARKUP}"):

@@ -1,4 +1,4 @@
-"""Folders whose names aren't UTF-8 text, or are those of others: what the tools write of them, and say."""
+"""Folders whose names aren't UTF-8 text, or are those of others: what the package writes of them, and say."""
 from __future__ import annotations
 
 import os
@@ -44,7 +44,7 @@ class Names(helpers.Series):
         self.assertEqual((said.count(": verified."), status), (3, 0), said)
 
     def test_office(self) -> None:
-        """The program takes no such path, and the tools say so."""
+        """The program takes no such path, and the package says so."""
         for command in ("check", "open"):
             said, status = self.run_tool(command, ODD)
             self.assertIn(f"The program takes no path that isn't UTF-8, as {self.here}/cup?/journal.txt isn't: "

@@ -517,8 +517,8 @@ class Clocks(Windows):
             with mock.patch.object(found, "look", side_effect=KeyError("GBR7")):
                 self.assertTrue(found.goes_on())
             path = found.folder.file("office", "faults.txt")
-            wanted = (f"this tool has a fault, KeyError; its trace is in {path}. Send that to whoever gave you the "
-                      "tool.")
+            wanted = (f"raceoffice has a fault, KeyError; its trace is in {path}. Send that to whoever gave you "
+                      "raceoffice.")
             self.assertEqual((said, found.folder.beware()), ([f"Beware: {wanted}"], wanted))
             self.assertIn("Traceback", self.text("cup", "office", "faults.txt"))
             self.assertTrue(found.goes_on())

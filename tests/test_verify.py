@@ -207,7 +207,7 @@ class Pages(helpers.Series):
                 self.verifier.verified(text)
 
     def test_wrong_tools(self) -> None:
-        """If the tools themselves wrote a cell wrongly, and would do so again, the cell is named."""
+        """If the package itself wrote a cell wrongly, and would do so again, the cell is named."""
         right = overall.cell
         for was, now, why in [("3<i>.0", "4<i>.0", "(GBR 101 A. Moss)"), ("DNE", "DSQ", "(GBR 33 "),
                               ("<s>)", "<s>", "")]:
@@ -240,7 +240,7 @@ class Pages(helpers.Series):
                 self.assertEqual((status, "verified. " in said or ": verified." in said), (0, True), said)
             # A program that came with a page isn't the one that judges it, unless somebody says so by its path.
             os.symlink(other, os.path.join(self.here, "regatta"))
-            for words, text in ([], "the same that"), (["--program", "./regatta"], "another than that"):
+            for words, text in (list[str](), "the same that"), (["--program", "./regatta"], "another than that"):
                 said, status = helpers.run("verify", "page.html", *words, cwd=self.here)
                 self.assertEqual((status, f"Program: {text}" in said), (0, True), said)
         for program, why in (("nowhere", "There is no program at nowhere"),

@@ -1,4 +1,4 @@
-"""What the tools say of numbers, signs and faults."""
+"""What the package says of numbers, signs and faults."""
 from __future__ import annotations
 
 import os
@@ -51,7 +51,7 @@ class Words(unittest.TestCase):
                     ("regatta: keep journal fault 1 line 2", "isn't a line of a journal: '1 1 SCORER"),
                     ("regatta: keep differs at 2", "different entries, first at 2."),
                     ("regatta: keep too long", "longer than 1,048,576 bytes"),
-                    ("error: unexpected argument '--keep' found", "older than these tools"),
+                    ("error: unexpected argument '--keep' found", "older than raceoffice"),
                     ("regatta: no memory", "The program says: regatta: no memory.")]:
                 for note in ("", "regatta: keep cut 3 bytes after line 3\n1 3\n"):
                     said = messages.start_fault(f"{note}{fault}\n", journal, "entries.csv")

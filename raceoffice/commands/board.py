@@ -102,7 +102,7 @@ def note(folder: str, trace: str) -> None:
     """Notes what went wrong in answering a phone, and says so, once for each trace."""
     if trace not in WRITTEN:
         path = written(folder, trace)
-        say(f"{clock()} Beware: a phone wasn't answered, by a fault of this tool. "
+        say(f"{clock()} Beware: a phone wasn't answered, by a fault of raceoffice. "
             + (f"Its trace is in {path}." if path else "Its trace couldn't be written."))
 
 

@@ -111,7 +111,7 @@ def start_fault(said: str, journal: str, entries: str) -> list[str]:
     if "regatta: device fault" in said:
         return [f"The program can't read {name} or {entries}, or can't make its socket in office/."]
     if "'--keep'" in said:
-        return ["The program is older than these tools: it can't keep a journal. Use the one that came with "
+        return ["The program is older than raceoffice: it can't keep a journal. Use the one that came with "
                 "them."]
     return [f"The program says: {said.strip() or 'nothing'}."]
 

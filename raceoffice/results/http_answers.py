@@ -45,7 +45,7 @@ class Text:
 
 
 def policy(kind: str) -> str:
-    """A page may run the script that comes with the tools and no other, and ask this server and nobody
+    """A page may run the script of the package and no other, and ask this server and nobody
     else."""
     if "html" not in kind:
         return "default-src 'none'"

@@ -85,7 +85,7 @@ def added(folder: Folder) -> str:
     if noted is None or noted.when != "closed" or held <= noted.entries:
         return ""
     return (f"journal.txt has {count(held, 'entry', 'entries')}, {held - noted.entries} more than when the office "
-            "was closed: it was kept without these tools, or somebody has added to it.")
+            "was closed: it was kept without raceoffice, or somebody has added to it.")
 
 
 def from_copy(data: bytes, held: bytes, copy: Copy) -> str:

@@ -1,5 +1,5 @@
 """What a page carries, read from it. Whoever wrote the page may be an enemy: each part has to have the
-type and the narrow form that the tools give it."""
+type and the narrow form that the package gives it."""
 from __future__ import annotations
 
 import datetime
@@ -47,7 +47,7 @@ class Kept:
 # The block
 
 def found_in(page: str, now: datetime.datetime) -> Kept:
-    """What a page carries. Odd says what of it no tool writes, or what in it was changed."""
+    """What a page carries. Odd says what of it raceoffice never writes, or what in it was changed."""
     text = block_of(page)
     whole = value_of(text)
     if not isinstance(whole, dict):
@@ -98,13 +98,13 @@ def value_of(text: str) -> object:
         line = text.split("\n")[cause.lineno - 1][:80]
         raise Odd(f"the block isn't JSON at its line {cause.lineno}: {line}") from None
     except ValueError as cause:
-        raise Odd(f"the block has a number that no tool writes: {cause}") from None
+        raise Odd(f"the block has a number that raceoffice never writes: {cause}") from None
     except RecursionError:
         raise Odd("the block has too many parts inside one another") from None
 
 
 def compare_form(written: object) -> None:
-    """The form of a block has to be that of these tools."""
+    """The form of a block has to be that of this package."""
     if written == form():
         return
     named = FORM.fullmatch(written) if isinstance(written, str) else None
@@ -113,7 +113,7 @@ def compare_form(written: object) -> None:
     age = "a newer" if named and int(named[1]) > NUMBER else "an older"
     if named and int(named[1]) == NUMBER:
         age = "another"
-    raise Unsure(f"it was made by {age} version of these tools: make it again, or take the tools that "
+    raise Unsure(f"it was made by {age} version of raceoffice: make it again, or take the one that "
                  "made it")
 
 
@@ -209,7 +209,7 @@ def compare_seal(text: str, seal: object) -> None:
 # Forms
 
 def wrong_form(kept: Kept, now: datetime.datetime) -> str:
-    """What of a page no tool writes; empty if there is nothing."""
+    """What of a page raceoffice never writes; empty if there is nothing."""
     names = [carried.name for carried in kept.series]
     for name in names:
         if names.count(name) > 1:
@@ -290,7 +290,7 @@ def wrong_stamp(carried: Carried, now: datetime.datetime) -> str:
 def wrong_confirmation(kept: Kept, checked: str, office: str, now: datetime.datetime) -> str:
     """Why a page of this kind can't say that it was confirmed then, from there; empty if it can."""
     if kept.kind == "results":
-        return "" if checked == office == "" else "a page of results.py isn't confirmed by an office"
+        return "" if checked == office == "" else "a page of `export` isn't confirmed by an office"
     if wrong := wrong_moment(checked, now):
         return f"the time at which the page was confirmed {wrong}"
     if kept.kind != "list":

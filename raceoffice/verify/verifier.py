@@ -59,7 +59,7 @@ class Verifier:
         self.last: Rebuilt | None = None
 
     def rebuilt(self, kept: Kept) -> Rebuilt:
-        """The page that the tools write of what a page carries."""
+        """The page that raceoffice writes of what a page carries."""
         if self.last is None or self.last.kept != kept:
             views = tuple(self.view(carried, kept.kind == "results") for carried in kept.series)
             made = Rebuilt(kept, views, page_of(kept, views))
@@ -149,7 +149,7 @@ def settings_of(carried: Carried) -> Settings:
 
 
 def page_of(kept: Kept, views: Sequence[View]) -> str:
-    """The page that the tools write of these series."""
+    """The page that raceoffice writes of these series."""
     if kept.kind == "list":
         return listing(views)
     if kept.kind == "results":
@@ -162,7 +162,7 @@ def page_of(kept: Kept, views: Sequence[View]) -> str:
 
 
 def compare_tables(rebuilt: Rebuilt) -> None:
-    """Compares the overall tables that the tools write with the program's, cell by cell."""
+    """Compares the overall tables that raceoffice writes with the program's, cell by cell."""
     tables = [table for table in seen(rebuilt.text).tables
               if table.caption.startswith("Overall results, ")]
     wanted = [view for view in rebuilt.views if rebuilt.kept.kind in ("top", "overall", "results")]
@@ -186,7 +186,7 @@ def first_difference(text: str, wanted: str) -> str:
     """Where a page first differs from what it has to be: a cell, a text, or else a line of its file."""
     ours, others = text.split("\n"), wanted.split("\n")
     at = first_of(ours, others) or 0
-    line = f"line {at + 1} of the file isn't as these tools write it: {part(ours, at)!r}"
+    line = f"line {at + 1} of the file isn't as raceoffice writes it: {part(ours, at)!r}"
     if len(text) > len(wanted) + LONGER:
         return f"the page is longer than the right one, and {line}"
     return difference(seen(text), seen(wanted)) or (

@@ -24,7 +24,7 @@ DEEPEST, LONGEST = 40, 10_000
 
 def tokens(page: str) -> Iterator[tuple[str, str]]:
     """The texts and the tags of a page as `text` and `tag`, in a time that its length bounds. A page that
-    the tools write has no `<` or `>` besides those of its tags, but in scripts and styles."""
+    the package writes has no `<` or `>` besides those of its tags, but in scripts and styles."""
     at = 0
     while found := TAG.search(page, at):
         yield "text", page[at:found.start()]

@@ -1,4 +1,4 @@
-"""The guide: its boxes are played, and what it says of the tools is what they say."""
+"""The guide: its boxes are played, and what it says of the commands is what they say."""
 from __future__ import annotations
 
 import re
@@ -59,7 +59,7 @@ class Guide(unittest.TestCase):
         self.assertGreater(len(boxes), 20)
 
     def test_refusals(self) -> None:
-        """The guide explains refusals in the words that the tools have for them."""
+        """The guide explains refusals in the words that the package has for them."""
         table = self.text.partition("\n## If a line is refused")[2].partition("\n##")[0]
         said = re.findall(r"^\| ([^|]*) \| [^|]* \|$", table, re.MULTILINE)[1:]
         self.assertGreater(len(said), 5)

@@ -1,4 +1,4 @@
-"""What the tools read from journal and table agrees with what the program scored."""
+"""What the package reads from journal and table agrees with what the program scored."""
 from __future__ import annotations
 
 import collections

@@ -1,4 +1,4 @@
-"""A series whose journal the program keeps: what the tools say and do with journal.txt as a crash, an
+"""A series whose journal the program keeps: what the package says and does with journal.txt as a crash, an
 editor or another office may have left it."""
 from __future__ import annotations
 
@@ -23,7 +23,7 @@ class Kept(helpers.Series):
             file.write(text)
 
     def forget(self) -> None:
-        """Removes what the tools know of the journal."""
+        """Removes what the package knows of the journal."""
         shutil.rmtree(os.path.join(self.here, "cup", "kept"), ignore_errors=True)
         with open(os.path.join(self.here, "cup", "office.log"), "w"):
             pass
@@ -122,7 +122,7 @@ class Kept(helpers.Series):
         self.assertEqual(window.rest()[1], 0)
 
     def test_damaged(self) -> None:
-        """What is no crash's work stays as it is, and the tools say so as the program does."""
+        """What is no crash's work stays as it is, and the package says so as the program does."""
         for kept, _, said in test_keep.FAULTS:
             if "damaged" not in said:
                 continue
