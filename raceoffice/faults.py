@@ -38,7 +38,8 @@ def in_words(folder: str, cause: Exception) -> str:
     """A fault in one sentence, once its trace has been written."""
     path = written(folder, "".join(traceback.format_exception(cause)))
     where = f"its trace is in {path}" if path else "its trace couldn't be written"
-    return f"raceoffice has a fault, {type(cause).__name__}; {where}. Send that to whoever gave you raceoffice"
+    return (f"raceoffice has a fault, {type(cause).__name__}; {where}. Send that to whoever gave you "
+            "raceoffice")
 
 
 WRITTEN: dict[str, str] = {}

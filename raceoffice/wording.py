@@ -21,6 +21,11 @@ def duration(seconds: int) -> str:
     return f"{seconds // 3600}:{seconds // 60 % 60:02}:{seconds % 60:02}"
 
 
+def one_decimal(tenths: int) -> str:
+    """25 tenths as `2.5`."""
+    return f"{tenths // 10}.{tenths % 10}"
+
+
 def count(number: int, one: str, more: str = "") -> str:
     """`1 boat`, `2 boats`, `no boats`."""
     return f"{number or 'no'} {one if number == 1 else more or one + 's'}"

@@ -12,7 +12,7 @@ import helpers
 from raceoffice import faults
 from raceoffice.commands import board
 from raceoffice.errors import Fault, Trouble
-from raceoffice.office.window import Hall
+from raceoffice.office.window import OfficeWindow
 from raceoffice.results.publish import Files, Site
 from raceoffice.results.source import Source
 from raceoffice.series.folder import Folder
@@ -109,11 +109,11 @@ class Guarded(helpers.Series):
     def test_office(self) -> None:
         """The office's window goes on."""
         Folder(self.folder).make_private()
-        hall = Hall(Folder(self.folder))
-        with mock.patch.object(hall, "beware") as said, mock.patch.object(hall, "look", broken), \
-                mock.patch.object(hall, "service") as service:
+        office_window = OfficeWindow(Folder(self.folder))
+        with mock.patch.object(office_window, "beware") as said, mock.patch.object(office_window, "look", broken), \
+                mock.patch.object(office_window, "service") as service:
             service.is_over.return_value = False
-            self.assertTrue(hall.goes_on())
+            self.assertTrue(office_window.goes_on())
         self.assertIn("raceoffice has a fault, IndexError", str(said.mock_calls))
 
     def test_window(self) -> None:

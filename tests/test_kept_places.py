@@ -19,7 +19,7 @@ from raceoffice.program.journal import Race
 from raceoffice.series import kept_places
 from raceoffice.series.folder import Folder
 from raceoffice.series.kept_places import History, Note, Places
-from raceoffice.typing_window.session import Desk
+from raceoffice.typing_window.session import Session
 from test_unknown_finishers import dropped, kept
 
 # Signs and values that break readers.
@@ -182,11 +182,11 @@ class Files(helpers.Series):
     def test_unreadable_just_then(self) -> None:
         """Who was told that her place is kept doesn't keep it twice, though the file can't be read just then."""
         said: list[str] = []
-        desk = Desk(self.folder, "FINISH", "Ann", said.append, bool)
-        with mock.patch.object(desk.places, "data", side_effect=Trouble("it can't be read")):
-            self.assertTrue(desk.keep_place(Race(1)))
+        session = Session(self.folder, "FINISH", "Ann", said.append, bool)
+        with mock.patch.object(session.places, "data", side_effect=Trouble("it can't be read")):
+            self.assertTrue(session.keep_place(Race(1)))
         self.assertIn("?1 keeps her place", said[-1])
-        self.assertRaisesRegex(NotSent, "office/places can't be read", desk.undo)
+        self.assertRaisesRegex(NotSent, "office/places can't be read", session.undo)
         self.assertEqual(self.marks(), ["?1"])
 
     def test_full(self) -> None:

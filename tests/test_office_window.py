@@ -17,7 +17,7 @@ from unittest import mock
 import helpers
 from raceoffice.errors import Trouble
 from raceoffice.office import process as office_process, window as office_window
-from raceoffice.office.window import Hall
+from raceoffice.office.window import OfficeWindow
 from raceoffice.program.link import Link
 from raceoffice.series import second_folder
 from raceoffice.series.copies import newest
@@ -430,7 +430,7 @@ class Starts(Windows):
         folder = Folder(self.path())
         folder.make_private()
         for cause in (ValueError("odd"), Trouble("odd"), KeyboardInterrupt()):
-            found = Hall(folder)
+            found = OfficeWindow(folder)
             found.service.lock = Lock(folder)
             with mock.patch("raceoffice.office.window.notes", side_effect=cause), mock.patch("raceoffice.office.window.say"), \
                     self.assertRaises(type(cause)):
@@ -466,7 +466,7 @@ class Clocks(Windows):
     """What is due now and then, by a clock that is given."""
 
     @contextlib.contextmanager
-    def hall(self) -> Iterator[tuple[Hall, list[str]]]:
+    def office_window(self) -> Iterator[tuple[OfficeWindow, list[str]]]:
         """An office's window in this process, and what it says."""
         folder, said = Folder(self.path()), []
         folder.make_private()
@@ -475,7 +475,7 @@ class Clocks(Windows):
                 helpers.served("--keep", folder.journal, folder=folder.file("office")), \
                 contextlib.closing(folder.link()) as link:
             link.ask("ENTER GBR7")
-            found = Hall(folder, lambda: self.now)
+            found = OfficeWindow(folder, lambda: self.now)
             found.service.link = link
             yield found, said
             found.service.link.close()
@@ -486,7 +486,7 @@ class Clocks(Windows):
     def test_hourly(self) -> None:
         """Each hour a dated copy is made, whose name is the newest whatever the clock says."""
         names = []
-        with self.hall() as (found, said), mock.patch("time.time") as clock:
+        with self.office_window() as (found, said), mock.patch("time.time") as clock:
             for seconds, time_now, copies in [(0, 5e6, 0), (3599, 5e6, 0), (3600, 5e6, 1), (3601, 5e6, 1),
                                               (7200, 5e6, 2), (10800, 4e6, 3), (14400, 6e6, 4)]:
                 self.now, clock.return_value = float(seconds), time_now
@@ -504,7 +504,7 @@ class Clocks(Windows):
 
     def test_door(self) -> None:
         """Each minute the door is looked at, and what is wrong with it is said once."""
-        with self.hall() as (found, said), mock.patch.object(found.service, "lets_in") as lets_in:
+        with self.office_window() as (found, said), mock.patch.object(found.service, "lets_in") as lets_in:
             for seconds, is_open, times in [(59, False, 0), (60, True, 0), (119, False, 0), (120, False, 1),
                                             (180, False, 1), (240, True, 1), (300, False, 2)]:
                 self.now, lets_in.return_value = float(seconds), is_open
@@ -513,7 +513,7 @@ class Clocks(Windows):
 
     def test_unforeseen(self) -> None:
         """What nobody foresaw is a sentence, also where others type, and the window goes on."""
-        with self.hall() as (found, said):
+        with self.office_window() as (found, said):
             with mock.patch.object(found, "look", side_effect=KeyError("GBR7")):
                 self.assertTrue(found.goes_on())
             path = found.folder.file("office", "faults.txt")
@@ -526,7 +526,7 @@ class Clocks(Windows):
 
     def test_no_answer(self) -> None:
         """An answer that comes too late isn't taken for another one."""
-        with self.hall() as (found, said), contextlib.closing(found.folder.link()) as other:
+        with self.office_window() as (found, said), contextlib.closing(found.folder.link()) as other:
             found.service.link.patience = 0.1
             found.service.link.socket.settimeout(0.1)
             with mock.patch.object(found.service, "is_over", return_value=False):
@@ -536,7 +536,7 @@ class Clocks(Windows):
                 self.assertIsNot(found.service.link, first)
                 other.ask("ENTER GBR101")
                 self.assertTrue(found.goes_on())
-            self.assertEqual(len(found.keeper.sheet.journal), 2)
+            self.assertEqual(len(found.backups.sheet.journal), 2)
             self.assertEqual(said, ["Beware: the office doesn't show its journal: it said 'JOURNAL x'."])
 
 

@@ -39,11 +39,11 @@ class Seats(helpers.Series):
                 link.ask("RANK A")
             window = Window([folder], "FINISH", "")
             threading.Timer(0.5, second.close).start()
-            window.wait_for(window.desks[0])
+            window.wait_for(window.sessions[0])
             self.assertTrue(helpers.is_listening(path))
-            assert window.desks[0].link
-            self.assertEqual(window.desks[0].link.ask("RANK A"), "NO 7")
-            window.desks[0].disconnect()
+            assert window.sessions[0].link
+            self.assertEqual(window.sessions[0].link.ask("RANK A"), "NO 7")
+            window.sessions[0].disconnect()
         self.assertEqual(said, ["Waiting: all seats of the office are taken. Ctrl-C ends this window."])
 
     def test_several_classes(self) -> None:
@@ -53,10 +53,10 @@ class Seats(helpers.Series):
                 contextlib.closing(Link(path)) as first, contextlib.closing(Link(path)) as second:
             for link in (first, second):
                 link.ask("RANK A")
-            desk = Window([folder], "FINISH", "").desks[0]
-            self.assertEqual((is_open(desk), has_no_seat(folder)), (False, True))
+            session = Window([folder], "FINISH", "").sessions[0]
+            self.assertEqual((is_open(session), has_no_seat(folder)), (False, True))
             second.close()
-            helpers.until("a free seat", lambda: is_open(desk))
+            helpers.until("a free seat", lambda: is_open(session))
             self.assertFalse(has_no_seat(folder))
 
     def test_seats_of_the_office(self) -> None:

@@ -13,7 +13,7 @@ import helpers
 from raceoffice.errors import NotSent, Trouble
 from raceoffice.series.folder import Folder
 from raceoffice.series.kept_places import Note
-from raceoffice.typing_window.session import Desk
+from raceoffice.typing_window.session import Session
 from raceoffice.typing_window.watcher import News, Watcher
 
 
@@ -396,18 +396,18 @@ NO 8   Refused: she is in the finishing order of this race already
         """A number of more digits than Python reads is no number of a race, at the prompt and in a file."""
         long = "1" * 4301
         self.open()
-        desk = Desk(Folder(os.path.join(self.here, "cup")), "SCORER", "", self.said.append, lambda _: True)
-        desk.connect()
-        self.addCleanup(desk.disconnect)
+        session = Session(Folder(os.path.join(self.here, "cup")), "SCORER", "", self.said.append, lambda _: True)
+        session.connect()
+        self.addCleanup(session.disconnect)
         for line in (f"at {long}", f"race {long}", f"abandon {long}", f"finish {long} 7", f"mark 1 {long} ocs", long,
                      f"ocs {long} 7", f"time {long} 7 9", f"?{long} 7", f"{long}?", f"tie {long} 7 12"):
-            for desk.at in (None, 1):
+            for session.at in (None, 1):
                 with self.assertRaises(NotSent) as caught:
-                    desk.do(line)
+                    session.do(line)
                 self.assertLess(len(str(caught.exception)), 200)
         for line in (f"score {long}", f"unscore {long}"):
-            self.assertFalse(desk.do(line))
-        desk.do(f"help {long}")
+            self.assertFalse(session.do(line))
+        session.do(f"help {long}")
         for line in (f"FINISH {long} GBR7", f"SCORE {long}", f"ABANDON {long}"):
             said, status = helpers.run("type", "cup", "--role", "scorer", lines=line, cwd=self.here)
             self.assertIn("NO 20   Refused: the line is longer than 80 letters.", said)
@@ -444,22 +444,22 @@ Race 1 is taken away: 3 lines, all taken.
     def test_struck_at_once(self) -> None:
         """A boat that another window strikes before this one has looked is out of the order again."""
         self.open()
-        desk = Desk(Folder(os.path.join(self.here, "cup")), "FINISH", "", self.said.append, lambda _: True)
-        desk.connect()
-        self.addCleanup(desk.disconnect)
-        assert desk.link
-        ask = desk.link.ask
+        session = Session(Folder(os.path.join(self.here, "cup")), "FINISH", "", self.said.append, lambda _: True)
+        session.connect()
+        self.addCleanup(session.disconnect)
+        assert session.link
+        ask = session.link.ask
 
         def asked(line: str) -> str:
             """The office's answer, after which a scorer strikes her."""
             answer = ask(line)
             if line.startswith("FINISH"):
-                with contextlib.closing(desk.folder.link()) as scorer:
+                with contextlib.closing(session.folder.link()) as scorer:
                     scorer.ask("ROLE SCORER")
                     scorer.ask("STRIKE 1 GBR7")
             return answer
-        with mock.patch.object(desk.link, "ask", asked):
-            self.assertTrue(desk.do("finish 1 7"))
+        with mock.patch.object(session.link, "ask", asked):
+            self.assertTrue(session.do("finish 1 7"))
         self.assertIn("OK 8   she is out of the order of race 1 again; 0 finished", self.said[-1])
 
     def test_abandon(self) -> None:
@@ -745,9 +745,9 @@ OK 9   1st in race 1
             door.bind(os.path.join(place, "race.sock"))
             door.listen()
             threading.Thread(target=lambda: door.accept()[0].close(), daemon=True).start()
-            desk = Desk(Folder(os.path.join(self.here, "cup")), "FINISH", "", print, bool)
-            self.assertRaises(Trouble, desk.connect)
-            self.assertIsNone(desk.link)
+            session = Session(Folder(os.path.join(self.here, "cup")), "FINISH", "", print, bool)
+            self.assertRaises(Trouble, session.connect)
+            self.assertIsNone(session.link)
 
     def test_block(self) -> None:
         """Several lines that are pasted at once; a list of sails is shown and agreed to first."""

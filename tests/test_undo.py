@@ -9,7 +9,7 @@ from raceoffice.errors import NotSent
 from raceoffice.program.journal import CODES, Series
 from raceoffice.program.link import Sheet
 from raceoffice.series.folder import Folder
-from raceoffice.typing_window.knowledge import Book
+from raceoffice.typing_window.facts import Facts
 from raceoffice.typing_window.undo import reversal
 
 BOATS = ["GBR7", "NED12", "FRA9", "GBR33"]
@@ -18,21 +18,21 @@ BOATS = ["GBR7", "NED12", "FRA9", "GBR33"]
 class Undoing(helpers.Series):
     def setUp(self) -> None:
         super().setUp()
-        self.books: dict[str, Book] = {}
+        self.books: dict[str, Facts] = {}
 
-    def book(self, *lines: str, handicap: str = "no") -> Book:
-        """A book whose journal has these lines after the boats', each `role: line` or a scorer's."""
+    def facts(self, *lines: str, handicap: str = "no") -> Facts:
+        """The facts of a journal that has these lines after the boats', each `role: line` or a scorer's."""
         if handicap not in self.books:
-            self.books[handicap] = Book(Folder(self.make(handicap, handicap=handicap)))
-        book = self.books[handicap]
+            self.books[handicap] = Facts(Folder(self.make(handicap, handicap=handicap)))
+        facts = self.books[handicap]
         journal = [f"1 {at} {role or 'SCORER'} {line}" for at, (role, _, line) in enumerate(
             (text.rpartition(": ") for text in [*(f"ENTER {boat}" for boat in BOATS), *lines]), 1)]
-        book.read(Sheet(tuple(journal), ("TABLE 0 RACES",)))
-        return book
+        facts.read(Sheet(tuple(journal), ("TABLE 0 RACES",)))
+        return facts
 
     def undone(self, *lines: str, last: int = 1, **more: str) -> str:
         """The line that takes back the last of these, or the last but some."""
-        return reversal(self.book(*lines, **more), len(BOATS) + len(lines) - last + 1)
+        return reversal(self.facts(*lines, **more), len(BOATS) + len(lines) - last + 1)
 
     def test_one_line(self) -> None:
         self.assertEqual(self.undone("FINISH 1 GBR7"), "STRIKE 1 GBR7")

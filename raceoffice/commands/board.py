@@ -31,7 +31,7 @@ from raceoffice.results.server import Listener
 from raceoffice.results.source import Source
 from raceoffice.series.folder import clock
 from raceoffice.series.settings import is_address, is_between
-from raceoffice.terminal import say, sentence
+from raceoffice.terminal import Once, say, sentence
 from raceoffice.wording import count
 
 # Seconds between two looks at whether an office is being closed: then the board leaves it.
@@ -46,13 +46,12 @@ class Shown:
         self.sources, self.files, self.board, self.is_once = sources, files, board, is_once
         self.site = Site(sources)
         self.width = max(len(source.name) for source in sources)
-        self.said: dict[str, str] = {}
+        self.once = Once()
 
     def tell(self, about: str, text: str, stamp: str) -> None:
         """Says a thing when it is new, and not again until it has changed."""
-        if text and self.said.get(about) != text:
+        if self.once.is_new(about, text):
             say(f"{stamp}{text}")
-        self.said[about] = text
 
     def look(self, due: list[Source], stamp: str = "") -> bool:
         """Looks at some series, shows what was found and then says what has changed; whether all

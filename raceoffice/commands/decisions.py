@@ -35,13 +35,9 @@ from raceoffice.decisions.held import holdings
 from raceoffice.decisions.points import Decided, decided
 from raceoffice.errors import Trouble
 from raceoffice.faults import status_of, tell_json
-from raceoffice.program.link import Link, Sheet
-from raceoffice.program.messages import refusal
 from raceoffice.program.replay import Line
 from raceoffice.results.source import Source
-from raceoffice.series.folder import Folder
-from raceoffice.series.lost_lines import UNANSWERED
-from raceoffice.series.run_program import replayed
+from raceoffice.series.sender import Sender
 from raceoffice.series.settings import Settings
 from raceoffice.terminal import command_name, question, say, say_json, sentence
 from raceoffice.wording import count
@@ -56,25 +52,17 @@ class State:
     journal: tuple[str, ...]
 
 
-class Desk:
-    """A series with its decisions; `link` leads to its office if one is open."""
+class Decisions(Sender):
+    """A series with its decisions."""
 
     def __init__(self, path: str) -> None:
-        self.folder = Folder(path)
-        self.link: Link | None = None
-        if os.path.lexists(self.folder.socket) and not self.folder.is_closing():
-            self.link = self.folder.link()
+        super().__init__(path, WHO)
 
     def settings(self) -> list[str]:
         """The rules as options: those of the open office, if one is open."""
         rules = Source(self.folder.path).opened_rules() if self.link else {}
         values = {**vars(self.folder.settings), **rules}
         return Settings(**values).options()
-
-    def sheet(self) -> Sheet:
-        if self.link:
-            return self.link.sheet()
-        return replayed(self.folder, self.folder.settings.options())
 
     def state(self) -> State:
         journal = self.sheet().journal
@@ -84,7 +72,9 @@ class Desk:
     def send(self, lines: list[Line]) -> int:
         """Sends lines up to the first that isn't taken; how many were."""
         for at, line in enumerate(lines):
-            if why := self.why_not_taken(line):
+            try:
+                self.answer(line)
+            except Trouble as why:
                 say(f"Stopped at {line}: {why}.")
                 # What a CLEAR before them took is in these lines alone.
                 say("Not sent, and to be typed in this order:")
@@ -92,18 +82,6 @@ class Desk:
                     say(f"      {rest}   ({rest.role.lower()})")
                 return at
         return len(lines)
-
-    def why_not_taken(self, line: Line) -> str:
-        """Sends a line in its role, and logs it; why it wasn't taken, or nothing."""
-        assert self.link
-        try:
-            self.link.ask(f"ROLE {line.role}")
-            answer = self.link.ask(line.text)
-        except Trouble as trouble:
-            self.folder.log(WHO, "", line.role, line.text, UNANSWERED)
-            return str(trouble)
-        self.folder.log(WHO, "", line.role, line.text, answer)
-        return "" if answer.startswith("OK ") else refusal(answer)
 
 
 def shown(found: Decided) -> list[str]:
@@ -125,16 +103,16 @@ def unexplained(state: State) -> list[str]:
             if held.is_points and (race, sail) not in ruled]
 
 
-def show(desk: Desk) -> int:
+def show(series: Decisions) -> int:
     """Lists all decisions; the status is 1 if one isn't in the scores as it has to be."""
-    state = desk.state()
+    state = series.state()
     found = state.decided
     say("\n".join(shown(found) or [f"{decision_lines.NAME} has no decisions."]))
     for text in unexplained(state):
         say(text)
     if found.lines:
         lines = count(len(found.lines), "line")
-        say(f"{lines} to send: {command_name()} decisions send {os.path.relpath(desk.folder.path)}")
+        say(f"{lines} to send: {command_name()} decisions send {os.path.relpath(series.folder.path)}")
     return 1 if found.stale else 0
 
 
@@ -147,16 +125,16 @@ def value_of(state: State) -> dict[str, object]:
             "unexplained": [text.strip() for text in unexplained(state)]}
 
 
-def show_json(desk: Desk) -> int:
+def show_json(series: Decisions) -> int:
     """Prints all decisions for programs; the status is 1 if one isn't in the scores as it has to be."""
-    state = desk.state()
+    state = series.state()
     say_json(value_of(state))
     return 1 if state.decided.stale else 0
 
 
-def check(desk: Desk) -> int:
+def check(series: Decisions) -> int:
     """Names the decisions that aren't in the scores as they have to be; the status."""
-    state = desk.state()
+    state = series.state()
     stale = state.decided.stale
     for text in stale:
         say(sentence(text))
@@ -166,11 +144,11 @@ def check(desk: Desk) -> int:
     return 1 if stale else 0
 
 
-def send(desk: Desk) -> int:
+def send(series: Decisions) -> int:
     """Sends the lines that the journal lacks, after a question; the status."""
-    if not desk.link:
+    if not series.link:
         raise Trouble("no office is open: open it, and send again")
-    first = desk.state()
+    first = series.state()
     lines = first.decided.lines
     say("\n".join(shown(first.decided)))
     if not lines:
@@ -180,15 +158,15 @@ def send(desk: Desk) -> int:
         say("Not sent.")
         return 1
     # Others type meanwhile, and a line of theirs may change what a decision comes to.
-    if desk.state().decided != first.decided:
+    if series.state().decided != first.decided:
         say("Somebody else has typed meanwhile, and the decisions come to something else now. Nothing "
             "was sent: send again.")
         return 1
-    taken = desk.send(lines)
+    taken = series.send(lines)
     say(f"{taken} of {count(len(lines), 'line')} taken.")
     if taken < len(lines):
         return 1
-    stale = desk.state().decided.stale
+    stale = series.state().decided.stale
     for text in stale:
         say(sentence(text))
     return 1 if stale else 0
@@ -196,12 +174,11 @@ def send(desk: Desk) -> int:
 
 def done(folder: str, what: str) -> int:
     """Does a command; the status."""
-    desk = Desk(folder)
+    series = Decisions(folder)
     try:
-        return {"show": show, "check": check, "send": send, "json": show_json}[what](desk)
+        return {"show": show, "check": check, "send": send, "json": show_json}[what](series)
     finally:
-        if desk.link:
-            desk.link.close()
+        series.close()
 
 
 def arguments(parser: argparse.ArgumentParser) -> None:

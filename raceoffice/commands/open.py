@@ -19,7 +19,7 @@ import os
 
 from raceoffice.faults import status_of
 from raceoffice.files import replace_whole
-from raceoffice.office.window import Hall
+from raceoffice.office.window import OfficeWindow
 from raceoffice.series import copies
 from raceoffice.series.continuity import note_of
 from raceoffice.series.copies import best_copy, places_with
@@ -37,8 +37,8 @@ def open_(path: str) -> int:
     if fault := disk_fault(folder):
         say(fault)
         return 1
-    hall = Hall(folder)
-    if not hall.service.lock.is_taken():
+    office_window = OfficeWindow(folder)
+    if not office_window.service.lock.is_taken():
         mend(folder)
     wrong = faults(folder)
     for text in wrong:
@@ -46,7 +46,7 @@ def open_(path: str) -> int:
     if wrong:
         say("Nothing was opened.")
         return 1
-    return hall.open()
+    return office_window.open()
 
 
 def mend(folder: Folder) -> None:

@@ -27,7 +27,7 @@ from raceoffice.faults import status_of
 from raceoffice.series.folder import Folder
 from raceoffice.terminal import answer, command_name, say
 from raceoffice.typing_window.batch import LARGEST, Batch, lines_of
-from raceoffice.typing_window.session import Desk
+from raceoffice.typing_window.session import Session
 from raceoffice.typing_window.window import Window
 from raceoffice.wording import on_one_line
 
@@ -62,10 +62,10 @@ def send_file(asked: argparse.Namespace) -> int:
         raise Trouble("lines of a file need --role, and one folder")
     folder, role = Folder(asked.folders[0]), role_of(asked)
     lines = lines_of(sys.stdin.buffer.read(LARGEST))
-    desk = Desk(folder, role, asked.name, say, lambda _: True)
-    desk.connect()
+    session = Session(folder, role, asked.name, say, lambda _: True)
+    session.connect()
     again = f"{command_name()} type {asked.folders[0]} --role {role.lower()}"
-    return Batch(desk, lines, again).send(asked.start, asked.go_on)
+    return Batch(session, lines, again).send(asked.start, asked.go_on)
 
 
 def in_utf8(text: str) -> str:

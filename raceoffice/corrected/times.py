@@ -14,15 +14,12 @@ from raceoffice.corrected.sheets import Entry, entries_of, for_program
 from raceoffice.errors import Trouble
 from raceoffice.program.find import found_program
 from raceoffice.program.journal import Race, Series
-from raceoffice.program.link import Link, Sheet
-from raceoffice.program.messages import refusal
-from raceoffice.program.replay import not_run
+from raceoffice.program.replay import Line, not_run
 from raceoffice.series import entry_list
 from raceoffice.series.folder import Folder
 from raceoffice.series.headings import rating_columns
-from raceoffice.series.lost_lines import UNANSWERED
 from raceoffice.series.read_list import as_csv, bytes_of, name_of, table_of
-from raceoffice.series.run_program import replayed
+from raceoffice.series.sender import Sender
 from raceoffice.series.settings import lines_of, text_in
 from raceoffice.terminal import question, say
 from raceoffice.wording import count, duration
@@ -153,23 +150,15 @@ def sheet_name(race: int) -> str:
     return f"{SHEETS}/race-{race}.csv"
 
 
-class Desk:
-    """A series with its sheets of times; `link` leads to its office if one is open."""
+class Times(Sender):
+    """A series with its sheets of times."""
 
     def __init__(self, path: str) -> None:
-        self.folder = Folder(path)
+        super().__init__(path, WHO)
         if not self.folder.settings.handicap:
+            self.close()
             raise Trouble(f"{path} isn't a series by corrected time: its series.ini needs handicap = yes")
         self.rules = Rules.read(self.folder)
-        self.link: Link | None = None
-        if os.path.lexists(self.folder.socket) and not self.folder.is_closing():
-            self.link = self.folder.link()
-
-    def sheet(self) -> Sheet:
-        """The journal and the table: the office's, or those of the folder."""
-        if self.link:
-            return self.link.sheet()
-        return replayed(self.folder, self.folder.settings.options())
 
     def races(self) -> list[int]:
         """The races that have a sheet of times."""
@@ -213,29 +202,16 @@ class Desk:
             raise not_run(self.rules.program, cause) from cause
 
     def send(self, lines: list[str]) -> int:
-        """Sends lines up to the first that isn't taken; how many were."""
+        """Sends lines as the scorer, up to the first that isn't taken; how many were."""
         for at, line in enumerate(lines):
-            if why := self.why_not_taken(line):
+            try:
+                say(f"   {line:<24} {self.answer(Line('SCORER', line))}")
+            except Trouble as why:
                 say(f"Stopped at {line}: {why}.")
                 for rest in lines[at:]:
                     say(f"   not sent: {rest}")
                 return at
         return len(lines)
-
-    def why_not_taken(self, line: str) -> str:
-        """Sends a line as the scorer, and logs and shows its answer; why it wasn't taken, or nothing."""
-        assert self.link
-        try:
-            self.link.ask("ROLE SCORER")
-            answer = self.link.ask(line)
-        except Trouble as trouble:
-            self.folder.log(WHO, "", "SCORER", line, UNANSWERED)
-            return str(trouble)
-        self.folder.log(WHO, "", "SCORER", line, answer)
-        if not answer.startswith("OK "):
-            return refusal(answer)
-        say(f"   {line:<24} {answer}")
-        return ""
 
 
 @dataclass(frozen=True)
@@ -316,9 +292,9 @@ def noted(found: Beside, sail: str, boats: Sequence[str]) -> str:
     return found.note if sail in boats else "not entered: the office refuses her line"
 
 
-def show(desk: Desk, race: int, found: Compared) -> None:
+def show(series: Times, race: int, found: Compared) -> None:
     """Shows a race with its sums, and how many lines differ."""
-    rules = desk.rules
+    rules = series.rules
     say(f"Race {race}, {SYSTEMS[rules.system]}, {ROUNDINGS[rules.rounding]}"
         + (", past midnight" if race in rules.overnight else ""))
     print("\n".join([f"   {'sail':<12} {'sum':<36} {'exact':>12} {'seconds':>7}", *found.shown]), flush=True)
@@ -326,38 +302,38 @@ def show(desk: Desk, race: int, found: Compared) -> None:
     say(f"{count(len(found.shown), 'boat')}, {count(len(found.lines), 'line')}.{changes}")
 
 
-def run(desk: Desk, races: list[int], is_sent: bool) -> int:
+def run(series: Times, races: list[int], is_sent: bool) -> int:
     """Shows the races, and prints or sends the lines; the status."""
-    journal = desk.sheet().journal
+    journal = series.sheet().journal
     lines: list[str] = []
     for race in races:
-        rows = desk.rows(race)
+        rows = series.rows(race)
         timed = [entry for entry in rows if entry.is_timed]
         others = [entry for entry in rows if not entry.is_timed]
-        found = compared(race, desk.times(race, timed), journal, others)
-        show(desk, race, found)
+        found = compared(race, series.times(race, timed), journal, others)
+        show(series, race, found)
         lines += found.lines
     if not lines:
         return 0
     if not is_sent:
         print("\n".join(lines), flush=True)
         return 0
-    if not desk.link:
+    if not series.link:
         raise Trouble("no office is open: open it, and send again")
     if not question("Send them?"):
         say("Not sent.")
         return 1
     # Others type meanwhile, and a line of theirs may be one of these.
-    if desk.sheet().journal != journal:
+    if series.sheet().journal != journal:
         say("Somebody else has typed meanwhile. Nothing was sent: send again.")
         return 1
-    return 0 if desk.send(lines) == len(lines) else 1
+    return 0 if series.send(lines) == len(lines) else 1
 
 
-def races_of(desk: Desk, text: str) -> list[int]:
+def races_of(series: Times, text: str) -> list[int]:
     """The races that were asked for."""
     if text == "all":
-        return desk.races()
+        return series.races()
     if not re.fullmatch("[1-9][0-9]?", text):
         raise Trouble(f"{text!r} is no race: a number from 1 to 40, or all")
     return [int(text)]
@@ -365,9 +341,8 @@ def races_of(desk: Desk, text: str) -> list[int]:
 
 def done(folder: str, race: str, is_sent: bool) -> int:
     """Does what was asked for; the status."""
-    desk = Desk(folder)
+    series = Times(folder)
     try:
-        return run(desk, races_of(desk, race), is_sent)
+        return run(series, races_of(series, race), is_sent)
     finally:
-        if desk.link:
-            desk.link.close()
+        series.close()

@@ -15,15 +15,11 @@ from raceoffice.errors import Trouble
 from raceoffice.program.journal import Race, Series
 from raceoffice.program.replay import Line, scored
 from raceoffice.program.standing import Score, Standing
-from raceoffice.wording import joined
+from raceoffice.wording import joined, one_decimal
 
 # The codes whose points are the score for Did Not Finish, under RRS A5.2 and A5.3.
 AS_DNF = ("DNS", "OCS", "UFD", "BFD", "DNF", "RET", "DSQ", "DNE")
 OUT = ("TLE", "NSC")
-
-
-def text_of(tenths: int) -> str:
-    return f"{tenths // 10}.{tenths % 10}"
 
 
 @dataclass(frozen=True)
@@ -229,7 +225,7 @@ class Figures:
     def work_out(self, ruling: Ruling) -> None:
         """Finds a decision's points, or why it has none."""
         if ruling.kind in PENALTIES:
-            self.points[ruling] = text_of(self.penalised(ruling))
+            self.points[ruling] = one_decimal(self.penalised(ruling))
         elif ruling.kind == "TLE":
             self.work_out_limit(ruling)
         elif ruling.kind in AVERAGES:
@@ -260,7 +256,7 @@ class Figures:
         tenths = ruling.tenths if after is None else self.last[race] + 10 * after
         held = self.held.get((race, ruling.sail), Holding())
         tenths += sum(self.cost(race, kind) for kind, _ in held.penalties)
-        self.points[ruling] = text_of(min(tenths, self.dnf[race]))
+        self.points[ruling] = one_decimal(min(tenths, self.dnf[race]))
 
     def cost(self, race: int, kind: str) -> int:
         """The tenths that one of the program's penalties costs (RRS 30.2, 44.3(c))."""
@@ -282,7 +278,7 @@ class Figures:
                                 "she has no other race yet")
             return
         total, count = sum(self.tenths(race, ruling.sail) for race in races), len(races)
-        self.points[ruling] = text_of((2 * total + count) // (2 * count))
+        self.points[ruling] = one_decimal((2 * total + count) // (2 * count))
 
     def averaged(self, sail: str) -> set[int]:
         """The races in which a boat has an average as redress."""

@@ -16,7 +16,7 @@ from raceoffice.series.second_folder import Second, places_copy_of
 CHANGED = "journal.txt isn't what the office keeps: somebody has changed or replaced it"
 
 
-class Keeper:
+class Backups:
     """Copies journal and places to a second disk if the settings say so, and looks whether journal.txt has
     the journal.
 

@@ -16,7 +16,7 @@ from collections.abc import Callable
 from raceoffice import system
 from raceoffice.errors import Fault, Trouble
 from raceoffice.faults import guarded, in_words
-from raceoffice.office.backups import Keeper
+from raceoffice.office.backups import Backups
 from raceoffice.office.process import LEAVE, Service
 from raceoffice.program.link import Sheet, remove_socket
 from raceoffice.program.messages import moved
@@ -53,11 +53,11 @@ class Due:
         return True
 
 
-class Hall:
+class OfficeWindow:
     """The window in which an office is opened, kept and closed."""
 
     def __init__(self, folder: Folder, now: Callable[[], float] = time.monotonic) -> None:
-        self.folder, self.keeper, self.service = folder, Keeper(folder), Service(folder)
+        self.folder, self.backups, self.service = folder, Backups(folder), Service(folder)
         self.looks, self.door, self.dated = Due(LOOK, now), Due(DOOR, now), Due(DATED, now)
         self.once, self.warned = Once(), ""
 
@@ -65,7 +65,7 @@ class Hall:
 
     def open(self) -> int:
         """Opens the office, and is its window until it is closed; the status."""
-        with contextlib.closing(self.keeper.second):
+        with contextlib.closing(self.backups.second):
             if self.service.lock.is_taken():
                 self.service.take_over()
                 self.folder.set_closing(False)
@@ -125,7 +125,7 @@ class Hall:
             say(text)
         said = f"{summary(self.folder)}\n{self.folder.settings.in_words()}"
         self.folder.log("", "", " ".join(self.folder.settings.options()), "opened",
-                        note_of(self.keeper.data()))
+                        note_of(self.backups.data()))
         # From here on a signal waits until it is asked for.
         system.hold_stops()
         say_if_heard(f"{said}\n{clock()} The office is open. Ctrl-C closes it.")
@@ -168,19 +168,19 @@ class Hall:
     def save(self, sheet: Sheet) -> bool:
         """Copies the journal, and says if that fails; whether journal.txt is what the office keeps."""
         try:
-            self.keeper.save(sheet)
+            self.backups.save(sheet)
             wrong = ""
         except Trouble as trouble:
             wrong = f"{sentence(trouble)} Close the office: its journal then goes to kept/, too."
         self.beware(wrong)
-        failed = self.keeper.trouble
-        self.say_once("copy", f"No second copy: {failed}." if failed else self.keeper.note)
+        failed = self.backups.trouble
+        self.say_once("copy", f"No second copy: {failed}." if failed else self.backups.note)
         return not wrong
 
     def keep_dated(self) -> None:
         """Makes a dated copy, and says if that fails: the office goes on without."""
         try:
-            self.keeper.keep_dated()
+            self.backups.keep_dated()
             wrong = ""
         except Trouble as trouble:
             wrong = f"No dated copy: {sentence(trouble)}"
@@ -251,13 +251,13 @@ class Hall:
     def saved(self) -> list[str]:
         """What journal.txt has after a crash. If it isn't what the office had, that goes to kept/."""
         try:
-            if not self.keeper.is_kept():
-                return [f"journal.txt isn't what it kept: that is in {self.keeper.keep_beside()}."]
+            if not self.backups.is_kept():
+                return [f"journal.txt isn't what it kept: that is in {self.backups.keep_beside()}."]
             held = f"journal.txt has {count(len(self.folder.kept()), 'entry', 'entries')}."
         except Trouble as trouble:
             return [sentence(trouble)]
         with contextlib.suppress(Trouble):
-            self.keeper.keep_dated()
+            self.backups.keep_dated()
         return [held]
 
     # Closing
@@ -279,7 +279,7 @@ class Hall:
 
     def stop(self, cause: Exception, beside: str) -> str:
         """Stops the program although others are there; what `save_last` gives."""
-        why = sentence(cause) if isinstance(cause, Trouble) else sentence(Fault(in_words(self.folder.path, cause)))
+        why = sentence(cause if isinstance(cause, Trouble) else in_words(self.folder.path, cause))
         with contextlib.suppress(Trouble):
             beside = beside or self.save_last(self.service.link.sheet())
         self.service.stop()
@@ -303,7 +303,7 @@ class Hall:
         more signal comes: then the journal is shown. The name of that copy, if there is one."""
         while not self.save(sheet):
             try:
-                beside = self.keeper.keep_beside()
+                beside = self.backups.keep_beside()
                 say_if_heard(f"{clock()} The journal of the office is in {beside}. Compare it with journal.txt "
                              "before you open it again.")
                 return beside
@@ -324,7 +324,7 @@ class Hall:
         self.folder.set_closing(False)
         self.folder.set_beware("")
         try:
-            self.folder.log("", "", "", "closed", note_of(self.keeper.data()))
+            self.folder.log("", "", "", "closed", note_of(self.backups.data()))
         except Trouble as trouble:
             said.append(sentence(trouble))
         say_if_heard(" ".join([clock(), "Closed.", *said]))
@@ -340,7 +340,7 @@ class Hall:
         except Trouble as trouble:
             return sentence(trouble)
         try:
-            return f"{held}, and so has {self.keeper.keep_dated()}."
+            return f"{held}, and so has {self.backups.keep_dated()}."
         except Trouble as trouble:
             return f"{held}. {sentence(trouble)}"
 

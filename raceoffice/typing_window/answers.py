@@ -5,33 +5,33 @@ from raceoffice.program.journal import Plan, Race
 from raceoffice.program.messages import ROLES, moved, rank_of, refusal
 from raceoffice.program.standing import Standing, changes
 from raceoffice.series.unknown_finishers import Waiting
-from raceoffice.typing_window.knowledge import Book
+from raceoffice.typing_window.facts import Facts
 from raceoffice.typing_window.parse import FINISHING
 from raceoffice.wording import count, duration, joined, ordinal
 
 
-def answer_line(book: Book, line: str, answer: str, prefix: str = "") -> str:
+def answer_line(facts: Facts, line: str, answer: str, prefix: str = "") -> str:
     """What any answer but OK says of a line; `prefix` is the class, if there are several."""
     first, *rest = answer.split()
     if first == "NO":
         return f"{answer}   {prefix}Refused: {refusal(answer)}. Nothing has changed."
     if first == "RANK":
         tied = ", tied," if rest[0].endswith("=") else ""
-        return (f"   {prefix}{book.called(line.split()[1])} is {ordinal(int(rest[0].rstrip('=')))}{tied} "
+        return (f"   {prefix}{facts.called(line.split()[1])} is {ordinal(int(rest[0].rstrip('=')))}{tied} "
                 f"with {rest[1]} points")
     if first == "ROLE":
         return f"{answer}   {prefix}your lines are now those of {ROLES[rest[0]]}"
     return answer
 
 
-def outcome(book: Book, line: str, waiting: Waiting) -> str:
+def outcome(facts: Facts, line: str, waiting: Waiting) -> str:
     """What a line that was taken has done; `waiting` are the finishers whose sails weren't read."""
     command, *rest = line.split()
     if command == "ENTER":
-        return f"{book.called(rest[0])} is entered: {count(len(book.boats), 'boat')} now"
+        return f"{facts.called(rest[0])} is entered: {count(len(facts.boats), 'boat')} now"
     if command in ("SCORE", "UNSCORE"):
         return f"race {rest[0]} counts" + (" no longer" if command == "UNSCORE" else "")
-    race, sail = book.race(rest[0]), rest[1]
+    race, sail = facts.race(rest[0]), rest[1]
     if command == "STRIKE":
         text = f"out of the order of race {race.number}"
     elif command in FINISHING:
@@ -39,7 +39,7 @@ def outcome(book: Book, line: str, waiting: Waiting) -> str:
     else:
         text = f"{' and '.join(race.held(sail)) or 'nothing'} in race {race.number}"
     return (f"{text}; {len(race.places())} finished, {len(race.codes)} coded, "
-            f"{len(race.missing(book.boats))} to come of {len(book.boats)}")
+            f"{len(race.missing(facts.boats))} to come of {len(facts.boats)}")
 
 
 def place_in(race: Race, sail: str, unread: int) -> str:
@@ -54,36 +54,36 @@ def place_in(race: Race, sail: str, unread: int) -> str:
     return f"{ordinal(place + unread)}{' (tied)' if tied else ''} in race {race.number}{ahead}"
 
 
-def change_lines(book: Book, before: Standing, race: Race | None, mixed: bool) -> list[str]:
+def change_lines(facts: Facts, before: Standing, race: Race | None, mixed: bool) -> list[str]:
     """Whose scores moved; `mixed` says that lines of other windows came in between."""
-    if before.races and not book.standing.races:
+    if before.races and not facts.standing.races:
         return ["   >>> NO RACE COUNTS ANY MORE."]
-    found = changes(before, book.standing)
+    found = changes(before, facts.standing)
     if not found:
         return [f"   Race {race.number} counts; no score moved."] if race else []
     what = f"RACE {race.number} COUNTS: THE RESULTS HAVE CHANGED" if race else "THE RESULTS HAVE CHANGED"
     others = ["       Others typed meanwhile: some of this may be theirs."] if mixed else []
     return [f"   >>> {what}.", *others,
-            *(f"       {moved(change, book.called(change.after.sail))}" for change in found)]
+            *(f"       {moved(change, facts.called(change.after.sail))}" for change in found)]
 
 
-def race_lines(book: Book, race: Race, unread: dict[str, str], is_to_count: bool = False) -> list[str]:
+def race_lines(facts: Facts, race: Race, unread: dict[str, str], is_to_count: bool = False) -> list[str]:
     """A race as it is recorded: the order, who holds what, and who is missing. `unread` are the places
     of finishers whose sails weren't read."""
-    missing = race.missing(book.boats)
+    missing = race.missing(facts.boats)
     state = "counts" if race.counts else "is to count" if is_to_count else "doesn't count yet"
     said = [f"Race {race.number} {state}: {len(race.places())} finished, {len(race.codes)} coded, "
-            f"{len(missing)} not recorded, {count(len(book.boats), 'boat')}"]
-    said += [f"  {str(place) + '=' * tied:>4}  {book.called(sail)}{time_in(race, sail)}"
+            f"{len(missing)} not recorded, {count(len(facts.boats), 'boat')}"]
+    said += [f"  {str(place) + '=' * tied:>4}  {facts.called(sail)}{time_in(race, sail)}"
              f"{beside_code(race, sail)}"
              for sail, (place, tied) in race.places().items()]
-    said += [f"   {code}  {book.called(sail)}{time_in(race, sail)}{beside_code(race, sail)}"
+    said += [f"   {code}  {facts.called(sail)}{time_in(race, sail)}{beside_code(race, sail)}"
              for sail, code in race.codes.items()]
     said += [f"  {mark:>4}  {place} on the water, but her sail isn't known"
              for mark, place in unread.items()]
     if missing:
         said.append(f"  {'DNC' if race.counts else 'not recorded'}: "
-                    + ", ".join(book.called(sail) + beside_code(race, sail, " ") for sail in missing))
+                    + ", ".join(facts.called(sail) + beside_code(race, sail, " ") for sail in missing))
     return said
 
 
@@ -100,20 +100,20 @@ def beside_code(race: Race, sail: str, space: str = "   ") -> str:
     return space + " ".join(held) if held else ""
 
 
-def standing_lines(book: Book) -> list[str]:
-    return [f"  {rank_of(row):>12}  {row.net:>6}  {book.called(row.sail)}"
-            for row in book.standing.rows]
+def standing_lines(facts: Facts) -> list[str]:
+    return [f"  {rank_of(row):>12}  {row.net:>6}  {facts.called(row.sail)}"
+            for row in facts.standing.rows]
 
 
-def plan_lines(book: Book, race: Race, plan: Plan, kept: list[str]) -> list[str]:
+def plan_lines(facts: Facts, race: Race, plan: Plan, kept: list[str]) -> list[str]:
     """How a race is taken away; `kept` are the finishers without a sail whose places go with it."""
     lines = count(len(plan.lines), "line is", "lines are")
     said = [f"To take race {race.number} away {lines} sent:", *(f"    {line}" for line in plan.lines)]
     if kept:
         said.append(f"  Places that are dropped: {joined(kept)}")
     if plan.stays:
-        said += [f"  ZFP and BFD stay (RRS 30.2, 30.4): {book.all_called(plan.stays)}",
+        said += [f"  ZFP and BFD stay (RRS 30.2, 30.4): {facts.all_called(plan.stays)}",
                  "  If the race is resailed under a new number: type them there, and clear them here"]
     if plan.jury:
-        said.append(f"  What the jury decided stays (RRS 36): {book.all_called(plan.jury)}")
+        said.append(f"  What the jury decided stays (RRS 36): {facts.all_called(plan.jury)}")
     return said

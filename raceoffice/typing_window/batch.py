@@ -7,7 +7,7 @@ from dataclasses import dataclass
 from raceoffice.errors import Trouble
 from raceoffice.series.settings import rows_of
 from raceoffice.terminal import say
-from raceoffice.typing_window.session import Desk
+from raceoffice.typing_window.session import Session
 from raceoffice.wording import count
 
 LARGEST = 4 << 20
@@ -26,8 +26,8 @@ def lines_of(data: bytes) -> list[str]:
 
 @dataclass
 class Batch:
-    """The lines of a file for one desk; `again` is the command that sends the rest."""
-    desk: Desk
+    """The lines of a file for one session; `again` is the command that sends the rest."""
+    session: Session
     lines: list[str]
     again: str
 
@@ -52,8 +52,8 @@ class Batch:
         """Whether a line was taken; a Trouble if it had no answer."""
         try:
             plain = " ".join(line.upper().split())
-            self.desk.look()
-            return self.desk.do(line) if plain == "SHOW" else self.desk.send(plain)
+            self.session.look()
+            return self.session.do(line) if plain == "SHOW" else self.session.send(plain)
         except Trouble as trouble:
             raise Trouble(f"{trouble}. Line {at} had no answer: look whether it is in the journal "
                           "before you send it again. The lines after it weren't sent") from None

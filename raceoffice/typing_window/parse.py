@@ -122,7 +122,7 @@ class Reading:
 
 @dataclass
 class Reader:
-    """Reads what is typed at one desk. It knows the boats, how each is called, the race of `at`, and the
+    """Reads what is typed at one session. It knows the boats, how each is called, the race of `at`, and the
     races of which anything is recorded. `is_timed` says that boats have corrected times."""
     boats: list[str]
     called: Callable[[str], str]

@@ -1,4 +1,4 @@
-"""The desk of one class: it sends lines to an office, asks before one that can't be taken back, and
+"""The session of one class: it sends lines to an office, asks before one that can't be taken back, and
 says what each has done."""
 from __future__ import annotations
 
@@ -25,7 +25,7 @@ from raceoffice.typing_window.answers import (answer_line, change_lines, outcome
                                               standing_lines)
 from raceoffice.typing_window.confirm import questions
 from raceoffice.typing_window.help import help_lines, help_of
-from raceoffice.typing_window.knowledge import Book
+from raceoffice.typing_window.facts import Facts
 from raceoffice.typing_window.parse import (FIRST, MAY, Reader, Unclear, boat_meant, boats_meant, digits_of,
                                             race_number, short)
 from raceoffice.typing_window.undo import reversal
@@ -44,14 +44,14 @@ class Done:
     time: float = 0.0
 
 
-class Desk:
+class Session:
     """One class, one role. `say` shows a line; `ask` is asked a question, and in lines of a file
     there is none."""
 
     def __init__(self, folder: Folder, role: str, name: str, say: Callable[[str], None],
                  ask: Callable[[str], bool]) -> None:
         self.folder, self.role, self.name, self.say, self.ask = folder, role, name, say, ask
-        self.book, self.places = Book(folder), Places(folder, name or role.lower())
+        self.facts, self.places = Facts(folder), Places(folder, name or role.lower())
         self.history, self.once = History(), Once()
         self.done: Done | None = None
         self.sent: dict[int, str] = {}
@@ -61,7 +61,7 @@ class Desk:
         self.answered = False
 
     def connect(self) -> None:
-        """Links to the office, in the role of this desk."""
+        """Links to the office, in the role of this session."""
         self.link, self.seat = self.folder.link(), ""
         try:
             self.link.ask(f"ROLE {self.role}")
@@ -78,12 +78,12 @@ class Desk:
     def look(self) -> None:
         """Reads journal, table and places as they are now."""
         assert self.link
-        self.book.read(self.link.sheet())
+        self.facts.read(self.link.sheet())
         before = self.unread.all
         self.look_at_places()
         if self.history.found:
             with contextlib.suppress(NotSent):
-                self.places.note_found(self.book.commands)
+                self.places.note_found(self.facts.commands)
         for unread in before:
             if (unread.race, unread.mark) in self.history.ended:
                 self.say(f"   {self.history.end(unread.race, unread.mark)}.")
@@ -91,7 +91,7 @@ class Desk:
     def look_at_places(self) -> None:
         """Reads the places that are kept. If that can't be, those stay that were known."""
         try:
-            self.history = self.places.read(self.book.commands)
+            self.history = self.places.read(self.facts.commands)
             wrong = self.history.fault
         except Trouble as trouble:
             wrong = f"{trouble}. A finisher without a sail may be missing."
@@ -119,11 +119,11 @@ class Desk:
             return True
         match words:
             case ["at", *number] if len(number) < 2:
-                self.at = self.book.race(number[0]).number if number else None
+                self.at = self.facts.race(number[0]).number if number else None
                 return True
             case ["abandon", number]:
                 self.look()
-                return self.abandon(self.book.race(number))
+                return self.abandon(self.facts.race(number))
             case ["clear"]:
                 raise NotSent("CLEAR takes away what a boat holds in a race: CLEAR race sail. Ctrl-L "
                               "clears the screen")
@@ -147,37 +147,37 @@ class Desk:
                 return help_of(word)
             case ["race", number]:
                 self.look()
-                return self.shown_race(self.book.race(number))
+                return self.shown_race(self.facts.race(number))
             case ["race"] if self.at:
                 self.look()
-                return self.shown_race(self.book.race(str(self.at)))
+                return self.shown_race(self.facts.race(str(self.at)))
             case ["standing"]:
                 self.look()
-                return [f"{self.prefix}rank and net points"] * bool(self.prefix) + standing_lines(self.book)
+                return [f"{self.prefix}rank and net points"] * bool(self.prefix) + standing_lines(self.facts)
             case ["show"]:
                 self.look()
-                return [*self.book.sheet.journal, *self.book.sheet.table]
+                return [*self.facts.sheet.journal, *self.facts.sheet.table]
         return None
 
     def shown_race(self, race: Race, is_to_count: bool = False) -> list[str]:
-        first, *rest = race_lines(self.book, race, self.unread.places(race), is_to_count)
+        first, *rest = race_lines(self.facts, race, self.unread.places(race), is_to_count)
         return [self.prefix + first, *rest]
 
     @property
     def reader(self) -> Reader:
         """Reads what is typed here."""
-        races = {number for number, race in self.book.series.races.items() if race.is_recorded}
-        return Reader(self.book.boats, self.book.called, self.at, self.folder.settings.handicap, races)
+        races = {number for number, race in self.facts.series.races.items() if race.is_recorded}
+        return Reader(self.facts.boats, self.facts.called, self.at, self.folder.settings.handicap, races)
 
     def line(self, typed: str) -> str:
         """The program's line. Who typed digits sees which boat was meant."""
         line = self.reader.line(typed, lambda text: self.ask(f"   {self.prefix}{text}"))
         for sail in line.split()[1:]:
-            if digits := digits_of(sail, typed, self.book.boats):
-                others = [boat for boat in self.book.boats if boat.endswith(digits) and boat != sail]
-                more = (f"; {joined(list(map(self.book.called, others)))} "
+            if digits := digits_of(sail, typed, self.facts.boats):
+                others = [boat for boat in self.facts.boats if boat.endswith(digits) and boat != sail]
+                more = (f"; {joined(list(map(self.facts.called, others)))} "
                         f"{'ends' if len(others) == 1 else 'end'} so too" if others else "")
-                self.say(f"   {digits} is {self.book.called(sail)}{more}")
+                self.say(f"   {digits} is {self.facts.called(sail)}{more}")
         return line
 
     def finish_or_line(self, typed: str) -> bool:
@@ -189,9 +189,9 @@ class Desk:
         except Unclear as why:
             if not crossed:
                 raise
-            return self.keep_place(self.book.race(str(self.at)), crossed, f"{sentence(why.what)} ")
+            return self.keep_place(self.facts.race(str(self.at)), crossed, f"{sentence(why.what)} ")
         if crossed and (unread := self.kept_as(line.split()[2])):
-            return self.send_known(self.book.race(str(self.at)), unread, [line.split()[2].lower()])
+            return self.send_known(self.facts.race(str(self.at)), unread, [line.split()[2].lower()])
         is_there = crossed and self.is_in_order(line.split()[2])
         is_taken = self.send(line)
         if is_there and not is_taken:
@@ -200,7 +200,7 @@ class Desk:
 
     def is_in_order(self, sail: str) -> bool:
         """Whether a boat has finished in the race of `at`."""
-        return any(sail in group for group in self.book.race(str(self.at)).order)
+        return any(sail in group for group in self.facts.race(str(self.at)).order)
 
     # What is sent
 
@@ -214,28 +214,28 @@ class Desk:
     def transmit(self, line: str, unread: Unread | None = None) -> bool:
         """Sends a line that nothing has to be asked of any more; whether it was taken. `unread` is the
         finisher whose place it is for."""
-        before, length = self.book.standing, len(self.book.sheet.journal)
+        before, length = self.facts.standing, len(self.facts.sheet.journal)
         answer = self.exchange(line)
         if unread:
             self.note_answer(unread, line, answer)
         if not answer.startswith("OK "):
-            self.say(answer_line(self.book, line, answer, self.prefix))
+            self.say(answer_line(self.facts, line, answer, self.prefix))
             return not answer.startswith("NO ")
         number = int(answer.split()[1])
         self.done = Done(line, number, unread, time=time.monotonic())
         self.look_after(number, line)
         race = self.race_of(line)
-        self.say(f"OK {number}   {self.prefix}{outcome(self.book, line, self.unread)}")
+        self.say(f"OK {number}   {self.prefix}{outcome(self.facts, line, self.unread)}")
         if line.startswith("UNSCORE "):
-            self.say_all(change_lines(self.book, before, None, number != length + 1))
+            self.say_all(change_lines(self.facts, before, None, number != length + 1))
         elif not line.startswith("SCORE ") and (race is None or race.counts):
-            self.say_all(change_lines(self.book, before, race, number != length + 1))
+            self.say_all(change_lines(self.facts, before, race, number != length + 1))
         self.say_declared(before)
         return True
 
     def say_declared(self, before: Standing) -> None:
         """Says that results which have changed were declared final or amended, if they were."""
-        if before == self.book.standing:
+        if before == self.facts.standing:
             return
         # The notice may have been written since this window came.
         with contextlib.suppress(Trouble):
@@ -253,13 +253,13 @@ class Desk:
         if command == "SCORE" and command in MAY[self.role] and race and not race.counts:
             self.say_all(self.shown_race(race, True))
             unread = [f"{one.mark} (kept by {one.since})" for one in self.unread.of(race.number)]
-        asked = questions(self.book, self.role, line, unread)
+        asked = questions(self.facts, self.role, line, unread)
         return all(self.ask(f"   {self.prefix}{text}") for text in asked)
 
     def race_of(self, line: str) -> Race | None:
         """The race that a line is about, if anything is recorded of it."""
         number = line.split()[1:2]
-        return self.book.series.races.get(race_number(number[0])) if number else None
+        return self.facts.series.races.get(race_number(number[0])) if number else None
 
     def exchange(self, line: str) -> str:
         """The office's answer to a line, which is logged before anything else is done."""
@@ -286,7 +286,7 @@ class Desk:
         except Trouble:
             self.say(f"OK {number}   {self.prefix}{line}")
             raise
-        self.seat = self.book.sheet.journal[number - 1].split()[0]
+        self.seat = self.facts.sheet.journal[number - 1].split()[0]
 
     def log(self, line: str, answer: str) -> None:
         try:
@@ -306,12 +306,12 @@ class Desk:
         if not needed:
             self.say(f"{self.prefix}Nothing of race {race.number} has to be taken away.")
             return True
-        first, *rest = plan_lines(self.book, race, plan, kept)
+        first, *rest = plan_lines(self.facts, race, plan, kept)
         self.say_all([self.prefix + first, *rest])
         if not self.ask("   Send them?" if plan.lines else "   Drop the places?"):
             self.say("   Not sent.")
             return False
-        before, length = self.book.standing, len(self.book.sheet.journal)
+        before, length = self.facts.standing, len(self.facts.sheet.journal)
         if not self.is_sent(race, plan):
             return False
         self.drop_safely(self.unread.of(race.number), f"race {race.number} was taken away")
@@ -320,8 +320,8 @@ class Desk:
                          time=time.monotonic())
         self.say(f"{self.prefix}Race {race.number} is taken away: {lines}, all taken.")
         if before.races:
-            mixed = len(self.book.sheet.journal) != length + len(plan.lines)
-            self.say_all(change_lines(self.book, before, None, mixed))
+            mixed = len(self.facts.sheet.journal) != length + len(plan.lines)
+            self.say_all(change_lines(self.facts, before, None, mixed))
         self.say_declared(before)
         return True
 
@@ -352,7 +352,7 @@ class Desk:
     def keep_crossed(self, sail: str) -> bool:
         """Keeps the place of somebody whose class isn't clear."""
         self.look()
-        return self.keep_place(self.book.race(str(self.at)), sail)
+        return self.keep_place(self.facts.race(str(self.at)), sail)
 
     def place_unread(self, mark: str, sail: list[str]) -> bool:
         """Keeps her place (`?`, `101?`), or sends her sail (`?1 GBR 33`); whether it was taken."""
@@ -375,11 +375,11 @@ class Desk:
         races = {unread.race for unread in self.unread.all if sail and mark in ("?", unread.mark)}
         if not self.at and len(races) != 1:
             raise NotSent("first say which race: at 3")
-        return self.book.race(str(self.at or min(races)))
+        return self.facts.race(str(self.at or min(races)))
 
     def keep_place(self, race: Race, typed: str = "", why: str = "") -> bool:
         """Keeps the place of a finisher at the end of the order as it is now."""
-        mark = self.places.keep(race, typed, len(self.book.sheet.journal))
+        mark = self.places.keep(race, typed, len(self.facts.sheet.journal))
         self.look_at_places()
         # What is on the disk may not be readable just then: she is kept all the same.
         kept = next((unread for unread in self.unread.of(race.number) if unread.mark == mark), None)
@@ -396,7 +396,7 @@ class Desk:
         for unread in self.unread.of(self.at or 0):
             is_like = unread.typed and (boats_meant([unread.typed], [sail]) or near(unread.typed, [sail]))
             if is_like and self.ask(f"   {self.prefix}{unread.mark} keeps a place. Is she "
-                                    f"{self.book.called(sail)}?"):
+                                    f"{self.facts.called(sail)}?"):
                 return unread
         return None
 
@@ -413,13 +413,13 @@ class Desk:
         if not (self.may_send(line, last.line if last else line, meant) and self.is_meant(line)):
             self.say("   Not sent.")
             return False
-        self.places.note_sent(meant, line, len(self.book.sheet.journal), last)
+        self.places.note_sent(meant, line, len(self.facts.sheet.journal), last)
         return self.transmit(line, meant)
 
     def sail_for(self, meant: Unread, words: list[str]) -> str:
         """The boat that is meant for a place. What was typed of her sail may be left out: `101? ger`."""
         text = "".join(words).upper() + meant.typed
-        return text if text in self.book.boats else boat_meant(words, self.book.boats, self.book.called)
+        return text if text in self.facts.boats else boat_meant(words, self.facts.boats, self.facts.called)
 
     def may_send(self, line: str, last: str, meant: Unread) -> bool:
         """Whether a line may be sent for a place although another was, to which no answer came."""
@@ -456,9 +456,9 @@ class Desk:
             raise NotSent(done.why)
         if done.unread and done.what:
             return self.undo_place(done.unread, done.what)
-        if self.book.commands[done.number - 1:done.number] != [done.line]:
+        if self.facts.commands[done.number - 1:done.number] != [done.line]:
             raise NotSent(f"{done.line} isn't in the journal any more")
-        line = reversal(self.book, done.number)
+        line = reversal(self.facts, done.number)
         if not self.ask(f"   {self.prefix}{done.line} is taken back by {line}. Send it?") or \
                 not self.is_meant(line):
             self.say("   Not sent.")

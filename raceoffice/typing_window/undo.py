@@ -5,36 +5,36 @@ from raceoffice.errors import NotSent
 from raceoffice.program.journal import Race, Series
 from raceoffice.program.messages import ROLES
 from raceoffice.series.unknown_finishers import Unread
-from raceoffice.typing_window.knowledge import Book
+from raceoffice.typing_window.facts import Facts
 from raceoffice.typing_window.parse import FINISHING
 from raceoffice.wording import joined
 
 
-def reversal(book: Book, number: int) -> str:
+def reversal(facts: Facts, number: int) -> str:
     """The line that takes back an entry of the journal; NotSent says why none does."""
-    line = book.commands[number - 1]
+    line = facts.commands[number - 1]
     command, *rest = line.split()
     if command == "ENTER":
         raise NotSent(f"{rest[0]} stays while the office is open. When it is closed, raceoffice remove "
                       "takes her out")
-    if later := later_entry(book, number):
+    if later := later_entry(facts, number):
         raise NotSent(f"something has been typed about the same since: {later}")
     if command in ("SCORE", "UNSCORE"):
         return f"{'UNSCORE' if command == 'SCORE' else 'SCORE'} {rest[0]}"
     race, sail = int(rest[0]), rest[1]
-    before = Series.read(list(book.sheet.journal[:number - 1])).race(race)
+    before = Series.read(list(facts.sheet.journal[:number - 1])).race(race)
     if command == "STRIKE":
-        return back_in_order(before, book.race(rest[0]), sail)
+        return back_in_order(before, facts.race(rest[0]), sail)
     if command in FINISHING:
         return f"STRIKE {race} {sail}"
-    return as_before(command, before, book.race(rest[0]), sail)
+    return as_before(command, before, facts.race(rest[0]), sail)
 
 
-def later_entry(book: Book, number: int) -> str:
+def later_entry(facts: Facts, number: int) -> str:
     """The first entry after another that is about the same boat and race, in words; empty if there is
     none. SCORE and UNSCORE are about their race alone."""
-    about = what_about(book.commands[number - 1])
-    for at, entry in enumerate(book.sheet.journal[number:], number + 1):
+    about = what_about(facts.commands[number - 1])
+    for at, entry in enumerate(facts.sheet.journal[number:], number + 1):
         _, _, role, line = entry.split(maxsplit=3)
         if what_about(line) == about:
             return f"entry {at}, {line}, by {ROLES[role]}"

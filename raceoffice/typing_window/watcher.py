@@ -11,7 +11,7 @@ from raceoffice import system
 from raceoffice.errors import Trouble
 from raceoffice.files import PRIVATE
 from raceoffice.series.folder import Folder
-from raceoffice.typing_window.session import Desk
+from raceoffice.typing_window.session import Session
 
 try:
     # Arrow keys, and the lines typed before.
@@ -36,11 +36,11 @@ class News(Exception):
 class Watcher(threading.Thread):
     """Looks at the offices while the window waits at its prompt, and interrupts it at news."""
 
-    def __init__(self, desks: list[Desk]) -> None:
+    def __init__(self, sessions: list[Session]) -> None:
         super().__init__(daemon=True)
-        self.desks, self.half, self.not_before = desks, "", 0.0
+        self.sessions, self.half, self.not_before = sessions, "", 0.0
         # What of the offices' windows was said here.
-        self.told: dict[Desk, str] = {}
+        self.told: dict[Session, str] = {}
         self.at_prompt, self.begun, self.prompts, self.interrupted = False, False, 0, 0
         # The window's own thread, which makes this one.
         self.window = threading.get_ident()
@@ -92,7 +92,7 @@ class Watcher(threading.Thread):
 
     def is_heard(self, patience: float) -> bool:
         """Whether anything comes from an office within the patience."""
-        links = [desk.link for desk in self.desks if desk.link]
+        links = [session.link for session in self.sessions if session.link]
         try:
             return bool(select.select(links, [], [], patience)[0])
         except (OSError, ValueError):
@@ -100,37 +100,37 @@ class Watcher(threading.Thread):
             return False
 
     def is_closing(self) -> bool:
-        return any(desk.link and desk.folder.is_closing() for desk in self.desks)
+        return any(session.link and session.folder.is_closing() for session in self.sessions)
 
     def is_warned(self) -> bool:
         """Whether an office's window says that something is wrong, which wasn't said here yet."""
-        return any(text and text != self.told.get(desk) for desk, text in self.warnings().items())
+        return any(text and text != self.told.get(session) for session, text in self.warnings().items())
 
-    def warnings(self) -> dict[Desk, str]:
+    def warnings(self) -> dict[Session, str]:
         """What the windows of the offices say is wrong."""
-        found = {desk: desk.folder.beware() for desk in self.desks if desk.link}
-        for desk, text in found.items():
+        found = {session: session.folder.beware() for session in self.sessions if session.link}
+        for session, text in found.items():
             if not text:
                 # It may come again.
-                self.told.pop(desk, None)
+                self.told.pop(session, None)
         return found
 
     def is_back(self) -> bool:
         """Whether an office that has gone is there again."""
         return time.monotonic() > self.not_before and any(
-            desk.link is None and is_open(desk) for desk in self.desks)
+            session.link is None and is_open(session) for session in self.sessions)
 
     def wait(self) -> None:
         """Leaves offices without a free seat alone for a while: each try counts as a client there."""
         self.not_before = time.monotonic() + AGAIN
 
 
-def is_open(desk: Desk) -> bool:
+def is_open(session: Session) -> bool:
     """Whether an office lets clients in, has a free seat, and isn't closing. To ask the system costs the
     office nothing."""
     with contextlib.suppress(Trouble):
-        found = system.sockets_at(desk.folder.socket)
-        return not desk.folder.is_closing() and True in found and not is_full(desk.folder, found)
+        found = system.sockets_at(session.folder.socket)
+        return not session.folder.is_closing() and True in found and not is_full(session.folder, found)
     return False
 
 

@@ -15,9 +15,9 @@ from raceoffice.series.folder import Folder
 from raceoffice.series.unknown_finishers import Unread, in_words
 from raceoffice.series.windows import BOARD, TYPING, Presence, open_windows
 from raceoffice.terminal import question, say, sentence, visible
-from raceoffice.typing_window.classes import Unsure, choosing, desk_meant, greeting
+from raceoffice.typing_window.classes import Unsure, choosing, session_meant, greeting
 from raceoffice.typing_window.parse import COMMANDS, FIRST
-from raceoffice.typing_window.session import Desk
+from raceoffice.typing_window.session import Session
 from raceoffice.typing_window.watcher import AGAIN, LOOK, News, Watcher, has_no_seat
 from raceoffice.wording import count
 
@@ -27,18 +27,18 @@ class End(Exception):
 
 
 class Window:
-    """A prompt, and a desk for each class."""
+    """A prompt, and a session for each class."""
 
     def __init__(self, folders: list[Folder], role: str, name: str) -> None:
-        self.desks = [Desk(folder, role, name, say, self.ask) for folder in folders]
-        self.watcher = Watcher(self.desks)
+        self.sessions = [Session(folder, role, name, say, self.ask) for folder in folders]
+        self.watcher = Watcher(self.sessions)
         self.present: list[Presence] = []
         # The places that were kept in several classes for one finisher.
-        self.twins: list[list[tuple[Desk, Unread]]] = []
+        self.twins: list[list[tuple[Session, Unread]]] = []
 
     @property
     def several(self) -> bool:
-        return len(self.desks) > 1
+        return len(self.sessions) > 1
 
     def run(self) -> int:
         """Is the window until somebody leaves it; the status."""
@@ -54,53 +54,54 @@ class Window:
 
     def come(self) -> None:
         """Links to the offices. Of several classes those that aren't open don't hold up the others."""
-        for desk in self.desks:
-            self.come_to(desk)
-        desk = self.desks[0]
-        say(greeting(self.desks) if self.several else
-            f"{desk.folder.settings.title}: you type as the {desk.role.lower()}. help lists your lines.")
+        for session in self.sessions:
+            self.come_to(session)
+        session = self.sessions[0]
+        say(greeting(self.sessions) if self.several else
+            f"{session.folder.settings.title}: you type as the {session.role.lower()}. "
+            "help lists your lines.")
         self.say_warnings()
         self.say_kept()
 
-    def come_to(self, desk: Desk) -> None:
+    def come_to(self, session: Session) -> None:
         """Links to an office, and notes it in the log."""
         if not self.several:
-            self.wait_for(desk)
+            self.wait_for(session)
         else:
             try:
-                desk.connect()
+                session.connect()
             except Trouble as trouble:
-                say(f"Beware: {trouble}, that of {desk.folder.name}. The others go on.")
-        self.log(desk, "came")
-        self.present.append(Presence(desk.folder, TYPING, desk.name or desk.role.lower()))
+                say(f"Beware: {trouble}, that of {session.folder.name}. The others go on.")
+        self.log(session, "came")
+        self.present.append(Presence(session.folder, TYPING, session.name or session.role.lower()))
 
-    def say_kept(self, desks: list[Desk] | None = None) -> None:
+    def say_kept(self, sessions: list[Session] | None = None) -> None:
         """Says who is without a sail."""
-        for desk in desks or self.desks:
-            desk.look_at_places()
-            if desk.unread.all and desk.role != "JURY":
-                of = f" of {desk.folder.name}" if self.several else ""
-                say(f"Kept without a sail{of}: {in_words(desk.unread.all)}.")
+        for session in sessions or self.sessions:
+            session.look_at_places()
+            if session.unread.all and session.role != "JURY":
+                of = f" of {session.folder.name}" if self.several else ""
+                say(f"Kept without a sail{of}: {in_words(session.unread.all)}.")
 
     def leave(self) -> None:
         """Leaves all offices."""
         for presence in self.present:
             presence.close()
-        for desk in self.desks:
-            self.log(desk, "left")
-            if desk.link:
+        for session in self.sessions:
+            self.log(session, "left")
+            if session.link:
                 with contextlib.suppress(Trouble):
-                    desk.link.ask("QUIT")
-                desk.disconnect()
+                    session.link.ask("QUIT")
+                session.disconnect()
 
-    def log(self, desk: Desk, what: str) -> None:
+    def log(self, session: Session, what: str) -> None:
         with contextlib.suppress(Trouble):
-            desk.folder.log(desk.name, "", desk.role, what, "")
+            session.folder.log(session.name, "", session.role, what, "")
 
     # A line
 
     def prompt(self) -> str:
-        names = [f"{desk.folder.name} " * self.several + str(desk.at or "") for desk in self.desks]
+        names = [f"{one.folder.name} " * self.several + str(one.at or "") for one in self.sessions]
         return ", ".join(map(str.strip, names)) + "> "
 
     def is_going_on(self) -> bool:
@@ -126,7 +127,7 @@ class Window:
     def take_news_safely(self) -> None:
         """Takes the news, and goes on after a fault of the window itself."""
         try:
-            with guarded(self.desks[0].folder.path, End):
+            with guarded(self.sessions[0].folder.path, End):
                 self.take_news()
         except Fault as fault:
             say(f"   Beware: {sentence(fault)}")
@@ -145,7 +146,7 @@ class Window:
     def refused(self, line: str) -> str:
         """Does a line; why the lines after it can't be sent, or nothing."""
         try:
-            with guarded(self.desks[0].folder.path, End, NotSent):
+            with guarded(self.sessions[0].folder.path, End, NotSent):
                 if self.several and line.lower().split()[:1] == ["role"]:
                     return self.do_everywhere(line)
                 return self.do_where_meant(line)
@@ -158,14 +159,14 @@ class Window:
 
     def do_everywhere(self, line: str) -> str:
         """Gives a line to all classes that are there: a role is that of the whole window."""
-        return "".join([self.do(desk, line) for desk in self.desks if desk.link])
+        return "".join([self.do(session, line) for session in self.sessions if session.link])
 
     def do_where_meant(self, line: str) -> str:
         """Gives a line to the class that it is for. Who may be in several keeps her place in each."""
         try:
-            return self.do(*desk_meant(self.desks, line))
+            return self.do(*session_meant(self.sessions, line))
         except Unsure as why:
-            if not why.desks:
+            if not why.sessions:
                 raise
             return self.keep_in_each(why)
 
@@ -174,41 +175,41 @@ class Window:
         the others."""
         say(f"   {sentence(unsure.what[:1].upper() + unsure.what[1:])}")
         why, kept = "", []
-        for desk in [desk for desk in unsure.desks if desk.link]:
-            before = desk.done
-            why += self.do(desk, unsure.sail, Desk.keep_crossed)
-            if desk.done and desk.done.unread and desk.done is not before:
-                kept.append((desk, desk.done.unread))
+        for session in [session for session in unsure.sessions if session.link]:
+            before = session.done
+            why += self.do(session, unsure.sail, Session.keep_crossed)
+            if session.done and session.done.unread and session.done is not before:
+                kept.append((session, session.done.unread))
         self.twins.append(kept)
         return why
 
     def drop_twins(self) -> None:
         """Drops places in other classes of finishers who are known in one."""
         for twins in list(self.twins):
-            known = [desk for desk, unread in twins if desk.history.boat(unread.race, unread.mark)]
-            for desk, unread in twins:
-                if known and desk not in known and unread.mark in desk.unread.marks(unread.race):
-                    desk.drop_safely([unread], f"she is known in {known[0].folder.name}")
-                    if unread.mark not in desk.unread.marks(unread.race):
-                        say(f"   {desk.folder.name}: {unread.mark} is dropped.")
+            known = [session for session, unread in twins if session.history.boat(unread.race, unread.mark)]
+            for session, unread in twins:
+                if known and session not in known and unread.mark in session.unread.marks(unread.race):
+                    session.drop_safely([unread], f"she is known in {known[0].folder.name}")
+                    if unread.mark not in session.unread.marks(unread.race):
+                        say(f"   {session.folder.name}: {unread.mark} is dropped.")
             if known:
                 self.twins.remove(twins)
 
-    def do(self, desk: Desk, line: str, action: Callable[[Desk, str], bool] = Desk.do) -> str:
-        """Gives a line to the desk that it is for; why the lines after it can't be sent, or nothing."""
-        desk.prefix = f"{desk.folder.name}: " if self.several else ""
-        if desk.link is None:
-            raise NotSent(f"the office of {desk.folder.name} has gone. Write {line.upper()} down")
+    def do(self, session: Session, line: str, action: Callable[[Session, str], bool] = Session.do) -> str:
+        """Gives a line to the session that it is for; why the lines after it can't be sent, or nothing."""
+        session.prefix = f"{session.folder.name}: " if self.several else ""
+        if session.link is None:
+            raise NotSent(f"the office of {session.folder.name} has gone. Write {line.upper()} down")
         try:
-            is_taken = action(desk, line)
+            is_taken = action(session, line)
             self.drop_twins()
             if self.several and line.strip().lower() == "help":
-                say(choosing(self.desks))
+                say(choosing(self.sessions))
             return "" if is_taken else "since the line before it wasn't taken"
         except Trouble as trouble:
-            if not desk.unanswered and not desk.answered:
+            if not session.unanswered and not session.answered:
                 say(f"Not sent: {line}")
-            self.lost(desk, trouble)
+            self.lost(session, trouble)
             return "since the office was away"
 
     def ask(self, text: str) -> bool:
@@ -218,22 +219,23 @@ class Window:
 
     def is_agreed(self, lines: list[str]) -> bool:
         """Whether somebody agrees to a pasted list of bare sails, which are shown by their names."""
-        desk = self.desks[0]
+        session = self.sessions[0]
         words = [line.upper().split()[:1] for line in lines]
-        if self.several or not desk.at or any(word and word[0] in FIRST - COMMANDS.keys() for word in words):
+        of_lines = FIRST - COMMANDS.keys()
+        if self.several or not session.at or any(word and word[0] in of_lines for word in words):
             return True
         try:
             # In a list nothing is asked line by line.
-            meant = [desk.reader.line(line, lambda _: False) for line in lines if line.strip()]
+            meant = [session.reader.line(line, lambda _: False) for line in lines if line.strip()]
         except NotSent as why:
             say(f"   {sentence(why)}")
             return False
         for at, line in enumerate(meant, 1):
             _, _, sail, *last = line.split()
-            say(f"{at:>6}  {desk.book.called(sail)}{''.join(f'   {word}' for word in last)}")
+            say(f"{at:>6}  {session.facts.called(sail)}{''.join(f'   {word}' for word in last)}")
         are_finishes = all(line.startswith("FINISH ") for line in meant)
         what = count(len(meant), "finish", "finishes") if are_finishes else count(len(meant), "line")
-        return question(f"   Send these {what} in race {desk.at}?")
+        return question(f"   Send these {what} in race {session.at}?")
 
     # When an office goes
 
@@ -242,89 +244,89 @@ class Window:
         self.say_warnings()
         if self.watcher.is_closing():
             self.close_one()
-        for desk in self.desks:
-            if desk.link is None:
-                self.try_again(desk)
-            elif select.select([desk.link], [], [], 0)[0]:
-                self.lost(desk, heard(desk))
+        for session in self.sessions:
+            if session.link is None:
+                self.try_again(session)
+            elif select.select([session.link], [], [], 0)[0]:
+                self.lost(session, heard(session))
 
     def say_warnings(self) -> None:
         """Says what the offices' windows say is wrong, once."""
-        for desk, text in self.watcher.warnings().items():
-            if text and self.watcher.told.get(desk) != text:
-                say(f"Beware: the office's window{self.of(desk)} says: {text}\n"
+        for session, text in self.watcher.warnings().items():
+            if text and self.watcher.told.get(session) != text:
+                say(f"Beware: the office's window{self.of(session)} says: {text}\n"
                     "Write on paper, and ask there before you go on.")
-                self.watcher.told[desk] = text
+                self.watcher.told[session] = text
 
-    def of(self, desk: Desk) -> str:
+    def of(self, session: Session) -> str:
         """Which office is meant, if there are several."""
-        return f" of {desk.folder.name}" if self.several else ""
+        return f" of {session.folder.name}" if self.several else ""
 
     def close_one(self) -> None:
         """Leaves the offices that are being closed; the window ends with the last."""
-        for desk in self.desks:
-            if desk.link and desk.folder.is_closing():
-                self.lost(desk, Trouble("the office is being closed"))
+        for session in self.sessions:
+            if session.link and session.folder.is_closing():
+                self.lost(session, Trouble("the office is being closed"))
 
-    def try_again(self, desk: Desk) -> None:
+    def try_again(self, session: Session) -> None:
         """Uses an office that has come back."""
-        if desk.folder.is_closing():
+        if session.folder.is_closing():
             return
         try:
-            desk.connect()
+            session.connect()
         except Trouble:
             self.watcher.wait()
         else:
-            self.say_back(desk)
+            self.say_back(session)
 
-    def lost(self, desk: Desk, trouble: Trouble) -> None:
+    def lost(self, session: Session, trouble: Trouble) -> None:
         """An office has gone. With one class this waits for it; the others go on without."""
-        if desk.unanswered:
-            say(f"No answer came to: {desk.unanswered}\nIt may be in the journal, or not.")
-        desk.disconnect()
-        if desk.folder.is_closing() and not any(other.link for other in self.desks):
+        if session.unanswered:
+            say(f"No answer came to: {session.unanswered}\nIt may be in the journal, or not.")
+        session.disconnect()
+        if session.folder.is_closing() and not any(other.link for other in self.sessions):
             raise End("The office is being closed: this window ends.")
         if self.several:
-            say(f"Beware: {trouble}, that of {desk.folder.name}. The others go on.")
+            say(f"Beware: {trouble}, that of {session.folder.name}. The others go on.")
             return
         say(f"Beware: {trouble}. Waiting for the office; Ctrl-C ends this window.")
-        self.wait_for(desk, told=True)
+        self.wait_for(session, told=True)
         self.drop_typed("since the office was away")
-        self.say_back(desk)
+        self.say_back(session)
 
-    def wait_for(self, desk: Desk, told: bool = False) -> None:
+    def wait_for(self, session: Session, told: bool = False) -> None:
         """Links to an office, for which it waits."""
         while True:
             try:
-                if has_no_seat(desk.folder):
+                if has_no_seat(session.folder):
                     raise NoSeat("all seats of the office are taken")
-                desk.connect()
+                session.connect()
                 return
             except Trouble as trouble:
                 if not told:
-                    say(f"Waiting: {trouble}{seats_taken(desk, trouble)}. Ctrl-C ends this window.")
+                    say(f"Waiting: {trouble}{seats_taken(session, trouble)}. Ctrl-C ends this window.")
                 told = True
                 wait(AGAIN if isinstance(trouble, NoSeat) else LOOK)
 
-    def say_back(self, desk: Desk) -> None:
+    def say_back(self, session: Session) -> None:
         """Says which of this window's lines the office has after a crash."""
-        journal, line = desk.book.commands, desk.unanswered
-        lost = {at: sent for at, sent in desk.sent.items()
+        journal, line = session.facts.commands, session.unanswered
+        lost = {at: sent for at, sent in session.sent.items()
                 if at > len(journal) or journal[at - 1] != sent}
-        later = journal[max(desk.sent, default=0):]
-        desk.sent = {at: sent for at, sent in desk.sent.items() if at not in lost}
-        desk.unanswered = ""
-        say(f"The office{self.of(desk)} is back with {count(len(journal), 'entry', 'entries')}.")
+        later = journal[max(session.sent, default=0):]
+        session.sent = {at: sent for at, sent in session.sent.items() if at not in lost}
+        session.unanswered = ""
+        say(f"The office{self.of(session)} is back with {count(len(journal), 'entry', 'entries')}.")
         if lost:
             say("These lines of yours are lost. The office's window lists those of all windows: type "
                 "them again in that order.")
             say("\n".join(f"   {at:>5}  {sent}" for at, sent in sorted(lost.items())))
-        elif desk.sent:
-            at = max(desk.sent)
-            say(f"Your last line, OK {at} {desk.sent[at]}, is among them.")
+        elif session.sent:
+            at = max(session.sent)
+            say(f"Your last line, OK {at} {session.sent[at]}, is among them.")
         if line:
             say(f"{line} is {'in the journal' if line in later else 'not in the journal'}.")
-        self.say_kept([desk])
+        self.say_kept([session])
 
     def drop_typed(self, why: str) -> None:
         """Shows the lines that wait at the prompt already, and sends none of them."""
@@ -340,18 +342,18 @@ def wait(seconds: float) -> None:
         raise End("") from None
 
 
-def heard(desk: Desk) -> Trouble:
+def heard(session: Session) -> Trouble:
     """Why an office has ended a link: what came although nothing was asked."""
-    assert desk.link
+    assert session.link
     try:
-        return desk.link.heard()
+        return session.link.heard()
     except Trouble as trouble:
         return trouble
 
 
-def seats_taken(desk: Desk, trouble: Trouble) -> str:
+def seats_taken(session: Session, trouble: Trouble) -> str:
     """Who has the seats, if that is the trouble."""
-    windows = ", ".join(open_windows(desk.folder, TYPING, BOARD).values())
+    windows = ", ".join(open_windows(session.folder, TYPING, BOARD).values())
     return f": {windows}" if isinstance(trouble, NoSeat) and windows else ""
 
 

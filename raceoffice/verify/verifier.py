@@ -1,4 +1,4 @@
-"""Verifies pages of results: the program scores the journal that a page carries, and each cell is compared."""
+"""Verifies pages of results: the program scores the journal of a page, and each cell is compared."""
 from __future__ import annotations
 
 import datetime

@@ -429,7 +429,7 @@ class Sent(helpers.Series):
         """If the office goes while lines are sent, those that it didn't take are listed."""
         # Twelve boats: DNF is 13, a ZFP costs 3, 30% is 4, and she was second.
         self.typed("ENTER ITA4", "ENTER ITA5")
-        desk = decisions.Desk(os.path.join(self.here, "cup"))
+        desk = decisions.Decisions(os.path.join(self.here, "cup"))
         lines = desk.state().decided.lines
         self.assertEqual([line.text for line in lines][:3],
                          ["CLEAR 1 GBR7", "PENALTY 1 GBR7 ZFP", "REDRESS 1 GBR7 9.0"])

@@ -18,7 +18,7 @@ from typing import Any
 import helpers
 from raceoffice.errors import NotSent, Trouble
 from raceoffice.series.folder import Folder
-from raceoffice.typing_window.session import Desk
+from raceoffice.typing_window.session import Session
 
 # What is typed, and between which lines the steps are counted.
 TYPED = ["101", "?", "12", "?1 33"]
@@ -185,13 +185,13 @@ class Kills(helpers.Series):
                 for where, name in CALLS:
                     call = steps.wrapped(name, getattr(where, name))
                     stack.enter_context(mock.patch.object(where, name, call))
-                desk = Desk(self.folder, "FINISH", "Ann", say, lambda _: True)
-                desk.connect()
+                session = Session(self.folder, "FINISH", "Ann", say, lambda _: True)
+                session.connect()
                 with contextlib.suppress(Trouble):
-                    desk.do(f"at {self.race}")
+                    session.do(f"at {self.race}")
                     for line in TYPED:
                         steps.is_on = line in COUNTED
-                        desk.do(line)
+                        session.do(line)
                 steps.is_on = False
             write(into, b"STEPS " + json.dumps(steps.taken).encode())
             status = 0
@@ -203,31 +203,31 @@ class Kills(helpers.Series):
     def look(self, said: str, race: int) -> None:
         """What the next window finds, and what it makes of it."""
         lines: list[str] = []
-        desk = Desk(self.folder, "SCORER", "Eve", lines.append, lambda _: True)
-        desk.connect()
-        self.assertEqual(desk.history.faults, [])
-        is_in = ["GBR33"] in desk.book.race(str(race)).order
+        session = Session(self.folder, "SCORER", "Eve", lines.append, lambda _: True)
+        session.connect()
+        self.assertEqual(session.history.faults, [])
+        is_in = ["GBR33"] in session.facts.race(str(race)).order
         if KEPT in said or is_in:
-            self.assertNotEqual(is_in, "?1" in desk.unread.marks(race), said)
+            self.assertNotEqual(is_in, "?1" in session.unread.marks(race), said)
         if "NED12" in said.partition(KEPT)[2] and OK in said.partition("33")[2]:
             self.assertTrue(is_in, said)
-        for mark in desk.unread.marks(race):
-            desk.do(f"at {race}")
+        for mark in session.unread.marks(race):
+            session.do(f"at {race}")
             # A line of a window that was killed may still be on its way to the office.
             with contextlib.suppress(NotSent):
-                desk.do(f"{mark} 33")
-            desk.look()
-        self.assertEqual(desk.unread.all, (), lines)
-        if (race, "?1") in desk.history.kept:
-            lines = [line for line in desk.book.commands if line.split()[1:3] == [str(race), "GBR33"]]
+                session.do(f"{mark} 33")
+            session.look()
+        self.assertEqual(session.unread.all, (), lines)
+        if (race, "?1") in session.history.kept:
+            lines = [line for line in session.facts.commands if line.split()[1:3] == [str(race), "GBR33"]]
             self.assertEqual(len(lines), 1)
-            order = [sail for group in desk.book.race(str(race)).order for sail in group]
+            order = [sail for group in session.facts.race(str(race)).order for sail in group]
             self.assertEqual(order, [sail for sail in ("GBR101", "GBR33", "NED12") if sail in order])
             with open(self.places, encoding="ascii") as file:
                 notes = [json.loads(line) for line in file if line.strip()]
             ends = [note for note in notes if (note["what"], note["race"]) == ("resolved", race)]
-            self.assertEqual([desk.book.commands[end["entry"] - 1] for end in ends], lines)
-        desk.disconnect()
+            self.assertEqual([session.facts.commands[end["entry"] - 1] for end in ends], lines)
+        session.disconnect()
 
     def test_all_windows(self) -> None:
         """After everything was killed, each window knows who is without a sail, and says so before the

@@ -6,11 +6,10 @@ from collections.abc import Sequence
 from raceoffice.decisions.points import words_of
 from raceoffice.program.standing import Row, Score, tie_break
 from raceoffice.results.html.markup import NOTHING, Markup, separated, tag, together
-from raceoffice.results.html.page import (bar, code, finding, foot, head, key, name_heads, points, tenths,
-                                          who, whole)
+from raceoffice.results.html.page import bar, code, finding, foot, head, key, name_heads, points, who, whole
 from raceoffice.results.html.sealing import block
 from raceoffice.results.snapshot import View
-from raceoffice.wording import TIMES, joined, ordinal, spans
+from raceoffice.wording import TIMES, joined, one_decimal, ordinal, spans
 
 # On paper the races after these are in a second table.
 MOST_COLUMNS = 24
@@ -47,7 +46,7 @@ def broken(view: View, better: Row, worse: Row) -> str:
     found = tie_break(view.standing.races, better, worse)
     if found is None:
         return f"{one} and {other} have identical scores and share the rank."
-    scores = f"{tenths(found.better)} to {tenths(found.worse)}"
+    scores = f"{one_decimal(found.better)} to {one_decimal(found.worse)}"
     if found.rule == "A8.1":
         which = "best score" if found.at == 1 else f"{ordinal(found.at)}-best score"
         return f"{one} beats {other} on A8.1: {which} {scores}."

@@ -52,10 +52,6 @@ def points(text: str) -> Markup:
     return together(whole, tag("i", f".{tenth}"))
 
 
-def tenths(number: int) -> str:
-    return f"{number // 10}.{number % 10}"
-
-
 def code(word: str) -> Markup:
     meaning, kind = MEANING[word]
     return tag("abbr", word, class_=kind or None, title=meaning)

@@ -1,4 +1,4 @@
-"""What a desk knows of its class: the journal and the table as the office last showed them, with
+"""What a session knows of its class: the journal and the table as the office last showed them, with
 names."""
 from __future__ import annotations
 
@@ -13,7 +13,7 @@ from raceoffice.series.folder import Folder
 from raceoffice.typing_window.parse import race_number, short
 
 
-class Book:
+class Facts:
     """The races and the standing of a class, and how its boats are called."""
 
     def __init__(self, folder: Folder) -> None:

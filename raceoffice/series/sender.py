@@ -1,0 +1,47 @@
+"""A series beside its office: what whichever of them is there has, and lines that the office is sent."""
+from __future__ import annotations
+
+import os
+
+from raceoffice.errors import Trouble
+from raceoffice.program.link import Link, Sheet
+from raceoffice.program.messages import refusal
+from raceoffice.program.replay import Line
+from raceoffice.series.folder import Folder
+from raceoffice.series.lost_lines import UNANSWERED
+from raceoffice.series.run_program import replayed
+
+
+class Sender:
+    """A series; `link` leads to its office if one is open. `who` stands in office.log."""
+
+    def __init__(self, path: str, who: str) -> None:
+        self.folder, self.who = Folder(path), who
+        self.link: Link | None = None
+        if os.path.lexists(self.folder.socket) and not self.folder.is_closing():
+            self.link = self.folder.link()
+
+    def close(self) -> None:
+        if self.link:
+            self.link.close()
+
+    def sheet(self) -> Sheet:
+        """The journal and the table: the office's, or those of the folder."""
+        if self.link:
+            return self.link.sheet()
+        return replayed(self.folder, self.folder.settings.options())
+
+    def answer(self, line: Line) -> str:
+        """Sends a line in its role, and logs its answer. A Trouble says why it wasn't taken."""
+        if not self.link:
+            raise Trouble("no office is open: open it, and send again")
+        try:
+            self.link.ask(f"ROLE {line.role}")
+            answer = self.link.ask(line.text)
+        except Trouble:
+            self.folder.log(self.who, "", line.role, line.text, UNANSWERED)
+            raise
+        self.folder.log(self.who, "", line.role, line.text, answer)
+        if not answer.startswith("OK "):
+            raise Trouble(refusal(answer))
+        return answer
