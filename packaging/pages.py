@@ -37,8 +37,8 @@ ITEM = re.compile(r"(- |\d+\. )(.+)")
 RULE = re.compile(r"\|(?:[ :]*-+[ :]*\|)+")
 COMMENT = re.compile("<!--.*-->")
 PICTURE = r"!\[(?P<seen>[^\]]*)\]\((?P<picture>[a-z0-9-]+\.png)\)"
-# What no page has outside of code: other pictures, tags, signs by their names, backslashes; and what begins no
-# paragraph: quotations, odd indents, rows of dashes.
+# What no page has outside of code: other pictures, tags, signs by their names, backslashes; and what begins
+# no paragraph: quotations, odd indents, rows of dashes.
 UNKNOWN = re.compile(r"!\[|<[a-zA-Z/!]|&[a-z#0-9]+;|\\")
 ODD_START = re.compile(r">| {1,3}\S|[-=*_]{3,}$|[*+] ")
 KNOWN = re.compile(f"`[^`]*`|{PICTURE}")
