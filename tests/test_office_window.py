@@ -16,7 +16,7 @@ from unittest import mock
 
 import helpers
 from raceoffice.errors import Trouble
-from raceoffice.office import process as office_process, window as office_window
+from raceoffice.office import keeping, process as office_process
 from raceoffice.office.window import OfficeWindow
 from raceoffice.program.link import Link
 from raceoffice.series import second_folder
@@ -509,7 +509,7 @@ class Clocks(Windows):
                                             (180, False, 1), (240, True, 1), (300, False, 2)]:
                 self.now, lets_in.return_value = float(seconds), is_open
                 found.look()
-                self.assertEqual(said, [office_window.NOBODY] * times, seconds)
+                self.assertEqual(said, [keeping.NOBODY] * times, seconds)
 
     def test_unforeseen(self) -> None:
         """What nobody foresaw is a sentence, also where others type, and the window goes on."""
@@ -606,6 +606,27 @@ class Seconds(Windows):
             for _ in range(3):
                 self.assertIn("doesn't answer", found.ask("look").fault)
         self.assertEqual(started.call_count, 1)
+
+
+class Keepings(Windows):
+    def test_without_a_terminal(self) -> None:
+        """An office is opened, kept and closed by whoever listens, without a question."""
+        folder, said = Folder(self.path()), list[str]()
+        folder.make_private()
+        self.addCleanup(self.stop, "cup")
+        kept = keeping.Keeping(folder, said.append, lambda: False)
+        self.assertFalse(kept.service.lock.is_taken())
+        with contextlib.closing(kept.backups.second):
+            kept.start()
+            kept.begin()
+            kept.note_opened()
+            with contextlib.closing(self.link()) as link:
+                self.assertEqual(link.ask("FINISH 1 GBR7"), "OK 8 1= 0.0")
+            self.assertTrue(kept.goes_on())
+            self.assertEqual(kept.close(), 0)
+        self.assertIn("Closed. journal.txt has 8 entries, and so has kept/", said[-2])
+        self.assertEqual((len(said), said[-1][:7]), (2, "TABLE 7"))
+        self.assertEqual(self.text("cup", self.newest_copy()), self.text("cup", "journal.txt"))
 
 
 class Openings(Windows):
