@@ -10,6 +10,7 @@ from __future__ import annotations
 
 import os
 import re
+import shutil
 import sys
 from collections.abc import Iterator
 
@@ -28,21 +29,24 @@ table { border-collapse: collapse; margin: 1rem 0; }
 th, td { border: 1px solid #bbb; padding: .25rem .5rem; text-align: left; vertical-align: top; }
 nav { border-bottom: 1px solid #bbb; padding-bottom: .5rem; }
 nav a { margin-right: 1rem; white-space: nowrap; }
+img { max-width: 100%; }
 @media print { nav { display: none; } pre, table { break-inside: avoid; } body { max-width: none; } }
 """
 HEADING = re.compile("(#{1,4}) (.+)")
 ITEM = re.compile(r"(- |\d+\. )(.+)")
 RULE = re.compile(r"\|(?:[ :]*-+[ :]*\|)+")
 COMMENT = re.compile("<!--.*-->")
-# What no page has outside of code: pictures, tags, signs by their names, backslashes; and what begins no
-# paragraph: quotations, odd indents, rows of dashes.
+PICTURE = r"!\[(?P<seen>[^\]]*)\]\((?P<picture>[a-z0-9-]+\.png)\)"
+# What no page has outside of code: other pictures, tags, signs by their names, backslashes; and what begins
+# no paragraph: quotations, odd indents, rows of dashes.
 UNKNOWN = re.compile(r"!\[|<[a-zA-Z/!]|&[a-z#0-9]+;|\\")
 ODD_START = re.compile(r">| {1,3}\S|[-=*_]{3,}$|[*+] ")
-CODE = re.compile("`[^`]*`")
-# The parts of a line: code, a link, bold, italic, and any other text.
-INLINE = re.compile(r"`(?P<code>[^`]+)`|\[(?P<text>(?:`[^`]*`|[^\[\]`])+)\]\((?P<target>[^)\s]+)\)"
+KNOWN = re.compile(f"`[^`]*`|{PICTURE}")
+# The parts of a line: code, a picture, a link, bold, italic, and any other text.
+INLINE = re.compile(rf"`(?P<code>[^`]+)`|{PICTURE}"
+                    r"|\[(?P<text>(?:`[^`]*`|[^\[\]`])+)\]\((?P<target>[^)\s]+)\)"
                     r"|\*\*(?P<bold>(?:`[^`]*`|[^*`])+)\*\*|\*(?P<italic>(?:`[^`]*`|[^*`])+)\*"
-                    r"|(?P<plain>[^`\[*]+|.)")
+                    r"|(?P<plain>[^`!\[*]+|.)")
 TAGS = {"bold": "strong", "italic": "em"}
 
 
@@ -61,13 +65,15 @@ def address(target: str) -> str:
 
 def inline(text: str) -> Markup:
     """A line with what is marked in it."""
-    if UNKNOWN.search(CODE.sub("", text)):
+    if UNKNOWN.search(KNOWN.sub("", text)):
         raise Fault(f"this line isn't read: {text}")
     parts: list[Part] = []
     for found in INLINE.finditer(text):
         kind, inner = str(found.lastgroup), found[str(found.lastgroup)]
         if kind == "code":
             parts.append(tag("code", inner))
+        elif kind == "picture":
+            parts.append(tag("img", src=inner, alt=found["seen"]))
         elif kind == "target":
             leads = address(inner)
             parts.append(tag("a", inline(found["text"]), href=leads) if leads else inline(found["text"]))
@@ -194,6 +200,8 @@ def main(docs: str, folder: str) -> None:
             made = page(name, file.read())
         with open(os.path.join(folder, address(f"{name}.md")), "w", encoding="utf-8") as file:
             file.write(made)
+        for picture in re.findall('<img src="([^"]*)"', made):
+            shutil.copy(os.path.join(docs, picture), folder)
 
 
 if __name__ == "__main__":

@@ -63,7 +63,11 @@ proof() {
     echo "kit     $kit"
     (cd "$tree/bin" && sha256sum regatta regatta-times)
     echo
-    echo "The last lines of the gate:"
+    echo "What the gate says of its parts:"
+    echo
+    grep -E '^rt: ok|^[0-9]+ passed, [0-9]+ failed$' "$log" | sed 's/^/    /'
+    echo
+    echo "Its last lines:"
     echo
     tail -n 20 "$log" | sed 's/^/    /'
 }

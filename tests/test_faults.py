@@ -112,7 +112,8 @@ class Guarded(helpers.Series):
         """The office's window goes on."""
         Folder(self.folder).make_private()
         office_window = OfficeWindow(Folder(self.folder))
-        with mock.patch.object(office_window, "beware") as said, mock.patch.object(office_window, "look", broken), \
+        with mock.patch.object(office_window, "beware") as said, \
+                mock.patch.object(office_window, "look", broken), \
                 mock.patch.object(office_window, "service") as service:
             service.is_over.return_value = False
             self.assertTrue(office_window.goes_on())

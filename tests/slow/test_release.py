@@ -161,7 +161,8 @@ class Releases(unittest.TestCase):
         """What is released says of which commit it is, and by what it was proved and tried."""
         prefix = self.archive()
         said = lines_of(os.path.join(prefix, "share", "doc", "regatta", "PROOF"))
-        for line in (f"commit  {self.clone.commit}", f"kit     {KIT}", f"    {self.clone.log[-1]}"):
+        for line in (f"commit  {self.clone.commit}", f"kit     {KIT}", f"    {self.clone.log[2]}",
+                     f"    {self.clone.log[-1]}"):
             self.assertIn(line, said)
         for path, name in zip(PROGRAMS, ("regatta", "regatta-times")):
             self.alike(self.clone.file(path), os.path.join(prefix, "bin", name))
