@@ -6,9 +6,9 @@
 An office with two or sixteen seats serves 200 boats and 15 races that count; the first 180 boats
 finish in each race, in one order. Each line is sent after these, and what a run without it takes is
 subtracted. `Office::desk`, which takes the lock, is counted, and the functions that are called under
-it: `Desk::confirm`, `Desk::note_source` and `Desk::reply`; or `Board::prepare` alone. Giving the lock
-back isn't counted, and neither is a function that the compiler has inlined: the script names it, and
-ends with status 1 if that is `Desk::reply` or `Board::prepare`.
+it: `Desk::confirm` and `Desk::reply`; or `Board::prepare` alone. Giving the lock back isn't counted,
+nor is `Desk::tell`, which `Desk::reply` calls too, nor a function that the compiler has inlined: the
+script names that, and ends with status 1 if it is `Desk::reply` or `Board::prepare`.
 """
 import argparse
 import os
@@ -23,7 +23,7 @@ from raceoffice.results.http_answers import first_link
 BOATS, FINISHERS, RACES = 200, 180, 15
 # None of these calls another: callgrind stops counting when it enters a second one.
 UNDER_THE_LOCK = ["regatta_desk::office::Office::desk::*", "regatta_desk::desk::Desk::confirm*",
-                  "regatta_desk::desk::Desk::note_source*", "regatta_desk::desk::Desk::reply*"]
+                  "regatta_desk::desk::Desk::reply*"]
 PREPARE = ["regatta_board::board::Board::prepare*"]
 # Without these, the count says nothing.
 NEEDED = ("regatta_desk::desk::Desk::reply*", *PREPARE)

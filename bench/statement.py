@@ -570,7 +570,7 @@ The prover checks that the code meets the contracts. Only reading shows that the
 
 FIRST_PART = """## The sentences
 
-What has to be believed about scores, and all of it. The sentences come first; after them each definition comes after those that it cites.
+What has to be believed about scores, and all of it, with the [words of the library](#words-of-the-library). The sentences come first; after them each definition comes after those that it cites.
 """
 
 SECOND_PART = """## How it is computed

@@ -40,10 +40,11 @@ part 'the stored runs of examples/' "$here/../examples/check.sh" "$program"
 part 'the links of the pages' "$here/../bench/links.py"
 part 'docs/STATEMENT.md as its script makes it' "$here/../bench/statement.py" --check
 part_with "$TIMES" 'corrected times beside exact fractions' "$here/times_exact.py" "$TIMES"
-MYPYPATH="$here/..:$here:$here/slow:$here/../bench" part_with mypy 'the types of raceoffice/ and tests/' \
+MYPYPATH="$here/..:$here:$here/slow:$here/../bench" part_with mypy 'the types of raceoffice/, packaging/ and tests/' \
     mypy --strict --python-version 3.10 --cache-dir "$room/types" --explicit-package-bases --follow-imports silent \
-    "$here/../raceoffice" "$here"/*.py "$here"/slow/*.py
-part_with pyflakes3 'the names of raceoffice/ and tests/' pyflakes3 "$here/../raceoffice" "$here"
+    "$here/../raceoffice" "$here/../packaging" "$here"/*.py "$here"/slow/*.py
+part_with pyflakes3 'the names of raceoffice/, packaging/ and tests/' \
+    pyflakes3 "$here/../raceoffice" "$here/../packaging" "$here"
 "$here/run.py" "$program" 2>&1 | tee "$room/printed"
 status=${PIPESTATUS[0]} wrong=1
 if [[ $(tail -n 1 "$room/printed") =~ ^([0-9]+)\ passed,\ ([0-9]+)\ failed$ ]]; then

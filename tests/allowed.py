@@ -15,9 +15,10 @@ HREF = (r"\?|#(?:c[0-9]+-)?(?:table|class|tie-[a-z]+)|\.\./index\.html"
         rf"|\.\./{ADDRESS}index\.html|(?:{ADDRESS})?(?:index|race-[0-9]+)\.html|(?:{ADDRESS})?results\.csv")
 IDS = (r"alarm|once|find|found|more|proof|coded|missing"
        r"|(?:c[0-9]+-)?(?:table|caption|class|tie-[a-z]+|[A-Z0-9-]{1,12})")
-CLASSES = (r"skip|alarm|once|classes|ways|open|bar|find|hidden|more|state|when|word (?:provisional|final|amended)"
-           r"|reason (?:changed|stale|provisional|final|amended)|facts|aside|standing(?: class-[0-9]+)?|results|race"
-           r"|series|scroll|paper|rank|sail|helm|who|net|total|r|r win|p|m[123]|notes|ties|key|course|axes"
+CLASSES = (r"skip|alarm|once|classes|ways|open|bar|find|hidden|more|state|when"
+           r"|word (?:provisional|final|amended)|reason (?:changed|stale|provisional|final|amended)"
+           r"|facts|aside|standing(?: class-[0-9]+)?|results|race|series|scroll|paper|rank|sail|helm|who|net"
+           r"|total|r|r win|p|m[123]|notes|ties|key|course|axes"
            r"|c[0-7]|to|hollow|list|sub|place|time|pts|below|timed|hard|kind|given")
 MARK = {"class": CLASSES}
 CELL = {**MARK, "scope": "row|col", "aria-label": "Race [0-9]+"}

@@ -1,7 +1,8 @@
 #!/usr/bin/env bash
 # The whole test: the gate, then the checks of the built program and its tools.
 #   tests/gate.sh
-# The last line is `N passed, M failed` of both, and the status is 1 if anything failed.
+# It begins with the commit, or says that there are changes, and with the kit that proves. The SHA-256 of both
+# programs comes before the last line, `N passed, M failed` of both. The status is 1 if anything failed.
 set -uo pipefail
 cd "$(dirname "$(realpath "$0")")/.." || exit
 printed=$(mktemp)
@@ -24,7 +25,11 @@ count() {
     failed=$((failed + wrong))
 }
 
+commit=$(git rev-parse HEAD 2> /dev/null || echo unknown)
+echo "commit $commit$([[ -z $(git status --porcelain 2>&1) ]] || echo ' with changes')"
+echo "kit $(rt version)"
 count rt ci
 count tests/all.sh crates/regatta/out/regatta
+sha256sum crates/regatta/out/regatta crates/times/out/times
 echo "$passed passed, $failed failed"
 ((failed == 0))

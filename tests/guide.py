@@ -33,7 +33,8 @@ GUIDE = os.path.join(helpers.TOP, "docs", "GUIDE.md")
 STEP = re.compile(r"^```([^\n]*)\n(.*?)^```$|^<!-- kill (\S+) -->$", re.MULTILINE | re.DOTALL)
 COMMAND = re.compile(r"\$ raceoffice ")
 # What varies from one play to the next, and what it is compared as.
-VARIES = [(re.compile(r"\b\d{4}-\d\d-\d\d-\d{6}Z?\b"), "DATE"), (re.compile(r"\b\d\d:\d\d(:\d\d)?\b"), "TIME"),
+VARIES = [(re.compile(r"\b\d{4}-\d\d-\d\d-\d{6}Z?\b"), "DATE"),
+          (re.compile(r"\b\d\d:\d\d(:\d\d)?\b"), "TIME"),
           (re.compile(r"http://[^/\s]+/(   \(or [^)]*\))?"), "ADDRESS")]
 # A question, or the prompt of those who type, and for how long nothing else comes then.
 ASKS, QUIET = re.compile(r"(> |[\]):?] )$"), 0.1
@@ -47,8 +48,8 @@ class Wrong(Exception):
 class Window:
     """A window of the guide, and the tool that runs in it."""
 
-    def __init__(self, folder: str, port: str) -> None:
-        self.folder, self.port = folder, port
+    def __init__(self, folder: str, port: str, command: list[str]) -> None:
+        self.folder, self.port, self.command = folder, port, command
         self.terminal: helpers.Terminal | None = None
 
     def start(self, command: str) -> None:
@@ -58,7 +59,7 @@ class Window:
             raise Wrong(f"the guide needs no other command than raceoffice: {command}")
         words = shlex.split(command[2:].replace(SHOWN_PORT, self.port))
         # No other program is found, so that what is printed is the same on each computer.
-        self.terminal = helpers.Terminal(*helpers.COMMAND, *words[1:], cwd=self.folder, PATH="/nowhere",
+        self.terminal = helpers.Terminal(*self.command, *words[1:], cwd=self.folder, PATH="/nowhere",
                                          PYTHONPATH=self.folder)
 
     @property
@@ -192,10 +193,10 @@ def plain(text: str) -> str:
 
 
 class Play:
-    """The whole guide, played in a folder."""
+    """The whole guide, played in a folder. `command` is what runs as `raceoffice`."""
 
-    def __init__(self, folder: str, fill: bool) -> None:
-        self.folder, self.fill = folder, fill
+    def __init__(self, folder: str, fill: bool = False, command: list[str] = helpers.COMMAND) -> None:
+        self.folder, self.fill, self.command = folder, fill, command
         self.windows: dict[str, Window] = {}
         self.holder = helpers.held_port()
         self.port = str(self.holder.getsockname()[1])
@@ -241,7 +242,7 @@ class Play:
                     file.write(body)
                 return body
             case ["window", name] | ["window", name, "stays"]:
-                window = self.windows.setdefault(name, Window(self.folder, self.port))
+                window = self.windows.setdefault(name, Window(self.folder, self.port, self.command))
                 return played(window, body, len(words) == 3, self.fill)
         raise Wrong("a box has to be a file or a window")
 

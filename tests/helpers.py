@@ -278,6 +278,10 @@ class Series(unittest.TestCase):
         window.read("> $")
         return window
 
+    def typist(self, role: str = "finish", *more: str) -> Terminal:
+        """The window of somebody who types for `cup`."""
+        return self.client("cup", "--role", role, *more)
+
     def play(self, window: Terminal, talk: str) -> None:
         """Each line of a talk that begins with > is typed; the others have to come, in order."""
         for step in talk.strip("\n").split("\n> "):

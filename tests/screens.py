@@ -110,7 +110,8 @@ def page_of(program: str, here: str) -> str:
     shutil.copytree(os.path.join(HERE, "week"), os.path.join(here, "dragon"))
     os.utime(os.path.join(here, "dragon", "journal.txt"), (TYPED, TYPED))
     os.symlink(program, os.path.join(here, "regatta"))
-    with subprocess.Popen([sys.executable, "-m", "raceoffice", "board", os.path.join(here, "dragon"), "--page",
+    with subprocess.Popen([sys.executable, "-m", "raceoffice", "board", os.path.join(here, "dragon"),
+                           "--page",
                            os.path.join(here, "out")], stdout=subprocess.PIPE, text=True, cwd=TOP) as window:
         # The pages are those of a board that is there, not those that are made once.
         assert window.stdout

@@ -57,8 +57,10 @@ class Declared(helpers.Series):
         self.send("ENTER USA4", "ENTER FRA77", *RACES)
         named = "Shown without a name: {}. Add the {} to entries.csv.\nThe results of cup are final.\n"
         for listed, wanted in [(helpers.ENTRIES, named.format("USA4 and FRA77", "boats")),
-                               (helpers.ENTRIES + ",USA 4,,Club\nTern,FRA 77,,\n", named.format("USA4", "boat")),
-                               (helpers.ENTRIES + ",USA 4,J. Doe,\nTern,FRA 77,,\n", named[named.index("The results"):]),
+                               (helpers.ENTRIES + ",USA 4,,Club\nTern,FRA 77,,\n",
+                                named.format("USA4", "boat")),
+                               (helpers.ENTRIES + ",USA 4,J. Doe,\nTern,FRA 77,,\n",
+                                named[named.index("The results"):]),
                                ("Sail\nGBR7\n", named[named.index("The results"):])]:
             self.write(listed, "cup", "entries.csv")
             self.assertEqual(helpers.run("final", "cup", cwd=self.here), (wanted, 0))
@@ -187,7 +189,8 @@ class Moments(unittest.TestCase):
         first = self.journal("ENTER B", "ENTER A", "FINISH 1 A", "SCORE 1", "FINISH 3 A")
         left = self.journal("ENTER A", "FINISH 1 A", "SCORE 1", "FINISH 2 A")
         for upto, journal, number, wanted in [
-                (2, first, 3, 0), (2, first, 4, 1), (3, first, 4, 2), (3, first, 5, None), (3, first, 6, None),
+                (2, first, 3, 0), (2, first, 4, 1), (3, first, 4, 2), (3, first, 5, None),
+                (3, first, 6, None),
                 (3, first, 0, None), (4, left, 3, 3), (4, left, 4, None), (5, left, 4, 4), (5, left, 3, 3),
                 (5, left, 2, 3)]:
             self.assertEqual(self.minute(time_of_entry(logged[:upto], journal, number)), wanted,
@@ -199,7 +202,8 @@ class Moments(unittest.TestCase):
     def test_entry_of_another_journal(self) -> None:
         """A number that another journal had, too, is known by its line."""
         logged = self.log(("redress 01 a 2", "OK 1 1 1.0"), ("SCORE 1", "OK 2"), ("restored", "1 entry"),
-                          ("FINISH 2 A", "OK 2 1 1.0"), ("TIME 1 A 0042", "OK 3 1= 1.0"), ("SCORE 1", "NO 13"))
+                          ("FINISH 2 A", "OK 2 1 1.0"), ("TIME 1 A 0042", "OK 3 1= 1.0"),
+                          ("SCORE 1", "NO 13"))
         for line, number, wanted in [("REDRESS 1 A 2.0", 1, 0), ("REDRESS 1 A 2.5", 1, None),
                                      ("SCORE 1", 2, 1), ("FINISH 2 A", 2, 3), ("FINISH 2 B", 2, None),
                                      ("TIME 1 A 42", 3, 4), ("SCORE 1", 13, None)]:

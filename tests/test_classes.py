@@ -201,8 +201,8 @@ OK 9   cup: DNF in race 1
  412?2  2nd on the water
 """)
         window.type("quit")
-        self.assertEqual(window.rest(), ("Kept without a sail of cup: 412?2 in race 1.\nKept without a sail of fleet: "
-                                         "412?2 in race 1.\n", 0))
+        self.assertEqual(window.rest(), ("Kept without a sail of cup: 412?2 in race 1.\nKept without a sail "
+                                         "of fleet: 412?2 in race 1.\n", 0))
 
     def test_orderly_closing(self) -> None:
         """A class whose office is closed is gone once, and isn't back while it is being closed."""

@@ -31,14 +31,17 @@ class Tree(unittest.TestCase):
             self.assertRegex(text, rf"usage: raceoffice {name}")
 
     def test_wrong(self) -> None:
-        for words in (list[str](), ["nothing"], ["check"], ["final", "--json"], ["board", "x", "--once", "--http"],
+        for words in (list[str](), ["nothing"], ["check"], ["final", "--json"],
+                      ["board", "x", "--once", "--http"],
                       ["decisions", "send", "x", "--json"], ["export", "x"]):
             said, status = helpers.run(*words)
-            self.assertEqual((status, "usage: raceoffice" in said, "Traceback" in said), (2, True, False), said)
+            self.assertEqual((status, "usage: raceoffice" in said, "Traceback" in said), (2, True, False),
+                             said)
 
     def test_version(self) -> None:
         said, status = helpers.run("--version")
-        self.assertRegex(said, rf"\Araceoffice {re.escape(version.VERSION)}(, commit [0-9a-f]{{7,}}(-dirty)?)?\n\Z")
+        self.assertRegex(said, rf"\Araceoffice {re.escape(version.VERSION)}(, commit "
+                               rf"[0-9a-f]{{7,}}(-dirty)?)?\n\Z")
         self.assertEqual(status, 0)
 
     def test_as_a_module(self) -> None:
@@ -46,7 +49,8 @@ class Tree(unittest.TestCase):
         done = subprocess.run([sys.executable, "-m", "raceoffice", "check", "no where"], text=True,
                               stdout=subprocess.PIPE)
         self.assertEqual((done.stdout, done.returncode), (
-            "no where has no series.ini: it isn't a series. python3 -m raceoffice new 'no where' makes one.\n", 1))
+            "no where has no series.ini: it isn't a series. python3 -m raceoffice new 'no where' makes "
+             "one.\n", 1))
 
 
 class ForPrograms(helpers.Series):
@@ -80,14 +84,16 @@ class ForPrograms(helpers.Series):
         self.assertEqual((len(found["stale"]), found["unexplained"]), (1, []))
 
     def test_export_and_verify(self) -> None:
-        said, status = helpers.run("export", "tide", "--json", "out.json", "--html", "out.html", cwd=self.here)
+        said, status = helpers.run("export", "tide", "--json", "out.json", "--html", "out.html",
+                                   cwd=self.here)
         self.assertEqual(status, 0, said)
         found, = json.loads(self.text("out.json"))
         self.assertEqual([(boat["rank"], boat["sail"], boat["net"]) for boat in found["boats"]],
                          [(1, "GBR101", "1.0"), (2, "GBR7", "2.0")])
         page, = self.printed("verify", "out.html", "--program", helpers.PROGRAM)
         self.assertEqual((page["page"], page["result"]), ("out.html", "verified"))
-        self.assertEqual([(one["boats"], one["races"], one["entries"]) for one in page["series"]], [(2, 1, 6)])
+        self.assertEqual([(one["boats"], one["races"], one["entries"]) for one in page["series"]],
+                         [(2, 1, 6)])
         self.write(self.text("out.html").replace("Kestrel", "Kestral"), "forged.html")
         self.write("x", "text.html")
         both = self.printed("verify", "text.html", "forged.html", "--program", helpers.PROGRAM, status=1)

@@ -16,7 +16,8 @@ from raceoffice.series.copies import newest
 from raceoffice.series.folder import Folder
 
 SEED, FLIPS = 63, 200
-LINES = ["FINISH 1 GBR101", "FINISH 1 GBR7", "TIE 1 NED12 GBR7", "MARK 1 FRA9 DNF", "SCORE 1", "PENALTY 1 IRL5 ZFP",
+LINES = ["FINISH 1 GBR101", "FINISH 1 GBR7", "TIE 1 NED12 GBR7", "MARK 1 FRA9 DNF", "SCORE 1",
+         "PENALTY 1 IRL5 ZFP",
          "FINISH 2 IRL55", "BEFORE 2 GBR7 IRL55", "ROLE JURY", "REDRESS 1 GBR33 2.5", "MARK 2 NED12 DSQ"]
 ASKED = "Open the office all the same? [y/N] "
 
@@ -93,11 +94,12 @@ class Continuity(helpers.Series):
         size = (r"journal\.txt isn't what the office had\. It has 17 entries, and "
                 r"kept/.*Z(-[0-9]+)?\.txt has 17\. ")
         self.assertRegex(difference(self.folder), size + r"One of these isn't in journal\.txt at its place, "
-                         r"entry 9:\n   2 2 SCORER FINISH 1 GBR7   in the copy\n   2 2 SCORER FINISH 2 GBR7   in "
-                         r"journal\.txt\nIf nobody meant that, ")
+                         r"entry 9:\n   2 2 SCORER FINISH 1 GBR7   in the copy\n   2 2 SCORER FINISH 2 GBR7  "
+                         r" in journal\.txt\nIf nobody meant that, ")
         self.put(b"".join(self.data.splitlines(keepends=True)[:10]))
         self.assertRegex(difference(self.folder), r"It has 9 entries, and kept/.*Z(-[0-9]+)?\.txt has 17\. "
-                         r"8 of these aren't in journal\.txt at their place, first entry 10:\n(.|\n)*nothing   in "
+                         r"8 of these aren't in journal\.txt at their place, first entry 10:\n(.|\n)*nothing "
+                         r"  in "
                          "journal")
         self.put(self.data.replace(b"REGATTA", b"regatta"))
         self.assertRegex(difference(self.folder), size + "Its first line is regatta 2, and that of the copy "
@@ -106,12 +108,14 @@ class Continuity(helpers.Series):
         self.assertIn("2 2 ?[2KRER FINISH 1 GBR7   in journal.txt\n", difference(self.folder))
         self.forget_copies()
         self.put(self.data[:-len(self.data.splitlines()[-1]) - 1])
-        self.assertEqual(difference(self.folder), "journal.txt isn't what the office had. It has 16 entries. When "
+        self.assertEqual(difference(self.folder),
+                         "journal.txt isn't what the office had. It has 16 entries. When "
                          "the office was closed, it had 17, and no copy in kept/ has the others.")
         self.put(self.data.lower())
-        self.assertEqual(difference(self.folder), "journal.txt isn't what the office had. It has 17 entries. When "
-                         "the office was closed, it had 17, and these aren't the same. No copy in kept/ shows "
-                         "which differs.")
+        self.assertEqual(difference(self.folder),
+                         "journal.txt isn't what the office had. It has 17 entries. When "
+                         "the office was closed, it had 17, and these aren't the same. No copy in kept/ "
+                         "shows which differs.")
 
     def test_opening_asks(self) -> None:
         """Without a yes nothing is opened; after it the journal is what the office has."""
@@ -121,7 +125,8 @@ class Continuity(helpers.Series):
             said, status = helpers.run("open", "cup", cwd=self.here)
             self.assertTrue("Nothing was opened." in said and status == 1, (name, said))
             self.assertFalse(os.path.exists(self.file("office", "race.sock")))
-        changed = self.data.replace(b"SCORER FINISH 1 GBR7\n", b"SCORER FINISH 3 GBR7\n").replace(b"TIE 1", b"TIE 3")
+        changed = self.data.replace(b"SCORER FINISH 1 GBR7\n",
+                                    b"SCORER FINISH 3 GBR7\n").replace(b"TIE 1", b"TIE 3")
         self.put(changed)
         window = self.window("open", "cup")
         said = window.read(r"\[y/N\] $")
@@ -153,7 +158,8 @@ class Continuity(helpers.Series):
         """Notes without a sum, and copies named by the time of this computer, are read as well."""
         shutil.rmtree(self.file("kept"))
         log = self.text("cup", "office.log")
-        self.write("".join(f"{line.rpartition(' ')[0]}\n" if "closed\t" in line or "opened\t" in line else f"{line}\n"
+        self.write("".join(f"{line.rpartition(' ')[0]}\n" if "closed\t" in line or "opened\t" in line
+                           else f"{line}\n"
                            for line in log.splitlines()), "cup", "office.log")
         self.assertFalse(self.is_seen(self.data.lower()))
         self.assertTrue(self.is_seen(self.data[:-20]))
@@ -191,8 +197,8 @@ class Continuity(helpers.Series):
         self.assertNotIn("more than", helpers.run("check", "cup", cwd=self.here)[0])
         self.put(self.data + b"2 12 SCORER FINISH 3 GBR7\n")
         said, status = helpers.run("check", "cup", cwd=self.here)
-        self.assertIn("journal.txt has 18 entries, 1 more than when the office was closed: it was kept without "
-                      "raceoffice, or somebody has added to it.\n", said)
+        self.assertIn("journal.txt has 18 entries, 1 more than when the office was closed: it was kept "
+                      "without raceoffice, or somebody has added to it.\n", said)
         self.assertEqual(status, 0)
 
 

@@ -10,7 +10,8 @@ import helpers
 from raceoffice.errors import Trouble
 from raceoffice.series import entry_list, headings, read_list
 
-GOOD = [b"Sail\nA\n", b"Boat,Sail\nX,gbr 7\n", b"\xef\xbb\xbfSail No\r\nA\r\nB\r\n", b"sailnumber\nA-1\n\n,\n",
+GOOD = [b"Sail\nA\n", b"Boat,Sail\nX,gbr 7\n", b"\xef\xbb\xbfSail No\r\nA\r\nB\r\n",
+        b"sailnumber\nA-1\n\n,\n",
         b'Sail,Helm\nA,"Two\nlines"\nB,x\n', b"Sail,Helm\nA,J\xfcrgen\n", b"\nSail\nA\n", b"Sail\rA\rB\r",
         b"Sail,Helm\nA," + b"x" * 1000 + b"\0\n", b"Sail,Helm\nA," + b"x" * 200_000 + b"\n",
         b"Sail\n" + b"".join(b"B%d\n" % at for at in range(500)), b"Sail;Helm\nA;x\n", b"Helm\tSail\nx\tA\n",
@@ -136,17 +137,20 @@ class Entries(unittest.TestCase):
             for key, some in table.items():
                 for name in some:
                     self.assertEqual(name, headings.plain_heading(name))
-                    self.assertEqual(headings.columns(["x", f" {name[0].upper()}. {name[1:]}."], table), {key: 1})
+                    self.assertEqual(headings.columns(["x", f" {name[0].upper()}. {name[1:]}."], table),
+                                     {key: 1})
 
     def test_columns_without_heading(self) -> None:
         """A column without a heading is named by its number, if anything is in it."""
-        self.assertEqual(entry_list.columns_left(b"Sail,,Helm,,\nA,x,y,,\nB,,y,,,z\n"), ["column 2", "column 6"])
+        self.assertEqual(entry_list.columns_left(b"Sail,,Helm,,\nA,x,y,,\nB,,y,,,z\n"),
+                         ["column 2", "column 6"])
 
     def test_ratings(self) -> None:
         """What is said of the ratings depends on whether the series goes by them."""
         plain, rated = b"Sail,Helm\nA,x\n", b"Sail,PY,Rating from 5\nA,1100,1101\n"
         self.assertEqual(entry_list.rating_note(plain, "list.csv", True),
-                         "No column of list.csv has the heading Rating, PY or TCF: raceoffice times needs one.")
+                         "No column of list.csv has the heading Rating, PY or TCF: raceoffice times needs "
+                         "one.")
         self.assertEqual(entry_list.rating_note(rated, "list.csv", False),
                          "Read in a series by corrected time alone: PY and Rating from 5.")
         self.assertEqual(entry_list.rating_note(plain, "list.csv", False), "")
@@ -162,7 +166,8 @@ class Entries(unittest.TestCase):
     def test_invisible_signs(self) -> None:
         """No name has a sign that moves a cursor or turns a line."""
         helm = "Wind\x1b[2K\x1b[1A\u202ehover\u200b\x07, \u00a0J\u00fcrgen \x85 S.\u2028"
-        self.assertEqual(listed(f'Sail,Helm\nA,"{helm}"\n'.encode())["A"].helm, "Wind[2K[1Ahover, J\u00fcrgen S.")
+        self.assertEqual(listed(f'Sail,Helm\nA,"{helm}"\n'.encode())["A"].helm,
+                         "Wind[2K[1Ahover, J\u00fcrgen S.")
 
     def test_commas(self) -> None:
         data = 'Other;Sail\n"a;b";GBR 7\nx,y;NED 1\n'.encode()
@@ -189,7 +194,8 @@ class Entries(unittest.TestCase):
         boats = listed(helpers.ENTRIES.encode())
         self.assertEqual(boats["GBR7"], entry_list.Boat("GBR 7", "J. Hale", "Sea Pink", "Sandhaven"))
         self.assertEqual(str(boats["GBR7"]), "GBR 7 Sea Pink")
-        self.assertEqual(listed(b"Sail,Boat\nfra 431,Orque\n")["FRA431"], entry_list.Boat("FRA 431", "", "Orque"))
+        self.assertEqual(listed(b"Sail,Boat\nfra 431,Orque\n")["FRA431"],
+                         entry_list.Boat("FRA 431", "", "Orque"))
 
     def test_near(self) -> None:
         boats = ["GBR101", "GBR7", "DEN61", "NED12"]

@@ -44,7 +44,8 @@ class Guarded(helpers.Series):
         """The trace is in the series' folder, once, and lets in this account alone."""
         Folder(self.folder).make_private()
         for _ in range(3):
-            self.assertEqual(self.fault(self.folder), f"raceoffice has a fault, IndexError; its trace is in {self.faults}. "
+            self.assertEqual(self.fault(self.folder),
+                             f"raceoffice has a fault, IndexError; its trace is in {self.faults}. "
                              "Send that to whoever gave you raceoffice")
         text = self.text("cup", "office", "faults.txt")
         self.assertEqual(text.count("IndexError: list index out of range"), 1)
@@ -95,7 +96,8 @@ class Guarded(helpers.Series):
             sources = [Source(os.path.join(self.here, name)) for name in ("cup", "other")]
             shown = board.Shown(sources, [Files(os.path.join(self.here, "out"), Site(sources))], None)
             self.assertTrue(shown.look(sources))
-            for place in ("raceoffice.results.source.entry_list.read", "raceoffice.results.publish.one_race", "raceoffice.results.publish.results_csv", "raceoffice.results.snapshot.View.ties"):
+            for place in ("raceoffice.results.source.entry_list.read", "raceoffice.results.publish.one_race",
+                          "raceoffice.results.publish.results_csv", "raceoffice.results.snapshot.View.ties"):
                 with mock.patch(place, side_effect=IndexError):
                     for source in sources:
                         source.due, source.view = 0.0, None
@@ -110,7 +112,8 @@ class Guarded(helpers.Series):
         """The office's window goes on."""
         Folder(self.folder).make_private()
         office_window = OfficeWindow(Folder(self.folder))
-        with mock.patch.object(office_window, "beware") as said, mock.patch.object(office_window, "look", broken), \
+        with mock.patch.object(office_window, "beware") as said, \
+                mock.patch.object(office_window, "look", broken), \
                 mock.patch.object(office_window, "service") as service:
             service.is_over.return_value = False
             self.assertTrue(office_window.goes_on())
@@ -122,11 +125,14 @@ class Guarded(helpers.Series):
         window = self.client("cup", "--role", "finish")
         window.say("race 1", "> $")
         typist = Window([Folder(self.folder)], "FINISH", "")
-        with mock.patch("raceoffice.typing_window.window.say") as said, mock.patch.object(typist, "do", broken):
+        with mock.patch("raceoffice.typing_window.window.say") as said, mock.patch.object(typist, "do",
+                                                                                          broken):
             self.assertEqual(typist.refused("finish 1 gbr 7"), "since this window has a fault")
-        self.assertRegex(str(said.mock_calls), "Beware: raceoffice has a fault, IndexError; .*is in the journal: finish 1 "
+        self.assertRegex(str(said.mock_calls),
+                         "Beware: raceoffice has a fault, IndexError; .*is in the journal: finish 1 "
                          "gbr 7")
-        with mock.patch("raceoffice.typing_window.window.say") as said, mock.patch.object(typist, "take_news", broken):
+        with mock.patch("raceoffice.typing_window.window.say") as said, mock.patch.object(typist, "take_news",
+                                                                                          broken):
             typist.take_news_safely()
         self.assertIn("Beware: raceoffice has a fault, IndexError", str(said.mock_calls))
 
@@ -163,7 +169,8 @@ class Ends(helpers.Series):
             for path in started:
                 os.remove(path)
             window = self.window(*words)
-            helpers.until("the program", lambda: glob.glob(os.path.join(self.here, "**", "started"), recursive=True))
+            helpers.until("the program", lambda: glob.glob(os.path.join(self.here, "**", "started"),
+                                                           recursive=True))
             window.press()
             said, status = window.rest()
             self.assertNotIn("Traceback", said)
@@ -181,7 +188,8 @@ class Ends(helpers.Series):
         self.open()
         self.write(";;;\n;;\n", "cup", "entries.csv")
         window = self.client("cup", "--role", "finish")
-        self.assertIn("GBR101", window.say("finish 1 gbr 101", r"OK 8 (.|\n)*> $") + window.say("race 1", "> $"))
+        self.assertIn("GBR101", window.say("finish 1 gbr 101", r"OK 8 (.|\n)*> $") + window.say("race 1",
+                                                                                                "> $"))
         for words in (["check", "cup"], ["export", "cup", "--text"],
                       ["board", "cup", "--page", "out", "--once"], ["decisions", "cup"]):
             said, _ = helpers.run(*words, cwd=self.here)
@@ -221,7 +229,8 @@ class Ends(helpers.Series):
         for name in ("index.html", "now.json"):
             self.make(name)
             said, status = helpers.run("board", name, "--page", "out", "--once", cwd=self.here)
-            self.assertEqual((said, status), (f"a page is called {name}, too: give that folder another name.\n", 1))
+            self.assertEqual((said, status), (f"a page is called {name}, too: give that folder another "
+                                              "name.\n", 1))
         self.assertFalse(os.path.exists(os.path.join(self.here, "out")))
 
 

@@ -50,7 +50,8 @@ class Replaced(helpers.Series):
             self.assertEqual(self.text("target"), data.decode())
         with mock.patch("os.geteuid", return_value=os.geteuid() + 1):
             files.replace_whole(self.path, b"3")
-        self.assertEqual((self.text("target"), self.text("file"), os.path.islink(self.path)), ("2", "3", False))
+        self.assertEqual((self.text("target"), self.text("file"), os.path.islink(self.path)),
+                         ("2", "3", False))
 
     def test_names_in_the_way(self) -> None:
         """Files that another account has put there are neither followed nor taken."""
@@ -150,7 +151,8 @@ class Added(helpers.Series):
             thread.join()
         self.assertEqual(len(self.folder.logged()), 80)
         holder = subprocess.Popen([sys.executable, "-c", "import fcntl, sys, time; f = open(sys.argv[1]); "
-                                   "fcntl.flock(f, fcntl.LOCK_EX); print(flush=True); time.sleep(600)", self.path],
+                                   "fcntl.flock(f, fcntl.LOCK_EX); print(flush=True); time.sleep(600)",
+                                   self.path],
                                   stdout=subprocess.PIPE)
         self.addCleanup(holder.communicate)
         self.addCleanup(holder.kill)
@@ -205,8 +207,8 @@ class Umask(helpers.Series):
                 os.makedirs(os.path.join(self.here, "stick"), exist_ok=True)
                 said, status = helpers.run("new", name, lines="\n".join(lines), cwd=self.here)
                 self.assertEqual(status, 0, said)
-                self.write(self.text(name, "series.ini").replace("program = ", f"program = {helpers.PROGRAM}\n#"),
-                           name, "series.ini")
+                text = self.text(name, "series.ini").replace("program = ", f"program = {helpers.PROGRAM}\n#")
+                self.write(text, name, "series.ini")
                 window = self.open(name)
                 typist = self.client(name, "--role", "scorer", "--name", "Ann")
                 typist.say("finish 1 101", "OK 8")
@@ -218,7 +220,8 @@ class Umask(helpers.Series):
                 window.rest()
             finally:
                 os.umask(before)
-            found = [os.path.join(place, each) for place, folders, names in os.walk(os.path.join(self.here, name))
+            found = [os.path.join(place, each)
+                     for place, folders, names in os.walk(os.path.join(self.here, name))
                      for each in [*folders, *names]]
             self.assertGreater(len(found), 7)
             self.assertEqual([path for path in found if mode(path) & 0o077], [])

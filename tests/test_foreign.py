@@ -32,7 +32,8 @@ class Foreign(helpers.Series):
         self.write("1 1 SCORER ENTER A\n", "foreign", "journal.txt")
         program, options = Program(folder), folder.settings.options()
         with mock.patch("raceoffice.program.replay.PATIENCE", 0.1):
-            calls: list[Callable[[], object]] = [program.start_faults, program.begin, lambda: program.standing(options),
+            calls: list[Callable[[], object]] = [program.start_faults, program.begin,
+                                                 lambda: program.standing(options),
                                                  lambda: program.table(options)]
             for asked in calls:
                 with self.assertRaises(Trouble) as raised:

@@ -128,7 +128,8 @@ class Forgeries(ForgedPages):
                               ("1969-03-01T10:00:00+00:00", "Sat 1 Mar 1969, 10:00 UTC")]:
             for kind in ("results", "alone", "list"):
                 whole = put(whole_of(self.made[kind]), ("stamps", 0, "changed"), changed)
-                made = Forger(helpers.PROGRAM, self.made[kind]).forged(put(whole, ("stamps", 0, "when"), when))
+                forger = Forger(helpers.PROGRAM, self.made[kind])
+                made = forger.forged(put(whole, ("stamps", 0, "when"), when))
                 self.assertIn("the time of change is", self.why(made))
 
     def test_confirmed(self) -> None:
@@ -154,7 +155,8 @@ class Forgeries(ForgedPages):
                 (("settings", "scp"), ["٣", "0", "100", "-1", "1.5", " 1"]),
                 (("settings", "absent"), ["a54", "", "A52"]), (("settings", "handicap"), ["", "Yes", "true"]),
                 (("settings", "state"), ["", "Final", "final now"]), (("settings", "title"), [""]),
-                (("settings", "zone"), ["Mars/Base", "../UTC", "/etc/passwd", "UTC\0", "Europe", "x" * 9000])]:
+                (("settings", "zone"),
+                 ["Mars/Base", "../UTC", "/etc/passwd", "UTC\0", "Europe", "x" * 9000])]:
             for value in values:
                 with self.subTest(path=path, value=value[:20]):
                     self.why(self.forged("results", ("series", 0, *path), value))
@@ -194,7 +196,8 @@ class Forgeries(ForgedPages):
         for path, value in [(("series", 0, "settings", "reason"), LINE),
                             (("series", 0, "settings", "state"), "final"),
                             (("series", 0, "settings", "exclude"), "none"),
-                            (("series", 0, "journal"), [*journal[:-1], journal[-1].replace("3 GBR7", "3 IRL5")]),
+                            (("series", 0, "journal"),
+                             [*journal[:-1], journal[-1].replace("3 GBR7", "3 IRL5")]),
                             (("series", 0, "journal"), journal[:-1]),
                             (("series", 0, "decisions"), [])]:
             with self.subTest(path=path):
@@ -229,7 +232,8 @@ class Forgeries(ForgedPages):
             class_, ("series", 0, "settings", "title"), ("series", 0, "program"),
             ("series", 0, "boats", 0, 2), ("series", 0, "name"), ("series", 0, "journal", 2),
             ("series", 0, "settings", "absent"), ("stamps", 0, "when"), ("regatta",))]
-        texts += [resealed(page, lambda whole: whole["series"][0].update(decisions=[ESC, "race 1 GBR7 PRP 3"])),
+        decisions = [ESC, "race 1 GBR7 PRP 3"]
+        texts += [resealed(page, lambda whole: whole["series"][0].update(decisions=decisions)),
                   page.replace("Windhover", ESC), page.replace('"tide"', f'"{ESC}"'),
                   page.replace(">A. Moss<", f">{ESC}<", 1)]
         for text in texts:
@@ -291,7 +295,8 @@ class Forgeries(ForgedPages):
         cases = [read_block.START * 20_000]
         for piece in SLOW:
             few, many = 60_000 // len(piece), 1_000_000 // len(piece)
-            cases += [page + piece * few, page + piece * many, read_block.START + piece * many + read_block.END,
+            cases += [page + piece * few, page + piece * many,
+                      read_block.START + piece * many + read_block.END,
                       page.replace("<main", f"{piece * few}<main"), page.replace("</td>", piece * few, 1)]
         for text in cases:
             begun = time.process_time()
@@ -304,7 +309,8 @@ class Forgeries(ForgedPages):
         """A block of more than the program reads, or of numbers without end, isn't scored."""
         page, whole = self.made["results"], whole_of(self.made["results"])
         series = whole["series"][0]
-        for name, value in [("journal", series["journal"] * 1000), ("decisions", ["race 1 GBR7 DPI 1"] * 3000),
+        for name, value in [("journal", series["journal"] * 1000),
+                            ("decisions", ["race 1 GBR7 DPI 1"] * 3000),
                             ("boats", [["A", "A", "", "", ""]] * 600)]:
             self.assertIn("is too long", self.why(resealed(
                 page, lambda whole: whole["series"][0].update({name: value}))))

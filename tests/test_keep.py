@@ -71,8 +71,8 @@ class Keeping(Kept):
                     self.assertEqual(self.text(), wanted)
 
     def test_long_journal(self) -> None:
-        """A start of 4,097 entries is kept in batches. A client who comes to this number is answered, shown it, and
-        goes on. No other check has a journal of this length."""
+        """A start of 4,097 entries is kept in batches. A client who comes to this number is answered, shown
+        it, and goes on. No other check has a journal of this length."""
         lines = entries(4097)
         whole = VERSION + "".join(f"{line}\n" for line in lines)
         self.write(self.journal, whole)

@@ -24,8 +24,10 @@ from raceoffice.typing_window.values import Said
 from test_unknown_finishers import dropped, kept
 
 # Signs and values that break readers.
-ODD = [b"\0", b"\n", b"\r", b"\xff", b'"', b"\\", b"{", b"}", b"[", b"]", b",", b"\xe2\x80\xa8", b"\x1b", b"1" * 5000]
-VALUES: list[object] = [None, True, -1, 10 ** 400, 1.5, "", "?", "\x1b[2K", "\ud800", [], [1], ["A" * 99], {}, "x" * 5000, [[]] * 9]
+ODD = [b"\0", b"\n", b"\r", b"\xff", b'"', b"\\", b"{", b"}", b"[", b"]", b",", b"\xe2\x80\xa8", b"\x1b",
+       b"1" * 5000]
+VALUES: list[object] = [None, True, -1, 10 ** 400, 1.5, "", "?", "\x1b[2K", "\ud800", [], [1], ["A" * 99], {},
+                        "x" * 5000, [[]] * 9]
 
 
 class Files(helpers.Series):
@@ -59,12 +61,13 @@ class Files(helpers.Series):
 
     def test_damaged(self) -> None:
         """Who asks before an office closes is told of a line that can't be read: a place may be in it."""
-        beware = ("Beware: line 1 of office/places can't be read, and is left out. A finisher without a sail may "
-                  "be missing.")
+        beware = ("Beware: line 1 of office/places can't be read, and is left out. A finisher without a sail "
+                  "may be missing.")
         self.put(b"x\n")
         self.assertEqual(kept_places.kept_in_words(self.folder), beware)
         self.keep()
-        self.assertEqual(kept_places.kept_in_words(self.folder), f"Kept without a sail: ?1 in race 1. {beware}")
+        self.assertEqual(kept_places.kept_in_words(self.folder),
+                         f"Kept without a sail: ?1 in race 1. {beware}")
 
     def test_form(self) -> None:
         """A line has all that is known of a place, and the file is this account's alone."""
@@ -105,7 +108,8 @@ class Files(helpers.Series):
         good = self.data().splitlines(keepends=True)
         for bad in [b"x\n", b"{}\n", b"[]\n", b"7\n", b"\xff\n", b"\0\n", b"[" * 200_000 + b"\n", b"null\n",
                     b'{"what": []}\n', b'{"what": "kept"}\n', b"1" * 5000 + b"\n",
-                    kept("?1", race=41).text(), kept("?1", race=0).text(), kept("?x").text(), kept("x").text(),
+                    kept("?1", race=41).text(), kept("?1", race=0).text(), kept("?x").text(),
+                    kept("x").text(),
                     kept("?1").text().replace(b'"?1"', b"1"), kept("?1").text().replace(b"[]", b'[1]'),
                     kept("?1").text().replace(b"[]", b'["a b"]'), kept("?1").text().replace(b": 0", b": -1"),
                     Note("resolved", 1, "?1", line="FINISH 2 A", entry=1).text(),
@@ -128,7 +132,8 @@ class Files(helpers.Series):
             self.put(b"".join(mixed))
             history = self.places.read(["FINISH 1 A"] * 5)
             marks = {unread.mark for unread in history.waiting.all if unread.race == 1}
-            others = {note.place for note in good[:at] + good[at + 1:] if note.place != "101?" and note is not good[at]}
+            others = {note.place for note in good[:at] + good[at + 1:] if note.place != "101?"
+                      and note is not good[at]}
             self.assertLessEqual(others, marks, mixed[at])
             for key in history.ended:
                 history.end(*key)
@@ -178,10 +183,12 @@ class Files(helpers.Series):
         """A place that isn't noted any more, since somebody has removed the file, isn't kept again."""
         self.keep()
         os.remove(self.path)
-        self.assertRaisesRegex(NotSent, r"\?1 of race 1 isn't noted any more", self.places.keep_again, 1, "?1")
+        self.assertRaisesRegex(NotSent, r"\?1 of race 1 isn't noted any more", self.places.keep_again, 1,
+                               "?1")
 
     def test_unreadable_just_then(self) -> None:
-        """Who was told that her place is kept doesn't keep it twice, though the file can't be read just then."""
+        """Who was told that her place is kept doesn't keep it twice, though the file can't be read just
+        then."""
         said: list[Said] = []
         session = Session(self.folder, "FINISH", "Ann", said.append, bool)
         with mock.patch.object(session.places, "data", side_effect=Trouble("it can't be read")):

@@ -30,8 +30,9 @@ LAYERS = [
 ]
 # What only `system` may import or ask for.
 LINUX_MODULES = {"fcntl", "termios", "tty", "pty", "pwd", "grp", "resource", "syslog"}
-LINUX_NAMES = {"memfd_create", "O_PATH", "O_NOFOLLOW", "O_NONBLOCK", "O_CLOEXEC", "geteuid", "getuid", "AF_UNIX",
-               "SO_PEERCRED", "sigtimedwait", "sigwaitinfo", "pthread_sigmask", "pthread_kill", "SIGUSR1", "SIGHUP"}
+LINUX_NAMES = {"memfd_create", "O_PATH", "O_NOFOLLOW", "O_NONBLOCK", "O_CLOEXEC", "geteuid", "getuid",
+               "AF_UNIX", "SO_PEERCRED", "sigtimedwait", "sigwaitinfo", "pthread_sigmask", "pthread_kill",
+               "SIGUSR1", "SIGHUP"}
 LIKE_PROC = re.compile(r"^/(proc|sys|dev)/")
 # A system that isn't Linux, as far as Python tells.
 ELSEWHERE = """
@@ -78,7 +79,8 @@ class Layers(unittest.TestCase):
 
     def ours(self, tree: ast.Module) -> set[str]:
         """The modules of the package that a module imports."""
-        names = {name.removeprefix("raceoffice.") for name in imported(tree) if name.startswith("raceoffice.")}
+        names = {name.removeprefix("raceoffice.") for name in imported(tree)
+                 if name.startswith("raceoffice.")}
         return {name for name in names if name in self.trees and not self.is_package(name)}
 
     def is_package(self, name: str) -> bool:

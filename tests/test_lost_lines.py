@@ -22,7 +22,8 @@ class Lost(helpers.Series):
         lines = [("ENTER A", "OK 1 1 0.0"), ("FINISH 1 A", "OK 2 1 0.0"), ("SCORE 1", "OK 3")]
         self.assertEqual(self.said(["ENTER A", "FINISH 1 A", "SCORE 1"], *lines), [])
         self.assertEqual(self.said(["ENTER A"], *lines), [
-            f"journal.txt has 1 entry. {HEAD}", "2  FINISH  FINISH 1 A   (Ann)", "3  FINISH  SCORE 1   (Ann)"])
+            f"journal.txt has 1 entry. {HEAD}", "2  FINISH  FINISH 1 A   (Ann)",
+            "3  FINISH  SCORE 1   (Ann)"])
         self.assertEqual(self.said(["ENTER A", "FINISH 2 A", "SCORE 1"], *lines), [
             f"journal.txt has 3 entries. {HEAD}", "2  FINISH  FINISH 1 A   (Ann)"])
         self.assertEqual(self.said(["ENTER A", "FINISH 2 A"], *lines, ("closed", "2 entries")), [])

@@ -73,15 +73,19 @@ class Builder(unittest.TestCase):
                 tag(name)
 
     def test_addresses(self) -> None:
-        """A link leads to a place in the page or to a page of the same site."""
+        """A link leads to a place in a page of the same site; a picture is one of that site."""
         for text in ("index.html", "race-12.html", "../index.html", "a%20b/results.csv", "?", "#c1-table",
-                     "../A%3Cb%3E/index.html", "#tie-aa"):
+                     "../A%3Cb%3E/index.html", "#tie-aa", "formats.html#the-program"):
             self.assertIn("href=", tag("a", "x", href=text).html)
+        self.assertEqual(tag("img", src="a-board.png", alt="<").html, '<img src="a-board.png" alt="&lt;">')
         for text in ("javascript:alert(1)", "//example.org/index.html", "https://example.org/", "/index.html",
                      "data:text/html,x", "\tjavascript:x", "index.html\"", "../../index.html", "a/b/c.html",
-                     "index.html\n", "java\nscript:x", "", " index.html", "#\"><b>", "a b/index.html"):
+                     "index.html\n", "java\nscript:x", "", " index.html", "#\"><b>", "a b/index.html",
+                     "index.html#\"", "index.html#a b", "a.csv#b", "https://example.org/a.png"):
             with self.assertRaises(ValueError, msg=text):
                 tag("a", "x", href=text)
+            with self.assertRaises(ValueError, msg=text):
+                tag("img", src=text)
 
     def test_raw(self) -> None:
         """A script or a style sheet can't hold what could end it, or hide its end."""
@@ -138,7 +142,8 @@ class Policy(ForgedPages):
         """The table of what is allowed finds what isn't."""
         for page in self.pages().values():
             self.assertEqual(odd_parts(page), [])
-            for old, new in [("<main", "<img src=x><main"), ("<main", "<main onclick=x"), ("</b>", "</b><b style=x>"),
+            for old, new in [("<main", "<img src=x><main"), ("<main", "<main onclick=x"),
+                             ("</b>", "</b><b style=x>"),
                              ("</main>", "</main><script></script>"), ('class="skip"', 'class="skip x"'),
                              ('href="?"', 'href="//x"'), ("</style>", "p { background: url(x) }</style>"),
                              ("<main", "<!--x--><main"), ("</body>", "</object></body>"),

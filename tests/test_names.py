@@ -47,15 +47,16 @@ class Names(helpers.Series):
         """The program takes no such path, and the package says so."""
         for command in ("check", "open"):
             said, status = self.run_tool(command, ODD)
-            self.assertIn(f"The program takes no path that isn't UTF-8, as {self.here}/cup?/journal.txt isn't: "
-                          "rename that folder.", said)
+            self.assertIn(f"The program takes no path that isn't UTF-8, as {self.here}/cup?/journal.txt "
+                          "isn't: rename that folder.", said)
             self.assertEqual(status, 1)
 
     def test_new(self) -> None:
         """A new series doesn't note a program at such a path."""
         values = {"title": "Autumn Cup", "program": "../regatta", "copy": ""}
         self.assertEqual(settings.values_of(settings_with(values).decode())["program"], "../regatta")
-        for key, value in (("program", f"../../{ODD}/regatta"), ("copy", f"/{ODD}"), ("copy", "/a\nseats = 3")):
+        for key, value in (("program", f"../../{ODD}/regatta"), ("copy", f"/{ODD}"),
+                           ("copy", "/a\nseats = 3")):
             with self.assertRaisesRegex(Trouble, f"series.ini can't hold {key} = "):
                 settings_with(values | {key: value})
 
@@ -64,7 +65,8 @@ class Names(helpers.Series):
         os.mkdir(os.path.join(self.here, "other"))
         os.rename(os.path.join(self.here, ODD), os.path.join(self.here, "other", "cup"))
         said, status = self.run_tool("export", "cup", "other/cup", "--html", "results.html")
-        self.assertEqual((said, status), ("two of the folders are called cup, and each needs a name of its own.\n", 1))
+        self.assertEqual((said, status), ("two of the folders are called cup, and each needs a name of its "
+                                          "own.\n", 1))
         self.assertFalse(os.path.exists(os.path.join(self.here, "results.html")))
 
 

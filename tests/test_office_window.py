@@ -100,7 +100,8 @@ class Stopped(Windows):
         os.close(master)
         self.assertEqual(window.process.wait(helpers.PATIENCE), 0)
         self.assertFalse(os.path.exists(f"/proc/{number}"))
-        self.assertEqual(sorted(set(os.listdir(self.path("office"))) & {"race.sock", "closing", "beware"}), [])
+        self.assertEqual(sorted(set(os.listdir(self.path("office"))) & {"race.sock", "closing", "beware"}),
+                         [])
         self.assertIn("\tclosed\t7 entries ", self.text("cup", "office.log"))
         self.assertEqual(self.open().process.poll(), None)
 
@@ -135,7 +136,8 @@ class Stopped(Windows):
         self.assertTrue(found.is_over())
 
     def test_replaced_without_window(self) -> None:
-        """A journal that was replaced while the office had no window is seen by the one that takes it over."""
+        """A journal that was replaced while the office had no window is seen by the one that takes it
+        over."""
         window = self.open()
         window.process.kill()
         window.process.wait()
@@ -196,8 +198,8 @@ class Questions(Windows):
         self.assertEqual(window.process.wait(helpers.PATIENCE), 0)
 
     def test_nobody_knows(self) -> None:
-        """Whatever lies where the places, the log and the journal should be, the office asks, and closes after a
-        yes."""
+        """Whatever lies where the places, the log and the journal should be, the office asks, and closes
+        after a yes."""
         window = self.open()
         self.write("x\n", "cup", "journal.txt")
         window.read("Beware: journal.txt isn't what the office keeps")
@@ -227,11 +229,13 @@ class Questions(Windows):
 
     def test_typed_before(self) -> None:
         """Two answers in one pipe are two answers."""
-        self.write(self.text("cup", "series.ini").replace("exclude = 2", "exclude = none"), "cup", "series.ini")
+        self.write(self.text("cup", "series.ini").replace("exclude = 2", "exclude = none"), "cup",
+                   "series.ini")
         window = self.open()
         window.press()
         window.rest()
-        self.write(self.text("cup", "series.ini").replace("exclude = none", "exclude = 2"), "cup", "series.ini")
+        self.write(self.text("cup", "series.ini").replace("exclude = none", "exclude = 2"), "cup",
+                   "series.ini")
         reader, writer = os.pipe()
         self.addCleanup(os.close, writer)
         os.write(writer, b"y\ny\n")
@@ -284,14 +288,16 @@ class Disks(Windows):
         window.rest()
         os.mkdir(os.path.join(self.here, "stick"))
         self.make("copied", copy="../stick")
-        wanted = r"The second copy, .*/stick/copied-journal\.txt, is on the same disk as journal\.txt\. Is the stick"
+        wanted = (r"The second copy, .*/stick/copied-journal\.txt, is on the same disk as journal\.txt\. "
+                  "Is the stick")
         self.assertRegex(helpers.run("check", "copied", cwd=self.here)[0], wanted)
         window = self.window("open", "copied")
         window.read(wanted + r" in\?\n(.|\n)*The office is open")
         self.addCleanup(self.stop, "copied")
         disk = os.path.join(self.here, "disk")
         os.mkdir(disk)
-        if subprocess.run(["mount", "-t", "tmpfs", "-o", "size=1m", "none", disk], capture_output=True).returncode:
+        if subprocess.run(["mount", "-t", "tmpfs", "-o", "size=1m", "none", disk],
+                          capture_output=True).returncode:
             self.skipTest("this account can't mount a second disk")
         self.addCleanup(subprocess.check_call, ["umount", "-l", disk])
         self.make("other", copy=disk)
@@ -301,7 +307,8 @@ class Disks(Windows):
         """Without room for dated copies an office is opened and closed, and says so."""
         disk = self.path("kept")
         os.mkdir(disk)
-        if subprocess.run(["mount", "-t", "tmpfs", "-o", "size=16k", "none", disk], capture_output=True).returncode:
+        if subprocess.run(["mount", "-t", "tmpfs", "-o", "size=16k", "none", disk],
+                          capture_output=True).returncode:
             self.skipTest("this account can't mount a small disk")
         self.addCleanup(subprocess.check_call, ["umount", "-l", disk])
         with open(os.path.join(disk, "filler"), "wb") as file:
@@ -322,7 +329,8 @@ class Disks(Windows):
         os.rename(self.path("kept"), self.path("kept-before"))
         self.write("", "cup", "kept")
         window.press()
-        window.read(r"The office stays until its journal is in kept/: kept/ can't be made: File exists\. Once more")
+        window.read(r"The office stays until its journal is in kept/: kept/ can't be made: File exists\. "
+                    r"Once more")
         os.remove(self.path("kept"))
         said, status = window.rest()
         self.assertIn("Closed. journal.txt has 7 entries, and isn't what the office kept.\n", said)
@@ -331,7 +339,8 @@ class Disks(Windows):
         self.assertIn(f"The journal of the office is in {name}", said)
         self.assertIn("\tclosed\t7 entries", self.text("cup", "office.log"))
         said, status = helpers.run("check", "cup", cwd=self.here)
-        self.assertIn(f"It has 7 entries, and {name} has 7. One of these isn't in journal.txt at its place", said)
+        self.assertIn(f"It has 7 entries, and {name} has 7. One of these isn't in journal.txt at its place",
+                      said)
         self.assertEqual(status, 1)
 
     def test_disk_gone(self) -> None:
@@ -345,7 +354,8 @@ class Disks(Windows):
         window.press()
         said, status = window.rest()
         found = said.split("The journal of the office is in ")[1].split(".txt")[0] + ".txt"
-        self.assertTrue(self.text("cup", found).endswith("1 7 SCORER ENTER IRL55\n2 1 SCORER FINISH 1 GBR101\n"))
+        self.assertTrue(self.text("cup", found).endswith("1 7 SCORER ENTER IRL55\n2 1 SCORER FINISH 1 "
+                                                         "GBR101\n"))
         self.assertEqual(status, 0)
         self.assertFalse(os.path.exists(f"/proc/{number}"))
 
@@ -432,8 +442,8 @@ class Starts(Windows):
         for cause in (ValueError("odd"), Trouble("odd"), KeyboardInterrupt()):
             found = OfficeWindow(folder)
             found.service.lock = Lock(folder)
-            with mock.patch("raceoffice.office.window.notes", side_effect=cause), mock.patch("raceoffice.office.window.say"), \
-                    self.assertRaises(type(cause)):
+            with mock.patch("raceoffice.office.window.notes", side_effect=cause), \
+                    mock.patch("raceoffice.office.window.say"), self.assertRaises(type(cause)):
                 found.open()
             os.close(found.service.lock.file)
             self.assertFalse(self.is_running("cup"))
@@ -446,7 +456,8 @@ class Starts(Windows):
         with open(self.path("journal.txt"), "rb") as file:
             fcntl.flock(file, fcntl.LOCK_SH)
             window = self.window("open", "cup")
-            helpers.until("a start that is refused", lambda: "keep taken" in self.text("cup", "office", "fault"))
+            helpers.until("a start that is refused",
+                          lambda: "keep taken" in self.text("cup", "office", "fault"))
             fcntl.flock(file, fcntl.LOCK_UN)
             window.read("The office is open")
         self.addCleanup(self.stop, "cup")
@@ -471,7 +482,8 @@ class Clocks(Windows):
         folder, said = Folder(self.path()), []
         folder.make_private()
         self.now = 0.0
-        with mock.patch("raceoffice.office.window.say_if_heard", lambda text, end="": said.append(text[9:])), \
+        with mock.patch("raceoffice.office.window.say_if_heard",
+                        lambda text, end="": said.append(text[9:])), \
                 helpers.served("--keep", folder.journal, folder=folder.file("office")), \
                 contextlib.closing(folder.link()) as link:
             link.ask("ENTER GBR7")
@@ -517,8 +529,8 @@ class Clocks(Windows):
             with mock.patch.object(found, "look", side_effect=KeyError("GBR7")):
                 self.assertTrue(found.goes_on())
             path = found.folder.file("office", "faults.txt")
-            wanted = (f"raceoffice has a fault, KeyError; its trace is in {path}. Send that to whoever gave you "
-                      "raceoffice.")
+            wanted = (f"raceoffice has a fault, KeyError; its trace is in {path}. Send that to whoever gave "
+                      "you raceoffice.")
             self.assertEqual((said, found.folder.beware()), ([f"Beware: {wanted}"], wanted))
             self.assertIn("Traceback", self.text("cup", "office", "faults.txt"))
             self.assertTrue(found.goes_on())
@@ -570,7 +582,8 @@ class Seconds(Windows):
         os.mkdir(os.path.join(self.here, "stick"))
         found = self.second()
         os.mkfifo(found.path)
-        with mock.patch("raceoffice.series.second_folder.PATIENCE", 0.2), mock.patch("raceoffice.series.second_folder.GIVE_UP", 0.4):
+        with mock.patch("raceoffice.series.second_folder.PATIENCE", 0.2), \
+                mock.patch("raceoffice.series.second_folder.GIVE_UP", 0.4):
             self.assertNotEqual(found.ask("save", "x\n").fault, "")
             process = found.process
             assert process
@@ -635,7 +648,8 @@ class Openings(Windows):
         folder = Folder(self.path())
         folder.make_private()
         program = ("import sys; from raceoffice.series import folder, health\n"
-                   "print([fault for _ in range(300) if (fault := health.disk_fault(folder.Folder(sys.argv[1])))])")
+                   "print([fault for _ in range(300) if (fault := "
+                   "health.disk_fault(folder.Folder(sys.argv[1])))])")
         both = [subprocess.Popen([sys.executable, "-c", program, self.path()], text=True,
                                  stdout=subprocess.PIPE, stderr=subprocess.STDOUT) for _ in range(2)]
         self.assertEqual([opening.communicate(timeout=helpers.PATIENCE)[0] for opening in both], ["[]\n"] * 2)

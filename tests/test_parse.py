@@ -27,21 +27,28 @@ class Spoken(unittest.TestCase):
     def test_race_of_at(self) -> None:
         """After `at 3` the race may be left out, and a code alone is as good as its line."""
         for typed, line in [
-                ("mark 33 ocs", "MARK 3 GBR33 OCS"), ("ocs 33", "MARK 3 GBR33 OCS"), ("33 ocs", "MARK 3 GBR33 OCS"),
-                ("gbr 33 ocs", "MARK 3 GBR33 OCS"), ("OCS gbr33", "MARK 3 GBR33 OCS"), ("dnf 12", "MARK 3 NED12 DNF"),
-                ("12 ret", "MARK 3 NED12 RET"), ("zfp 77", "PENALTY 3 GBR77 ZFP"), ("77 scp", "PENALTY 3 GBR77 SCP"),
-                ("penalty 77 zfp", "PENALTY 3 GBR77 ZFP"), ("strike 33", "STRIKE 3 GBR33"), ("clear 33", "CLEAR 3 GBR33"),
+                ("mark 33 ocs", "MARK 3 GBR33 OCS"), ("ocs 33", "MARK 3 GBR33 OCS"),
+                ("33 ocs", "MARK 3 GBR33 OCS"),
+                ("gbr 33 ocs", "MARK 3 GBR33 OCS"), ("OCS gbr33", "MARK 3 GBR33 OCS"),
+                ("dnf 12", "MARK 3 NED12 DNF"),
+                ("12 ret", "MARK 3 NED12 RET"), ("zfp 77", "PENALTY 3 GBR77 ZFP"),
+                ("77 scp", "PENALTY 3 GBR77 SCP"),
+                ("penalty 77 zfp", "PENALTY 3 GBR77 ZFP"), ("strike 33", "STRIKE 3 GBR33"),
+                ("clear 33", "CLEAR 3 GBR33"),
                 ("tie 77 820", "TIE 3 GBR77 DEN820"), ("before 33 9", "BEFORE 3 GBR33 FRA9"),
                 ("before gbr 33 fra 9", "BEFORE 3 GBR33 FRA9"), ("finish 12", "FINISH 3 NED12"),
                 ("finish gbr 7", "FINISH 3 GBR7"), ("redress 33 all", "REDRESS 3 GBR33 ALL"),
-                ("redress gbr 33 2.5", "REDRESS 3 GBR33 2.5"), ("33", "FINISH 3 GBR33"), ("irl 5", "FINISH 3 IRL5")]:
+                ("redress gbr 33 2.5", "REDRESS 3 GBR33 2.5"), ("33", "FINISH 3 GBR33"),
+                ("irl 5", "FINISH 3 IRL5")]:
             self.assertEqual(self.line(typed), line, typed)
 
     def test_race_that_is_typed(self) -> None:
         """With its race a line is what it was, at a race or not."""
         for typed, line in [
-                ("mark 2 33 ocs", "MARK 2 GBR33 OCS"), ("ocs 2 33", "MARK 2 GBR33 OCS"), ("2 33 ocs", "MARK 2 GBR33 OCS"),
-                ("strike 2 33", "STRIKE 2 GBR33"), ("tie 2 77 820", "TIE 2 GBR77 DEN820"), ("clear 2 gbr 33", "CLEAR 2 GBR33"),
+                ("mark 2 33 ocs", "MARK 2 GBR33 OCS"), ("ocs 2 33", "MARK 2 GBR33 OCS"),
+                ("2 33 ocs", "MARK 2 GBR33 OCS"),
+                ("strike 2 33", "STRIKE 2 GBR33"), ("tie 2 77 820", "TIE 2 GBR77 DEN820"),
+                ("clear 2 gbr 33", "CLEAR 2 GBR33"),
                 ("before 2 gbr 33 fra 9", "BEFORE 2 GBR33 FRA9"), ("finish 2 12", "FINISH 2 NED12"),
                 ("redress 2 7 3.5", "REDRESS 2 GBR7 3.5"), ("redress 2 7 prior", "REDRESS 2 GBR7 PRIOR")]:
             for at in (None, 2, 3):
@@ -60,23 +67,28 @@ class Spoken(unittest.TestCase):
             ("redress 7 12", {}, "7 may be a race or a boat.", "REDRESS 3 GBR7 12"),
             ("ocs 33 12", {}, "33 may be a race or a boat.", "MARK 33 NED12 OCS"),
             ("mark 33 12 ocs", {}, "33 may be a race or a boat.", "MARK 33 NED12 OCS"),
-            ("ret 5", {"boats": ["RET5", "IRL55"]}, "This may be MARK 3 RET5 RET or FINISH 3 RET5.", "MARK 3 RET5 RET"),
+            ("ret 5", {"boats": ["RET5", "IRL55"]}, "This may be MARK 3 RET5 RET or FINISH 3 RET5.",
+             "MARK 3 RET5 RET"),
             ("ret 5", {"boats": ["RET5", "IRL5"]}, "5 may be RET5 or IRL5.", "FINISH 3 RET5"),
             ("time 3 33", {"is_timed": True}, "3 may be a race or a boat.", "TIME 3 GBR33 33"),
-            ("mark 2 a dsq", {"boats": ["2A", "A"]}, "This may be MARK 2 A DSQ or MARK 3 2A DSQ.", "MARK 2 A DSQ")]
+            ("mark 2 a dsq", {"boats": ["2A", "A"]}, "This may be MARK 2 A DSQ or MARK 3 2A DSQ.",
+             "MARK 2 A DSQ")]
         for typed, more, question, line in cases:
             asked: list[str] = []
             self.assertEqual(self.line(typed, asked, **more), line, typed)
             self.assertEqual(asked, [f"{question} Is {line} meant?"])
-            self.assertRaisesRegex(NotSent, "type the race and all of her sail", self.line, typed, [], False, **more)
+            self.assertRaisesRegex(NotSent, "type the race and all of her sail", self.line, typed, [], False,
+                                   **more)
 
     def test_never_guessed(self) -> None:
         """All ways to type all lines of a few boats: what is sent unasked has only one meaning."""
         boats, races = ["GBR3", "NED12", "FRA9", "3A", "A"], ("3", "9", "12")
-        sails = {"GBR3": ["3", "gbr 3", "gbr3"], "NED12": ["12", "ned 12"], "FRA9": ["9"], "3A": ["3a", "3 a"],
+        sails = {"GBR3": ["3", "gbr 3", "gbr3"], "NED12": ["12", "ned 12"], "FRA9": ["9"],
+                 "3A": ["3a", "3 a"],
                  "A": ["a"]}
         meant: dict[str, set[str]] = {}
-        for command, last in (("MARK", "OCS"), ("PENALTY", "ZFP"), ("STRIKE", ""), ("TIE", ""), ("FINISH", "")):
+        for command, last in (("MARK", "OCS"), ("PENALTY", "ZFP"), ("STRIKE", ""), ("TIE", ""),
+                              ("FINISH", "")):
             for race, boat, other in itertools.product(races, boats, boats if command == "TIE" else [""]):
                 line = " ".join(filter(None, [command, race, boat, other, last]))
                 for text in itertools.product(sails[boat], sails.get(other, [""])):
@@ -112,10 +124,14 @@ class Spoken(unittest.TestCase):
                 ("820, 1200", 3, "820,1200 has a comma"), ("k/12", 3, "K/12 has a slash"),
                 ("820 77", 3, "820 77 are several numbers: type one boat in a line"),
                 ("ocs 820 77", 3, "820 77 are several numbers"),
-                ("mark 33 ocs", None, "MARK needs more words: MARK race sail code, after at 3 without the race"),
-                ("ocs 33", None, "MARK needs more words"), ("strike 33", None, "STRIKE race sail, after at 3"),
-                ("tie 7", 3, "two sails are needed"), ("mark", 3, "MARK needs more words"), ("33", None, "first say which race: at 3"),
-                ("hello", None, "HELLO is no line. help lists the lines"), ("mark 412 ocs", 3, "412 isn't entered"),
+                ("mark 33 ocs", None, "MARK needs more words: MARK race sail code, after at 3 without the "
+                                      "race"),
+                ("ocs 33", None, "MARK needs more words"),
+                ("strike 33", None, "STRIKE race sail, after at 3"),
+                ("tie 7", 3, "two sails are needed"), ("mark", 3, "MARK needs more words"),
+                ("33", None, "first say which race: at 3"),
+                ("hello", None, "HELLO is no line. help lists the lines"),
+                ("mark 412 ocs", 3, "412 isn't entered"),
                 ("mark 3 412 ocs", 3, "412 isn't entered"), ("finish gbr 7", None, "GBR is no race"),
                 ("mark 101 ocs", 3, "101 may be GBR101 or GER101: type more of her sail"),
                 ("finish 41 7", None, "41 is no race"), ("finish 0 7", None, "0 is no race")]:
@@ -134,8 +150,10 @@ class Spoken(unittest.TestCase):
 
     def test_crossed(self) -> None:
         """Who crossed the line is a sail with a number, and no line without its spaces."""
-        for typed, sail in [("101", "101"), ("gbr 412", "GBR412"), ("k-9", "K-9"), ("9x", "9X"), ("j70 12", "J7012"),
-                            ("hello", ""), ("at3", ""), ("race 3 4", ""), ("ocs33", ""), ("undo7", ""), ("820 77", ""),
+        for typed, sail in [("101", "101"), ("gbr 412", "GBR412"), ("k-9", "K-9"), ("9x", "9X"),
+                            ("j70 12", "J7012"),
+                            ("hello", ""), ("at3", ""), ("race 3 4", ""), ("ocs33", ""), ("undo7", ""),
+                            ("820 77", ""),
                             ("820,77", ""), ("33 ocs", ""), ("mark 33", ""), ("1" * 13, ""), ("score 3", "")]:
             self.assertEqual(reader().crossed(typed), sail, typed)
         self.assertEqual((reader(at=None).crossed("101"), reader(is_timed=True).crossed("101")), ("", ""))

@@ -23,24 +23,35 @@ from raceoffice.series.folder import Folder, entries_of
 from raceoffice.typing_window import batch
 
 # Pieces of which inputs are made: signs that part and end, other alphabets, odd bytes, long numbers.
-SIGNS = [b",", b";", b"\t", b"\n", b"\r", b"\r\n", b'"', b"'", b" ", b"=", b"[", b"]", b"#", b":", b"/", b"-", b"+", b"%",
-         b".", b"\0", b"\x0b", b"\x0c", b"\x1b[2K", b"\x1c", b"\x7f", b"\x85", b"\xa0", b"\xff", b"\xff\xfe", b"\xfe\xff",
-         b"\xef\xbb\xbf", "\u2028".encode(), "\u0085".encode(), "\u017f".encode(), "\u00df".encode(), "\u0130".encode(),
-         "\u0663".encode(), "\u202e".encode(), "\ud83d".encode("utf-8", "surrogatepass"), "\U0001f6a9".encode(),
+SIGNS = [b",", b";", b"\t", b"\n", b"\r", b"\r\n", b'"', b"'", b" ", b"=", b"[", b"]", b"#", b":", b"/", b"-",
+         b"+", b"%",
+         b".", b"\0", b"\x0b", b"\x0c", b"\x1b[2K", b"\x1c", b"\x7f", b"\x85", b"\xa0", b"\xff", b"\xff\xfe",
+         b"\xfe\xff",
+         b"\xef\xbb\xbf", "\u2028".encode(), "\u0085".encode(), "\u017f".encode(), "\u00df".encode(),
+         "\u0130".encode(),
+         "\u0663".encode(), "\u202e".encode(), "\ud83d".encode("utf-8", "surrogatepass"),
+         "\U0001f6a9".encode(),
          b"9" * 4400, b"0", b"1", b"12", b"-1", b"99999999999999999999", b"A" * 40, b"x"]
 WORDS = {
-    "list": ["Sail", "Helm", "Boat", "Club", "Rating", "PY from 5", "Rating from \u0663", "GBR 7", "gbr7", "K/12", "NED 12",
+    "list": ["Sail", "Helm", "Boat", "Club", "Rating", "PY from 5", "Rating from \u0663", "GBR 7", "gbr7",
+             "K/12", "NED 12",
              "1,103", "0.985", "Segel", "N\u00b0 de voile", "PK\x03\x04"],
-    "sheet": ["Sail", "Start", "Finish", "Elapsed", "Laps", "Distance", "Code", "GBR 7", "NED 12", "14:05:00", "14:05", "3600",
+    "sheet": ["Sail", "Start", "Finish", "Elapsed", "Laps", "Distance", "Code", "GBR 7", "NED 12", "14:05:00",
+              "14:05", "3600",
               "1:02:31", "DNF", "dsq", "TLE", "24:00:00", "1:99", "\u0661:02:03"],
     "settings": [f"{key} = " for keys in settings.KEYS.values() for key in keys]
-    + [f"[{section}]\n" for section in settings.KEYS] + ["Cup", "none", "yes", "a53", "2,4", "Europe/Lisbon", "../x"],
-    "decisions": ["race ", "3 ", "GBR7 ", *(f"{kind} " for kind in decision_lines.KINDS), "30%", "last+2", "1,2,4", "sailed", "2.5",
+    + [f"[{section}]\n" for section in settings.KEYS] + ["Cup", "none", "yes", "a53", "2,4", "Europe/Lisbon",
+                                                         "../x"],
+    "decisions": ["race ", "3 ", "GBR7 ", *(f"{kind} " for kind in decision_lines.KINDS), "30%", "last+2",
+                  "1,2,4", "sailed", "2.5",
                   "# note"],
-    "table": ["TABLE ", "2 ", "RACES", " 1 2", "1 ", "2= ", "GBR7 ", "4.0", "(4.0/DNF)", " 5.0/ZFP", "END", "JOURNAL 2"],
-    "journal": ["REGATTA 2", "1 1 SCORER ", "ENTER ", "FINISH ", "TIE ", "BEFORE ", "TIME ", "MARK ", "PENALTY ", "REDRESS ",
+    "table": ["TABLE ", "2 ", "RACES", " 1 2", "1 ", "2= ", "GBR7 ", "4.0", "(4.0/DNF)", " 5.0/ZFP", "END",
+              "JOURNAL 2"],
+    "journal": ["REGATTA 2", "1 1 SCORER ", "ENTER ", "FINISH ", "TIE ", "BEFORE ", "TIME ", "MARK ",
+                "PENALTY ", "REDRESS ",
                 "CLEAR ", "STRIKE ", "SCORE ", "UNSCORE ", "1 ", "GBR7 ", "NED12 ", "DNF", "3600"],
-    "log": ["2026-11-26T09:00:00+0000\t", "1\t", "Ann\t", "SCORER\t", "opened\t", "closed\t", "came\t", "OK 10", "7 entries"],
+    "log": ["2026-11-26T09:00:00+0000\t", "1\t", "Ann\t", "SCORER\t", "opened\t", "closed\t", "came\t",
+            "OK 10", "7 entries"],
 }
 
 
@@ -89,7 +100,9 @@ class Readers(unittest.TestCase):
                 with open(path, "wb") as file:
                     file.write(data)
                 wrong, boats = entry_list.problems(data, path), entry_list.read(path)
-                entry_list.left_in_words(data), entry_list.rating_note(data, path, True), entry_list.rating_note(data, path, False)
+                entry_list.left_in_words(data)
+                for is_rated in (True, False):
+                    entry_list.rating_note(data, path, is_rated)
                 assert bool(wrong) != bool(boats)
                 for sail, boat in boats.items():
                     assert re.fullmatch("[A-Z0-9-]{1,12}", sail) and entry_list.plain(boat.sail) == sail
@@ -194,7 +207,8 @@ class Readers(unittest.TestCase):
 
             self.each("journal", journal)
             self.each("log", log)
-            self.each("journal", lambda data: [line.isprintable() or self.fail(line) for line in batch.lines_of(data)])
+            self.each("journal", lambda data: [line.isprintable() or self.fail(line)
+                                               for line in batch.lines_of(data)])
             self.each("journal", lambda data: entries_of(data.decode("ascii", "replace")))
 
 

@@ -34,7 +34,8 @@ class Seats(helpers.Series):
 
         with helpers.served("--clients", "2", "--sessions", "4", folder=folder.file("office")) as (path, _), \
                 contextlib.closing(Link(path)) as first, contextlib.closing(Link(path)) as second, \
-                mock.patch("raceoffice.typing_window.window.wait", wait), mock.patch("raceoffice.typing_window.window.say", said.append):
+                mock.patch("raceoffice.typing_window.window.wait",
+                           wait), mock.patch("raceoffice.typing_window.window.say", said.append):
             for link in (first, second):
                 link.ask("RANK A")
             window = Window([folder], "FINISH", "")

@@ -67,8 +67,8 @@ class Copies(helpers.Series):
         self.assertEqual(window.rest()[1], 0)
 
     def test_of_another(self) -> None:
-        """Places that go on otherwise than these are left on the second disk, and it is said; those of another
-        series are no part of what is restored."""
+        """Places that go on otherwise than these are left on the second disk, and it is said; those of
+        another series are no part of what is restored."""
         self.write("{}\n", *COPY)
         window = self.open()
         window.process.kill()
@@ -78,12 +78,14 @@ class Copies(helpers.Series):
         Places(Folder(os.path.join(self.here, "cup"))).keep(Race(1), "", 7)
         window = self.window("open", "cup")
         self.addCleanup(self.stop, "cup")
-        window.read(r"No second copy: .*/stick/cup-places holds lines that the office doesn't have\. It is left as")
+        window.read(r"No second copy: .*/stick/cup-places holds lines that the office doesn't have\. It is "
+                    r"left as")
         self.lose(window)
         self.write("REGATTA 2\n1 1 SCORER ENTER OTHER\n", "stick", "cup-journal.txt")
         with self.subTest("another journal"):
             os.mkdir(os.path.join(self.here, "cup", "kept"))
-            self.write("REGATTA 2\n1 1 SCORER ENTER A\n1 2 SCORER ENTER B\n", "cup", "kept", "2026-05-01-100000Z.txt")
+            self.write("REGATTA 2\n1 1 SCORER ENTER A\n1 2 SCORER ENTER B\n", "cup", "kept",
+                       "2026-05-01-100000Z.txt")
             window = self.window("open", "cup")
             window.read(r"Use it\? \[y/N\] $")
             window.say("y", "The office is open")

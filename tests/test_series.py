@@ -232,8 +232,8 @@ class Opening(helpers.Series):
         said, status = helpers.run("check", "cup", cwd=self.here)
         self.assertIn("Beside journal.txt there is journal (conflicted copy).txt.", said)
         self.assertRegex(said, r"journal\.txt isn't what the office had\. It has 9 entries, and "
-                         r"kept/.*Z(-[0-9]+)?\.txt has 10\. One of these isn't in journal\.txt at its place, entry 10:\n"
-                         r"   2 3 SCORER SCORE 1   in the copy\n   nothing   in journal\.txt\n")
+                         r"kept/.*Z(-[0-9]+)?\.txt has 10\. One of these isn't in journal\.txt at its place, "
+                         r"entry 10:\n   2 3 SCORER SCORE 1   in the copy\n   nothing   in journal\.txt\n")
         self.assertEqual(status, 1)
         again = self.window("open", "cup")
         again.read(r"at its place, entry 10:(.|\n)*Open the office all the same\? \[y/N\] $")
@@ -418,8 +418,8 @@ class Faults(helpers.Series):
         with open(os.path.join(self.here, "cup", "entries.csv"), "wb") as file:
             file.write(listed.encode("utf-16-le"))
         said, status = helpers.run("check", "cup", cwd=self.here)
-        self.assertIn("Not read: Klasse.\nRead in a series by corrected time alone: PY.\ncup can be opened: Autumn "
-                      "Cup: 7 boats", said)
+        self.assertIn("Not read: Klasse.\nRead in a series by corrected time alone: PY.\ncup can be opened: "
+                      "Autumn Cup: 7 boats", said)
         self.assertEqual(status, 0)
         window = self.open()
         self.assertIn("1 2 SCORER ENTER GBR7\n", self.text("cup", "journal.txt"))

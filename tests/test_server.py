@@ -193,7 +193,8 @@ class Phones(helpers.Series):
         window.read("try one phone.*\n")
         helpers.until("an answer", lambda: self.asked("/quick/") == 200)
         with self.flood(100, b"GET /"):
-            self.write("1 1 SCORER ENTER A\n1 2 SCORER FINISH 1 A\n1 3 SCORER SCORE 1\n", "quick", "journal.txt")
+            self.write("1 1 SCORER ENTER A\n1 2 SCORER FINISH 1 A\n1 3 SCORER SCORE 1\n", "quick",
+                       "journal.txt")
             helpers.until("16 connections", lambda: self.answers("/quick/race-1.html"))
         window.press()
         self.assertNotIn("can't", window.rest()[0])

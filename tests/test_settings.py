@@ -44,7 +44,8 @@ class Settings(unittest.TestCase):
                            ("exclude", "2,3,4,5,6"), ("exclude", "41"), ("absent", "a5.3"),
                            ("scp", "0"), ("scp", "20%"), ("handicap", "1"), ("seats", "17"),
                            ("zone", "Europe/Lisboa"), ("zone", "../x"), ("state", "done"),
-                           ("every", "0"), ("port", "70000"), ("address", "localhost"), ("address", "10.0.0.256"),
+                           ("every", "0"), ("port", "70000"), ("address", "localhost"),
+                           ("address", "10.0.0.256"),
                            ("title", "")]:
             text = settings.text_of({"title": "Cup", key: value})
             wrong = settings.problems(text)
@@ -59,18 +60,21 @@ class Settings(unittest.TestCase):
             wrong = settings.problems(settings.text_of({"title": "Cup", key: "1" * 10_000}))
             self.assertEqual(len(wrong), 1)
             self.assertIn(f"{key} is '1111", wrong[0])
-        self.assertNotEqual(settings.problems(settings.text_of({"title": "Cup", "exclude": "\u0664,\u0668"})), [])
+        self.assertNotEqual(settings.problems(settings.text_of({"title": "Cup", "exclude": "\u0664,\u0668"})),
+                            [])
 
     def test_line_ends(self) -> None:
         """Lines end where every editor ends them; what else would end one is named, and sets nothing."""
         for sign, name in [("\x85", "U+0085"), ("\x0b", "U+000B"), ("\x0c", "U+000C"), ("\u2028", "U+2028"),
                            ("\u2029", "U+2029"), ("\x1e", "U+001E"), ("\0", "U+0000"), ("\x1b", "U+001B")]:
             text = f"[series]\ntitle = A{sign}[rules]{sign}exclude = none\n"
-            self.assertEqual(settings.problems(text), [f"series.ini, line 2: title has the invisible sign {name}.",
+            self.assertEqual(settings.problems(text),
+                             [f"series.ini, line 2: title has the invisible sign {name}.",
                                                        "series.ini: title is empty. It has to be a title."])
             hidden = f"[series]\n# a note{sign}title = B\ntitle = A\n"
             self.assertEqual(self.read(hidden).title, "A")
-            self.assertEqual(settings.with_value(hidden, "series", "title", "C"), hidden.replace("= A", "= C"))
+            self.assertEqual(settings.with_value(hidden, "series", "title", "C"),
+                             hidden.replace("= A", "= C"))
         self.assertEqual(self.read("[series]\rtitle = A\r[rules]\r\nexclude = none\n").exclude, "none")
         self.assertEqual(self.read("[series]\ntitle = A\u00a0B\tC\n").title, "A\u00a0B\tC")
 
@@ -87,7 +91,8 @@ class Settings(unittest.TestCase):
             os.mkdir(os.path.join(name, settings.NAME))
             self.assertRaisesRegex(Trouble, "Is a directory", settings.read, name)
         self.assertRaisesRegex(Trouble, "is longer than 1,048,576 bytes", self.read, "#" * (1 << 20) + "\n")
-        self.assertRaisesRegex(Trouble, "isn't UTF-8 text", self.read, "[series]\ntitle = \u00fc\n", "latin-1")
+        self.assertRaisesRegex(Trouble, "isn't UTF-8 text", self.read, "[series]\ntitle = \u00fc\n",
+                               "latin-1")
 
     def test_twice_and_no_section(self) -> None:
         self.assertEqual(settings.problems("[series]\ntitle = A\ntitle = B\nodd\n[rule]\n"), [
@@ -120,7 +125,8 @@ class Settings(unittest.TestCase):
     def test_no_value_of_two_lines(self) -> None:
         """A value that would be read as something else isn't written."""
         for value in ("done", "final\n[rules]\nexclude = none", "final\nport = 1"):
-            self.assertRaises(Trouble, settings.with_value, "[series]\ntitle = Cup\n", "notice", "state", value)
+            self.assertRaises(Trouble, settings.with_value, "[series]\ntitle = Cup\n", "notice", "state",
+                              value)
 
 
 if __name__ == "__main__":

@@ -37,9 +37,12 @@ class Spreadsheets(unittest.TestCase):
         self.assertEqual(as_number("7.50"), decimal.Decimal("7.50"))
 
     def test_harmless(self) -> None:
-        for text, wanted in [("A;=cmd|'/c calc'!A1;", "A;'=cmd|'/c calc'!A1;"), ("=1+1", "'=1+1"), ("+A", "'+A"),
-                             ("-1", "'-1"), ("@x", "'@x"), ("\t=1", "'\t'=1"), ("\rx", "'\rx"), ("a\t@b", "a\t'@b"),
-                             ("a\n-b", "a\n'-b"), ("a, =b", "a, '=b"), ('a;"=b"', "a;\"'=b\""), ("\uff1dx", "'\uff1dx"),
+        for text, wanted in [("A;=cmd|'/c calc'!A1;", "A;'=cmd|'/c calc'!A1;"), ("=1+1", "'=1+1"),
+                             ("+A", "'+A"),
+                             ("-1", "'-1"), ("@x", "'@x"), ("\t=1", "'\t'=1"), ("\rx", "'\rx"),
+                             ("a\t@b", "a\t'@b"),
+                             ("a\n-b", "a\n'-b"), ("a, =b", "a, '=b"), ('a;"=b"', "a;\"'=b\""),
+                             ("\uff1dx", "'\uff1dx"),
                              ("K-12", "K-12"), ("A+B; C=D", "A+B; C=D"), ("J. Hale", "J. Hale")]:
             self.assertEqual(harmless(text), wanted)
 

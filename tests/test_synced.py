@@ -84,8 +84,8 @@ class Synced(Kept):
         self.killed(office)
 
     def test_nobody_to_wait_for(self) -> None:
-        """A client alone waits for no others before a sync, and two don't wait for each other where nothing has to
-        be put on the disk."""
+        """A client alone waits for no others before a sync, and two don't wait for each other where nothing
+        has to be put on the disk."""
         office, link = self.opened(**self.noting, NOTED_YIELDS="1")
         other = self.client()
         for sail in "ABCDE":

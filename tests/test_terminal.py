@@ -28,7 +28,8 @@ class Prompt(unittest.TestCase):
 class Questions(helpers.Series):
     def meant(self, *given: str | None, yes: bool, terminal: bool = True) -> tuple[bool, int]:
         """What these answers mean at last, and how often it was asked."""
-        with mock.patch("raceoffice.terminal.typed", side_effect=given) as typed, mock.patch("raceoffice.terminal.say"), \
+        with mock.patch("raceoffice.terminal.typed",
+                        side_effect=given) as typed, mock.patch("raceoffice.terminal.say"), \
                 mock.patch("sys.stdin.isatty", return_value=terminal):
             return question("Go on?", yes), typed.call_count
 
@@ -59,7 +60,8 @@ class Questions(helpers.Series):
 class Shown(unittest.TestCase):
     def test_visible(self) -> None:
         """No sign moves the cursor or turns what is shown: it is shown by its number."""
-        for text, shown in [("Wind\x1b[2K\x1b[1A", r"Wind\x1b[2K\x1b[1A"), ("a\rb\x07\x7f", r"a\x0db\x07\x7f"),
+        for text, shown in [("Wind\x1b[2K\x1b[1A", r"Wind\x1b[2K\x1b[1A"),
+                            ("a\rb\x07\x7f", r"a\x0db\x07\x7f"),
                             ("\u202eGBR\u200b 7", r"\u202eGBR\u200b 7"), ("a\x85b\u2028c", r"a\x85b\u2028c"),
                             ("J\u00fcrgen\u00a0S.\n\tx", "J\u00fcrgen\u00a0S.\n\tx")]:
             self.assertEqual(visible(text), shown)

@@ -117,7 +117,8 @@ class Times(helpers.Series):
         self.sheet(1, "Sail;Start;Finish;Elapsed\nIRL 5;14:05;dnf;\nGBR 101;;15:07:31;\nFRA 9;;;OCS\n"
                       "NED 12;;RET;\nGBR 7;;;\nIRL 55;;DNF;\n")
         said = self.said("1")
-        for line in [r"GBR101 +3751 \* 1000 / 1103 +3400\.7252 +3401 .* new", "IRL5 +DNF +new", "FRA9 +OCS +new",
+        for line in [r"GBR101 +3751 \* 1000 / 1103 +3400\.7252 +3401 .* new", "IRL5 +DNF +new",
+                     "FRA9 +OCS +new",
                      "NED12 +RET +stands", "GBR7 +- +no time and no code in the sheet",
                      "IRL55 +DNF +the jury gave DSQ", "6 boats, 4 lines.",
                      "TIME 1 GBR101 3401\nMARK 1 IRL5 DNF\nMARK 1 FRA9 OCS\nSTRIKE 1 FRA9\n$"]:
@@ -170,7 +171,8 @@ class Times(helpers.Series):
                 ("Boat,Elapsed\nX,3600\n", "row 1: no column of sails"),
                 ("Sail,Time\nX,3600\n", "row 1: no column of times, as Elapsed, or Start and Finish"),
                 (";;\n", "race-1.csv is empty"),
-                ("Sail,Elapsed\nGBR 7,999999\nNED 12,1:99\n", "row 3, column Elapsed: '1:99' isn't an elapsed"),
+                ("Sail,Elapsed\nGBR 7,999999\nNED 12,1:99\n",
+                 "row 3, column Elapsed: '1:99' isn't an elapsed"),
                 ("Sail;Start;Ziel\nGBR 7;14:05;15:07\n",
                  "row 2, column Ziel: '15:07' isn't a time of the clock with its seconds, as 15:07:31"),
                 ("Sail,Start,Finish\nGBR 7,24:00:00,15:07:00\n", "row 2, column Start: '24:00:00' isn't"),
@@ -182,8 +184,10 @@ class Times(helpers.Series):
             self.sheet(1, sheet)
             self.assertIn(wanted, self.said("1", status=1))
         self.sheet(1, "Sail,Elapsed\nGBR 101,3600\n")
-        for listed, wanted in [(RATED.replace("985,", "9.85,"), "entries.csv, row 3: the rating isn't one of"),
-                               ("Sail,TCF\nGBR 101,1\n", "entries.csv, row 1: no column of ratings. It is headed "
+        for listed, wanted in [(RATED.replace("985,", "9.85,"),
+                                "entries.csv, row 3: the rating isn't one of"),
+                               ("Sail,TCF\nGBR 101,1\n",
+                                "entries.csv, row 1: no column of ratings. It is headed "
                                                          "Rating or PY"),
                                (";\n", "entries.csv is empty")]:
             self.write(listed, "club", "entries.csv")
@@ -195,7 +199,8 @@ class Times(helpers.Series):
                              ("[times]\nsystem = py\nrounding = near\n", "rounding has to be"),
                              ("[times]\nsystem = py\novernight = yes\n", "overnight has to be"),
                              (f"[times]\nsystem = py\novernight = {'1' * 5000}\n", "overnight has to be"),
-                             ("[times]\nsystem = py\nlaps = 3\n", "times/rules.ini, line 3: [times] has no key 'laps'"),
+                             ("[times]\nsystem = py\nlaps = 3\n",
+                              "times/rules.ini, line 3: [times] has no key 'laps'"),
                              ("[times]\nsystem : py\n", "times/rules.ini, line 2: 'system : py' has no =."),
                              ("[times]\nsystem = py\nsystem = tcf\n", "line 3: system is in line 2 already."),
                              ("[DEFAULT]\nsystem = py\n", "line 1: no section is called [DEFAULT]."),

@@ -1,30 +1,23 @@
-"""The windows of those who type, in terminals: what they ask, say, and do when an office goes."""
+"""The windows of those who type, in terminals: what they ask and say."""
 from __future__ import annotations
 
 import contextlib
 import os
-import signal
-import socket
-import threading
 import unittest
 from unittest import mock
 
 import helpers
-from raceoffice.errors import NotSent, Trouble
+from raceoffice.errors import NotSent
 from raceoffice.series.folder import Folder
 from raceoffice.series.kept_places import Note
 from raceoffice.typing_window.session import Session
 from raceoffice.typing_window.values import ANSWER, Outcome, Said
-from raceoffice.typing_window.watcher import News, Watcher
 
 
 class Client(helpers.Series):
     def setUp(self) -> None:
         super().setUp()
         self.said: list[Said] = []
-
-    def typist(self, role: str = "finish", *more: str) -> helpers.Terminal:
-        return self.client("cup", "--role", role, *more)
 
     def test_a_race(self) -> None:
         self.open()
@@ -150,7 +143,8 @@ To take race 2 away no lines are sent:
    Not sent.
 """)
         said = finish.say("race 1", "2> $")
-        self.assertRegex(said, r"^   \?2 of race 1 is dropped by scorer at \d\d:\d\d: race 1 was taken away\.\n"
+        self.assertRegex(said, r"^   \?2 of race 1 is dropped by scorer at \d\d:\d\d: race 1 was taken "
+                               r"away\.\n"
                          "Race 1 doesn't count yet: 0 finished")
         finish.say("?", r"   \?2 keeps her place.*\n2> $")
         self.assertIn("OK 12   1st in race 2", scorer.say("?1 33", "> $"))
@@ -319,7 +313,8 @@ Race 3 doesn't count yet
     def test_number_that_is_not_clear(self) -> None:
         """Who crossed the line keeps her place also if her number is that of two boats, or of none. A sail
         that is like it is asked."""
-        self.make("two", entries="Sail,Boat\nGBR 101,Kestrel\nGER 101,Adler\nNED 12,Windhover\nGBR 33,Plover\n")
+        self.make("two", entries="Sail,Boat\nGBR 101,Kestrel\nGER 101,Adler\nNED 12,Windhover\nGBR "
+                                 "33,Plover\n")
         self.open("two")
         window = self.client("two", "--role", "finish")
         self.play(window, """
@@ -374,14 +369,17 @@ NO 8   Refused: she is in the finishing order of this race already
 
     def test_signs_of_a_terminal(self) -> None:
         """Of a name and of who types the terminal obeys no sign, whoever wrote it into a file."""
-        self.make("odd", entries="Sail,Boat\nGBR 7,Wind\x1b[2K\x1b[1Ahover\nGBR 12,\u202eevil\u200b\nGBR 112,\x9bA\n")
+        self.make("odd", entries="Sail,Boat\nGBR 7,Wind\x1b[2K\x1b[1Ahover\nGBR 12,\u202eevil\u200b\nGBR "
+                                 "112,\x9bA\n")
         self.open("odd")
         with open(os.path.join(self.here, "odd", "office", "places"), "wb") as file:
             file.write(Note("kept", 1, "?1", "Eve\x1b[2K", time="\u202e" * 20).text())
         window = self.window("type", "odd", "--role", "scorer", "--name", "Eve\x1b[2K")
         said = window.read("> $")
-        for line, end in [("at 1", "> $"), ("gbr 7", "OK 4 .*\n1> $"), ("12", "OK 5 .*\n1> $"), ("race 1", "1> $"),
-                          ("score 1", r"\] $"), ("y", r"\] $"), ("y", "1> $"), ("standing", "1> $"), ("rank 7", "1> $"),
+        for line, end in [("at 1", "> $"), ("gbr 7", "OK 4 .*\n1> $"), ("12", "OK 5 .*\n1> $"),
+                          ("race 1", "1> $"),
+                          ("score 1", r"\] $"), ("y", r"\] $"), ("y", "1> $"), ("standing", "1> $"),
+                          ("rank 7", "1> $"),
                           ("2", "1> $"), ("strike 1 7", r"\] $"), ("y", "1> $")]:
             said += window.say(line, end)
         for text in ("Wind[2K[1Ahover", "GBR 12 evil", "kept by Eve\\x1b[2K at \\u202e"):
@@ -397,10 +395,12 @@ NO 8   Refused: she is in the finishing order of this race already
         """A number of more digits than Python reads is no number of a race, at the prompt and in a file."""
         long = "1" * 4301
         self.open()
-        session = Session(Folder(os.path.join(self.here, "cup")), "SCORER", "", self.said.append, lambda _: True)
+        session = Session(Folder(os.path.join(self.here, "cup")), "SCORER", "", self.said.append,
+                          lambda _: True)
         session.connect()
         self.addCleanup(session.disconnect)
-        for line in (f"at {long}", f"race {long}", f"abandon {long}", f"finish {long} 7", f"mark 1 {long} ocs", long,
+        for line in (f"at {long}", f"race {long}", f"abandon {long}", f"finish {long} 7",
+                     f"mark 1 {long} ocs", long,
                      f"ocs {long} 7", f"time {long} 7 9", f"?{long} 7", f"{long}?", f"tie {long} 7 12"):
             for session.at in (None, 1):
                 with self.assertRaises(NotSent) as caught:
@@ -445,7 +445,8 @@ Race 1 is taken away: 3 lines, all taken.
     def test_struck_at_once(self) -> None:
         """A boat that another window strikes before this one has looked is out of the order again."""
         self.open()
-        session = Session(Folder(os.path.join(self.here, "cup")), "FINISH", "", self.said.append, lambda _: True)
+        session = Session(Folder(os.path.join(self.here, "cup")), "FINISH", "", self.said.append,
+                          lambda _: True)
         session.connect()
         self.addCleanup(session.disconnect)
         assert session.link
@@ -630,49 +631,6 @@ OK 9   1st in race 1
             self.assertNotIn("usage", said)
             self.assertEqual(status, 1)
 
-    def test_no_answer(self) -> None:
-        """A line without an answer is looked for after the crash, and listed by the office."""
-        office = self.open()
-        window = self.typist("scorer")
-        window.say("enter den 16", r"\[y/N\] $")
-        number = int(self.text("cup", "office", "pid").split()[0])
-        helpers.freeze(number)
-        window.type("y")
-        window.read("No answer came to: ENTER DEN16\nIt may be in the journal, or not.\nBeware: the "
-                    "office hasn't answered for 10 seconds. Waiting")
-        os.kill(number, signal.SIGKILL)
-        office.rest()
-        again = self.window("open", "cup")
-        said = again.read("The office is open")
-        self.addCleanup(self.stop, "cup")
-        self.assertIn("These lines had no answer. Look whether they are in the journal before you type "
-                      "them again:\n          SCORER  ENTER DEN16\n", said)
-        window.read("ENTER DEN16 is not in the journal.\n> $")
-
-    def test_not_sent(self) -> None:
-        """A line that the office didn't get, since it had stopped, comes back."""
-        self.open()
-        window = self.typist()
-        number = int(self.text("cup", "office", "pid").split()[0])
-        helpers.freeze(number)
-        window.type("finish 1 7")
-        window.read("Not sent: finish 1 7\nBeware: the office hasn't answered for 10 seconds. Waiting")
-        os.kill(number, signal.SIGCONT)
-        window.read("The office is back with 7 entries.\n> $")
-        window.say("finish 1 7", "OK 8 ")
-
-    def test_half_a_line(self) -> None:
-        """What has been typed of a line when the office goes is there again afterwards."""
-        office = self.open()
-        window = self.typist()
-        os.write(window.master, b"finish 1 10")
-        os.kill(int(self.text("cup", "office", "pid").split()[0]), signal.SIGKILL)
-        window.read("Beware: ")
-        office.rest()
-        self.open()
-        window.read("is back with 7 entries.\n> ")
-        window.say("1", "101 is GBR 101 Kestrel\nOK 8 ")
-
     def test_history(self) -> None:
         """Arrow up brings the last line, and no answer to a question."""
         self.open()
@@ -680,76 +638,6 @@ OK 9   1st in race 1
         window.say("enter den 16", r"\[y/N\] $")
         window.say("n", "Not sent.\n> $")
         window.say("\x1b[A", r"Enter DEN16\? .*\[y/N\] $")
-
-    def test_full(self) -> None:
-        """If all seats are taken, the window says by whom."""
-        self.make("small", seats="2")
-        self.open("small")
-        first = self.client("small", "--role", "finish", "--name", "Ann")
-        second = self.window("type", "small", "--role", "jury")
-        second.read(r"Waiting: all seats of the office are taken: Ann since \d\d:\d\d\. Ctrl-C ends")
-        first.type("quit")
-        second.read("you type as the jury")
-
-    def test_crash(self) -> None:
-        """A kill of the office is said at the prompt; afterwards what is lost is listed."""
-        office = self.open()
-        window = self.typist()
-        window.say("finish 1 101", "OK 8 .*\n> $")
-        self.assertEqual(self.held(), 8)
-        os.kill(int(self.text("cup", "office", "pid").split()[0]), signal.SIGKILL)
-        window.read(r"Beware: the office has gone\. Waiting for the office; Ctrl-C ends this window\.")
-        window.type("finish 1 7")
-        office.rest()
-        again = self.open()
-        said = window.read("> $")
-        self.assertIn("Not sent, since the office was away: finish 1 7", said)
-        self.assertIn("The office is back with 8 entries.\nYour last line, OK 8 FINISH 1 GBR101, is "
-                      "among them.", said)
-        window.say("finish 1 12", "OK 9 .*\n> $")
-        self.assertEqual(self.held(), 9)
-        again.process.kill()
-        again.process.wait()
-        os.kill(int(self.text("cup", "office", "pid").split()[0]), signal.SIGKILL)
-        window.read("Beware: the office has gone")
-        # Somebody puts an older journal in its place, with eight entries.
-        kept = self.text("cup", "journal.txt").splitlines(keepends=True)
-        self.write("".join(kept[:9]), "cup", "journal.txt")
-        third = self.open()
-        said = window.read("> $")
-        self.assertIn("The office is back with 8 entries.\nThese lines of yours are lost.", said)
-        self.assertIn("       9  FINISH 1 NED12\n", said)
-        window.say("finish 1 12", "OK 9 .*\n> $")
-        third.press()
-        third.read("1 window is still open: finish since .*. Close the office\\? \\[y/N\\] $")
-        third.type("y")
-        self.assertIn("Closed. journal.txt has 9 entries", third.rest()[0])
-        said, status = window.rest()
-        self.assertIn("The office is being closed: this window ends.", said)
-        self.assertEqual(status, 0)
-
-    def test_no_seat(self) -> None:
-        """A window waits for a seat, and gets the one that somebody leaves."""
-        self.make("two", seats="2")
-        self.open("two")
-        first = self.client("two", "--role", "finish")
-        second = self.window("type", "two", "--role", "jury")
-        second.read("Waiting: all seats of the office are taken: finish since .*Ctrl-C ends this window.")
-        first.type("quit")
-        self.assertEqual(first.rest()[1], 0)
-        second.read("you type as the jury(.|\\n)*> $")
-
-    def test_office_that_is_going(self) -> None:
-        """An office that lets somebody in and never answers is no office."""
-        place = os.path.join(self.here, "cup", "office")
-        os.mkdir(place)
-        with socket.socket(socket.AF_UNIX, socket.SOCK_STREAM) as door:
-            door.bind(os.path.join(place, "race.sock"))
-            door.listen()
-            threading.Thread(target=lambda: door.accept()[0].close(), daemon=True).start()
-            session = Session(Folder(os.path.join(self.here, "cup")), "FINISH", "", print, bool)
-            self.assertRaises(Trouble, session.connect)
-            self.assertIsNone(session.link)
 
     def test_block(self) -> None:
         """Several lines that are pasted at once; a list of sails is shown and agreed to first."""
@@ -766,20 +654,6 @@ OK 9   1st in race 1
         window.say("y", "OK 11   4th in race 1; .*\n1> $")
         window.say("9\x16\n9x", "   9X isn't entered.*\n   Not sent.\n1> $")
 
-    def test_block_and_crash(self) -> None:
-        """When the office goes in the middle of a block, the rest isn't sent."""
-        office = self.open()
-        window = self.typist("scorer")
-        window.say("finish 1 101\x16\nenter den 16\x16\nfinish 1 7", r"OK 8 (.|\n)*\[y/N\] $")
-        os.kill(int(self.text("cup", "office", "pid").split()[0]), signal.SIGKILL)
-        window.type("y")
-        window.read("No answer came to: ENTER DEN16\n(.|\n)*Waiting for the office")
-        office.rest()
-        self.open()
-        said = window.read("> $")
-        self.assertIn("Not sent, since the office was away: finish 1 7\n", said)
-        self.assertNotIn("FINISH 1 GBR7", self.text("cup", "office.log"))
-
     def test_typed_ahead(self) -> None:
         """A line that was typed before a question came is no answer to it."""
         self.open()
@@ -787,17 +661,6 @@ OK 9   1st in race 1
         os.write(window.master, b"enter den 16\nyes\n")
         window.read(r"Not sent, since a question came before it: yes\n(.|\n)*\[y/N\] $")
         window.say("n", "Not sent.\n> $")
-
-    def test_waiting_ended(self) -> None:
-        """Ctrl-C ends a window that waits for its office."""
-        office = self.open()
-        window = self.typist()
-        os.kill(int(self.text("cup", "office", "pid").split()[0]), signal.SIGKILL)
-        window.read("Waiting for the office; Ctrl-C ends this window.")
-        office.rest()
-        window.press()
-        self.assertEqual(window.rest()[1], 0)
-        self.assertIn("\tleft\t", self.text("cup", "office.log"))
 
     def test_pasted(self) -> None:
         """Pasted lines stop at the first that is refused."""
@@ -807,21 +670,6 @@ OK 9   1st in race 1
         window.read("OK 8 ")
         window.read("NO 8 ")
         window.read("Not sent, since the line before it wasn't taken: finish 1 7\n> $")
-
-
-class Signals(unittest.TestCase):
-    def test_late_signal(self) -> None:
-        """A signal that was meant for one prompt doesn't interrupt the next, nor what comes between."""
-        self.addCleanup(signal.signal, signal.SIGUSR1, signal.getsignal(signal.SIGUSR1))
-        watcher = Watcher([])
-        watcher.prompts, watcher.interrupted = 2, 1
-        for watcher.at_prompt in (True, False):
-            watcher.interrupt()
-        watcher.interrupted = 2
-        watcher.interrupt()
-        watcher.at_prompt = True
-        self.assertRaises(News, watcher.interrupt)
-        self.assertFalse(watcher.at_prompt)
 
 
 if __name__ == "__main__":

@@ -59,7 +59,8 @@ class Undoing(helpers.Series):
                  "no one line does it. Type CLEAR 1 GBR7 and PENALTY 1 GBR7 ZFP$"),
                 (["MARK 1 GBR7 OCS", "PENALTY 1 GBR7 ZFP", "CLEAR 1 GBR7"], 1,
                  "no one line does it. Type MARK 1 GBR7 OCS and PENALTY 1 GBR7 ZFP$"),
-                (["PENALTY 1 GBR7 ZFP", "REDRESS 1 GBR7 ALL"], 1, "Type CLEAR 1 GBR7 and PENALTY 1 GBR7 ZFP$"),
+                (["PENALTY 1 GBR7 ZFP", "REDRESS 1 GBR7 ALL"], 1,
+                 "Type CLEAR 1 GBR7 and PENALTY 1 GBR7 ZFP$"),
                 (["FINISH 1 GBR7", "JURY: STRIKE 1 GBR7"], 2, "since: entry 6, STRIKE 1 GBR7, by the jury$"),
                 (["MARK 1 GBR7 OCS", "CLEAR 1 GBR7"], 2, "since: entry 6"),
                 (["FINISH 1 GBR7", "SCORE 1", "UNSCORE 1"], 2, "since: entry 7, UNSCORE 1, by the scorer$")]:
@@ -188,7 +189,8 @@ OK 12   5th in race 1, with 2 unread finishers ahead
 > finish 1 7
 """)
         other.say("strike 1 7", "OK 15 .*\n> $")
-        window.say("undo", "Not sent: something has been typed about the same since: entry 15, STRIKE 1 GBR7, by "
+        window.say("undo", "Not sent: something has been typed about the same since: entry 15, STRIKE 1 "
+                           "GBR7, by "
                    "the scorer.\n1> $")
         self.assertIn("Not sent: nothing has been typed here yet", self.client("cup", "--role", "finish").say(
             "undo", "> $"))

@@ -77,7 +77,8 @@ class Unread(unittest.TestCase):
         for ended in (known("?1", "X"), dropped("?1")):
             left = waiting(*three, ended)
             self.assertEqual(left.marks(1), ["?2", "?3"])
-            self.assertRaisesRegex(NotSent, r"no finisher \?1 is kept in race 1, only \?2 and \?3\. Race 2 has "
+            self.assertRaisesRegex(NotSent, r"no finisher \?1 is kept in race 1, only \?2 and \?3\. Race 2 "
+                                            r"has "
                                    "one: type at 2 first", left.one, 1, "?1")
             self.assertEqual((left.next_mark(1), left.next_mark(2), left.next_mark(3)), ("?4", "?2", "?1"))
         left = waiting(*three, *map(dropped, ("?1", "?2", "?3")))

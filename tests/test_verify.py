@@ -218,7 +218,8 @@ class Pages(helpers.Series):
                 written = self.page()
                 self.verifier = verifier.Verifier(helpers.PROGRAM)
                 self.assertIn(why, self.odd(written))
-        with unittest.mock.patch("raceoffice.results.html.overall.rank", lambda *_: tag("td", tag("span", 1), class_="rank")):
+        with unittest.mock.patch("raceoffice.results.html.overall.rank",
+                                 lambda *_: tag("td", tag("span", 1), class_="rank")):
             written = self.page()
             self.verifier = verifier.Verifier(helpers.PROGRAM)
             self.assertIn("row 2 (", self.odd(written))
@@ -238,9 +239,10 @@ class Pages(helpers.Series):
             for words in (list[str](), ["--program", "regatta"]):
                 said, status = helpers.run("verify", "page.html", *words, cwd=self.here)
                 self.assertEqual((status, "verified. " in said or ": verified." in said), (0, True), said)
-            # A program that came with a page isn't the one that judges it, unless somebody says so by its path.
+            # A program that came with a page doesn't judge it, unless somebody names it by its path.
             os.symlink(other, os.path.join(self.here, "regatta"))
-            for words, text in (list[str](), "the same that"), (["--program", "./regatta"], "another than that"):
+            for words, text in (list[str](), "the same that"), (["--program", "./regatta"],
+                                                                "another than that"):
                 said, status = helpers.run("verify", "page.html", *words, cwd=self.here)
                 self.assertEqual((status, f"Program: {text}" in said), (0, True), said)
         for program, why in (("nowhere", "There is no program at nowhere"),
@@ -269,8 +271,10 @@ then exec sleep 60; fi\n: > {self.here}/once\nexec {helpers.PROGRAM} "$@\"""")]:
             self.write(f"#!/bin/sh\n{text}\n", name)
             os.chmod(os.path.join(self.here, name), stat.S_IRWXU)
             told = io.StringIO()
-            with unittest.mock.patch("raceoffice.program.replay.PATIENCE", 3.0), contextlib.redirect_stdout(told):
-                status = verifier.verify([os.path.join(self.here, "page.html")], os.path.join(self.here, name))
+            with unittest.mock.patch("raceoffice.program.replay.PATIENCE",
+                                     3.0), contextlib.redirect_stdout(told):
+                status = verifier.verify([os.path.join(self.here, "page.html")],
+                                         os.path.join(self.here, name))
             self.assertEqual(status, 2, told.getvalue())
             self.assertIn("can't be run: it does not end", told.getvalue())
 

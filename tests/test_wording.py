@@ -60,7 +60,8 @@ class Words(unittest.TestCase):
     def test_cut(self) -> None:
         """What was cut off is shown, with what it may have been."""
         said = messages.cut_note("regatta: keep cut 12 bytes after line 3\n1 3 FINI??\nregatta: keep fault\n")
-        self.assertEqual(said.splitlines()[0], "journal.txt ended in a torn line, as after a crash. What came "
+        self.assertEqual(said.splitlines()[0],
+                         "journal.txt ended in a torn line, as after a crash. What came "
                          "after line 3 was cut off, and is in journal.txt.cut now (12 bytes):")
         self.assertEqual(said.splitlines()[1], "   1 3 FINI??")
         self.assertEqual(messages.cut_note("regatta: keep fault\n"), "")

@@ -4,7 +4,11 @@
 
 The results are those of the open office, or else of journal.txt. An office is asked as often as
 series.ini says, however many phones look. The board only reads: nothing that a phone
-sends reaches an office or a file.
+sends reaches an office or a file. If office or board dies, its pages turn red within a minute.
+
+A computer in two networks answers in both; with --address, or `address` in series.ini, in that one alone.
+For a club's site upload the folder of --page. Pages of --once say when they were made, and never turn red. A
+race that was taken away goes from the folder: take it from the site, too.
 
 To stop the board by Ctrl-C is its usual end, with status 0. With --once the status is 1 if a page couldn't be
 brought up to date, and otherwise 0.

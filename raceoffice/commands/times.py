@@ -6,12 +6,24 @@ The series' folder has a folder `times` with a sheet of each race and the rules 
 
     times/race-1.csv     Sail, Elapsed or Start and Finish, Laps, Distance; an empty start, number of
                          laps or distance is that of the boat above. A time may be a code, as DNF
-    times/rules.ini      [times], with system = tcf, py or tod, and perhaps rounding, overnight and
-                         program
+    times/rules.ini      [times], with system = tcf (time on time), py (Portsmouth Yardstick) or tod (time on
+                         distance), and perhaps rounding = down, overnight = 2 and program
+
+    Sail,Start,Finish
+    GBR 101,14:05:00,15:07:31
+    GBR 7,,15:03:12
+    NED 12,,RET
 
 The ratings are in the entry list, headed Rating, PY or TCF; `Rating from 5` holds from race 5 on. The
 program `times` computes each time; this command shows the sums, compares times and codes with the journal,
-and prints the lines that differ. With --send it asks, and sends them to the open office.
+and prints the lines that differ. With --send it asks, and sends them to the open office. Run it again after
+each correction of a sheet or a rating: boats whose time has changed are struck and timed again.
+
+A code, such as DNF, RET or OCS, may also be in a column Code; DSQ and DNE are the jury's to type. A boat with
+neither time nor code is named, and has no line. A start without seconds, 14:05, is on the minute; a finish
+needs its seconds. `overnight = 2` names a race that goes on past midnight. Semicolons or tabs may be between
+the columns, and then a comma in a number is a decimal comma. If a row is wrong, it is named with its column,
+and nothing is sent.
 
 The status is 0 if all is well, 1 if something is wrong or a line wasn't taken, and 130 after Ctrl-C.
 

@@ -3,8 +3,14 @@
     raceoffice type FOLDER [FOLDER ...] [--role finish|jury|scorer] [--name ANN]
     raceoffice type FOLDER --role ROLE [--from N] [--go-on] < lines.txt
 
-`help` lists the lines of a role. With several folders each line goes to the class in which its boat
-is entered; the first letters of a folder in front of a line choose it.
+`help` lists the lines of a role, and `help tie` says more of one. A boat's number alone will do: 12 is the
+one boat whose whole number is 12, or else the one whose sail ends so. A number that two boats have, or none,
+keeps a place as `?` does: she is called 12?, until somebody types `12? ned 12`. Places are kept on the disk,
+for all windows.
+
+With several folders each line goes to the class in which its boat is entered; the first letters of a folder
+in front of a line choose it. A finisher who may be in several keeps her place in each, until she is known in
+one. `role` is for all. If one office goes, the others carry on.
 
 Lines of a file are sent as they are, and stop at the first that is refused, since the next boat
 would take the refused boat's place. The status is 1 if a line was refused or had no answer, and 130 after

@@ -28,7 +28,8 @@ from raceoffice.verify.verifier import UNSURE, verify
 def arguments(parser: argparse.ArgumentParser) -> None:
     parser.add_argument("page", nargs="+", help="a page that `export` or `board` wrote")
     parser.add_argument("--program", default="regatta", help="the program that scores the journal again: its "
-                        "file, or its name if it is beside the package, where it is built, or on the PATH")
+                        "file, or its name if it is beside the command or the package, where it is built, or "
+                        "on the PATH")
     parser.add_argument("--json", action="store_true", help="print what was found for programs")
 
 

@@ -3,10 +3,18 @@ from __future__ import annotations
 
 import os
 import shutil
+import sys
 
 HERE = os.path.dirname(os.path.dirname(os.path.abspath(__file__)))
 TOP = os.path.dirname(HERE)
 BUILT = os.path.join(TOP, "crates", "{0}", "out")
+# What a program may be called, besides its own name: an installation calls `times` so.
+NAMES = {"times": "regatta-times"}
+
+
+def beside_the_command() -> list[str]:
+    """The folder of the command that runs, where an installation has the programs, too."""
+    return [os.path.dirname(os.path.realpath(sys.argv[0]))] if os.path.isfile(sys.argv[0]) else []
 
 
 def program_at(named: str) -> str:
@@ -16,9 +24,12 @@ def program_at(named: str) -> str:
 
 
 def found_program(name: str, *near: str) -> str:
-    """The file of a program: in one of the folders near, beside the package, where it is built, or on
-    the PATH; empty if it is nowhere. One that may be run comes first."""
-    places = [*near, TOP, HERE, BUILT.format(name)]
-    found = [path for path in (os.path.join(place, name) for place in places) if os.path.isfile(path)]
+    """The file of a program: in one of the folders near, beside the command, beside the package, where it
+    is built, or on the PATH; empty if it is nowhere. One that may be run comes first."""
+    names = [NAMES[name], name] if name in NAMES else [name]
+    places = [*near, *beside_the_command(), TOP, HERE, BUILT.format(name)]
+    paths = [os.path.join(place, file) for place in places for file in names]
+    found = [path for path in paths if os.path.isfile(path)]
     may_run = [path for path in found if os.access(path, os.X_OK)]
-    return next((path for path in [*may_run, shutil.which(name), *found] if path), "")
+    on_path = [shutil.which(file) for file in names]
+    return next((path for path in [*may_run, *on_path, *found] if path), "")

@@ -21,8 +21,11 @@ MOST_USUAL = 10
 
 
 def program_for(folder: str) -> str:
-    """The program's file as seen from a new folder."""
-    return os.path.relpath(found_program("regatta", os.curdir) or "regatta", folder)
+    """The program's file as seen from a new folder; empty if that one is found from there anyway."""
+    found = found_program("regatta", os.curdir)
+    is_found = found_program("regatta", os.path.join(os.path.abspath(folder), os.pardir))
+    same = not found or bool(is_found) and os.path.samefile(found, is_found)
+    return "" if same else os.path.relpath(found, folder)
 
 
 def asked(text: str) -> str:

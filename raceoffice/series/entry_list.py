@@ -79,8 +79,8 @@ def columns_left(data: bytes) -> list[str]:
     table = table_of(data)
     read_ones = {*columns(table.heads, ENTRIES).values(), *rating_columns(table.heads).values()}
     filled = {at for _, row in [(0, table.heads), *table.rows] for at, cell in enumerate(row) if cell.strip()}
-    left = sorted(filled - read_ones)
-    return [on_one_line(table.cell(table.heads, at)) or f"column {at + 1}" for at in left]
+    return [on_one_line(table.cell(table.heads, at)) or f"column {at + 1}"
+            for at in sorted(filled - read_ones)]
 
 
 def left_in_words(data: bytes) -> str:

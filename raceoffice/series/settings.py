@@ -23,7 +23,7 @@ NAME = "series.ini"
 KEYS = {
     "series": {"title": "", "class": "", "club": "", "zone": ""},
     "rules": {"exclude": "2", "absent": "a52", "scp": "", "handicap": "no"},
-    "office": {"program": "../regatta", "entries": "entries.csv", "seats": "16", "copy": ""},
+    "office": {"program": "", "entries": "entries.csv", "seats": "16", "copy": ""},
     "notice": {"state": "provisional", "reason": ""},
     "board": {"every": "5", "address": "", "port": "8080", "page": ""},
 }
@@ -46,7 +46,7 @@ scp = {scp}
 handicap = {handicap}
 
 [office]
-# as seen from this folder
+# the program's file, as seen from this folder; empty: the one above this folder, or the installed one
 program = {program}
 entries = {entries}
 seats = {seats}
@@ -204,7 +204,6 @@ CHECKS: dict[str, tuple[Callable[[str], object], str]] = {
     "absent": (["a52", "a53"].__contains__, "a52 or a53"),
     "scp": (lambda text: text == "" or is_between(1, 99)(text), "whole points from 1 to 99"),
     "handicap": (["yes", "no"].__contains__, "yes or no"),
-    "program": (bool, "the program's file"),
     "entries": (bool, "the entry list's file"),
     "seats": (is_between(2, 16), "a number from 2 to 16"),
     "state": (STATES.__contains__, joined(STATES, "or")),

@@ -34,7 +34,7 @@ WINDOW = {
 # What help says of one word, beside its line.
 MORE = {
     "FINISH": ["After at 3 the sail alone will do: gbr 101, or 101."],
-    "TIE": ["After at 3: tie 7 12"],
+    "TIE": ["After at 3: tie 7 12. If 7 was ahead of her after all: strike 7, then before 7 12"],
     "BEFORE": ["After at 3: before 33 9. To move a boat, strike her first."],
     "STRIKE": ["After at 3: strike 33"],
     "MARK": ["After at 3: mark 33 ocs, or ocs 33, or 33 ocs. A new code replaces the old one; clear takes "

@@ -169,7 +169,8 @@ def has_parts(whole: dict[str, object]) -> bool:
     """Whether a block has the parts of one, each of its type."""
     series, stamps, written = (whole.get(name) for name in ("series", "stamps", "marks"))
     return (set(whole) == PARTS and isinstance(series, list) and isinstance(stamps, list)
-            and is_texts(written, SERIES) and len(series) == len(stamps) == len(whole["marks"])  # type: ignore
+            and is_texts(written, SERIES)
+            and len(series) == len(stamps) == len(whole["marks"])  # type: ignore
             and is_page(whole["page"], len(series)) and is_text(whole["seal"])
             and all(map(is_series, series)) and all(map(is_stamp, stamps)))
 

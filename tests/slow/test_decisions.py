@@ -212,7 +212,8 @@ class Rules(unittest.TestCase):
         stale = {at for at, decision in enumerate(decisions, 1)
                  if self.is_stale(made, decision, wanted[decision])}
         texts = self.weighed(made, journal, decisions).stale
-        named = {int(number) for text in texts for number in re.findall(r"^decisions.txt, line (\d+): ", text)}
+        named = {int(number) for text in texts
+                 for number in re.findall(r"^decisions.txt, line (\d+): ", text)}
         self.assertEqual(named, stale)
         self.stale += len(stale)
 

@@ -1,6 +1,7 @@
 """The whole test fails if a part of it fails, or doesn't say that it passed."""
 from __future__ import annotations
 
+import hashlib
 import os
 import shutil
 import subprocess
@@ -81,6 +82,30 @@ class Gate(Scripts):
                         f"{61 + passed} passed, {failed} failed", 1 if failed else 0))
             self.stand_in(part, GOOD)
 
+    @unittest.skipUnless(shutil.which("git"), "there is no git here")
+    def test_what_is_tried(self) -> None:
+        """It names the commit, says if there are changes, and names the kit and both programs."""
+        programs = ["crates/regatta/out/regatta", "crates/times/out/times"]
+        for path in programs:
+            self.stand_in(path, GOOD)
+
+        def git(*words: str) -> str:
+            who = ["-c", "user.name=A. Moss", "-c", "user.email=moss@example.org"]
+            return subprocess.run(["git", *who, *words], cwd=self.here, check=True, text=True,
+                                  stdout=subprocess.PIPE).stdout.strip()
+
+        git("init", "-q")
+        git("add", "-A")
+        git("commit", "-q", "-m", "All")
+        for changes in ("", " with changes"):
+            if changes:
+                self.stand_in("more", GOOD)
+            self.ran("tests/gate.sh")
+            self.assertEqual(self.printed[:2], [f"commit {git('rev-parse', 'HEAD')}{changes}", "kit first"])
+            for path in programs:
+                with open(os.path.join(self.here, path), "rb") as file:
+                    self.assertIn(f"{hashlib.sha256(file.read()).hexdigest()}  {path}", self.printed[:-1])
+
     def test_missing_part(self) -> None:
         os.remove(os.path.join(self.here, "tests", "all.sh"))
         self.assertEqual(self.ran("tests/gate.sh"), ("61 passed, 1 failed", 1))
@@ -159,7 +184,8 @@ class All(Scripts):
         """`run.py` counts each check once, and fails if there is nothing to try."""
         self.copy("run.py")
         parts = "for at in range(3):\n            with self.subTest(at=at): self.fail()"
-        for text, end in [(parts, ("0 passed, 1 failed", 1)), ("self.skipTest('')", ("0 passed, 0 failed", 0)),
+        for text, end in [(parts, ("0 passed, 1 failed", 1)),
+                          ("self.skipTest('')", ("0 passed, 0 failed", 0)),
                           ("self.fail()", ("0 passed, 1 failed", 1)), ("1 / 0", ("0 passed, 1 failed", 1)),
                           ("pass", ("1 passed, 0 failed", 0)), ("", ("0 passed, 0 failed", 1))]:
             body = f"class T(unittest.TestCase):\n    def test(self):\n        {text}\n" if text else ""

@@ -116,7 +116,8 @@ class Kept(helpers.Series):
         self.put(text)
         window = self.window("open", "cup")
         self.addCleanup(self.stop, "cup")
-        self.assertIn("On the entry list, but not entered: NED 12 Windhover", window.read("The office is open"))
+        self.assertIn("On the entry list, but not entered: NED 12 Windhover",
+                      window.read("The office is open"))
         self.assertEqual(self.text("cup", "journal.txt"), text)
         window.press()
         self.assertEqual(window.rest()[1], 0)
@@ -142,7 +143,8 @@ class Kept(helpers.Series):
         other = os.path.join(self.here, "elsewhere.txt")
         os.link(self.journal(), other)
         said, status = self.run_series("open", "cup")
-        self.assertRegex(said, r"^journal\.txt has a second name \(a hard link\)(.|\n)*\nNothing was opened\.\n$")
+        self.assertRegex(said, r"^journal\.txt has a second name \(a hard link\)(.|\n)*\nNothing was "
+                               r"opened\.\n$")
         self.assertEqual(status, 1)
         os.remove(self.journal())
         os.symlink(other, self.journal())

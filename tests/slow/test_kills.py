@@ -252,14 +252,16 @@ OK 6   4th in race 1, with 2 unread finishers ahead; 2 finished, 0 coded, 2 to c
         helpers.kill_office(os.path.join(self.here, "two"))
         office = self.window("open", "two")
         self.addCleanup(self.stop, "two")
-        self.assertIn("\nKept without a sail: ?1 and 101? in race 1.\n", office.read("The office is open.*\n"))
+        self.assertIn("\nKept without a sail: ?1 and 101? in race 1.\n",
+                      office.read("The office is open.*\n"))
         finish = self.window("type", "two", "--role", "finish")
         finish.read("help lists your lines.\nKept without a sail: \\?1 and 101\\? in race 1.\n> $")
         scorer = self.client("two", "--role", "scorer")
-        self.assertRegex(scorer.say("score 1", r"\[y/N\] $"), r"\n    \?1  2nd on the water, but her sail isn't "
+        self.assertRegex(scorer.say("score 1", r"\[y/N\] $"),
+                         r"\n    \?1  2nd on the water, but her sail isn't "
                          r"known\n  101\?  3rd on the water(.|\n)*\n   \?1 \(kept by Ann at \d\d:\d\d\) and "
-                         r"101\? \(kept by Ann at \d\d:\d\d\): finishers without a sail would be left out\. Score "
-                         r"it all the same\? \[y/N\] $")
+                         r"101\? \(kept by Ann at \d\d:\d\d\): finishers without a sail would be left out\. "
+                         r"Score it all the same\? \[y/N\] $")
         scorer.say("n", "Not sent.\n> $")
         self.play(finish, """
 > at 1
@@ -288,7 +290,8 @@ OK 6   4th in race 1, with 2 unread finishers ahead; 2 finished, 0 coded, 2 to c
         office.say("n", "The office stays open\\.\n$")
         scorer = self.client("two", "--role", "scorer")
         office.press()
-        office.read(r"1 window is still open: scorer since \d\d:\d\d\. Kept without a sail: 101\? in race 2\. Close ")
+        office.read(r"1 window is still open: scorer since \d\d:\d\d\. Kept without a sail: 101\? in race "
+                    r"2\. Close ")
         office.say("n", "The office stays open\\.\n$")
         scorer.say("abandon 2", r"Drop the places\? \[y/N\] $")
         scorer.say("y", "Race 2 is taken away: no lines, all taken.\n> $")

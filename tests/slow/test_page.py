@@ -247,7 +247,8 @@ class Pages(helpers.Series):
                 self.browser.open(page)
                 where = f"{page[-24:]}, {width} px"
                 self.assertEqual(self.browser.run(HALF_HIDDEN), [], where)
-                newest = [head for head in self.browser.run(IN_VIEW) if head.startswith("R") and head != "Rank"]
+                newest = [head for head in self.browser.run(IN_VIEW) if head.startswith("R")
+                          and head != "Rank"]
                 self.assertEqual(newest[-1], self.browser.run(NEWEST), where)
                 if width >= 768:
                     self.assertEqual(self.browser.run("document.querySelector('.total')") is None,
@@ -389,7 +390,8 @@ class Pages(helpers.Series):
     @unittest.skipUnless(shutil.which("pdftotext"), "pdftotext isn't installed")
     def test_print_of_club(self) -> None:
         """22 boats are on one sheet, with all notes: upright if there are few races."""
-        for races, size in ((3, (595, 842)), (7, (595, 842)), (8, (595, 842)), (9, (842, 595)), (12, (842, 595))):
+        for races, size in ((3, (595, 842)), (7, (595, 842)), (8, (595, 842)), (9, (842, 595)),
+                            (12, (842, 595))):
             page = self.raced(races, 22, "3,6")
             self.browser.size(1280)
             self.browser.open(page)

@@ -35,7 +35,7 @@ first_published rules entries history = record {
   last = None;
 }
 
--- the pass of the seat after k others: it has seen the journal, and was told and answered nothing
+-- the pass of the seat after k others: it has seen the journal, and was told of none
 abbrev pub seated : Journal → ℕ → PassValue
 seated entries k =
     record {
@@ -43,7 +43,6 @@ seated entries k =
       last = last_number entries (k + 1);
       seen = entries;
       told = [];
-      sources = [];
     }
 
 -- the passes come in order of seat, from 1

@@ -1,5 +1,6 @@
 -- What contracts see of a pass, and what holds of each.
-use Rattle.std.specs.Prelude.{◌≡◌, ℕ, ◌-◌, ◌<◌, ◌≤◌, List, [], ◌∷◌, ◌++◌, length, slice_get, Some}
+use Rattle.std.specs.Prelude.{◌≡◌, ℕ, ◌-◌, ◌≤◌, List, [], ◌∷◌, ◌++◌, length, slice_get}
+use Rattle.std.specs.Prelude.{Option, Some, None}
 use Rattle.std.specs.Prelude.{IsTrue, IfSome, All}
 use mathlib.Core.List.{IsPrefix}
 use Rattle.atomic_table.specs.Seated.{TableId}
@@ -10,48 +11,51 @@ use Rattle.regatta_terms.specs.declared.command.Role.{Role}
 use Rattle.regatta_scores.specs.Journal.{Journal}
 use Rattle.regatta_board.specs.Refusals.{next_entry}
 use Rattle.regatta_tables.specs.ShownText.{IsTextOfFirst}
+use Rattle.regatta_watch.specs.Notes.{ListenerValue}
 use Rattle.regatta_watch.specs.Views.{journal_of, Names}
 use Rattle.regatta_watch.specs.declared.publication.ReaderView.{ReaderView}
 use Rattle.regatta_desk.specs.Receipts.{EndsWith}
 use Rattle.regatta_desk.specs.declared.last_sheet.LastSheet.{LastSheet}
 use Rattle.regatta_desk.specs.declared.pass.Seen.{Seen}
-use Rattle.regatta_desk.specs.declared.told.Told.{Told}
 
--- seen: the journal that the pass was shown last. told: the journals that it was told of, in order.
--- sources: those that the desk had when it answered the pass, in order
+-- seen: the journal that the pass was shown last. told: the journals that it was told of, in order:
+-- those of receipts, and those that the desk had when it was to answer the pass
 pub record PassValue : Type 0 where
   pub seat : ℕ
   pub last : ℕ
   pub seen : Journal
   pub told : List Journal
-  pub sources : List Journal
 
 -- the entry for the next command of a pass
 abbrev pub entry_of : PassValue → Role → Command → EntryParts
 entry_of pass role command = next_entry pass.seat pass.last role command
 
--- the pass after an answer that comes from this journal
-abbrev pub with_source : PassValue → Journal → PassValue
-with_source pass journal = record pass { sources = pass.sources ++ journal ∷ [] }
+-- the pass after it was told of this journal
+abbrev pub with_told : PassValue → Journal → PassValue
+with_told pass journal = record pass { told = pass.told ++ journal ∷ [] }
 
 -- the journal that was seen: that of its note, followed by the last entry if there is one
 abbrev pub seen_of : Seen → Journal
 seen_of seen = journal_of seen.journal.note.journal seen.journal.last
 
 -- how long a journal is, and its last entry, if it has one
-abbrev pub IsKnown : Journal → ℕ → EntryParts → Type 0
-IsKnown journal count last = (count ≡ length journal) × (0 < count → EndsWith journal last)
+abbrev pub IsKnown : Journal → Option (ℕ × EntryParts) → Type 0
+IsKnown journal None = journal ≡ []
+IsKnown journal (Some (count, last)) = (count ≡ length journal) × EndsWith journal last
 
--- the journal has `count` entries or more, and this is the last of the first `count`, if any
+-- the journal has `count` entries or more, and this is the last of the first `count`
 abbrev pub Reaches : Journal → ℕ → EntryParts → Type 0
 Reaches journal count last =
-    (count ≤ length journal) × (0 < count → slice_get journal (count - 1) ≡ Some last)
+    (count ≤ length journal) × (slice_get journal (count - 1) ≡ Some last)
 
--- journals that the history of this name has reached: each is a beginning of the longest
-pub record IsTold (history : TableId) (told : Told) : Type 0 where
-  pub listens : told.listener.history ≡ history
-  pub longest : IsKnown told.listener.longest told.length told.last
-  pub each : All (λ j. IsPrefix j told.listener.longest) told.listener.told
+-- the history of this name has reached the journals that a listener was told of: each is a beginning
+-- of the longest, of which this is known
+pub record IsTold (name : TableId) (listener : ListenerValue) (shared : TableId)
+    (known : Option (ℕ × EntryParts)) : Type 0 where
+  pub listens : listener.history ≡ name
+  pub shares : shared ≡ name
+  pub longest : IsKnown listener.longest known
+  pub each : All (λ j. IsPrefix j listener.longest) listener.told
 
 -- what a pass keeps of the sheet of this journal: its ledger, or none, and the text of its first
 -- entries
@@ -60,15 +64,12 @@ pub record IsLastSheet (rules : RulesParts) (journal : Journal) (sheet : LastShe
   pub text : IsTextOfFirst journal sheet.text
 
 -- what holds of each pass of the office with these rules and this history: its watcher sees no less
--- than the pass has seen, what it keeps of its last sheet is of the journal that it has seen, and it
--- was told of journals of this history
+-- than the pass has seen, and what it keeps of its last sheet is of the journal that it has seen
 pub record IsPass (rules : RulesParts) (history : TableId) (seat : ℕ) (watcher : ReaderView)
-    (seen : Seen) (sheet : LastSheet) (told : Told) (shared : TableId) : Type 0 where
+    (seen : Seen) (sheet : LastSheet) : Type 0 where
   pub seated : IsTrue (is_seat seat)
   pub front : IsPrefix (seen_of seen) watcher.seen
   pub noted : seen.journal.note.history ≡ history
   pub sees : seen.length ≡ length (seen_of seen)
   pub names : Names watcher rules history
   pub keeps : IsLastSheet rules (seen_of seen) sheet
-  pub heard : IsTold history told
-  pub shares : shared ≡ history

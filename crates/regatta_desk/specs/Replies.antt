@@ -79,7 +79,6 @@ pub record MayShow (rules : RulesParts) (pass : PassValue) (journal : Journal) :
   pub lawful : is_lawful limits rules journal ≡ true
   pub seen : IsPrefix pass.seen journal
   pub told : All (λ j. IsPrefix j journal) pass.told
-  pub sources : All (λ j. IsPrefix j journal) pass.sources
 
 -- the sheet of such a journal, with the table that fits Appendix A, its standing: the pass has now
 -- seen it

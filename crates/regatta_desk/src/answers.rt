@@ -94,8 +94,9 @@ impl<N: OfficeName, R: Wait + Drop> Desk<N, R> {
     }
 }
 
-/// Appends the sheet of the published journal, or a reply in its place.
-fn show<N: OfficeName>(pass: &mut Pass<N>, out: &mut Vec<u8>)
+/// Answers SHOW, in bytes that have room for a reply: appends the sheet of the published journal, or a
+/// reply in its place. It takes no lock, and waits for nobody.
+pub fn answer_show<N: OfficeName>(pass: &mut Pass<N>, out: &mut Vec<u8>)
     requires { vec_len out.old + REPLY_ROOM ≤ vec_capacity out.old }
     ensures text { PassReplies N.rules (Ok Line.Show) pass.old pass.new out.old.items out.new.items }
     ensures room { vec_capacity out.old ≤ vec_capacity out.new }
@@ -144,7 +145,7 @@ pub fn answer_alone<N: OfficeName>(
     match asked {
         Ok(Line::Show) => {
             make_room(out)?;
-            show(pass, out);
+            answer_show(pass, out);
             Ok(Next::Go)
         }
         Ok(Line::Quit) => {

@@ -10,10 +10,9 @@ mod opening;
 mod pass;
 mod receipt;
 mod sheet;
-mod sources;
 mod told;
 
-pub use answers::{Next, answer_alone};
+pub use answers::{Next, answer_alone, answer_show};
 pub use desk::Desk;
 pub use office::{Office, Opened};
 pub use opening::OpenFault;

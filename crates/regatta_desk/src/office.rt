@@ -9,7 +9,7 @@ ghost use Rattle.regatta_desk.specs.Offices.{IsOpenFault, AreSeated, seated};
 use crate::desk::Desk;
 use crate::opening::{OpenFault, board_of, watched};
 use crate::pass::{Pass, Seen};
-use crate::sources::Sources;
+use crate::told::Told;
 use regatta_board::Board;
 use regatta_terms::{Entry, MAX_SEATS, Rules};
 use regatta_watch::{History, JournalNote, Note, OfficeName, Publisher, SharedHistory, Watcher};
@@ -228,8 +228,6 @@ fn pass_of<N: OfficeName>(
         board.last_of(seat),
         watcher,
         seen,
-        history.listener(),
-        Sources::none(history.listener()),
-        shared,
+        Told::none(history.listener(), shared),
     )
 }

@@ -9,6 +9,7 @@ mod kept;
 mod mark;
 mod need;
 mod outlet;
+mod reply_room;
 mod round;
 mod sealed;
 mod store;
@@ -20,7 +21,8 @@ pub use kept::{Book, Kept, KeptName};
 pub use mark::Mark;
 pub use need::{Need, NotKept};
 pub use outlet::Outlet;
-pub use sealed::Sealed;
+pub use reply_room::ReplyRoom;
+pub use sealed::{CoveredReply, Sealed};
 
 #[cfg(test)]
 mod tests;

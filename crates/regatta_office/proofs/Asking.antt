@@ -12,7 +12,8 @@ use Rattle.clap.specs.Simple.{subcommand_rows}
 use Rattle.clap.specs.declared.builder.value_parser.ValueParser.{ValueParser}
 use Rattle.clap.specs.declared.error.Error.{Error}
 use Rattle.clap.specs.declared.error.kind.ErrorKind.{ErrorKind}
-use Rattle.clap.specs.declared.error.kind.ErrorKind.TheVariants.{DisplayHelp, OutOfMemory}
+use Rattle.clap.specs.declared.error.kind.ErrorKind.TheVariants.{DisplayHelp, DisplayVersion}
+use Rattle.clap.specs.declared.error.kind.ErrorKind.TheVariants.{OutOfMemory}
 use Rattle.clap.specs.declared.parser.matches.ArgMatches.{ArgMatches}
 use Rattle.clap.specs.declared.parser.matches.ArgMatches.TheViews.{out-SubCommand}
 use Rattle.clap.specs.declared.parser.matches.Found.{Found}
@@ -22,8 +23,8 @@ use Rattle.clap.proofs.WalkLemmas.{first_value-rows}
 use Rattle.regatta_office.specs.Asked.{ReplayAsked, ServingAsked}
 use Rattle.regatta_office.specs.declared.options.Asked.{Asked}
 use Rattle.regatta_office.specs.declared.options.Asked.TheVariants.{Replay, Serve}
-use Rattle.regatta_office.specs.Words.{AskHelp, AskRun, asked_by, asked_of, regatta, replay_with}
-use Rattle.regatta_office.specs.Words.{serving_with, with_rules, with_seats, with_start}
+use Rattle.regatta_office.specs.Words.{AskRun, AskText, IsText, asked_by, asked_of, regatta}
+use Rattle.regatta_office.specs.Words.{replay_with, serving_with, with_rules, with_seats, with_start}
 
 -- what the program understands, with one more option
 pub with_one_more : (new old app : App) (rule known : Rule) → new ≡ with_rule old rule
@@ -106,21 +107,30 @@ matched app forms words m is has fails r found = by r found
       asks = sym same ∙ found;
     }
 
-not_help : (e : Error) → kind_of e ≡ OutOfMemory → kind_of e ≡ DisplayHelp → ⊥
-not_help e memory help = differ (sym memory ∙ help)
+not_text : (e : Error) → kind_of e ≡ OutOfMemory → IsText (kind_of e) → ⊥
+not_text e memory (inl help) = differ (sym memory ∙ help)
   where
     differ : OutOfMemory ≡ DisplayHelp → ⊥
     differ is = cc
+not_text e memory (inr version) = differ (sym memory ∙ version)
+  where
+    differ : OutOfMemory ≡ DisplayVersion → ⊥
+    differ is = cc
 
--- the error for help comes only from arguments that ask for help
-pub helped : (app : App) (forms : ValueParser) (words : List Text) (e : Error)
+-- the error for a text comes only from arguments that ask for that text
+pub text_asked : (app : App) (forms : ValueParser) (words : List Text) (e : Error)
     → app ≡ regatta forms
     → (is_simple_and_free app ≡ true → FailsBy {T = ArgMatches} (fault_of app words) (Err e))
-    → kind_of e ≡ DisplayHelp → AskHelp forms words
-helped app forms words e is fails help = by (fails (ap is_simple_and_free is ∙ free forms))
+    → IsText (kind_of e) → AskText forms words
+text_asked app forms words e is fails text = by (fails (ap is_simple_and_free is ∙ free forms)) text
   where
+    asks : (kind : ErrorKind) → kind_of e ≡ kind → IsAmong (kind_of e) (fault_of app words)
+        → IsAmong kind (fault_of (regatta forms) words)
+    asks kind same among = subst (λ (a : App). IsAmong kind (fault_of a words)) is
+        (subst (λ (k : ErrorKind). IsAmong k (fault_of app words)) same among)
+
     by : (kind_of e ≡ OutOfMemory) ⊎ IsAmong (kind_of e) (fault_of app words)
-        → AskHelp forms words
-    by (inl memory) = absurd (not_help e memory help)
-    by (inr among) = subst (λ (a : App). IsAmong DisplayHelp (fault_of a words)) is
-        (subst (λ (k : ErrorKind). IsAmong k (fault_of app words)) help among)
+        → IsText (kind_of e) → AskText forms words
+    by (inl memory) text = absurd (not_text e memory text)
+    by (inr among) (inl help) = inl (asks DisplayHelp help among)
+    by (inr among) (inr version) = inr (asks DisplayVersion version among)

@@ -1,5 +1,5 @@
 -- What the words of the program ask for, as `clap` reads them.
-use Rattle.std.specs.Prelude.{◌≡◌, Bool, true, false, List, [], ◌∷◌, Option, Some, None, map, codes}
+use Rattle.std.specs.Prelude.{◌≡◌, ◌⊎◌, Bool, true, false, List, [], ◌∷◌, Option, Some, None, map, codes}
 use Rattle.std.specs.Prelude.{ℕ, option_map, if◌then◌else◌}
 use Rattle.std.specs.Borrow.{Bor}
 use Rattle.std.specs.Str.{bytes_eq}
@@ -9,7 +9,8 @@ use Rattle.clap.specs.Words.{subcommand_of, with_rule, with_subcommand}
 use Rattle.clap.specs.declared.builder.action.ArgAction.TheVariants.{SetTrue}
 use Rattle.clap.specs.declared.builder.value_parser.ValueParser.{ValueParser}
 use Rattle.clap.specs.declared.builder.value_parser.ValueParser.TheVariants.{Names, Unsigned}
-use Rattle.clap.specs.declared.error.kind.ErrorKind.TheVariants.{DisplayHelp}
+use Rattle.clap.specs.declared.error.kind.ErrorKind.{ErrorKind}
+use Rattle.clap.specs.declared.error.kind.ErrorKind.TheVariants.{DisplayHelp, DisplayVersion}
 use Rattle.regatta_terms.specs.declared.limits.TheConstants.{MAX_SEATS}
 use Rattle.regatta_office.specs.Asked.{ReplayAsked, Series, ServingAsked}
 use Rattle.regatta_office.specs.declared.options.Asked.{Asked}
@@ -76,11 +77,11 @@ abbrev pub serve : App
 serve = with_rule (with_seats (with_start (with_rules (new_app (codes "serve")))))
     (option (codes "keep"))
 
--- the program has no option of its own, and needs a subcommand
+-- the program has no option of its own besides its help and its version, and needs a subcommand
 abbrev pub bare_program : App
 bare_program =
     let app = new_app (codes "regatta") in
-    record app { top = record app.top { no_binary_name = true; subcommand_required = true } }
+    record app { top = record app.top { no_binary_name = true; subcommand_required = true; has_version = true } }
 
 -- the whole program: with its two subcommands
 unfoldable pub regatta : ValueParser → App
@@ -167,3 +168,15 @@ pub record AskRun (forms : ValueParser) (words : List Text) (asked : Asked) : Ty
 -- words ask for help
 abbrev pub AskHelp : ValueParser → List Text → Type 0
 AskHelp forms words = IsAmong DisplayHelp (fault_of (regatta forms) words)
+
+-- words ask for the version
+abbrev pub AskVersion : ValueParser → List Text → Type 0
+AskVersion forms words = IsAmong DisplayVersion (fault_of (regatta forms) words)
+
+-- words ask for one of these texts
+abbrev pub AskText : ValueParser → List Text → Type 0
+AskText forms words = AskHelp forms words ⊎ AskVersion forms words
+
+-- the kinds by which `clap` gives these texts
+abbrev pub IsText : ErrorKind → Type 0
+IsText kind = (kind ≡ DisplayHelp) ⊎ (kind ≡ DisplayVersion)

@@ -11,7 +11,8 @@ use Rattle.clap.specs.declared.error.kind.ErrorKind.TheVariants.{ValueValidation
 use Rattle.regatta_tables.specs.Examples.{Gives}
 use Rattle.regatta_office.specs.declared.form.Form.TheVariants.{Table, Csv}
 use Rattle.regatta_office.specs.Asked.{Series}
-use Rattle.regatta_office.specs.Words.{AskHelp, asked_of, regatta, with_rules, with_seats, with_start}
+use Rattle.regatta_office.specs.Words.{AskHelp, AskVersion, asked_of, regatta, with_rules, with_seats}
+use Rattle.regatta_office.specs.Words.{with_start}
 use Rattle.regatta_office.specs.declared.options.Asked.{Asked}
 use Rattle.regatta_office.specs.declared.options.Asked.TheVariants.{Replay, Serve}
 
@@ -93,3 +94,8 @@ pub faults : (forms : ValueParser) → Gives (fault_of (regatta forms))
     ∷ (codes "serve" ∷ codes "--socket=s" ∷ codes "--clients=17" ∷ [], ValueValidation ∷ []) ∷ [])
 unfolding clap_on_literals regatta with_rules with_start with_seats
 faults forms = refl
+
+pub version : (forms : ValueParser) → AskVersion forms (codes "--version" ∷ [])
+    × AskVersion forms (codes "-V" ∷ [])
+unfolding clap_on_literals regatta with_rules with_start with_seats
+version forms = (inl refl, inl refl)

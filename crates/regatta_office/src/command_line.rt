@@ -5,7 +5,7 @@ ghost use Rattle.clap.specs.Words.{kind_of};
 ghost use Rattle.clap.specs.declared.builder.value_parser.ValueParser.{ValueParser};
 ghost use Rattle.regatta_office.specs.Asked.{IsReplayOf};
 ghost use Rattle.regatta_office.specs.Runs.{AtMostRunOf, IsRunOf};
-ghost use Rattle.regatta_office.specs.Words.{AskHelp, AskRun, TakesForms};
+ghost use Rattle.regatta_office.specs.Words.{AskRun, AskText, IsText, TakesForms};
 
 use crate::clients::serve_series;
 use crate::complaint::Complaint;
@@ -38,7 +38,7 @@ fn complain<E: Sink>(alloc: Global, errors: &mut E, complaint: Complaint) -> u8
     }
 }
 
-/// Writes the help that was asked for, and returns the program's status.
+/// Writes the help or the version, which was asked for, and returns the program's status.
 fn help<W: Sink, E: Sink>(alloc: Global, error: &clap::Error, output: &mut W, errors: &mut E) -> u8
     ensures done { result ≡ 0 → (text : List ℕ)
         × Appends (W.contents output.old) (W.contents output.new) text }
@@ -67,21 +67,21 @@ fn refuse<E: Sink>(alloc: Global, error: &clap::Error, errors: &mut E) -> u8
     }
 }
 
-/// Answers arguments that ask for no run: with the help that they ask for, or with what `clap` says
-/// of arguments that it doesn't take.
+/// Answers arguments that ask for no run: with the help or the version that they ask for, or with
+/// what `clap` says of arguments that it doesn't take.
 fn answer_words<W: Sink, E: Sink>(
     alloc: Global,
     error: &clap::Error,
     output: &mut W,
     errors: &mut E,
 ) -> u8
-    ensures done { result ≡ 0 → (kind_of error.now ≡ ErrorKind.DisplayHelp) × ((text : List ℕ)
+    ensures done { result ≡ 0 → IsText (kind_of error.now) × ((text : List ℕ)
         × Appends (W.contents output.old) (W.contents output.new) text) }
-    ensures at_most { (output.new ≡ output.old) ⊎ ((kind_of error.now ≡ ErrorKind.DisplayHelp)
+    ensures at_most { (output.new ≡ output.old) ⊎ (IsText (kind_of error.now)
         × ((text : List ℕ) × Appends (W.contents output.old) (W.contents output.new) text)) }
 {
     match error.kind() {
-        ErrorKind::DisplayHelp => help(alloc, error, output, errors),
+        ErrorKind::DisplayHelp | ErrorKind::DisplayVersion => help(alloc, error, output, errors),
         ErrorKind::OutOfMemory => complain(alloc, errors, Complaint::NoMemory),
         _ => refuse(alloc, error, errors),
     }
@@ -167,19 +167,19 @@ where
     R: Source,
     W: Sink,
     E: Sink,
-    // At status 0 the arguments ask for help, and it is written. Or `clap` finds no fault in them,
+    // At status 0 the arguments ask for help or the version, and it is written. Or `clap` finds no fault in them,
     // and the whole run that they ask for is written, with the defaults for what they leave out.
     ensures done { result ≡ 0 → (forms : ValueParser) × TakesForms forms
-        × ((AskHelp forms (map (λ word. word.now) words.now) × (input.new ≡ input.old)
+        × ((AskText forms (map (λ word. word.now) words.now) × (input.new ≡ input.old)
         × ((text : List ℕ) × Appends (W.contents output.old) (W.contents output.new) text))
         ⊎ ((asked : _) × AskRun forms (map (λ word. word.now) words.now) asked
         × IsRunOf R.remaining asked input.old input.new (W.contents output.old)
         (W.contents output.new))) }
 
-    // Whatever the status, nothing is written; or help, which the arguments ask for; or at most what
+    // Whatever the status, nothing is written; or help or the version, which the arguments ask for; or at most what
     // the run that they ask for may write: of `serve`, the table.
     ensures at_most { (output.new ≡ output.old) ⊎ ((forms : ValueParser) × TakesForms forms
-        × ((AskHelp forms (map (λ word. word.now) words.now)
+        × ((AskText forms (map (λ word. word.now) words.now)
         × ((text : List ℕ) × Appends (W.contents output.old) (W.contents output.new) text))
         ⊎ ((asked : _) × AskRun forms (map (λ word. word.now) words.now) asked
         × AtMostRunOf asked (W.contents output.old) (W.contents output.new)))) }

@@ -5,7 +5,7 @@ ghost use Rattle.clap.specs.Words.{app_of, first_value, found_of, kind_of, rule_
 ghost use Rattle.clap.specs.Words.{subcommand_rows_of};
 ghost use Rattle.clap.specs.declared.builder.command.Command.TheViews.{out-Command};
 ghost use Rattle.clap.specs.declared.builder.value_parser.ValueParser.{ValueParser};
-ghost use Rattle.regatta_office.specs.Words.{AskHelp, AskRun, TakesForms, asked_by, number_by};
+ghost use Rattle.regatta_office.specs.Words.{AskRun, AskText, IsText, TakesForms, asked_by, number_by};
 ghost use Rattle.regatta_office.specs.Words.{flag as flag_of, is_given as is_given_by};
 ghost use Rattle.regatta_office.specs.Words.{form_by, form_option as form_option_of};
 ghost use Rattle.regatta_office.specs.Words.{number_option as number_option_of, replay_with};
@@ -19,9 +19,9 @@ ghost use Rattle.regatta_office.specs.Words.{with_start as with_start_of};
 
 use crate::form::Form;
 use clap::builder::ValueParser;
-use clap::error::ErrorKind;
 use clap::{Arg, ArgAction, ArgMatches, Command, Error};
 use regatta_terms::MAX_SEATS;
+use regatta_version::VERSION;
 use std::alloc::{AllocError, Global};
 use std::marker::Model;
 
@@ -298,6 +298,7 @@ fn regatta<'a>(alloc: Global) -> Result<Command<'a>, AllocError>
 {
     let command = Command::new(alloc, "regatta")
         .about(ABOUT)
+        .version(VERSION)
         .no_binary_name(true)
         .subcommand_required(true)
         .bin_name("regatta")?;
@@ -426,17 +427,17 @@ fn run_asked<'a>(matches: &ArgMatches<'a>) -> Option<Asked<'a>>
 ///
 /// # Errors
 ///
-/// What `clap` says of arguments that it doesn't take, the help that they ask for, or out of
-/// memory.
+/// What `clap` says of arguments that it doesn't take, the help or the version that they ask for, or
+/// out of memory.
 pub(crate) fn options_of<'a>(
     alloc: Global,
     words: &'a [&'a str],
 ) -> Result<Option<Asked<'a>>, Error>
     ensures asked { IfOk result (λ asked. (forms : ValueParser) × TakesForms forms
         × IfSome asked (AskRun forms (map (λ word. word.now) words.entry.now))) }
-    ensures help { IfErr result (λ e. kind_of e ≡ ErrorKind.DisplayHelp →
+    ensures text { IfErr result (λ e. IsText (kind_of e) →
         (forms : ValueParser) × TakesForms forms
-        × AskHelp forms (map (λ word. word.now) words.entry.now)) }
+        × AskText forms (map (λ word. word.now) words.entry.now)) }
 {
     let Ok(command) = regatta(alloc) else {
         return Err(Error::from(AllocError));

@@ -1,13 +1,14 @@
 -- Lines that were answered one after another, and what stays between them.
-use Rattle.std.proofs.Common.{◌≡◌, ◌∷◌, ◌++◌, ◌∙◌, [], ℕ, List, Option, Some, Ok, Err, refl}
+use Rattle.std.proofs.Common.{◌≡◌, ◌∷◌, ◌++◌, ◌∙◌, [], ℕ, List, Option, Ok, Err, refl}
 use Rattle.std.proofs.Common.{ap, inl, inr, subst, sym}
+use mathlib.Core.List.{IsPrefix}
 use Rattle.std.specs.Io.KnownBytes.{Keeps}
 use Rattle.regatta_terms.specs.Rules.{RulesParts}
 use Rattle.regatta_terms.specs.declared.command.Role.{Role}
 use Rattle.regatta_terms.specs.declared.line.Line.TheVariants.{Do, SetRole, Rank, Show, Quit}
 use Rattle.regatta_scores.specs.Journal.{Journal}
 use Rattle.regatta_streams.proofs.KnownBytes.{keeps-appends, keeps-same, keeps-then}
-use Rattle.regatta_desk.specs.Passes.{PassValue, with_source}
+use Rattle.regatta_desk.specs.Passes.{PassValue, with_told}
 use Rattle.regatta_desk.specs.Replies.{DeskReplies}
 use Rattle.regatta_talk.specs.Replies.{role_after}
 use Rattle.regatta_service.specs.Lines.{Answers}
@@ -55,7 +56,7 @@ replied_from rules asked p q r stays u = record {
       (subst (λ (pass : PassValue). Answers rules asked q.role pass r.pass [] u.text u.made_from)
       stays.pass u.answered);
   role_set = u.role_set ∙ ap (λ (role : Role). role_after asked role) stays.role;
-  kept = subst (λ (book : Option (List Journal)). IsNoted (Some u.made_from) book r.book) stays.book
+  kept = subst (λ (book : Option (List Journal)). IsNoted (IsPrefix u.made_from) book r.book) stays.book
       u.kept;
   wrote = keeps-appends p.written q.written r.written u.text stays.written u.wrote;
 }
@@ -93,7 +94,7 @@ desk_seat : (rules : RulesParts) (asked : Asked) (role : Role) (before after : P
     → after.seat ≡ before.seat
 desk_seat rules (Ok (Do command)) role before after old new made_from u = by u.replied
   where
-    by : DeskReplies rules (Do command) role u.found u.left (with_source before u.found.entries)
+    by : DeskReplies rules (Do command) role u.found u.left (with_told before u.found.entries)
         after u.reply
         → after.seat ≡ before.seat
     by (inl ran) = ap (λ (p : PassValue). p.seat) ran.pass

@@ -1,6 +1,6 @@
 -- Bytes that a session takes: one more, the end of a line, and one piece after another.
-use Rattle.std.proofs.Common.{◌≡◌, ◌∷◌, ◌++◌, ◌+◌, ◌<◌, ◌∙◌, [], ℕ, List, Option, Some, None}
-use Rattle.std.proofs.Common.{true, false, refl, IfSome, map}
+use Rattle.std.proofs.Common.{◌≡◌, ◌≢◌, ◌∷◌, ◌++◌, ◌+◌, ◌<◌, ◌∙◌, [], ℕ, List, Result, Err}
+use Rattle.std.proofs.Common.{true, false, refl, map}
 use Rattle.std.proofs.Common.{ap, sym}
 use Rattle.std.proofs.Common.{append-nil, append_assoc, drop, get_or, length, subst, take}
 use Rattle.std.proofs.lemmas.List.{take-append-drop, take_more}
@@ -10,7 +10,7 @@ use Rattle.regatta_terms.specs.Rules.{RulesParts}
 use Rattle.regatta_terms.specs.TextLines.{ended_lines, is_line_end, lines_of_pieces}
 use Rattle.regatta_talk.specs.HeardLines.{heard, heard_lines, heard_with}
 use Rattle.regatta_talk.proofs.HeardLines.{heard_byte, heard_end, heard_of_text, heard_reads}
-use Rattle.regatta_service.specs.LinesTaken.{AllReplied, AreReplied, Asked, EndedAt, GoesOn}
+use Rattle.regatta_service.specs.LinesTaken.{AllReplied, AreReplied, Asked, DidLine, EndedAt, GoesOn}
 use Rattle.regatta_service.specs.LinesTaken.{IsCutOff, IsPassedOver, IsQuit, IsReplied, IsUnsaid, Point}
 use Rattle.regatta_service.specs.LinesTaken.{Stays, Took, WentOn, asked_from, asked_in}
 use Rattle.regatta_service.specs.declared.sessions.End.{End}
@@ -119,26 +119,23 @@ line_taken rules line piece before later between i byte now left within at is go
     rw (none) (rw (front_more piece i byte within at)
     (line_more rules line (take i piece) before later between byte left is goes replied w))
 
--- what was done with the last line, if the session ended so after it
-pub record Last (rules : RulesParts) (ended : Option End) (asked : Asked) (before after : Point)
-    : Type 0 where
-  pub quit : ended ≡ Some End.Quit → IsQuit rules asked before after
-  pub cut_off : ended ≡ Some End.WriteFault → IsCutOff rules asked before after
-  pub stopped : ended ≡ Some End.Stopped → Stays before after
-  pub unsaid : ended ≡ Some End.NotKept → IsUnsaid rules asked before after
-  pub room : ended ≡ Some End.NoMemory → ⊥
-  pub closed : ended ≡ Some End.Closed → ⊥
-  pub read : ended ≡ Some End.ReadFault → ⊥
+-- a session ends at a line neither by a read nor for want of memory
+pub at_a_line : {A : Type 0} (rules : RulesParts) (result : Result A End) (asked : Asked)
+    (before after : Point) → DidLine rules result asked before after
+    → (result ≢ Err End.Closed) × (result ≢ Err End.ReadFault) × (result ≢ Err End.NoMemory)
+at_a_line {A} rules result asked before after did = (never, never, never)
+  where
+    never : {end : Result A End} → result ≡ end → DidLine rules end asked before after
+    never is = subst (λ (r : Result A End). DidLine rules r asked before after) is did
 
--- a line has ended at which the session may end, and others may follow it
-pub last_taken : (rules : RulesParts) (line piece : List ℕ) (before : Point) (later : List ℕ)
-    (between : Point) (i byte : ℕ) (after : Point) (ended : Option End) → i < length piece
+-- a line has ended at which the session ended, and others may follow it
+pub last_taken : (A : Type 0) (rules : RulesParts) (line piece : List ℕ) (before : Point)
+    (later : List ℕ) (between : Point) (i byte : ℕ) (after : Point) (end : End) → i < length piece
     → get_or piece i 0 ≡ byte → is_line_end byte ≡ true
-    → Last rules ended (line_of later) between after
+    → DidLine {A = A} rules (Err end) (line_of later) between after
     → WentOn rules line (take i piece) before later between
-    → IfSome ended (λ end. Took rules end (asked_from line piece) before after)
-last_taken rules line piece before later between i byte after ended within at is last w =
-    by ended last
+    → Took rules end (asked_from line piece) before after
+last_taken A rules line piece before later between i byte after end within at is did w = by end did
   where
     rest : List ℕ
     rest = drop (i + 1) piece
@@ -159,16 +156,15 @@ last_taken rules line piece before later between i byte after ended within at is
       did = did;
     }
 
-    by : (ended : Option End) → Last rules ended (line_of later) between after
-        → IfSome ended (λ end. Took rules end (asked_from line piece) before after)
-    by None last = tt
-    by (Some End.Quit) last = at_it (IsQuit rules) (last.quit refl)
-    by (Some End.WriteFault) last = at_it (IsCutOff rules) (last.cut_off refl)
-    by (Some End.Stopped) last = at_it IsPassedOver (last.stopped refl)
-    by (Some End.NotKept) last = at_it (IsUnsaid rules) (last.unsaid refl)
-    by (Some End.NoMemory) last = absurd (last.room refl)
-    by (Some End.Closed) last = absurd (last.closed refl)
-    by (Some End.ReadFault) last = absurd (last.read refl)
+    by : (end : End) → DidLine {A = A} rules (Err end) (line_of later) between after
+        → Took rules end (asked_from line piece) before after
+    by End.Quit did = at_it (IsQuit rules) did
+    by End.WriteFault did = at_it (IsCutOff rules) did
+    by End.Stopped did = at_it IsPassedOver did
+    by End.NotKept did = at_it (IsUnsaid rules) did
+    by End.NoMemory did = absurd did
+    by End.Closed did = absurd did
+    by End.ReadFault did = absurd did
 
 -- ---- one piece after another
 

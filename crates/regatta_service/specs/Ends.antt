@@ -1,5 +1,5 @@
 -- What the end of a session says of its stream.
-use Rattle.std.specs.Prelude.{ℕ, Option, Some, None}
+use Rattle.std.specs.Prelude.{ℕ, Result, Ok, Err}
 use Rattle.regatta_service.specs.declared.sessions.End.{End}
 
 -- the number of failed calls of the stream in a session with this end: a failed call ends the
@@ -24,6 +24,6 @@ failed_reads_in End.NoMemory = 0
 failed_reads_in End.NotKept = 0
 
 -- the number of failed calls for a part of a session, which may have ended there
-abbrev pub failures_so_far : Option End → ℕ
-failures_so_far None = 0
-failures_so_far (Some end) = failures_in end
+abbrev pub failures_so_far : {A : Type 0} → Result A End → ℕ
+failures_so_far (Ok room) = 0
+failures_so_far (Err end) = failures_in end

@@ -1,5 +1,5 @@
 -- The replies to the lines of a session.
-use Rattle.std.specs.Prelude.{◌≡◌, ℕ, Bool, true, false, List, [], ◌++◌, Option, Some, None}
+use Rattle.std.specs.Prelude.{◌≡◌, ℕ, true, List, [], ◌++◌, Option}
 use Rattle.std.specs.Prelude.{Result, Ok, Err, All}
 use mathlib.Core.List.{IsPrefix}
 use Rattle.std.specs.Io.KnownBytes.{Appends}
@@ -15,15 +15,15 @@ use Rattle.regatta_streams.specs.Texts.{AppendsPrefix}
 use Rattle.regatta_talk.specs.Replies.{role_after}
 use Rattle.regatta_scores.specs.Journal.{Journal}
 use Rattle.regatta_keeper.specs.Sealing.{IsNoted, Needs}
+use Rattle.regatta_keeper.specs.declared.need.Need.{Need}
 use Rattle.regatta_desk.specs.Desks.{DeskValue}
-use Rattle.regatta_desk.specs.Passes.{PassValue, with_source}
+use Rattle.regatta_desk.specs.Passes.{PassValue, with_told}
 use Rattle.regatta_desk.specs.Replies.{DeskReplies, PassReplies}
-use Rattle.regatta_service.specs.declared.sessions.End.{End}
 
 -- a line that a desk answered for a pass in this role: the desk did what the line asks, and its reply
--- is appended. The journal that the desk had is lawful, is noted as the source of the answer, and
--- begins with the journal that the pass has seen, with each that it was told of, and with those that
--- its earlier answers came from. The desk then has the journal `made_from`
+-- is appended. The journal that the desk had is lawful, and begins with the journal that the pass has
+-- seen and with each that it was told of; the pass was told of it before the answer. The desk then has
+-- the journal `made_from`
 pub record DeskAnswers (rules : RulesParts) (line : Line) (role : Role) (before after : PassValue)
     (old new : List ℕ) (made_from : Journal) : Type 0 where
   pub found : DeskValue
@@ -32,8 +32,7 @@ pub record DeskAnswers (rules : RulesParts) (line : Line) (role : Role) (before 
   pub lawful : is_lawful limits rules found.entries ≡ true
   pub seen : IsPrefix before.seen found.entries
   pub told : All (λ j. IsPrefix j found.entries) before.told
-  pub sources : All (λ j. IsPrefix j found.entries) before.sources
-  pub replied : DeskReplies rules line role found left (with_source before found.entries) after reply
+  pub replied : DeskReplies rules line role found left (with_told before found.entries) after reply
   pub text : new ≡ old ++ reply_text reply
   pub made : left.entries ≡ made_from
 
@@ -57,23 +56,12 @@ Answers rules (Err fault) role before after old new made_from =
 
 -- a line that was answered, and a reply with this text and this need: if there is a book of what is
 -- kept, the need begins with the journal that the answer was made from
-pub record Prepared (rules : RulesParts) (asked : Result Line LineFault) (role : Role)
-    (before after : PassValue) (text : List ℕ) (need : Option Journal)
-    (book : Option (List Journal)) : Type 0 where
+pub record Prepared {N : Type 0} (rules : RulesParts) (asked : Result Line LineFault) (role : Role)
+    (before after : PassValue) (text : List ℕ) (need : Need N) (book : Option (List Journal))
+    : Type 0 where
   pub made_from : Journal
   pub answered : Answers rules asked role before after [] text made_from
   pub needs : Needs book need made_from
-
--- whether the reply to the last line was written whole, if the session ended so or goes on (`None`)
-abbrev pub is_replied : Option End → Bool
-is_replied None = true
-is_replied (Some End.Quit) = true
-is_replied (Some End.Closed) = false
-is_replied (Some End.ReadFault) = false
-is_replied (Some End.WriteFault) = false
-is_replied (Some End.Stopped) = false
-is_replied (Some End.NoMemory) = false
-is_replied (Some End.NotKept) = false
 
 -- a line that was answered in this role, and the state after it: the role of the next lines, the
 -- pass, the stream, to which exactly the reply was written, and the book of what is kept, if there
@@ -85,7 +73,7 @@ pub record Replied (rules : RulesParts) (asked : Result Line LineFault) (role la
   pub made_from : Journal
   pub answered : Answers rules asked role before after [] text made_from
   pub role_set : later ≡ role_after asked role
-  pub kept : IsNoted (Some made_from) book noted
+  pub kept : IsNoted (IsPrefix made_from) book noted
   pub wrote : Appends old new text
 
 -- a line that was answered so, where a write failed: a beginning of its reply was written, and not
@@ -97,7 +85,7 @@ pub record CutOff (rules : RulesParts) (asked : Result Line LineFault) (role lat
   pub made_from : Journal
   pub answered : Answers rules asked role before after [] text made_from
   pub role_set : later ≡ role_after asked role
-  pub kept : IsNoted (Some made_from) book noted
+  pub kept : IsNoted (IsPrefix made_from) book noted
   pub wrote : AppendsPrefix old new text
 
 -- a line that was answered so, whose reply stays sealed

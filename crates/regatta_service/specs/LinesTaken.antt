@@ -1,5 +1,5 @@
 -- How far the lines of a session have come.
-use Rattle.std.specs.Prelude.{◌≡◌, List, [], ◌∷◌, ◌++◌, ℕ, Option, Result, false, map, All}
+use Rattle.std.specs.Prelude.{◌≡◌, List, [], ◌∷◌, ◌++◌, ℕ, Option, Result, Ok, Err, false, map, All}
 use Rattle.std.specs.Io.KnownBytes.{Consumes, Keeps}
 use Rattle.regatta_terms.specs.Lines.{line_of}
 use Rattle.regatta_terms.specs.Rules.{RulesParts}
@@ -79,6 +79,17 @@ IsQuit rules asked before after = (next_after asked ≡ Next.End) × IsReplied r
 -- nothing
 abbrev pub IsPassedOver : Asked → Point → Point → Type 0
 IsPassedOver asked before after = Stays before after
+
+-- what was done with one, by whether the session goes on or how it ended
+abbrev pub DidLine : {A : Type 0} → RulesParts → Result A End → Asked → Point → Point → Type 0
+DidLine rules (Ok room) asked before after = GoesOn asked × IsReplied rules asked before after
+DidLine rules (Err End.Quit) asked before after = IsQuit rules asked before after
+DidLine rules (Err End.WriteFault) asked before after = IsCutOff rules asked before after
+DidLine rules (Err End.Stopped) asked before after = IsPassedOver asked before after
+DidLine rules (Err End.NotKept) asked before after = IsUnsaid rules asked before after
+DidLine rules (Err End.Closed) asked before after = ⊥
+DidLine rules (Err End.ReadFault) asked before after = ⊥
+DidLine rules (Err End.NoMemory) asked before after = ⊥
 
 -- ---- what was done with lines
 

@@ -91,8 +91,8 @@ where
         Err(unseated) => return Err(unseated.turn_away()),
     };
     match session_room(rt, alloc, keeping) {
-        Ok((reply, covers)) => {
-            let ended = client.serve(rt, reply, office, gate, covers);
+        Ok((room, covers)) => {
+            let ended = client.serve(rt, room, office, gate, covers);
             // The seat is free before the stream is closed, so a client who sees the end of their
             // session may come again at once.
             let (_leaving, gone) = pool.lock(rt).take_back(client, ended);

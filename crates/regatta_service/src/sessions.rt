@@ -1,22 +1,19 @@
 //! The session of one client, whose lines are answered one after another.
-ghost use Rattle.std.specs.Prelude.{◌≡◌, ◌≢◌, ◌+◌, ◌≤◌, [], true, false, Ok, Some, None, IfSome};
-ghost use Rattle.std.specs.Prelude.{IsSome, IsTrue, vec_capacity};
+ghost use Rattle.std.specs.Prelude.{◌≡◌, ◌≢◌, ◌+◌, [], true, false, Ok, Err, None, IfErr, IfSome};
+ghost use Rattle.std.specs.Prelude.{IsSome, OnOk};
 ghost use Rattle.std.specs.Io.KnownBytes.{IsAtEnd, Keeps};
 ghost use Rattle.regatta_terms.specs.Lines.{line_of};
 ghost use Rattle.regatta_scores.specs.Journal.{Journal};
 ghost use Rattle.regatta_talk.specs.Replies.{role_after};
-ghost use Rattle.regatta_tables.specs.declared.replies.TheConstants.{REPLY_ROOM};
 ghost use Rattle.regatta_desk.specs.Replies.{is_for_desk, next_after};
 ghost use Rattle.regatta_keeper.specs.Sealing.{Needs};
 ghost use Rattle.regatta_service.specs.Ends.{failed_reads_in, failures_in, failures_so_far};
-ghost use Rattle.regatta_service.specs.Lines.{CutOff, DeskAnswers, Prepared, Replied, Unsaid};
-ghost use Rattle.regatta_service.specs.Lines.{is_replied};
-ghost use Rattle.regatta_service.specs.LinesTaken.{Talked, Took, WentOn, asked_from, point};
+ghost use Rattle.regatta_service.specs.Lines.{DeskAnswers, Prepared};
+ghost use Rattle.regatta_service.specs.LinesTaken.{DidLine, Talked, Took, WentOn, asked_from, point};
 
 use crate::gate::Gate;
-use crate::room::reply_room;
 use regatta_desk::{Next, Office, OfficeName, Pass};
-use regatta_keeper::{Covers, Outlet, Sealed, Uncovered};
+use regatta_keeper::{Covers, Outlet, ReplyRoom, Sealed, Uncovered};
 use regatta_streams::{Device, Sink, Source};
 use regatta_talk::Cutter;
 use regatta_terms::{Line, LineFault, Role, read_line};
@@ -62,223 +59,195 @@ fn yield_to_others(shown: bool) {
 }
 
 /// A client of the office, and what is kept from line to line beside the pass: the role, the number
-/// of the last line, the buffered part of the current line, the last reply, and whether that answers
-/// SHOW. `ended` is `None` while the session goes on.
+/// of the last line, and the buffered part of the current line.
 #[derive(Drop)]
-struct Talk<'a, N: OfficeName, H: Wait + Drop, C, G: Gate> {
+struct Talk<'a, N: OfficeName, H: Wait + Drop, G: Gate> {
     office: &'a Office<N, H>,
     gate: &'a G,
     role: Role,
     line: u64,
     cutter: Cutter,
-    reply: Sealed<N, C>,
-    shown: bool,
-    ended: Option<End>,
 }
 
-impl<N: OfficeName, H: Wait + Drop, C: Covers<N>, G: Gate> Talk<'_, N, H, C, G> {
-    /// Takes the lock and has the desk answer a line, in the session's role. The pass notes the
+impl<N: OfficeName, H: Wait + Drop, G: Gate> Talk<'_, N, H, G> {
+    /// Takes the lock and has the desk answer a line, in the session's role. The pass is told of the
     /// journal that the answer comes from.
     ///
-    /// Nothing is done, and the result is false, if the desk's journal doesn't begin with the one
-    /// that the pass has seen. No run has returned false; no clause says so.
-    fn ask_desk<R: Wait>(&mut self, rt: &R, pass: &mut Pass<N>, covers: &C, line: Line) -> bool
+    /// `None`, and nothing is done, if the desk's journal doesn't begin with the one that the pass
+    /// has seen. No run has returned that; no clause says so.
+    fn ask_desk<C: Covers<N>, R: Wait>(
+        &self,
+        rt: &R,
+        room: ReplyRoom,
+        pass: &mut Pass<N>,
+        covers: &C,
+        line: Line,
+    ) -> Option<Sealed<N, C>>
         requires for_desk { is_for_desk (Ok line) ≡ true }
-        ensures answered { IsTrue result → (made_from : Journal)
-            × DeskAnswers N.rules line self.old.role pass.old pass.new [] self.new.reply.text
-            made_from
-            × Needs (C.book covers.now) self.new.reply.needs made_from }
-        ensures unanswered { result ≡ false → pass.new ≡ pass.old }
-        ensures role { self.new.role ≡ self.old.role }
-        ensures cutter { self.new.cutter ≡ self.old.cutter }
-        ensures ended { self.new.ended ≡ self.old.ended }
+        ensures answered { IfSome result (λ reply. (made_from : Journal)
+            × DeskAnswers N.rules line self.now.role pass.old pass.new [] reply.text made_from
+            × Needs (C.book covers.now) reply.needs made_from) }
+        ensures unanswered { result ≡ None → pass.new ≡ pass.old }
     {
         let mut guard = self.office.desk(rt);
         let desk = &mut *guard;
-        // Called for its contract: the journal is lawful.
-        let _ = desk.board();
         if !desk.confirm(pass) {
-            return false;
+            return None;
         }
-        desk.note_source(pass);
-        self.reply.answer(rt, desk, pass, self.role, line, covers);
-        true
+        desk.tell(pass);
+        let reply = Sealed::answer(room, rt, desk, pass, self.role, line, covers);
+        Some(reply)
     }
 
-    /// Does what a line asks for, and makes its reply, which stays sealed. If there is no answer
+    /// Does what a line asks for, and makes its reply, which is sealed. If there is no answer
     /// (`None`), nothing has changed.
-    fn answer<R: Wait>(
+    fn answer<C: Covers<N>, R: Wait>(
         &mut self,
         rt: &R,
+        room: ReplyRoom,
         pass: &mut Pass<N>,
         covers: &C,
         asked: Result<Line, LineFault>,
-    ) -> Option<Next>
-        ensures answered { IfSome result (λ _. Prepared N.rules asked self.old.role pass.old
-            pass.new self.new.reply.text self.new.reply.needs (C.book covers.now)) }
+    ) -> Option<(Sealed<N, C>, Next)>
+        ensures answered { IfSome result (λ said. Prepared N.rules asked self.old.role pass.old
+            pass.new said.0.text said.0.needs (C.book covers.now)) }
         ensures role { IfSome result (λ _. self.new.role ≡ role_after asked self.old.role) }
-        ensures next { IfSome result (λ next. next ≡ next_after asked) }
+        ensures next { IfSome result (λ said. said.1 ≡ next_after asked) }
         ensures none { result ≡ None → (pass.new ≡ pass.old) × (self.new.role ≡ self.old.role) }
 
         // A line that the pass answers alone is always answered.
         ensures alone { is_for_desk asked ≡ false → IsSome result }
         ensures cutter { self.new.cutter ≡ self.old.cutter }
-        ensures ended { self.new.ended ≡ self.old.ended }
     {
-        self.shown = false;
         match asked {
             Ok(line @ (Line::Do(_) | Line::Rank(_))) => {
-                let answered = self.ask_desk(rt, pass, covers, line);
-                answered.then_some(Next::Go)
+                let Some(reply) = self.ask_desk(rt, room, pass, covers, line) else {
+                    return None;
+                };
+                Some((reply, Next::Go))
             }
             Ok(Line::Show) => {
-                self.reply.show(rt, self.office, pass, covers);
-                self.shown = true;
-                Some(Next::Go)
+                let reply = Sealed::show(room, rt, self.office, pass, covers);
+                Some((reply, Next::Go))
             }
             Ok(Line::SetRole(_) | Line::Quit) | Err(_) => {
-                let next = self.reply.answer_apart(pass, &mut self.role, asked);
-                Some(next)
+                let said = Sealed::apart(room, pass, &mut self.role, asked);
+                Some(said)
             }
         }
     }
 
-    /// Answers the current line, which may end the session. The reply is written once what it was
-    /// made from is kept.
-    fn answer_line<R: Wait, S: Outlet<N, C>>(
+    /// Answers the current line. The reply is written once what it was made from is kept. The room
+    /// is given back for the next one.
+    ///
+    /// # Errors
+    ///
+    /// How the session ended at the line.
+    fn answer_line<C: Covers<N>, R: Wait, S: Outlet<C>>(
         &mut self,
         rt: &R,
+        room: ReplyRoom,
         stream: &mut S,
         pass: &mut Pass<N>,
         covers: &mut C,
-    )
-        // No line is answered after the end.
-        requires going { self.old.ended ≡ None }
-        ensures failures { S.failures stream.new
-            ≡ S.failures stream.old + failures_so_far self.new.ended }
+    ) -> Result<ReplyRoom, End>
+        ensures failures { S.failures stream.new ≡ S.failures stream.old + failures_so_far result }
 
-        // The session ends as `Quit` only by a QUIT, and never goes on after one.
-        ensures goes_on { self.new.ended ≡ None → next_after (line_of self.old.cutter) ≡ Next.Go }
-        ensures quit { self.new.ended ≡ Some End.Quit →
-            next_after (line_of self.old.cutter) ≡ Next.End }
-
-        // The line is answered in the session's role, and exactly its reply is written. The next
-        // line starts empty.
-        ensures replied { is_replied self.new.ended ≡ true →
-            Replied N.rules (line_of self.old.cutter) self.old.role self.new.role pass.old pass.new
-            (S.contents stream.old) (S.contents stream.new) (C.book covers.old)
-            (C.book covers.new) }
-        ensures cut { is_replied self.new.ended ≡ true → self.new.cutter ≡ [] }
-
-        // A line has no effect if the session is stopped at it.
-        ensures stopped { self.new.ended ≡ Some End.Stopped → (stream.new ≡ stream.old)
-            × (pass.new ≡ pass.old) × (self.new.role ≡ self.old.role)
-            × (self.new.cutter ≡ self.old.cutter) × (C.book covers.new ≡ C.book covers.old) }
-
-        // If the write of the reply fails, the line still took effect.
-        ensures cut_off { self.new.ended ≡ Some End.WriteFault →
-            CutOff N.rules (line_of self.old.cutter) self.old.role self.new.role pass.old pass.new
-            (S.contents stream.old) (S.contents stream.new) (C.book covers.old)
-            (C.book covers.new) }
-
-        // So it did if the reply stays sealed, of which nothing is written then.
-        ensures unsaid { self.new.ended ≡ Some End.NotKept →
-            Unsaid N.rules (line_of self.old.cutter) self.old.role self.new.role pass.old pass.new }
-        ensures sealed { self.new.ended ≡ Some End.NotKept → (stream.new ≡ stream.old)
-            × (C.book covers.new ≡ C.book covers.old) }
+        // What was done with the line, in the session's role, by how the session ended or that it
+        // goes on. The next line then starts empty.
+        ensures did { DidLine N.rules result (line_of self.old.cutter)
+            (point self.old.role pass.old (S.contents stream.old) (C.book covers.old))
+            (point self.new.role pass.new (S.contents stream.new) (C.book covers.new)) }
+        ensures cut { OnOk result (self.new.cutter ≡ []) }
 
         // A reply stays sealed exactly if it was refused a cover.
-        ensures refused { self.new.ended ≡ Some End.NotKept → C.refused covers.new ≡ true }
-        ensures covered { self.new.ended ≢ Some End.NotKept →
-            C.refused covers.new ≡ C.refused covers.old }
+        ensures refused { result ≡ Err End.NotKept → C.refused covers.new ≡ true }
+        ensures covered { result ≢ Err End.NotKept → C.refused covers.new ≡ C.refused covers.old }
 
-        // No read is made here, so none ends the session, and what is still to be read stays.
-        // Memory doesn't run out.
-        ensures unread { (self.new.ended ≢ Some End.Closed)
-            × (self.new.ended ≢ Some End.ReadFault) }
-        ensures room_left { self.new.ended ≢ Some End.NoMemory }
+        // No read is made here, and what is still to be read stays.
         ensures no_read { S.failed_reads stream.new ≡ S.failed_reads stream.old }
         ensures keeps { Keeps (S.remaining stream.old) (S.remaining stream.new) }
     {
         self.line = self.line.saturating_add(1);
         if !self.gate.before(pass.seat(), self.line) {
-            self.ended = Some(End::Stopped);
-            return;
+            return Err(End::Stopped);
         }
         let asked = read_line(self.cutter.line());
-        let Some(next) = self.answer(rt, pass, &*covers, asked) else {
-            self.ended = Some(End::Stopped);
-            return;
+        let shown = matches!(asked, Ok(Line::Show));
+        let Some((reply, next)) = self.answer(rt, room, pass, &*covers, asked) else {
+            return Err(End::Stopped);
         };
         self.cutter.clear();
-        if self.reply.cover(rt, self.office, covers).is_err() {
-            self.ended = Some(End::NotKept);
-            return;
-        }
-        if stream.write_reply(&self.reply).is_err() {
-            self.ended = Some(End::WriteFault);
-            return;
+        let Ok(reply) = reply.cover(rt, self.office, covers) else {
+            return Err(End::NotKept);
+        };
+        if stream.write_reply(&reply).is_err() {
+            return Err(End::WriteFault);
         }
         self.gate.after(pass.seat(), self.line);
-        yield_to_others(self.shown);
+        yield_to_others(shown);
         match next {
-            Next::Go => {}
-            Next::End => self.ended = Some(End::Quit),
+            Next::Go => Ok(reply.into_room()),
+            Next::End => Err(End::Quit),
         }
     }
 
     /// Answers the lines that end in these bytes, up to one that ends the session.
-    fn take_all<R: Wait, S: Outlet<N, C>>(
+    ///
+    /// # Errors
+    ///
+    /// How the session ended.
+    fn take_all<C: Covers<N>, R: Wait, S: Outlet<C>>(
         &mut self,
         rt: &R,
+        room: ReplyRoom,
         stream: &mut S,
         pass: &mut Pass<N>,
         covers: &mut C,
         piece: &[u8],
-    )
-        requires going { self.old.ended ≡ None }
-        ensures failures { S.failures stream.new
-            ≡ S.failures stream.old + failures_so_far self.new.ended }
+    ) -> Result<ReplyRoom, End>
+        ensures failures { S.failures stream.new ≡ S.failures stream.old + failures_so_far result }
 
         // Each line is answered once and in order, up to one at which the session ends. If there is
         // none, the session goes on with what is then buffered of the current line.
-        ensures goes_on { self.new.ended ≡ None → WentOn N.rules self.old.cutter piece.now
+        ensures goes_on { OnOk result (WentOn N.rules self.old.cutter piece.now
             (point self.old.role pass.old (S.contents stream.old) (C.book covers.old))
             self.new.cutter
-            (point self.new.role pass.new (S.contents stream.new) (C.book covers.new)) }
-        ensures ended { IfSome self.new.ended (λ end. Took N.rules end
+            (point self.new.role pass.new (S.contents stream.new) (C.book covers.new))) }
+        ensures ended { IfErr result (λ end. Took N.rules end
             (asked_from self.old.cutter piece.now)
             (point self.old.role pass.old (S.contents stream.old) (C.book covers.old))
             (point self.new.role pass.new (S.contents stream.new) (C.book covers.new))) }
 
-        // A reply stays sealed exactly if it was refused a cover.
-        ensures refused { self.new.ended ≡ Some End.NotKept → C.refused covers.new ≡ true }
-        ensures covered { self.new.ended ≢ Some End.NotKept →
-            C.refused covers.new ≡ C.refused covers.old }
+        // If it ended, then at a line: not by a read, and not for want of memory.
+        ensures at_line { (result ≢ Err End.Closed) × (result ≢ Err End.ReadFault)
+            × (result ≢ Err End.NoMemory) }
 
-        // No read is made here, so none ends the session, and what is still to be read stays.
-        // Memory doesn't run out.
-        ensures unread { (self.new.ended ≢ Some End.Closed)
-            × (self.new.ended ≢ Some End.ReadFault) }
-        ensures room_left { self.new.ended ≢ Some End.NoMemory }
+        // A reply stays sealed exactly if it was refused a cover.
+        ensures refused { result ≡ Err End.NotKept → C.refused covers.new ≡ true }
+        ensures covered { result ≢ Err End.NotKept → C.refused covers.new ≡ C.refused covers.old }
+
+        // No read is made here, and what is still to be read stays.
         ensures no_read { S.failed_reads stream.new ≡ S.failed_reads stream.old }
         ensures keeps { Keeps (S.remaining stream.old) (S.remaining stream.new) }
     {
+        let mut room = room;
         for byte in piece {
             if self.cutter.take(*byte) {
-                self.answer_line(rt, stream, pass, covers);
-                if self.ended.is_some() {
-                    return;
+                match self.answer_line(rt, room, stream, pass, covers) {
+                    Ok(left) => room = left,
+                    Err(end) => return Err(end),
                 }
             }
         }
+        Ok(room)
     }
 }
 
 /// Serves one client, as [`session_kept`] does, with room for replies.
 pub(crate) fn session_with<N, H, R, C, S, G>(
     rt: &R,
-    reply: Vec<u8>,
+    room: ReplyRoom,
     stream: &mut S,
     office: &Office<N, H>,
     pass: &mut Pass<N>,
@@ -290,9 +259,8 @@ where
     H: Wait + Drop,
     R: Wait,
     C: Covers<N>,
-    S: Outlet<N, C>,
+    S: Outlet<C>,
     G: Gate,
-    requires room { REPLY_ROOM ≤ vec_capacity reply }
     ensures failures { S.failures stream.new ≡ S.failures stream.old + failures_in result }
     ensures reads { S.failed_reads stream.new
         ≡ S.failed_reads stream.old + failed_reads_in result }
@@ -313,10 +281,8 @@ where
         role: Role::Scorer,
         line: 0,
         cutter: Cutter::new(),
-        reply: Sealed::new(reply),
-        shown: false,
-        ended: None,
     };
+    let mut room = room;
     let mut buffer = [0; PIECE];
     for _ in rt.forever() {
         let Ok(count) = stream.read(&mut buffer) else {
@@ -325,9 +291,9 @@ where
         if count == 0 {
             return End::Closed;
         }
-        talk.take_all(rt, stream, pass, covers, &buffer[..count]);
-        if let Some(end) = talk.ended {
-            return end;
+        match talk.take_all(rt, room, stream, pass, covers, &buffer[..count]) {
+            Ok(left) => room = left,
+            Err(end) => return end,
         }
     }
     unreachable!()
@@ -349,7 +315,7 @@ where
     H: Wait + Drop,
     R: Wait,
     C: Covers<N>,
-    S: Outlet<N, C>,
+    S: Outlet<C>,
     G: Gate,
     // A failed call of the stream ends the session and is reported as what it is.
     ensures failures { S.failures stream.new ≡ S.failures stream.old + failures_in result }
@@ -373,10 +339,10 @@ where
     // Without memory for replies nothing is done.
     ensures no_memory { result ≡ End.NoMemory → (stream.new ≡ stream.old) × (pass.new ≡ pass.old) }
 {
-    let Ok(reply) = reply_room(alloc) else {
+    let Ok(room) = ReplyRoom::new(alloc) else {
         return End::NoMemory;
     };
-    session_with(rt, reply, stream, office, pass, gate, covers)
+    session_with(rt, room, stream, office, pass, gate, covers)
 }
 
 /// Serves one client: answers each line that ends in LF, up to QUIT. A line that is too long gets

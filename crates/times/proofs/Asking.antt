@@ -11,7 +11,8 @@ use Rattle.clap.specs.Words.{subcommand_rows_of, is_simple_and_free}
 use Rattle.clap.specs.Simple.{subcommand_rows}
 use Rattle.clap.specs.declared.error.Error.{Error}
 use Rattle.clap.specs.declared.error.kind.ErrorKind.{ErrorKind}
-use Rattle.clap.specs.declared.error.kind.ErrorKind.TheVariants.{DisplayHelp, OutOfMemory}
+use Rattle.clap.specs.declared.error.kind.ErrorKind.TheVariants.{DisplayHelp, DisplayVersion}
+use Rattle.clap.specs.declared.error.kind.ErrorKind.TheVariants.{OutOfMemory}
 use Rattle.clap.specs.declared.parser.matches.ArgMatches.{ArgMatches}
 use Rattle.clap.specs.declared.parser.matches.ArgMatches.TheViews.{out-SubCommand}
 use Rattle.clap.specs.declared.parser.matches.Found.{Found}
@@ -21,8 +22,8 @@ use Rattle.clap.proofs.WalkLemmas.{first_value-rows}
 use Rattle.times.specs.Asked.{Race}
 use Rattle.times.specs.declared.options.Asked.{Asked}
 use Rattle.times.specs.declared.options.Asked.TheVariants.{Lines, Sums}
-use Rattle.times.specs.Words.{AskHelp, AskRun, asked_by, asked_of, race_with, times}
-use Rattle.times.specs.Words.{with_race, with_rules}
+use Rattle.times.specs.Words.{AskRun, AskText, IsText, asked_by, asked_of, race_with}
+use Rattle.times.specs.Words.{times, with_race, with_rules}
 
 -- one of two cases, and what follows from each
 pub either : {P Q R S : Type 0} → P ⊎ Q → (P → R) → (Q → S) → R ⊎ S
@@ -110,21 +111,30 @@ matched app words m is has fails r found = by r found
       asks = sym same ∙ found;
     }
 
-not_help : (e : Error) → kind_of e ≡ OutOfMemory → kind_of e ≡ DisplayHelp → ⊥
-not_help e memory help = differ (sym memory ∙ help)
+not_text : (e : Error) → kind_of e ≡ OutOfMemory → IsText (kind_of e) → ⊥
+not_text e memory (inl help) = differ (sym memory ∙ help)
   where
     differ : OutOfMemory ≡ DisplayHelp → ⊥
     differ is = cc
+not_text e memory (inr version) = differ (sym memory ∙ version)
+  where
+    differ : OutOfMemory ≡ DisplayVersion → ⊥
+    differ is = cc
 
--- the error for help comes only from arguments that ask for help
-pub helped : (app : App) (words : List Text) (e : Error)
+-- the error for a text comes only from arguments that ask for that text
+pub text_asked : (app : App) (words : List Text) (e : Error)
     → app ≡ times
     → (is_simple_and_free app ≡ true → FailsBy {T = ArgMatches} (fault_of app words) (Err e))
-    → kind_of e ≡ DisplayHelp → AskHelp words
-helped app words e is fails help = by (fails (ap is_simple_and_free is ∙ free))
+    → IsText (kind_of e) → AskText words
+text_asked app words e is fails text = by (fails (ap is_simple_and_free is ∙ free)) text
   where
+    asks : (kind : ErrorKind) → kind_of e ≡ kind → IsAmong (kind_of e) (fault_of app words)
+        → IsAmong kind (fault_of (times) words)
+    asks kind same among = subst (λ (a : App). IsAmong kind (fault_of a words)) is
+        (subst (λ (k : ErrorKind). IsAmong k (fault_of app words)) same among)
+
     by : (kind_of e ≡ OutOfMemory) ⊎ IsAmong (kind_of e) (fault_of app words)
-        → AskHelp words
-    by (inl memory) = absurd (not_help e memory help)
-    by (inr among) = subst (λ (a : App). IsAmong DisplayHelp (fault_of a words)) is
-        (subst (λ (k : ErrorKind). IsAmong k (fault_of app words)) help among)
+        → IsText (kind_of e) → AskText words
+    by (inl memory) text = absurd (not_text e memory text)
+    by (inr among) (inl help) = inl (asks DisplayHelp help among)
+    by (inr among) (inr version) = inr (asks DisplayVersion version among)

@@ -1,11 +1,12 @@
 -- What the words of the program ask for, as `clap` reads them.
-use Rattle.std.specs.Prelude.{◌≡◌, Bool, true, false, List, [], ◌∷◌, Option, Some, None, codes}
+use Rattle.std.specs.Prelude.{◌≡◌, ◌⊎◌, Bool, true, false, List, [], ◌∷◌, Option, Some, None, codes}
 use Rattle.std.specs.Prelude.{option_map, if◌then◌else◌}
 use Rattle.std.specs.Str.{bytes_eq}
 use Rattle.clap.specs.Words.{App, IsAmong, Row, Rule, Text, fault_of, first_of, new_app, new_rule}
 use Rattle.clap.specs.Words.{subcommand_of, with_rule, with_subcommand}
 use Rattle.clap.specs.declared.builder.action.ArgAction.TheVariants.{SetTrue}
-use Rattle.clap.specs.declared.error.kind.ErrorKind.TheVariants.{DisplayHelp}
+use Rattle.clap.specs.declared.error.kind.ErrorKind.{ErrorKind}
+use Rattle.clap.specs.declared.error.kind.ErrorKind.TheVariants.{DisplayHelp, DisplayVersion}
 use Rattle.times.specs.Asked.{Race}
 use Rattle.times.specs.declared.options.Asked.{Asked}
 use Rattle.times.specs.declared.options.Asked.TheVariants.{Lines, Sums}
@@ -48,11 +49,11 @@ lines = with_rules (with_race (new_app (codes "lines")))
 abbrev pub sums : App
 sums = with_rules (with_race (new_app (codes "sums")))
 
--- the program has no option of its own, and needs a subcommand
+-- the program has no option of its own besides its help and its version, and needs a subcommand
 abbrev pub bare_program : App
 bare_program =
     let app = new_app (codes "times") in
-    record app { top = record app.top { no_binary_name = true; subcommand_required = true } }
+    record app { top = record app.top { no_binary_name = true; subcommand_required = true; has_version = true } }
 
 -- the whole program: with its two subcommands
 unfoldable pub times : App
@@ -104,3 +105,15 @@ pub record AskRun (words : List Text) (asked : Asked) : Type 0 where
 -- words ask for help
 abbrev pub AskHelp : List Text → Type 0
 AskHelp words = IsAmong DisplayHelp (fault_of times words)
+
+-- words ask for the version
+abbrev pub AskVersion : List Text → Type 0
+AskVersion words = IsAmong DisplayVersion (fault_of times words)
+
+-- words ask for one of these texts
+abbrev pub AskText : List Text → Type 0
+AskText words = AskHelp words ⊎ AskVersion words
+
+-- the kinds by which `clap` gives these texts
+abbrev pub IsText : ErrorKind → Type 0
+IsText kind = (kind ≡ DisplayHelp) ⊎ (kind ≡ DisplayVersion)

@@ -3,7 +3,7 @@ ghost use Rattle.std.specs.Prelude.{◌≡◌, ◌≢◌, ◌⊎◌, ℕ, List, 
 ghost use Rattle.std.specs.Io.KnownBytes.{Appends};
 ghost use Rattle.clap.specs.Words.{kind_of};
 ghost use Rattle.times.specs.Runs.{AtMostRunOfAsked, IsRunOfAsked};
-ghost use Rattle.times.specs.Words.{AskHelp, AskRun};
+ghost use Rattle.times.specs.Words.{AskRun, AskText, IsText};
 
 use crate::complaint::Complaint;
 use crate::options::{Asked, options_of};
@@ -31,7 +31,7 @@ fn complain<E: Sink>(alloc: Global, errors: &mut E, complaint: Complaint) -> u8
     }
 }
 
-/// Writes the help that was asked for, and returns the program's status.
+/// Writes the help or the version, which was asked for, and returns the program's status.
 fn help<W: Sink, E: Sink>(alloc: Global, error: &clap::Error, output: &mut W, errors: &mut E) -> u8
     ensures done { result ≡ 0 → (text : List ℕ)
         × Appends (W.contents output.old) (W.contents output.new) text }
@@ -60,21 +60,21 @@ fn refuse<E: Sink>(alloc: Global, error: &clap::Error, errors: &mut E) -> u8
     }
 }
 
-/// Answers arguments that ask for no run: with the help that they ask for, or with what `clap` says
-/// of arguments that it doesn't take.
+/// Answers arguments that ask for no run: with the help or the version that they ask for, or with
+/// what `clap` says of arguments that it doesn't take.
 fn answer_words<W: Sink, E: Sink>(
     alloc: Global,
     error: &clap::Error,
     output: &mut W,
     errors: &mut E,
 ) -> u8
-    ensures done { result ≡ 0 → (kind_of error.now ≡ ErrorKind.DisplayHelp) × ((text : List ℕ)
+    ensures done { result ≡ 0 → IsText (kind_of error.now) × ((text : List ℕ)
         × Appends (W.contents output.old) (W.contents output.new) text) }
-    ensures at_most { (output.new ≡ output.old) ⊎ ((kind_of error.now ≡ ErrorKind.DisplayHelp)
+    ensures at_most { (output.new ≡ output.old) ⊎ (IsText (kind_of error.now)
         × ((text : List ℕ) × Appends (W.contents output.old) (W.contents output.new) text)) }
 {
     match error.kind() {
-        ErrorKind::DisplayHelp => help(alloc, error, output, errors),
+        ErrorKind::DisplayHelp | ErrorKind::DisplayVersion => help(alloc, error, output, errors),
         ErrorKind::OutOfMemory => complain(alloc, errors, Complaint::NoMemory),
         _ => refuse(alloc, error, errors),
     }
@@ -119,19 +119,19 @@ where
     R: Source,
     W: Sink,
     E: Sink,
-    // At status 0 the arguments ask for help, and it is written. Or `clap` finds no fault in them,
+    // At status 0 the arguments ask for help or the version, and it is written. Or `clap` finds no fault in them,
     // and what the race that they ask for comes to is written, and nothing else.
     ensures done { result ≡ 0 →
-        (AskHelp (map (λ word. word.now) words.now)
+        (AskText (map (λ word. word.now) words.now)
         × ((text : List ℕ) × Appends (W.contents output.old) (W.contents output.new) text))
         ⊎ ((asked : _) × AskRun (map (λ word. word.now) words.now) asked
         × IsRunOfAsked asked (R.remaining input.old) (W.contents output.old)
         (W.contents output.new)) }
 
-    // Whatever the status, nothing is written; or help, which the arguments ask for; or what the
+    // Whatever the status, nothing is written; or help or the version, which the arguments ask for; or what the
     // race that they ask for comes to, or a first part of it.
     ensures at_most { (output.new ≡ output.old)
-        ⊎ ((AskHelp (map (λ word. word.now) words.now)
+        ⊎ ((AskText (map (λ word. word.now) words.now)
         × ((text : List ℕ) × Appends (W.contents output.old) (W.contents output.new) text))
         ⊎ ((asked : _) × AskRun (map (λ word. word.now) words.now) asked
         × AtMostRunOfAsked asked (R.remaining input.old) (W.contents output.old)

@@ -4,14 +4,14 @@ ghost use Rattle.std.specs.Option.{option_copied};
 ghost use Rattle.clap.specs.Words.{app_of, first_value, found_of, kind_of, rule_of};
 ghost use Rattle.clap.specs.Words.{subcommand_rows_of};
 ghost use Rattle.clap.specs.declared.builder.command.Command.TheViews.{out-Command};
-ghost use Rattle.times.specs.Words.{AskHelp, AskRun, asked_by, race_by, race_with};
+ghost use Rattle.times.specs.Words.{AskRun, AskText, IsText, asked_by, race_by, race_with};
 ghost use Rattle.times.specs.Words.{flag as flag_of, is_given as is_given_by};
 ghost use Rattle.times.specs.Words.{option as option_of, option_or as option_or_of};
 ghost use Rattle.times.specs.Words.{lines as lines_of, sums as sums_of, times as times_of};
 ghost use Rattle.times.specs.Words.{with_race as with_race_of, with_rules as with_rules_of};
 
-use clap::error::ErrorKind;
 use clap::{Arg, ArgAction, ArgMatches, Command, Error};
+use regatta_version::VERSION;
 use std::alloc::{AllocError, Global};
 use std::marker::Model;
 
@@ -173,6 +173,7 @@ fn times<'a>(alloc: Global) -> Result<Command<'a>, AllocError>
 {
     let command = Command::new(alloc, "times")
         .about(ABOUT)
+        .version(VERSION)
         .no_binary_name(true)
         .subcommand_required(true)
         .bin_name("times")?;
@@ -248,16 +249,16 @@ fn run_asked<'a>(matches: &ArgMatches<'a>) -> Option<Asked<'a>>
 ///
 /// # Errors
 ///
-/// What `clap` says of arguments that it doesn't take, the help that they ask for, or out of
-/// memory.
+/// What `clap` says of arguments that it doesn't take, the help or the version that they ask for, or
+/// out of memory.
 pub(crate) fn options_of<'a>(
     alloc: Global,
     words: &'a [&'a str],
 ) -> Result<Option<Asked<'a>>, Error>
     ensures asked { IfOk result (λ asked.
         IfSome asked (AskRun (map (λ word. word.now) words.entry.now))) }
-    ensures help { IfErr result (λ e. kind_of e ≡ ErrorKind.DisplayHelp →
-        AskHelp (map (λ word. word.now) words.entry.now)) }
+    ensures text { IfErr result (λ e. IsText (kind_of e) →
+        AskText (map (λ word. word.now) words.entry.now)) }
 {
     let Ok(command) = times(alloc) else {
         return Err(Error::from(AllocError));

@@ -10,12 +10,12 @@ from dataclasses import dataclass
 from typing import Union
 
 # Parts that have no end, and those of a picture, which end themselves.
-VOID = {"input", "meta"}
+VOID = {"img", "input", "meta"}
 SHAPES = {"circle", "line", "path", "polyline", "rect"}
 NAME = re.compile(r"[A-Za-z][A-Za-z0-9]*(?:-[a-z]+)*")
-# An address leads to a place in a page, or to a page of the same site.
+# An address leads to a place in a page, to a page of the same site or a place in it, or to a picture.
 ADDRESS = re.compile(r"\?|#[A-Za-z0-9-]+|(?:\.\./)?(?:(?!\.\.?/)[A-Za-z0-9%._~-]+/)?"
-                     r"[a-z0-9-]+\.(?:html|csv)")
+                     r"[a-z0-9-]+\.(?:html(?:#[A-Za-z0-9-]+)?|csv|png)")
 # What could end a script or a style sheet, or hide its end.
 END = re.compile("</|<!--")
 
@@ -63,7 +63,7 @@ def attribute(word: str, value: object) -> str:
         return ""
     if value is True:
         return f" {name}"
-    if name == "href" and not ADDRESS.fullmatch(str(value)):
+    if name in ("href", "src") and not ADDRESS.fullmatch(str(value)):
         raise ValueError(f"{value!r} is no address of a page")
     return f' {name}="{html.escape(str(value))}"'
 

@@ -1,13 +1,12 @@
 //! The session of a client who has a pass.
-ghost use Rattle.std.specs.Prelude.{◌≡◌, ◌≤◌, false, vec_capacity};
-ghost use Rattle.regatta_tables.specs.declared.replies.TheConstants.{REPLY_ROOM};
+ghost use Rattle.std.specs.Prelude.{◌≡◌};
 ghost use Rattle.regatta_service.specs.Partings.{IsServed};
 
 use crate::gate::Gate;
 use crate::pool::Seated;
 use crate::sessions::{End, session_with};
 use regatta_desk::{Office, OfficeName, Pass};
-use regatta_keeper::{Covers, Outlet};
+use regatta_keeper::{Covers, Outlet, ReplyRoom};
 use regatta_streams::Device;
 use std::snapshot::Snapshot;
 use std::sync::Wait;
@@ -30,7 +29,7 @@ pub(crate) struct Ended<N: OfficeName, S, C> {
 /// `Gate::ended`.
 fn ended_session<N, H, R, C, S, G>(
     rt: &R,
-    reply: Vec<u8>,
+    room: ReplyRoom,
     stream: &mut S,
     office: &Office<N, H>,
     pass: &mut Pass<N>,
@@ -42,9 +41,8 @@ where
     H: Wait + Drop,
     R: Wait,
     C: Covers<N> + Drop,
-    S: Outlet<N, C>,
+    S: Outlet<C>,
     G: Gate,
-    requires room { REPLY_ROOM ≤ vec_capacity reply }
     ensures given { result.given.value ≡ stream.old }
     ensures left { result.left.value ≡ stream.new }
     ensures before { result.before.value ≡ pass.old }
@@ -58,7 +56,7 @@ where
     let begun = Snapshot::of(&covers);
     let given = Snapshot::of(&*stream);
     let before = Snapshot::of(&*pass);
-    let end = session_with(rt, reply, stream, office, pass, gate, &mut covers);
+    let end = session_with(rt, room, stream, office, pass, gate, &mut covers);
     gate.ended(pass.seat(), end);
     Ended {
         end,
@@ -76,14 +74,13 @@ impl<N: OfficeName, S> Seated<N, S> {
     pub(crate) fn serve<H: Wait + Drop, R: Wait, C: Covers<N> + Drop, G: Gate>(
         &mut self,
         rt: &R,
-        reply: Vec<u8>,
+        room: ReplyRoom,
         office: &Office<N, H>,
         gate: &G,
         covers: C,
     ) -> Ended<N, S, C>
     where
-        S: Outlet<N, C>,
-        requires room { REPLY_ROOM ≤ vec_capacity reply }
+        S: Outlet<C>,
         ensures slot { self.new.slot ≡ self.old.slot }
         ensures stream { (result.given.value ≡ self.old.stream)
             × (result.left.value ≡ self.new.stream) }
@@ -96,7 +93,7 @@ impl<N: OfficeName, S> Seated<N, S> {
     {
         ended_session(
             rt,
-            reply,
+            room,
             &mut self.stream,
             office,
             &mut self.pass,

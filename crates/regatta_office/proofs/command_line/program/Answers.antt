@@ -5,15 +5,15 @@ use Rattle.regatta_office.specs.declared.options.Asked.{Asked}
 use Rattle.regatta_office.proofs.Printing.{either}
 use Rattle.regatta_office.proofs.command_line.program.Goals as goal
 
--- the words ask for help
+-- the words ask for help or the version
 pub returns-in-Err : goal.returns-in-Err
 returns-in-Err g c = record {
   done = λ zero.
       let said = c.answer_words.ensures.done zero in
-      let asks = c.in-Err.ensures.help said.0 in
+      let asks = c.in-Err.ensures.text said.0 in
       (asks.0, asks.1, inl (asks.2, refl, said.1));
   at_most = either c.answer_words.ensures.at_most (λ same. same) (λ said.
-      let asks = c.in-Err.ensures.help said.0 in
+      let asks = c.in-Err.ensures.text said.0 in
       (asks.0, asks.1, inl (asks.2, said.1)));
 }
 

@@ -1,6 +1,6 @@
 use Rattle.std.proofs.Common.{ℕ, List, Bor, map}
 use Rattle.clap.specs.Words.{app_of}
-use Rattle.regatta_office.proofs.Asking.{helped, matched}
+use Rattle.regatta_office.proofs.Asking.{matched, text_asked}
 use Rattle.regatta_office.proofs.options.options_of.Goals as goal
 
 pub returns-in-Ok-try_get_matches_from-clause-asked :
@@ -16,12 +16,12 @@ returns-in-Ok-try_get_matches_from-clause-asked c =
           c.run_asked.result c.run_asked.ensures,
     )
 
-pub returns-in-Err-clause-help : goal.returns-in-Err-clause-help
-returns-in-Err-clause-help c = λ is.
+pub returns-in-Err-clause-text : goal.returns-in-Err-clause-text
+returns-in-Err-clause-text c = λ is.
     let app = c.in-Ok.ensures in (
       app.0,
       app.1,
-      helped (app_of c.in-Ok.command) app.0
+      text_asked (app_of c.in-Ok.command) app.0
           (map {A = Bor (List ℕ)} {B = List ℕ} (λ word. word.now) c.args.words.now)
           c.in-Err.error app.2 c.in-Err.ensures.kinds is,
     )

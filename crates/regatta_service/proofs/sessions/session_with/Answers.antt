@@ -1,4 +1,4 @@
-use Rattle.std.proofs.Common.{rules, refl, ap, ◌∙◌, Some}
+use Rattle.std.proofs.Common.{rules, refl, ap, Err}
 use Rattle.regatta_terms.specs.declared.command.Role.{Role}
 use Rattle.regatta_service.specs.LinesTaken.{point}
 use Rattle.regatta_service.proofs.Talking.{so_far_more, talked_closed, talked_fault, talked_last}
@@ -13,7 +13,6 @@ loop-init g c = (
   refl,
   refl,
   refl,
-  refl,
   rw (c.new.ensures) (so_far_none g.N.OfficeName.rules (g.S.Device.remaining c.args.stream.now)
       (point Role.Scorer c.args.pass.now (g.S.Device.contents c.args.stream.now)
       (g.C.Covers.book c.args.covers.now))),
@@ -22,7 +21,7 @@ loop-init g c = (
 -- a read failed
 pub returns-in_default-clause-talked : goal.returns-in_default-clause-talked
 returns-in_default-clause-talked g c =
-    talked_fault _ _ _ _ _ _ _ _ c.loop.invariant.6
+    talked_fault _ _ _ _ _ _ _ _ c.loop.invariant.5
     (point c.loop.talk.role c.loop.pass (g.S.Device.contents c.read.new.self)
     (g.C.Covers.book c.loop.covers))
     (record { role = refl; pass = refl; written = c.in_default.ensures.keeps; book = refl })
@@ -35,7 +34,7 @@ returns-in_default-clause-seat g c =
 -- the stream is at its end
 pub returns-then-count-eq0-clause-talked : goal.returns-then-count-eq0-clause-talked
 returns-then-count-eq0-clause-talked g c =
-    talked_closed _ _ _ _ _ _ _ _ c.loop.invariant.6
+    talked_closed _ _ _ _ _ _ _ _ c.loop.invariant.5
     (point c.loop.talk.role c.loop.pass (g.S.Device.contents c.read.new.self)
     (g.C.Covers.book c.loop.covers))
     (record { role = refl; pass = refl; written = c.in-Ok.ensures.keeps; book = refl })
@@ -46,19 +45,19 @@ returns-then-count-eq0-clause-seat g c =
     talked_seat _ _ _ _ _ _ _ _ _ _ (returns-then-count-eq0-clause-talked g c)
 
 -- a line has ended the session
-pub returns-in-Some-ended-clause-talked : goal.returns-in-Some-ended-clause-talked
-returns-in-Some-ended-clause-talked g c =
-    talked_last _ _ _ _ _ _ _ _ c.loop.invariant.6
+pub returns-in-Err-clause-talked : goal.returns-in-Err-clause-talked
+returns-in-Err-clause-talked g c =
+    talked_last _ _ _ _ _ _ _ _ c.loop.invariant.5
     (point c.loop.talk.role c.loop.pass (g.S.Device.contents c.read.new.self)
     (g.C.Covers.book c.loop.covers))
     (record { role = refl; pass = refl; written = c.in-Ok.ensures.keeps; book = refl })
     _ _ _ c.in-Ok.ensures.bytes.0 c.take_all.ensures.keeps _ c.take_all.new.self.role _ _ _
-    (λ is. c.take_all.ensures.room_left (c.in-Some-ended.is ∙ ap Some is))
-    (rw c.in-Some-ended.is at c.take_all.ensures.ended)
+    (λ is. c.in-Err.ensures.at_line.2 (ap Err is))
+    c.in-Err.ensures.ended
 
-pub returns-in-Some-ended-clause-seat : goal.returns-in-Some-ended-clause-seat
-returns-in-Some-ended-clause-seat g c =
-    talked_seat _ _ _ _ _ _ _ _ _ _ (returns-in-Some-ended-clause-talked g c)
+pub returns-in-Err-clause-seat : goal.returns-in-Err-clause-seat
+returns-in-Err-clause-seat g c =
+    talked_seat _ _ _ _ _ _ _ _ _ _ (returns-in-Err-clause-talked g c)
 
 -- one piece more
 pub loop-preserved : goal.loop-preserved
@@ -67,12 +66,11 @@ loop-preserved g c = (
   tt,
   search rules,
   search rules,
-  c.in_default-ended.is,
   search rules,
-  so_far_more _ _ _ _ _ _ _ _ c.loop.invariant.6
+  so_far_more _ _ _ _ _ _ _ _ c.loop.invariant.5
       (point c.loop.talk.role c.loop.pass (g.S.Device.contents c.read.new.self)
       (g.C.Covers.book c.loop.covers))
       (record { role = refl; pass = refl; written = c.in-Ok.ensures.keeps; book = refl })
       _ _ _ c.in-Ok.ensures.bytes.0 c.take_all.ensures.keeps _ _
-      (c.take_all.ensures.goes_on c.in_default-ended.is),
+      c.in-Ok-take_all.ensures.goes_on,
 )

@@ -1,4 +1,4 @@
-use Rattle.std.proofs.Common.{◌≡◌, None}
+use Rattle.std.proofs.Common.{◌≡◌}
 use Rattle.regatta_terms.specs.declared.command.Role.{Role}
 use Rattle.regatta_service.specs.LinesTaken.{point}
 use Rattle.regatta_service.proofs.Talking.{SoFar}
@@ -10,7 +10,7 @@ invariant-loop g l =
     (goal.iterator-loop g).can_next l.iterator' × (goal.iterator-loop g).is_finite l.iterator'
     × (g.S.Device.failures l.stream ≡ g.S.Device.failures l.fn.stream)
     × (g.S.Device.failed_reads l.stream ≡ g.S.Device.failed_reads l.fn.stream)
-    × (l.talk.ended ≡ None) × (g.C.Covers.refused l.covers ≡ g.C.Covers.refused l.fn.covers)
+    × (g.C.Covers.refused l.covers ≡ g.C.Covers.refused l.fn.covers)
     × SoFar g.N.OfficeName.rules (g.S.Device.remaining l.fn.stream)
     (g.S.Device.remaining l.stream)
     (point Role.Scorer l.fn.pass (g.S.Device.contents l.fn.stream)

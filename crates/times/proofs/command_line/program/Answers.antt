@@ -5,14 +5,14 @@ use Rattle.times.specs.Words.{AskRun}
 use Rattle.times.specs.declared.options.Asked.{Asked}
 use Rattle.times.proofs.command_line.program.Goals as goal
 
--- the words ask for help
+-- the words ask for help or the version
 pub returns-in-Err : goal.returns-in-Err
 returns-in-Err g c = record {
   done = λ zero.
       let said = c.answer_words.ensures.done zero in
-      inl (c.in-Err.ensures.help said.0, said.1);
+      inl (c.in-Err.ensures.text said.0, said.1);
   at_most = either c.answer_words.ensures.at_most (λ same. same) (λ said.
-      inl (c.in-Err.ensures.help said.0, said.1));
+      inl (c.in-Err.ensures.text said.0, said.1));
 }
 
 -- they ask for a run, which is done

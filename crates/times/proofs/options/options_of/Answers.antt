@@ -1,6 +1,6 @@
 use Rattle.std.proofs.Common.{ℕ, List, Bor, map}
 use Rattle.clap.specs.Words.{app_of}
-use Rattle.times.proofs.Asking.{helped, matched}
+use Rattle.times.proofs.Asking.{matched, text_asked}
 use Rattle.times.proofs.options.options_of.Goals as goal
 
 pub returns-in-Ok-try_get_matches_from-clause-asked :
@@ -12,8 +12,8 @@ returns-in-Ok-try_get_matches_from-clause-asked c =
     found.matches c.in-Ok.ensures found.ensures.matches found.ensures.kinds
     c.run_asked.result c.run_asked.ensures
 
-pub returns-in-Err-clause-help : goal.returns-in-Err-clause-help
-returns-in-Err-clause-help c = λ is.
-    helped (app_of c.in-Ok.command)
+pub returns-in-Err-clause-text : goal.returns-in-Err-clause-text
+returns-in-Err-clause-text c = λ is.
+    text_asked (app_of c.in-Ok.command)
     (map {A = Bor (List ℕ)} {B = List ℕ} (λ word. word.now) c.args.words.now)
     c.in-Err.error c.in-Ok.ensures c.in-Err.ensures.kinds is

@@ -1,4 +1,4 @@
-use Rattle.std.proofs.Common.{◌≡◌, None, take}
+use Rattle.std.proofs.Common.{◌≡◌, take}
 use Rattle.std.specs.Io.KnownBytes.{Keeps}
 use Rattle.regatta_service.specs.LinesTaken.{WentOn, point}
 use Rattle.regatta_service.proofs.sessions.Talk.take_all.Given as goal
@@ -9,7 +9,6 @@ abbrev pub invariant-loop-byte : goal.invariant-loop-byte
 invariant-loop-byte g l = record {
   well : g.S.Device.failures l.stream ≡ g.S.Device.failures l.fn.stream;
   no_read : g.S.Device.failed_reads l.stream ≡ g.S.Device.failed_reads l.fn.stream;
-  goes : l.self.ended ≡ None;
   covered : g.C.Covers.refused l.covers ≡ g.C.Covers.refused l.fn.covers;
   went : WentOn g.N.OfficeName.rules l.fn.self.cutter (take l.byte-index l.piece)
       (point l.fn.self.role l.fn.pass (g.S.Device.contents l.fn.stream)

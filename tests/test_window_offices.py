@@ -1,0 +1,173 @@
+"""The windows of those who type when an office goes, comes back, or has no seat."""
+from __future__ import annotations
+
+import os
+import signal
+import socket
+import threading
+import unittest
+
+import helpers
+from raceoffice.errors import Trouble
+from raceoffice.series.folder import Folder
+from raceoffice.typing_window.session import Session
+from raceoffice.typing_window.watcher import News, Watcher
+
+
+class Offices(helpers.Series):
+    def test_no_answer(self) -> None:
+        """A line without an answer is looked for after the crash, and listed by the office."""
+        office = self.open()
+        window = self.typist("scorer")
+        window.say("enter den 16", r"\[y/N\] $")
+        number = int(self.text("cup", "office", "pid").split()[0])
+        helpers.freeze(number)
+        window.type("y")
+        window.read("No answer came to: ENTER DEN16\nIt may be in the journal, or not.\nBeware: the "
+                    "office hasn't answered for 10 seconds. Waiting")
+        os.kill(number, signal.SIGKILL)
+        office.rest()
+        again = self.window("open", "cup")
+        said = again.read("The office is open")
+        self.addCleanup(self.stop, "cup")
+        self.assertIn("These lines had no answer. Look whether they are in the journal before you type "
+                      "them again:\n          SCORER  ENTER DEN16\n", said)
+        window.read("ENTER DEN16 is not in the journal.\n> $")
+
+    def test_not_sent(self) -> None:
+        """A line that the office didn't get, since it had stopped, comes back."""
+        self.open()
+        window = self.typist()
+        number = int(self.text("cup", "office", "pid").split()[0])
+        helpers.freeze(number)
+        window.type("finish 1 7")
+        window.read("Not sent: finish 1 7\nBeware: the office hasn't answered for 10 seconds. Waiting")
+        os.kill(number, signal.SIGCONT)
+        window.read("The office is back with 7 entries.\n> $")
+        window.say("finish 1 7", "OK 8 ")
+
+    def test_half_a_line(self) -> None:
+        """What has been typed of a line when the office goes is there again afterwards."""
+        office = self.open()
+        window = self.typist()
+        os.write(window.master, b"finish 1 10")
+        os.kill(int(self.text("cup", "office", "pid").split()[0]), signal.SIGKILL)
+        window.read("Beware: ")
+        office.rest()
+        self.open()
+        window.read("is back with 7 entries.\n> ")
+        window.say("1", "101 is GBR 101 Kestrel\nOK 8 ")
+
+    def test_full(self) -> None:
+        """If all seats are taken, the window says by whom."""
+        self.make("small", seats="2")
+        self.open("small")
+        first = self.client("small", "--role", "finish", "--name", "Ann")
+        second = self.window("type", "small", "--role", "jury")
+        second.read(r"Waiting: all seats of the office are taken: Ann since \d\d:\d\d\. Ctrl-C ends")
+        first.type("quit")
+        second.read("you type as the jury")
+
+    def test_crash(self) -> None:
+        """A kill of the office is said at the prompt; afterwards what is lost is listed."""
+        office = self.open()
+        window = self.typist()
+        window.say("finish 1 101", "OK 8 .*\n> $")
+        self.assertEqual(self.held(), 8)
+        os.kill(int(self.text("cup", "office", "pid").split()[0]), signal.SIGKILL)
+        window.read(r"Beware: the office has gone\. Waiting for the office; Ctrl-C ends this window\.")
+        window.type("finish 1 7")
+        office.rest()
+        again = self.open()
+        said = window.read("> $")
+        self.assertIn("Not sent, since the office was away: finish 1 7", said)
+        self.assertIn("The office is back with 8 entries.\nYour last line, OK 8 FINISH 1 GBR101, is "
+                      "among them.", said)
+        window.say("finish 1 12", "OK 9 .*\n> $")
+        self.assertEqual(self.held(), 9)
+        again.process.kill()
+        again.process.wait()
+        os.kill(int(self.text("cup", "office", "pid").split()[0]), signal.SIGKILL)
+        window.read("Beware: the office has gone")
+        # Somebody puts an older journal in its place, with eight entries.
+        kept = self.text("cup", "journal.txt").splitlines(keepends=True)
+        self.write("".join(kept[:9]), "cup", "journal.txt")
+        third = self.open()
+        said = window.read("> $")
+        self.assertIn("The office is back with 8 entries.\nThese lines of yours are lost.", said)
+        self.assertIn("       9  FINISH 1 NED12\n", said)
+        window.say("finish 1 12", "OK 9 .*\n> $")
+        third.press()
+        third.read("1 window is still open: finish since .*. Close the office\\? \\[y/N\\] $")
+        third.type("y")
+        self.assertIn("Closed. journal.txt has 9 entries", third.rest()[0])
+        said, status = window.rest()
+        self.assertIn("The office is being closed: this window ends.", said)
+        self.assertEqual(status, 0)
+
+    def test_no_seat(self) -> None:
+        """A window waits for a seat, and gets the one that somebody leaves."""
+        self.make("two", seats="2")
+        self.open("two")
+        first = self.client("two", "--role", "finish")
+        second = self.window("type", "two", "--role", "jury")
+        second.read("Waiting: all seats of the office are taken: finish since .*Ctrl-C ends this window.")
+        first.type("quit")
+        self.assertEqual(first.rest()[1], 0)
+        second.read("you type as the jury(.|\\n)*> $")
+
+    def test_office_that_is_going(self) -> None:
+        """An office that lets somebody in and never answers is no office."""
+        place = os.path.join(self.here, "cup", "office")
+        os.mkdir(place)
+        with socket.socket(socket.AF_UNIX, socket.SOCK_STREAM) as door:
+            door.bind(os.path.join(place, "race.sock"))
+            door.listen()
+            threading.Thread(target=lambda: door.accept()[0].close(), daemon=True).start()
+            session = Session(Folder(os.path.join(self.here, "cup")), "FINISH", "", print, bool)
+            self.assertRaises(Trouble, session.connect)
+            self.assertIsNone(session.link)
+
+    def test_block_and_crash(self) -> None:
+        """When the office goes in the middle of a block, the rest isn't sent."""
+        office = self.open()
+        window = self.typist("scorer")
+        window.say("finish 1 101\x16\nenter den 16\x16\nfinish 1 7", r"OK 8 (.|\n)*\[y/N\] $")
+        os.kill(int(self.text("cup", "office", "pid").split()[0]), signal.SIGKILL)
+        window.type("y")
+        window.read("No answer came to: ENTER DEN16\n(.|\n)*Waiting for the office")
+        office.rest()
+        self.open()
+        said = window.read("> $")
+        self.assertIn("Not sent, since the office was away: finish 1 7\n", said)
+        self.assertNotIn("FINISH 1 GBR7", self.text("cup", "office.log"))
+
+    def test_waiting_ended(self) -> None:
+        """Ctrl-C ends a window that waits for its office."""
+        office = self.open()
+        window = self.typist()
+        os.kill(int(self.text("cup", "office", "pid").split()[0]), signal.SIGKILL)
+        window.read("Waiting for the office; Ctrl-C ends this window.")
+        office.rest()
+        window.press()
+        self.assertEqual(window.rest()[1], 0)
+        self.assertIn("\tleft\t", self.text("cup", "office.log"))
+
+
+class Signals(unittest.TestCase):
+    def test_late_signal(self) -> None:
+        """A signal that was meant for one prompt doesn't interrupt the next, nor what comes between."""
+        self.addCleanup(signal.signal, signal.SIGUSR1, signal.getsignal(signal.SIGUSR1))
+        watcher = Watcher([])
+        watcher.prompts, watcher.interrupted = 2, 1
+        for watcher.at_prompt in (True, False):
+            watcher.interrupt()
+        watcher.interrupted = 2
+        watcher.interrupt()
+        watcher.at_prompt = True
+        self.assertRaises(News, watcher.interrupt)
+        self.assertFalse(watcher.at_prompt)
+
+
+if __name__ == "__main__":
+    unittest.main()
