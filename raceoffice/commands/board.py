@@ -56,7 +56,10 @@ class Shown:
         """Says a thing when it is new, and not again until it has changed. Once it is shown, the board goes
         on if nobody hears it."""
         if self.once.is_new(about, text):
-            (say_if_heard if stamp else say)(f"{stamp}{text}")
+            if stamp:
+                say_if_heard(f"{stamp}{text}")
+            else:
+                say(text)
 
     def look(self, due: list[Source], stamp: str = "") -> bool:
         """Looks at some series, shows what was found and then says what has changed; whether all
