@@ -36,7 +36,7 @@ from raceoffice.decisions.points import Decided, decided
 from raceoffice.errors import Trouble
 from raceoffice.faults import status_of, tell_json
 from raceoffice.program.replay import Line
-from raceoffice.results.source import Source
+from raceoffice.series.run_program import opened_rules
 from raceoffice.series.sender import Sender
 from raceoffice.series.settings import Settings
 from raceoffice.terminal import command_name, question, say, say_json, sentence
@@ -60,7 +60,7 @@ class Decisions(Sender):
 
     def settings(self) -> list[str]:
         """The rules as options: those of the open office, if one is open."""
-        rules = Source(self.folder.path).opened_rules() if self.link else {}
+        rules = opened_rules(self.folder) if self.link else {}
         values = {**vars(self.folder.settings), **rules}
         return Settings(**values).options()
 

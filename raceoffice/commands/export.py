@@ -40,10 +40,7 @@ def view_of(folder: str, tell: Callable[[str], None] = warn) -> View:
     """The results of a series by its journal, with the standing after each race. `tell` is called with
     each trouble that doesn't keep them from being shown."""
     source = Source(folder)
-    try:
-        source.show(source.from_journal())
-    except ValueError as cause:
-        raise Trouble(str(cause)) from None
+    source.show(source.from_journal())
     for text in source.notes.values():
         if text:
             tell(f"{source.name}: {sentence(text)}")

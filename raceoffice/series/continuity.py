@@ -8,7 +8,7 @@ from dataclasses import dataclass
 
 from raceoffice.errors import Trouble
 from raceoffice.series.copies import Copy, bytes_of, newest
-from raceoffice.series.folder import Folder, Logged
+from raceoffice.series.folder import Folder, Logged, shown
 from raceoffice.wording import count
 
 # What the office notes when it is opened or closed, and when a copy becomes the journal again.
@@ -114,8 +114,3 @@ def from_note(data: bytes, noted: Noted) -> str:
     if noted.digest and digest_of(first_entries(data, noted.entries)) != noted.digest:
         return f"{had}, and these aren't the same. No copy in kept/ shows which differs."
     return ""
-
-
-def shown(line: bytes) -> str:
-    """A line of a journal, without signs that a terminal would follow."""
-    return "".join(chr(byte) if 32 <= byte < 127 else "?" for byte in line[:80])

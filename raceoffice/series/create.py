@@ -172,7 +172,7 @@ def new(folder: str) -> None:
 
 def settings_with(values: dict[str, str]) -> bytes:
     """A series.ini with these values; a Trouble if it can't hold the name of a file."""
-    data = utf8(settings.text_of(values))
+    data = utf8(settings.filled_in(values))
     read = settings.values_of(data.decode())
     for key in ("program", "copy"):
         if read.get(key) != values[key]:

@@ -4,7 +4,6 @@ from __future__ import annotations
 
 import datetime
 import hashlib
-import re
 from collections.abc import Sequence
 
 from raceoffice.series.folder import Logged
@@ -30,8 +29,7 @@ def time_of_entry(logged: list[Logged], journal: Sequence[str], number: int) -> 
         if entry.answer.split()[:2] == ["OK", str(number)] and is_entry(entry.line, journal[number - 1]):
             found = time_of(entry)
         elif entry.line.startswith("removed "):
-            left = re.match(r"([0-9]{1,9}) entr", entry.answer)
-            found = time_of(entry) if left and number <= int(left[1]) else None
+            found = time_of(entry) if number <= entry.entries else None
     return found
 
 

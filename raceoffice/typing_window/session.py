@@ -173,7 +173,8 @@ class Session:
                 return self.shown_race(self.facts.race(str(self.at)))
             case ["standing"]:
                 self.look()
-                return [f"{self.prefix}rank and net points"] * bool(self.prefix) + standing_lines(self.facts)
+                heading = [f"{self.prefix}rank and net points"] if self.prefix else []
+                return heading + standing_lines(self.facts)
             case ["show"]:
                 self.look()
                 return [*self.facts.sheet.journal, *self.facts.sheet.table]
