@@ -27,6 +27,7 @@ With --json `show` and `check` print an object: `decisions`, each with its `text
 from __future__ import annotations
 
 import argparse
+import contextlib
 import os
 from dataclasses import dataclass
 
@@ -146,8 +147,7 @@ def check(series: Decisions) -> int:
 
 def send(series: Decisions) -> int:
     """Sends the lines that the journal lacks, after a question; the status."""
-    if not series.link:
-        raise Trouble("no office is open: open it, and send again")
+    series.office()
     first = series.state()
     lines = first.decided.lines
     say("\n".join(shown(first.decided)))
@@ -172,13 +172,10 @@ def send(series: Decisions) -> int:
     return 1 if stale else 0
 
 
-def done(folder: str, what: str) -> int:
+def work_out(folder: str, what: str) -> int:
     """Does a command; the status."""
-    series = Decisions(folder)
-    try:
+    with contextlib.closing(Decisions(folder)) as series:
         return {"show": show, "check": check, "send": send, "json": show_json}[what](series)
-    finally:
-        series.close()
 
 
 def arguments(parser: argparse.ArgumentParser) -> None:
@@ -192,4 +189,4 @@ def run(asked: argparse.Namespace) -> int:
     if asked.json and asked.what == "send":
         asked.complain("--json goes with show and check")
     what = "json" if asked.json else asked.what
-    return status_of(lambda: done(asked.folder, what), asked.folder, tell_json if asked.json else say)
+    return status_of(lambda: work_out(asked.folder, what), asked.folder, tell_json if asked.json else say)

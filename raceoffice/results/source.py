@@ -30,6 +30,12 @@ def now() -> datetime.datetime:
     return datetime.datetime.now(datetime.timezone.utc).replace(microsecond=0)
 
 
+def need_own_names(names: list[str]) -> None:
+    """A Trouble if two folders have one name: pages and their addresses know a series by it."""
+    if twice := [name for name in names if names.count(name) > 1]:
+        raise Trouble(f"two of the folders are called {twice[0]}, and each needs a name of its own")
+
+
 class Source:
     """One series, looked at again and again. `view` is what is shown, and None before the first
     success; `office` is `open`, `journal` or `away`; `checked` is when it was confirmed last."""

@@ -20,7 +20,7 @@ HINT = "If nobody meant that, compare the two before you open the office."
 @dataclass(frozen=True)
 class Noted:
     """The end of a journal as the log has it: when, how many entries, and a short sum of them. Older
-    tools noted no sum."""
+    versions noted no sum."""
     when: str
     entries: int
     digest: str
@@ -34,11 +34,16 @@ def parts_of(data: bytes) -> tuple[bytes, list[bytes]]:
     return b"", lines
 
 
+def with_entries(version: bytes, entries: list[bytes]) -> bytes:
+    """A journal of these entries."""
+    lines = [version, *entries] if version else entries
+    return b"".join(line + b"\n" for line in lines)
+
+
 def first_entries(data: bytes, number: int) -> bytes:
     """A journal up to this entry."""
     version, entries = parts_of(data)
-    lines = ([version] if version else []) + entries[:number]
-    return b"".join(line + b"\n" for line in lines)
+    return with_entries(version, entries[:number])
 
 
 def note_of(data: bytes) -> str:

@@ -148,8 +148,8 @@ def say_if_any(text: str) -> None:
         say(f"   {text}")
 
 
-def new(folder: str) -> None:
-    """Makes a folder with its series.ini and its entry list, once all is asked."""
+def new(folder: str) -> int:
+    """Makes a folder with its series.ini and its entry list, once all is asked; the status."""
     path, list_path = os.path.join(folder, settings.NAME), os.path.join(folder, "entries.csv")
     if os.path.exists(path):
         raise Trouble(f"{folder} has a {settings.NAME} already. Nothing was changed")
@@ -168,6 +168,7 @@ def new(folder: str) -> None:
         say(f"Copied {given} to {list_path}: from now on change that one.")
     replace_whole(path, data_of_settings)
     say(f"Wrote {path}. Next: {command_name()} open {shlex.quote(folder)}")
+    return 0
 
 
 def settings_with(values: dict[str, str]) -> bytes:

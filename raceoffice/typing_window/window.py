@@ -102,8 +102,10 @@ class Window:
     # A line
 
     def prompt(self) -> str:
-        names = [f"{one.folder.name} " * self.several + str(one.at or "") for one in self.sessions]
-        return ", ".join(map(str.strip, names)) + "> "
+        races = [str(session.at or "") for session in self.sessions]
+        if self.several:
+            races = [f"{session.folder.name} {race}".strip() for session, race in zip(self.sessions, races)]
+        return ", ".join(races) + "> "
 
     def is_going_on(self) -> bool:
         """Asks for a line and does it; whether there may be more."""
@@ -351,9 +353,8 @@ def wait(seconds: float) -> None:
 
 def heard(session: Session) -> Trouble:
     """Why an office has ended a link: what came although nothing was asked."""
-    assert session.link
     try:
-        return session.link.heard()
+        return session.office().heard()
     except Trouble as trouble:
         return trouble
 
