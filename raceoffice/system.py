@@ -180,7 +180,7 @@ def addresses_in_networks() -> list[str]:
 
 # Processes
 
-def command_of(number: int) -> list[bytes]:
+def command_line_of(number: int) -> list[bytes]:
     """The words with which a process was started; none if it has ended."""
     with contextlib.suppress(OSError), open(f"/proc/{number}/cmdline", "rb") as file:
         return file.read().split(b"\0")
