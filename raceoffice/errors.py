@@ -18,11 +18,11 @@ class NotThere(Trouble):
     """No file has this name."""
 
 
-class NoTable(Trouble, ValueError):
+class NoTable(Trouble):
     """What a program or an office gave as its table is none."""
 
 
-class NoJournal(Trouble, ValueError):
+class NoJournal(Trouble):
     """What a program or an office gave as its journal is none."""
 
 
@@ -39,7 +39,7 @@ class NotSent(Exception):
     """Why a line wasn't sent, in words."""
 
 
-class Odd(Exception):
+class ForeignPage(Exception):
     """Why a page isn't one that this package wrote, in words."""
 
 

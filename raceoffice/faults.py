@@ -1,4 +1,4 @@
-"""What is around the work of every tool: its status, and what is said of a fault of the tool itself.
+"""What is around the work of every command: its status, and what is said of a fault of the package itself.
 
 Nothing that a file holds ends a board or a window: their loops go on after such a fault.
 """
@@ -15,7 +15,7 @@ from collections.abc import Callable, Iterator
 from raceoffice.characters import utf8
 from raceoffice.errors import Fault, Trouble, Unheard
 from raceoffice.files import PRIVATE, append_whole
-from raceoffice.terminal import print_any_sign, read_any_sign, say, say_json, say_no_more, sentence
+from raceoffice.terminal import say, say_json, say_no_more, sentence, take_any_sign
 
 NAME = "faults.txt"
 # What a shell says of a command that Ctrl-C has ended.
@@ -24,7 +24,7 @@ INTERRUPTED = 130
 
 @contextlib.contextmanager
 def guarded(folder: str, *passed: type[Exception]) -> Iterator[None]:
-    """Makes a Fault of what goes wrong in a tool itself. A Trouble stays as it is, and so do the
+    """Makes a Fault of what goes wrong in the package itself. A Trouble stays as it is, and so do the
     exceptions that are named."""
     try:
         yield
@@ -80,10 +80,9 @@ def tell_json(text: str) -> None:
 
 def status_of(work: Callable[[], int], folder: str = "", tell: Callable[[str], None] = say,
               failed: int = 1) -> int:
-    """Does the work of a tool; its status. That is `failed` after a Trouble, which is told in a sentence,
+    """Does the work of a command; its status. That is `failed` after a Trouble, which is told in a sentence,
     and if what is said can't be written or nobody reads it any more; and 130 after Ctrl-C."""
-    print_any_sign()
-    read_any_sign()
+    take_any_sign()
     try:
         try:
             with guarded(folder, BrokenPipeError, Unheard):

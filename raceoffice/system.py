@@ -27,9 +27,9 @@ if sys.platform == "linux":
 LINUX = sys.platform == "linux"
 # What opening a file may be told: it is closed in programs that are started, no link is followed, and a
 # pipe of its name holds nobody up.
-OWN = getattr(os, "O_CLOEXEC", 0)
-NO_LINK = OWN | getattr(os, "O_NOFOLLOW", 0)
-AT_ONCE = OWN | getattr(os, "O_NONBLOCK", 0)
+NOT_INHERITED = getattr(os, "O_CLOEXEC", 0)
+NO_LINK = NOT_INHERITED | getattr(os, "O_NOFOLLOW", 0)
+AT_ONCE = NOT_INHERITED | getattr(os, "O_NONBLOCK", 0)
 # What the kernel says of each Unix socket that has a path: its flags, its number and the path. A
 # listening socket has this flag.
 SOCKETS = "/proc/net/unix"
@@ -72,7 +72,7 @@ def sync_folder(path: str) -> None:
     """Puts the names in a folder on the disk."""
     if os.name == "nt":
         return
-    number = os.open(path, os.O_RDONLY | OWN)
+    number = os.open(path, os.O_RDONLY | NOT_INHERITED)
     try:
         os.fsync(number)
     finally:
@@ -80,7 +80,7 @@ def sync_folder(path: str) -> None:
 
 
 @contextlib.contextmanager
-def lent(files: Mapping[str, bytes | None]) -> Iterator[tuple[list[str], list[int]]]:
+def lent_files(files: Mapping[str, bytes | None]) -> Iterator[tuple[list[str], list[int]]]:
     """Files that a program reads and nobody keeps, by the options that name them: the words of its command,
     and the numbers that it has to be given."""
     words: list[str] = []
@@ -124,7 +124,7 @@ def socket_of_office() -> socket.socket:
 @contextlib.contextmanager
 def short_name(path: str) -> Iterator[str]:
     """The name by which a socket is reached: it may have 107 bytes, and a folder's path may have more."""
-    folder = os.open(os.path.dirname(path) or ".", os.O_PATH | OWN)
+    folder = os.open(os.path.dirname(path) or ".", os.O_PATH | NOT_INHERITED)
     try:
         yield f"/proc/self/fd/{folder}/{os.path.basename(path)}"
     finally:
@@ -180,7 +180,7 @@ def addresses_in_networks() -> list[str]:
 
 # Processes
 
-def command_of(number: int) -> list[bytes]:
+def command_line_of(number: int) -> list[bytes]:
     """The words with which a process was started; none if it has ended."""
     with contextlib.suppress(OSError), open(f"/proc/{number}/cmdline", "rb") as file:
         return file.read().split(b"\0")

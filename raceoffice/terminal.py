@@ -1,4 +1,4 @@
-"""Questions at a terminal, and what a tool says."""
+"""Questions at a terminal, and what a command says."""
 from __future__ import annotations
 
 import io
@@ -52,16 +52,12 @@ def command_name() -> str:
     return "python3 -m raceoffice" if os.path.basename(sys.argv[0]) == "__main__.py" else "raceoffice"
 
 
-def print_any_sign() -> None:
-    """From now on a sign that the terminal's encoding lacks is printed as `?`."""
-    if isinstance(sys.stdout, io.TextIOWrapper):
-        sys.stdout.reconfigure(errors="replace")
-
-
-def read_any_sign() -> None:
-    """From now on a byte that the terminal's encoding lacks is read as a sign of its own."""
-    if isinstance(sys.stdin, io.TextIOWrapper):
-        sys.stdin.reconfigure(errors="replace")
+def take_any_sign() -> None:
+    """From now on a sign that the terminal's encoding lacks is printed as `?`, and a byte that it lacks is
+    read as a sign of its own."""
+    for stream in (sys.stdin, sys.stdout):
+        if isinstance(stream, io.TextIOWrapper):
+            stream.reconfigure(errors="replace")
 
 
 def put_out(text: str) -> None:
@@ -101,7 +97,7 @@ def say_if_heard(text: str, end: str = "\n") -> None:
 
 
 def say_no_more() -> None:
-    """From now on nothing is printed: what is left in the buffer would fail again when the tool ends."""
+    """From now on nothing is printed: what is left in the buffer would fail again when this program ends."""
     nowhere = os.open(os.devnull, os.O_WRONLY)
     os.dup2(nowhere, sys.stdout.fileno())
     os.close(nowhere)

@@ -16,7 +16,7 @@ from typing import Any
 import helpers
 
 from raceoffice.commands import export
-from raceoffice.errors import Odd, Trouble, Unsure
+from raceoffice.errors import ForeignPage, Trouble, Unsure
 from raceoffice.program import replay
 from raceoffice.results.html import page as pages, sealing
 from raceoffice.results.html.listing import listing
@@ -66,7 +66,7 @@ def sealed(whole: dict[str, Any]) -> str:
 
 def text_of(value: object) -> str:
     """A value as a block has it. Half a sign can only be written by its number."""
-    return re.sub("[\ud800-\udfff]", lambda half: f"\\u{ord(half[0]):04x}", sealing.text_of(value))
+    return re.sub("[\ud800-\udfff]", lambda half: f"\\u{ord(half[0]):04x}", sealing.as_text(value))
 
 
 def with_block(page: str, block: str) -> str:
@@ -225,6 +225,6 @@ class ForgedPages(helpers.Series):
         """Whether a page is verified; any other end than those of `verify` is a fault."""
         try:
             self.verifier.verified(page)
-        except (Odd, Unsure, Trouble):
+        except (ForeignPage, Unsure, Trouble):
             return False
         return True

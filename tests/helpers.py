@@ -254,7 +254,7 @@ class Series(unittest.TestCase):
         with open(os.path.join(folder, "entries.csv"), "w", encoding="utf-8") as file:
             file.write(entries)
         with open(os.path.join(folder, "series.ini"), "w", encoding="utf-8") as file:
-            file.write(settings.text_of({"title": "Autumn Cup", "program": PROGRAM, "zone": "UTC",
+            file.write(settings.filled_in({"title": "Autumn Cup", "program": PROGRAM, "zone": "UTC",
                                          **values}))
         return folder
 

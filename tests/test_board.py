@@ -480,7 +480,7 @@ class Moments(unittest.TestCase):
         for zone, moment, wanted in shown:
             with helpers.folder() as here:
                 with open(os.path.join(here, "series.ini"), "w") as file:
-                    file.write(settings.text_of({"title": "x", "zone": zone}))
+                    file.write(settings.filled_in({"title": "x", "zone": zone}))
                 view = View("x", settings.read(here), Standing((), ()), Series(), {}, {},
                             datetime.datetime(2026, 1, 1))
                 when = datetime.datetime(*moment, tzinfo=datetime.timezone.utc)

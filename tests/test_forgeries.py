@@ -15,7 +15,7 @@ import helpers
 
 from allowed import odd_parts
 from forger import ForgedPages, Forger, Path, put, resealed, seals, whole_of
-from raceoffice.errors import Odd, Unsure
+from raceoffice.errors import ForeignPage, Unsure
 from raceoffice.results.html.notice import results as notice
 from raceoffice.results.html.overall import overall
 from raceoffice.results.html.page import confirmed
@@ -62,7 +62,7 @@ class Forgeries(ForgedPages):
 
     def why(self, page: str) -> str:
         """Why a page isn't verified."""
-        with self.assertRaises((Odd, Unsure)) as found:
+        with self.assertRaises((ForeignPage, Unsure)) as found:
             self.verifier.verified(page)
         return str(found.exception)
 
@@ -300,7 +300,7 @@ class Forgeries(ForgedPages):
                       page.replace("<main", f"{piece * few}<main"), page.replace("</td>", piece * few, 1)]
         for text in cases:
             begun = time.process_time()
-            with contextlib.suppress(Odd, Unsure):
+            with contextlib.suppress(ForeignPage, Unsure):
                 self.verifier.verified(text)
                 self.fail(text[:80])
             self.assertLess(time.process_time() - begun, 1, f"{text[:40]!r} .. {text[-40:]!r}")

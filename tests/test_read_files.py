@@ -125,7 +125,7 @@ class Readers(unittest.TestCase):
             if wrong:
                 return
             given = sheets.for_program([entry for entry in found if entry.is_timed])
-            rows = read_list.rows_of(read_list.text_of(given), ",")
+            rows = read_list.rows_of(read_list.decoded(given), ",")
             assert all(len(row) == len(sheets.HEADS) for _, row in rows)
             assert headings.columns(rows[0][1], headings.SHEET).keys() >= sheets.HEADS.keys()
 
@@ -209,7 +209,7 @@ class Readers(unittest.TestCase):
             self.each("log", log)
             self.each("journal", lambda data: [line.isprintable() or self.fail(line)
                                                for line in batch.lines_of(data)])
-            self.each("journal", lambda data: entries_of(data.decode("ascii", "replace")))
+            self.each("journal", entries_of)
 
 
 if __name__ == "__main__":

@@ -17,14 +17,14 @@ class Settings(unittest.TestCase):
             return settings.read(name)
 
     def test_defaults_and_marks(self) -> None:
-        text = settings.text_of({"title": "Cup"})
+        text = settings.filled_in({"title": "Cup"})
         for given in (text, text.replace("\n", "\r\n")):
             self.assertEqual(self.read(given, "utf-8-sig").options(),
                              ["--exclude", "2", "--absent", "a52"])
         self.assertEqual(self.read("[series]\ntitle = Cup\n"), self.read(text))
 
     def test_rules(self) -> None:
-        text = settings.text_of({"title": "Cup", "exclude": "4,8", "absent": "a53", "scp": "3",
+        text = settings.filled_in({"title": "Cup", "exclude": "4,8", "absent": "a53", "scp": "3",
                                  "handicap": "yes"})
         self.assertEqual(self.read(text).options(), ["--exclude", "4,8", "--absent", "a53", "--scp",
                                                      "3", "--handicap"])
@@ -47,7 +47,7 @@ class Settings(unittest.TestCase):
                            ("every", "0"), ("port", "70000"), ("address", "localhost"),
                            ("address", "10.0.0.256"),
                            ("title", "")]:
-            text = settings.text_of({"title": "Cup", key: value})
+            text = settings.filled_in({"title": "Cup", key: value})
             wrong = settings.problems(text)
             self.assertEqual(len(wrong), 1, (key, value))
             line = int(wrong[0].split("line ")[1].split(":")[0])
@@ -57,11 +57,11 @@ class Settings(unittest.TestCase):
     def test_long_numbers(self) -> None:
         """Numbers of any length are wrong values, and no page of Python."""
         for key in ("seats", "every", "port", "scp", "exclude"):
-            wrong = settings.problems(settings.text_of({"title": "Cup", key: "1" * 10_000}))
+            wrong = settings.problems(settings.filled_in({"title": "Cup", key: "1" * 10_000}))
             self.assertEqual(len(wrong), 1)
             self.assertIn(f"{key} is '1111", wrong[0])
-        self.assertNotEqual(settings.problems(settings.text_of({"title": "Cup", "exclude": "\u0664,\u0668"})),
-                            [])
+        in_arabic = settings.filled_in({"title": "Cup", "exclude": "\u0664,\u0668"})
+        self.assertNotEqual(settings.problems(in_arabic), [])
 
     def test_line_ends(self) -> None:
         """Lines end where every editor ends them; what else would end one is named, and sets nothing."""
@@ -80,7 +80,7 @@ class Settings(unittest.TestCase):
 
     def test_one_line(self) -> None:
         """What somebody types at a question is one value."""
-        text = settings.text_of({"title": "A\x85[rules]\nexclude = none\x1b", "copy": "/a  b"})
+        text = settings.filled_in({"title": "A\x85[rules]\nexclude = none\x1b", "copy": "/a  b"})
         self.assertEqual((self.read(text).title, self.read(text).copy), ("A [rules] exclude = none", "/a  b"))
 
     def test_files(self) -> None:
@@ -100,7 +100,7 @@ class Settings(unittest.TestCase):
             "series.ini, line 5: no section is called [rule]."])
 
     def test_one_value_changed(self) -> None:
-        text = settings.text_of({"title": "Cup"}).replace("[notice]", "[notice] \n# mine")
+        text = settings.filled_in({"title": "Cup"}).replace("[notice]", "[notice] \n# mine")
         changed = settings.with_value(text, "notice", "state", "final")
         self.assertEqual(changed, text.replace("state = provisional", "state = final"))
         self.assertEqual(self.read(changed).state, "final")

@@ -522,6 +522,11 @@ Nothing of race 1 has to be taken away.
         self.assertIn("Stopped: line 2 has the sign", said)
         self.assertNotIn("> FINISH", said)
         self.assertIn("need --role", helpers.run("type", "cup", lines="x", cwd=self.here)[0])
+        for number in ("0", "-5", "two"):
+            said, status = helpers.run("type", "cup", "--role", "finish", f"--from={number}", lines="x",
+                                       cwd=self.here)
+            self.assertIn(f"'{number}' is no number of a line, from 1 on", said)
+            self.assertEqual(status, 2)
 
     def test_unscore(self) -> None:
         """To take a race out of the results is asked, and what that moves is said."""

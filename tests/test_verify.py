@@ -22,7 +22,7 @@ import helpers
 
 from forger import block_in, journal_of, resealed
 from raceoffice.commands import export
-from raceoffice.errors import Odd, Unsure
+from raceoffice.errors import ForeignPage, Unsure
 from raceoffice.program.standing import Score
 from raceoffice.results.html import notice, overall
 from raceoffice.results.html.markup import Markup, tag
@@ -68,7 +68,7 @@ class Pages(helpers.Series):
 
     def odd(self, page: str) -> str:
         """Why a page isn't verified."""
-        with self.assertRaises(Odd) as found:
+        with self.assertRaises(ForeignPage) as found:
             self.verifier.verified(page)
         return str(found.exception)
 
@@ -89,7 +89,7 @@ class Pages(helpers.Series):
             try:
                 self.verifier.verified(page[:place] + sign + page[place + 1:])
                 unfound.append((kind, page[place - 20:place + 20], sign))
-            except Odd as odd:
+            except ForeignPage as odd:
                 why.append((kind, str(odd)))
         self.assertEqual(unfound, [])
         said = {kind: [text for name, text in why if name == kind] for kind in spans}

@@ -32,7 +32,7 @@ from raceoffice.faults import WRITTEN, guarded, status_of, written
 from raceoffice.results.http_answers import Board, addresses
 from raceoffice.results.publish import Files, Site, served
 from raceoffice.results.server import Listener
-from raceoffice.results.source import Source
+from raceoffice.results.source import Source, need_own_names
 from raceoffice.series.folder import clock
 from raceoffice.series.settings import is_address, is_between
 from raceoffice.terminal import Once, say, say_if_heard, sentence
@@ -166,8 +166,8 @@ def arguments(parser: argparse.ArgumentParser) -> None:
     parser.set_defaults(complain=parser.error)
 
 
-def look_at(asked: argparse.Namespace) -> None:
-    """Says which options don't go together."""
+def refuse_options(asked: argparse.Namespace) -> None:
+    """Ends the command if options don't go together."""
     if asked.once and asked.http is not None:
         asked.complain("--once writes files: it goes with --page, and not with --http")
     if asked.address and asked.http is None:
@@ -181,8 +181,7 @@ def sources_of(folders: list[str]) -> list[Source]:
     for name in names:
         if name in ("index.html", "now.json"):
             raise Trouble(f"a page is called {name}, too: give that folder another name")
-        if names.count(name) > 1:
-            raise Trouble(f"two of the folders are called {name}, and each needs a name of its own")
+    need_own_names(names)
     return found
 
 
@@ -249,7 +248,7 @@ def stop(number: int, _frame: object) -> None:
 
 
 def run(asked: argparse.Namespace) -> int:
-    look_at(asked)
+    refuse_options(asked)
     for number in system.STOPS:
         signal.signal(number, stop)
     try:

@@ -27,6 +27,7 @@ With --json `show` and `check` print an object: `decisions`, each with its `text
 from __future__ import annotations
 
 import argparse
+import contextlib
 import os
 from dataclasses import dataclass
 
@@ -36,7 +37,7 @@ from raceoffice.decisions.points import Decided, decided
 from raceoffice.errors import Trouble
 from raceoffice.faults import status_of, tell_json
 from raceoffice.program.replay import Line
-from raceoffice.results.source import Source
+from raceoffice.series.run_program import opened_rules
 from raceoffice.series.sender import Sender
 from raceoffice.series.settings import Settings
 from raceoffice.terminal import command_name, question, say, say_json, sentence
@@ -60,7 +61,7 @@ class Decisions(Sender):
 
     def settings(self) -> list[str]:
         """The rules as options: those of the open office, if one is open."""
-        rules = Source(self.folder.path).opened_rules() if self.link else {}
+        rules = opened_rules(self.folder) if self.link else {}
         values = {**vars(self.folder.settings), **rules}
         return Settings(**values).options()
 
@@ -146,8 +147,7 @@ def check(series: Decisions) -> int:
 
 def send(series: Decisions) -> int:
     """Sends the lines that the journal lacks, after a question; the status."""
-    if not series.link:
-        raise Trouble("no office is open: open it, and send again")
+    series.office()
     first = series.state()
     lines = first.decided.lines
     say("\n".join(shown(first.decided)))
@@ -172,13 +172,10 @@ def send(series: Decisions) -> int:
     return 1 if stale else 0
 
 
-def done(folder: str, what: str) -> int:
+def work_out(folder: str, what: str) -> int:
     """Does a command; the status."""
-    series = Decisions(folder)
-    try:
+    with contextlib.closing(Decisions(folder)) as series:
         return {"show": show, "check": check, "send": send, "json": show_json}[what](series)
-    finally:
-        series.close()
 
 
 def arguments(parser: argparse.ArgumentParser) -> None:
@@ -192,4 +189,4 @@ def run(asked: argparse.Namespace) -> int:
     if asked.json and asked.what == "send":
         asked.complain("--json goes with show and check")
     what = "json" if asked.json else asked.what
-    return status_of(lambda: done(asked.folder, what), asked.folder, tell_json if asked.json else say)
+    return status_of(lambda: work_out(asked.folder, what), asked.folder, tell_json if asked.json else say)

@@ -18,18 +18,17 @@ import dataclasses
 import sys
 from collections.abc import Callable, Sequence
 
-from raceoffice.errors import Trouble
 from raceoffice.faults import status_of
 from raceoffice.files import replace_whole
 from raceoffice.program.replay import developed
 from raceoffice.results.html.notice import results
-from raceoffice.results.mail import mail
 from raceoffice.results.html.sealing import version_of
+from raceoffice.results.mail import mail
 from raceoffice.results.snapshot import View, as_json, csv_heads, csv_row, labels_of, results_value
-from raceoffice.results.source import Source
+from raceoffice.results.source import Source, need_own_names
 from raceoffice.results.spreadsheet import Cell, csv_of
 from raceoffice.terminal import Progress, say, sentence, visible
-from raceoffice.wording import count
+from raceoffice.wording import count, joined
 
 
 def warn(text: str) -> None:
@@ -40,10 +39,7 @@ def view_of(folder: str, tell: Callable[[str], None] = warn) -> View:
     """The results of a series by its journal, with the standing after each race. `tell` is called with
     each trouble that doesn't keep them from being shown."""
     source = Source(folder)
-    try:
-        source.show(source.from_journal())
-    except ValueError as cause:
-        raise Trouble(str(cause)) from None
+    source.show(source.from_journal())
     for text in source.notes.values():
         if text:
             tell(f"{source.name}: {sentence(text)}")
@@ -77,8 +73,8 @@ def arguments(parser: argparse.ArgumentParser) -> None:
     parser.set_defaults(complain=parser.error)
 
 
-def look_at(asked: argparse.Namespace) -> None:
-    """Says which options don't go together, or what is missing."""
+def refuse_options(asked: argparse.Namespace) -> None:
+    """Ends the command if options don't go together, or if nothing is asked for."""
     if asked.semicolons and not asked.csv:
         asked.complain("--semicolons goes with --csv")
     if not (asked.html or asked.csv or asked.json or asked.text):
@@ -88,15 +84,12 @@ def look_at(asked: argparse.Namespace) -> None:
 def views_of(folders: Sequence[str]) -> list[View]:
     """The results of the series, whose folders have to have different names: a page knows them by these."""
     views = [view_of(folder) for folder in folders]
-    names = [view.name for view in views]
-    for name in names:
-        if names.count(name) > 1:
-            raise Trouble(f"two of the folders are called {name}, and each needs a name of its own")
+    need_own_names([view.name for view in views])
     return views
 
 
-def write(asked: argparse.Namespace, views: list[View]) -> None:
-    """Writes and prints what was asked for."""
+def write(asked: argparse.Namespace, views: list[View]) -> int:
+    """Writes and prints what was asked for; the status."""
     if asked.html:
         replace_whole(asked.html, results(views).encode(), True)
     if asked.csv:
@@ -108,14 +101,11 @@ def write(asked: argparse.Namespace, views: list[View]) -> None:
     else:
         said = ", ".join(f"{view.label} ({count(len(view.standing.rows), 'boat')}, "
                          f"{count(len(view.standing.races), 'race')})" for view in views)
-        say(f"{' and '.join(path for path in (asked.html, asked.csv, asked.json) if path)}: {said}")
+        say(f"{joined([path for path in (asked.html, asked.csv, asked.json) if path])}: {said}")
+    return 0
 
 
 def run(asked: argparse.Namespace) -> int:
-    look_at(asked)
+    refuse_options(asked)
 
-    def work() -> int:
-        write(asked, views_of(asked.folder))
-        return 0
-
-    return status_of(work, asked.folder[0], warn)
+    return status_of(lambda: write(asked, views_of(asked.folder)), asked.folder[0], warn)

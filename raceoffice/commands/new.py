@@ -32,8 +32,4 @@ def arguments(parser: argparse.ArgumentParser) -> None:
 
 
 def run(asked: argparse.Namespace) -> int:
-    def work() -> int:
-        new(asked.folder)
-        return 0
-
-    return status_of(work, asked.folder)
+    return status_of(lambda: new(asked.folder), asked.folder)

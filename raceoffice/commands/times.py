@@ -34,7 +34,7 @@ from __future__ import annotations
 
 import argparse
 
-from raceoffice.corrected.times import done
+from raceoffice.corrected.times import correct
 from raceoffice.faults import status_of
 
 
@@ -45,4 +45,4 @@ def arguments(parser: argparse.ArgumentParser) -> None:
 
 
 def run(asked: argparse.Namespace) -> int:
-    return status_of(lambda: done(asked.folder, asked.race, asked.send), asked.folder)
+    return status_of(lambda: correct(asked.folder, asked.race, asked.send), asked.folder)

@@ -31,6 +31,7 @@ from raceoffice.characters import is_utf8
 from raceoffice.errors import Trouble
 from raceoffice.faults import status_of
 from raceoffice.series.folder import Folder
+from raceoffice.series.settings import is_between
 from raceoffice.terminal import answer, command_name, say
 from raceoffice.typing_window.batch import LARGEST, Batch, lines_of
 from raceoffice.typing_window.session import Session
@@ -74,6 +75,12 @@ def send_file(asked: argparse.Namespace) -> int:
     return Batch(session, lines, again).send(asked.start, asked.go_on)
 
 
+def line_number(text: str) -> int:
+    if not is_between(1, 999_999_999)(text):
+        raise argparse.ArgumentTypeError(f"{text!r} is no number of a line, from 1 on")
+    return int(text)
+
+
 def in_utf8(text: str) -> str:
     """A word of the command line that goes into a file."""
     if not is_utf8(text):
@@ -81,17 +88,17 @@ def in_utf8(text: str) -> str:
     return on_one_line(text)
 
 
-def arguments(words: argparse.ArgumentParser) -> None:
-    words.add_argument("folders", nargs="+", metavar="FOLDER", help="the folder of a series")
-    words.add_argument("--role", help="whose lines these are: finish, jury or scorer; it is asked for "
+def arguments(parser: argparse.ArgumentParser) -> None:
+    parser.add_argument("folders", nargs="+", metavar="FOLDER", help="the folder of a series")
+    parser.add_argument("--role", help="whose lines these are: finish, jury or scorer; it is asked for "
                        "if it isn't given")
-    words.add_argument("--name", type=in_utf8, default="", help="who types, for office.log")
-    words.add_argument("--from", dest="start", type=int, default=1, metavar="N",
+    parser.add_argument("--name", type=in_utf8, default="", help="who types, for office.log")
+    parser.add_argument("--from", dest="start", type=line_number, default=1, metavar="N",
                        help="the first line of a file that is sent")
-    words.add_argument("--go-on", action="store_true", help="go on after a refused line of a file")
+    parser.add_argument("--go-on", action="store_true", help="go on after a refused line of a file")
 
 
-def done(asked: argparse.Namespace) -> int:
+def type_lines(asked: argparse.Namespace) -> int:
     """Sends a file's lines, or is a window; the status."""
     if not sys.stdin.isatty():
         return send_file(asked)
@@ -100,4 +107,4 @@ def done(asked: argparse.Namespace) -> int:
 
 
 def run(asked: argparse.Namespace) -> int:
-    return status_of(lambda: done(asked), asked.folders[0], lambda text: say(f"Stopped: {text}"))
+    return status_of(lambda: type_lines(asked), asked.folders[0], lambda text: say(f"Stopped: {text}"))

@@ -2,6 +2,7 @@
 sent as lines to the office."""
 from __future__ import annotations
 
+import contextlib
 import os
 import re
 import subprocess
@@ -195,7 +196,7 @@ class Times(Sender):
         words = ["--race", str(race), "--system", self.rules.system, "--rounding", self.rules.rounding,
                  *(["--overnight"] if race in self.rules.overnight else [])]
         try:
-            with system.lent({"--entries": ratings}) as (files, numbers):
+            with system.lent_files({"--entries": ratings}) as (files, numbers):
                 return subprocess.run([self.rules.program, "sums", *words, *files], input=sheet,
                                       capture_output=True, timeout=PATIENCE, pass_fds=numbers)
         except (OSError, subprocess.TimeoutExpired) as cause:
@@ -318,8 +319,7 @@ def run(series: Times, races: list[int], is_sent: bool) -> int:
     if not is_sent:
         print("\n".join(lines), flush=True)
         return 0
-    if not series.link:
-        raise Trouble("no office is open: open it, and send again")
+    series.office()
     if not question("Send them?"):
         say("Not sent.")
         return 1
@@ -339,10 +339,7 @@ def races_of(series: Times, text: str) -> list[int]:
     return [int(text)]
 
 
-def done(folder: str, race: str, is_sent: bool) -> int:
-    """Does what was asked for; the status."""
-    series = Times(folder)
-    try:
+def correct(folder: str, race: str, is_sent: bool) -> int:
+    """Shows races beside the journal, or sends what differs; the status."""
+    with contextlib.closing(Times(folder)) as series:
         return run(series, races_of(series, race), is_sent)
-    finally:
-        series.close()

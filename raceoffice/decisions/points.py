@@ -204,8 +204,10 @@ class Figures:
         if coded:
             return coded[0], []
         came = [sail for sail in self.series.boats if self.came(number, sail)] or self.series.boats
-        holds = self.held.get((number, came[0]), Holding()).is_any
-        return came[0], [cleared(number, came[0])] * holds + [marked(number, came[0], "DNF")]
+        marking = [marked(number, came[0], "DNF")]
+        if self.held.get((number, came[0]), Holding()).is_any:
+            return came[0], [cleared(number, came[0]), *marking]
+        return came[0], marking
 
     def last_lines(self, race: Race) -> tuple[str, list[Line]]:
         """A boat with the points of the last place, and the lines that take penalties and redress

@@ -48,7 +48,7 @@ class Backups:
         """Copies the journal to the second disk, and remembers what is wrong with that."""
         # What is noted meanwhile is copied next time.
         state = self.places.state()
-        answer = self.second.ask("save", text_of(sheet))
+        answer = self.second.ask("save", as_file(sheet))
         self.trouble, self.copied = answer.fault or self.copy_places(), (len(sheet.journal), state)
         self.note = same_disk(self.second.path) if self.second.is_on_our_disk(answer) else ""
 
@@ -83,7 +83,7 @@ class Backups:
         with contextlib.suppress(Trouble):
             if self.is_kept():
                 return first_entries(self.folder.parts()[0], len(self.sheet.journal))
-        return text_of(self.sheet).encode()
+        return as_file(self.sheet).encode()
 
     def keep_dated(self) -> str:
         """Makes a dated copy of the journal in kept/; its name."""
@@ -99,6 +99,6 @@ def same_disk(path: str) -> str:
     return f"The second copy, {path}, is on the same disk as journal.txt. Is the stick in?"
 
 
-def text_of(sheet: Sheet) -> str:
+def as_file(sheet: Sheet) -> str:
     """The journal of a sheet as a file has it."""
     return VERSION + "".join(f"{line}\n" for line in sheet.journal)

@@ -24,7 +24,7 @@ SESSIONS = 4_000
 # Seconds that the program is given to open or to end, the windows to leave, and a program that is
 # stopped before it is killed.
 PATIENCE, LEAVE, SOON = 60.0, 10.0, 5.0
-# How often the program is started, and the seconds between, if something has journal.txt: a tool that
+# How often the program is started, and the seconds between, if something has journal.txt: a command that
 # only looks whether an office has it holds its lock for a moment.
 TRIES, BETWEEN = 5, 0.3
 TAKEN = "regatta: keep taken"

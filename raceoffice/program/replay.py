@@ -39,7 +39,7 @@ def ran(program: str, words: list[str], typed: str = "", journal: bytes | None =
     """A replay of these lines, run to its end, after the journal and the entry list that are given. The
     cause of a Trouble is why the program can't be run, or doesn't end."""
     try:
-        with system.lent({"--journal": journal, "--entries": boats}) as (files, numbers):
+        with system.lent_files({"--journal": journal, "--entries": boats}) as (files, numbers):
             return subprocess.run([program, "replay", *words, *files], input=typed, capture_output=True,
                                   encoding="utf-8", errors="replace", timeout=patience(journal),
                                   pass_fds=numbers)
@@ -52,7 +52,7 @@ def watched(program: str, words: list[str], typed: str, journal: bytes,
     """What a replay prints for a few lines, of which each is seen as soon as it comes."""
     printed: list[str] = []
     try:
-        with system.lent({"--journal": journal}) as (files, numbers), subprocess.Popen(
+        with system.lent_files({"--journal": journal}) as (files, numbers), subprocess.Popen(
                 [program, "replay", *words, *files], stdin=subprocess.PIPE, stdout=subprocess.PIPE,
                 stderr=subprocess.PIPE, encoding="utf-8", errors="replace", pass_fds=numbers) as process:
             assert process.stdin and process.stdout and process.stderr

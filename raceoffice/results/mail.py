@@ -66,7 +66,7 @@ def notes(view: View) -> list[str]:
     return [line for text, name in found for line in wrapped(name + text, "", "  ")]
 
 
-def text_of(view: View) -> str:
+def one_class(view: View) -> str:
     """One class."""
     stale = [line for text in view.decided.stale for line in wrapped(f"! {text}.", "", "  ")]
     stale = ["DECISIONS THAT THESE SCORES DON'T HAVE AS THEY SHOULD:", *stale, ""] if stale else []
@@ -79,4 +79,4 @@ def text_of(view: View) -> str:
 
 def mail(views: Sequence[View]) -> str:
     """All classes."""
-    return "\n\n".join(map(text_of, views))
+    return "\n\n".join(map(one_class, views))

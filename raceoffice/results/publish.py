@@ -77,8 +77,8 @@ class Site:
         shown = [source for source in self.sources if source.view]
         away = [str(at) for at, source in enumerate(shown) if source.office == "away"]
         is_away = len(away) > 0 or len(shown) < len(self.sources)
-        office = ("once" if self.is_once else "open" if not is_away
-                  else ":".join(["away", *[",".join(away)] * bool(away)]))
+        gone = "away:" + ",".join(away) if away else "away"
+        office = "once" if self.is_once else gone if is_away else "open"
         pages = self.kept("", version, lambda: {"/index.html": listing.listing(views)},
                           fresh, checked, office)
         classes = [{"name": label, "address": view.address}

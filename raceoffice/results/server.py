@@ -24,7 +24,7 @@ PATIENCE = 5.0
 # Of each address: how many requests may be unfinished, and how many after this many seconds.
 CROWD, SLOW, MOMENT = 512, 16, 1.0
 # How many files and connections this process may have, if its system allows that, and how many of them
-# are left to the rest of the tool.
+# are left to the rest of the board.
 ROOM, SPARE = 8192, 32
 # Bytes of an answer that are handed over at a time.
 PIECE = 65536
@@ -89,7 +89,7 @@ class Listener:
         self.visits: set[asyncio.Task[None]] = set()
 
     def start(self) -> None:
-        """Answers in a thread of its own until the tool ends."""
+        """Answers in a thread of its own until the board ends."""
         threading.Thread(target=asyncio.run, args=(self.serve(),), daemon=True).start()
 
     async def serve(self) -> None:

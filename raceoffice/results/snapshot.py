@@ -116,7 +116,8 @@ class View:
         found = [group for group in groups if len(group) > 1]
         # A table whose order isn't that of the rules is no table to show.
         for group in found:
-            list(map(functools.partial(tie_break, self.standing.races), group, group[1:]))
+            for better, worse in zip(group, group[1:]):
+                tie_break(self.standing.races, better, worse)
         return found
 
     def local(self, when: datetime.datetime) -> datetime.datetime:

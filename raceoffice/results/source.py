@@ -1,6 +1,7 @@
 """Where the results of a series come from: its open office, or else its journal."""
 from __future__ import annotations
 
+import contextlib
 import dataclasses
 import datetime
 import os
@@ -16,7 +17,7 @@ from raceoffice.results.snapshot import CHANGED, View, labelled
 from raceoffice.series import entry_list, settings
 from raceoffice.series.folder import Folder
 from raceoffice.series.last_change import is_changed_since, time_of_entry, time_of_notice, time_of_rules
-from raceoffice.series.run_program import replayed, rules_of
+from raceoffice.series.run_program import opened_rules, replayed
 from raceoffice.series.settings import Settings
 from raceoffice.series.windows import BOARD, Presence
 from raceoffice.terminal import command_name, sentence
@@ -27,6 +28,12 @@ PATIENCE = 5.0
 
 def now() -> datetime.datetime:
     return datetime.datetime.now(datetime.timezone.utc).replace(microsecond=0)
+
+
+def need_own_names(names: list[str]) -> None:
+    """A Trouble if two folders have one name: pages and their addresses know a series by it."""
+    if twice := [name for name in names if names.count(name) > 1]:
+        raise Trouble(f"two of the folders are called {twice[0]}, and each needs a name of its own")
 
 
 class Source:
@@ -88,16 +95,11 @@ class Source:
         self.note("decisions", "")
         return found
 
-    def opened_rules(self) -> dict[str, object]:
-        """The rules that the open office has: series.ini may have been changed since."""
-        opened = [entry.role for entry in self.folder.logged() if entry.line == "opened"]
-        return rules_of(opened[-1].split()) if opened else {}
-
     def open_link(self) -> Link:
         """The link to the office, kept while the office is open: each new one uses up a session."""
         if self.link is None:
             self.link = Link(self.folder.socket, PATIENCE)
-            self.rules = self.opened_rules()
+            self.rules = opened_rules(self.folder)
             self.presence = Presence(self.folder, BOARD)
             self.log("came")
         return self.link
@@ -145,19 +147,17 @@ class Source:
             is_open = os.path.lexists(self.folder.socket) and not self.folder.is_closing()
             sheet = self.from_office() if is_open else self.from_journal()
             self.show(sheet)
-        except (Trouble, ValueError) as cause:
+        except Trouble:
             self.office = "away"
             if self.view is None:
                 self.show_saved()
-            raise Trouble(str(cause)) from None
+            raise
         self.office, self.checked = "open" if is_open else "journal", now()
 
     def show_saved(self) -> None:
         """Shows what journal.txt has, if an office has gone before the board came."""
-        try:
+        with contextlib.suppress(Trouble):
             self.show(replayed(self.folder, self.settings.options()))
-        except (Trouble, ValueError):
-            pass
 
     def show(self, sheet: Sheet) -> None:
         """Makes a new view if anything that it shows has changed."""
@@ -225,5 +225,6 @@ class Source:
             files.append(self.folder.file(settings.NAME))
         times += [datetime.datetime.fromtimestamp(int(os.path.getmtime(path)), datetime.timezone.utc)
                   for path in files if os.path.exists(path)]
-        times += [now()] * (is_seen and not entry)
+        if is_seen and not entry:
+            times.append(now())
         return max(times, default=now())

@@ -13,7 +13,7 @@ from raceoffice.series.folder import Folder
 from raceoffice.series.kept_places import kept_in_words
 from raceoffice.series.last_change import mark_of
 from raceoffice.series.run_program import replayed
-from raceoffice.terminal import question, say, typed
+from raceoffice.terminal import answer, question, say
 from raceoffice.wording import count, joined, on_one_line
 
 
@@ -61,7 +61,7 @@ def announce(path: str, state: str, reason: str) -> int:
 
 def asked_reason() -> str:
     """Why the results were amended; empty if nobody says."""
-    return on_one_line(typed("Why? The board shows it: ") or "")
+    return on_one_line(answer("Why? The board shows it: "))
 
 
 def is_agreed(folder: Folder, sheet: Sheet, state: str) -> bool:

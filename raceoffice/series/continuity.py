@@ -8,7 +8,7 @@ from dataclasses import dataclass
 
 from raceoffice.errors import Trouble
 from raceoffice.series.copies import Copy, bytes_of, newest
-from raceoffice.series.folder import Folder, Logged
+from raceoffice.series.folder import Folder, Logged, shown
 from raceoffice.wording import count
 
 # What the office notes when it is opened or closed, and when a copy becomes the journal again.
@@ -20,7 +20,7 @@ HINT = "If nobody meant that, compare the two before you open the office."
 @dataclass(frozen=True)
 class Noted:
     """The end of a journal as the log has it: when, how many entries, and a short sum of them. Older
-    tools noted no sum."""
+    versions noted no sum."""
     when: str
     entries: int
     digest: str
@@ -34,11 +34,16 @@ def parts_of(data: bytes) -> tuple[bytes, list[bytes]]:
     return b"", lines
 
 
+def with_entries(version: bytes, entries: list[bytes]) -> bytes:
+    """A journal of these entries."""
+    lines = [version, *entries] if version else entries
+    return b"".join(line + b"\n" for line in lines)
+
+
 def first_entries(data: bytes, number: int) -> bytes:
     """A journal up to this entry."""
     version, entries = parts_of(data)
-    lines = ([version] if version else []) + entries[:number]
-    return b"".join(line + b"\n" for line in lines)
+    return with_entries(version, entries[:number])
 
 
 def note_of(data: bytes) -> str:
@@ -114,8 +119,3 @@ def from_note(data: bytes, noted: Noted) -> str:
     if noted.digest and digest_of(first_entries(data, noted.entries)) != noted.digest:
         return f"{had}, and these aren't the same. No copy in kept/ shows which differs."
     return ""
-
-
-def shown(line: bytes) -> str:
-    """A line of a journal, without signs that a terminal would follow."""
-    return "".join(chr(byte) if 32 <= byte < 127 else "?" for byte in line[:80])

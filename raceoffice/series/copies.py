@@ -76,7 +76,7 @@ def best_copy(folder: Folder, second: Second) -> tuple[str, bytes]:
     last = newest(folder)
     held = bytes_of(folder, last) if last else b""
     other = second.ask("read").text.encode() if copy_of(folder) else b""
-    ours, theirs = lines_in(held), lines_in(other)
+    ours, theirs = entries_of(held), entries_of(other)
     if len(theirs) > len(ours) and theirs[:len(ours)] == ours:
         return copy_of(folder), other
     return (folder.file(last.name), held) if last and ours else ("", b"")
@@ -86,11 +86,6 @@ def places_with(folder: Folder, second: Second, data: bytes) -> str:
     """The copy of the places in the second folder, if that has copies of this journal."""
     if not copy_of(folder):
         return ""
-    ours, theirs = lines_in(data), lines_in(second.ask("read").text.encode())
+    ours, theirs = entries_of(data), entries_of(second.ask("read").text.encode())
     is_of_this = theirs and theirs == ours[:len(theirs)]
     return second.ask("read", path=places_copy_of(folder)).text if is_of_this else ""
-
-
-def lines_in(data: bytes) -> list[str]:
-    """The entries of a journal's bytes."""
-    return entries_of(data.decode("ascii", "replace"))

@@ -148,8 +148,8 @@ def say_if_any(text: str) -> None:
         say(f"   {text}")
 
 
-def new(folder: str) -> None:
-    """Makes a folder with its series.ini and its entry list, once all is asked."""
+def new(folder: str) -> int:
+    """Makes a folder with its series.ini and its entry list, once all is asked; the status."""
     path, list_path = os.path.join(folder, settings.NAME), os.path.join(folder, "entries.csv")
     if os.path.exists(path):
         raise Trouble(f"{folder} has a {settings.NAME} already. Nothing was changed")
@@ -166,6 +166,7 @@ def new(folder: str) -> None:
     if is_elsewhere:
         say(f"Copied {given} to {list_path}: from now on change that one.")
     say(f"Wrote {path}. Next: {command_name()} open {shlex.quote(folder)}")
+    return 0
 
 
 def write_new(folder: str, values: dict[str, str], entries: bytes | None) -> None:
@@ -179,7 +180,7 @@ def write_new(folder: str, values: dict[str, str], entries: bytes | None) -> Non
 
 def settings_with(values: dict[str, str]) -> bytes:
     """A series.ini with these values; a Trouble if it can't hold the name of a file."""
-    data = utf8(settings.text_of(values))
+    data = utf8(settings.filled_in(values))
     read = settings.values_of(data.decode())
     for key in ("program", "copy"):
         if read.get(key) != values[key]:

@@ -75,7 +75,7 @@ def given(path: str) -> bytes:
 
 
 def columns_left(data: bytes) -> list[str]:
-    """The columns that no tool reads, in a series by ratings either: their headings, or their numbers."""
+    """The columns that nothing reads, in a series by ratings either: their headings, or their numbers."""
     table = table_of(data)
     read_ones = {*columns(table.heads, ENTRIES).values(), *rating_columns(table.heads).values()}
     filled = {at for _, row in [(0, table.heads), *table.rows] for at, cell in enumerate(row) if cell.strip()}

@@ -5,7 +5,6 @@ import contextlib
 import errno
 import glob
 import os
-import re
 import stat
 
 from raceoffice import system
@@ -16,8 +15,8 @@ from raceoffice.program.journal import Series
 from raceoffice.program.standing import Change, changes
 from raceoffice.series import entry_list
 from raceoffice.series.continuity import added
-from raceoffice.series.copies import best_copy, lines_in
-from raceoffice.series.folder import Folder
+from raceoffice.series.copies import best_copy
+from raceoffice.series.folder import Folder, entries_of
 from raceoffice.series.kept_places import kept_in_words
 from raceoffice.series.read_list import bytes_of
 from raceoffice.series.run_program import Program, replayed
@@ -95,21 +94,14 @@ def list_notes(folder: Folder) -> list[str]:
 
 def entries_logged(folder: Folder) -> int:
     """The most entries that the log has seen at an opening or closing."""
-    return max((entries_in_words(entry.answer) for entry in folder.logged()
-                if entry.line in ("opened", "closed")), default=0)
-
-
-def entries_in_words(text: str) -> int:
-    """How many entries a line of the log says, as `74 entries`."""
-    found = re.match(r"([0-9]{1,9}) entr", text)
-    return int(found[1]) if found else 0
+    return max((entry.entries for entry in folder.logged() if entry.line in ("opened", "closed")), default=0)
 
 
 def lost_journal(folder: Folder) -> str:
     """What the log and the copies say of a journal that is empty or gone."""
     with second_of(folder) as second:
         path, data = best_copy(folder, second)
-    held = len(lines_in(data))
+    held = len(entries_of(data))
     had = max(entries_logged(folder), held)
     if not had:
         return ""
@@ -187,7 +179,7 @@ def boats_entered(folder: Folder) -> list[str]:
     """The boats of the journal as the program reads it; none if it can't."""
     try:
         return Series.read(list(replayed(folder, folder.settings.options()).journal)).boats
-    except (Trouble, ValueError):
+    except Trouble:
         return []
 
 
@@ -222,9 +214,8 @@ def summary(folder: Folder) -> str:
 
 def rules_before(folder: Folder) -> list[str]:
     """The options of the last opening, if the settings give others now; else none."""
-    opened = [entry.role for entry in folder.logged() if entry.line == "opened"]
-    now = " ".join(folder.settings.options())
-    return opened[-1].split() if opened and opened[-1] != now and folder.kept() else []
+    before = folder.opened_with()
+    return before if before and before != folder.settings.options() and folder.kept() else []
 
 
 def changes_of_rules(folder: Folder, before: list[str]) -> list[Change]:

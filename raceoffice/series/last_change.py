@@ -4,7 +4,6 @@ from __future__ import annotations
 
 import datetime
 import hashlib
-import re
 from collections.abc import Sequence
 
 from raceoffice.series.folder import Logged
@@ -30,15 +29,19 @@ def time_of_entry(logged: list[Logged], journal: Sequence[str], number: int) -> 
         if entry.answer.split()[:2] == ["OK", str(number)] and is_entry(entry.line, journal[number - 1]):
             found = time_of(entry)
         elif entry.line.startswith("removed "):
-            left = re.match(r"([0-9]{1,9}) entr", entry.answer)
-            found = time_of(entry) if left and number <= int(left[1]) else None
+            found = time_of(entry) if number <= entry.entries else None
     return found
+
+
+def last_notice(logged: list[Logged]) -> Logged | None:
+    """The last announcement; None if there is none."""
+    return next((entry for entry in reversed(logged) if entry.line in STATES), None)
 
 
 def time_of_notice(logged: list[Logged], state: str) -> datetime.datetime | None:
     """When this state was announced; None if the last announcement was another."""
-    announced = [entry for entry in logged if entry.line in STATES]
-    return time_of(announced[-1]) if announced and announced[-1].line == state else None
+    last = last_notice(logged)
+    return time_of(last) if last and last.line == state else None
 
 
 def time_of_rules(logged: list[Logged]) -> datetime.datetime | None:
@@ -55,6 +58,5 @@ def mark_of(table: tuple[str, ...]) -> str:
 
 def is_changed_since(logged: list[Logged], state: str, table: tuple[str, ...]) -> bool:
     """Whether the table isn't that of the announcement; False if none of this state is in the log."""
-    announced = [entry for entry in logged if entry.line in STATES]
-    return (state != "provisional" and bool(announced) and announced[-1].line == state
-            and announced[-1].answer != mark_of(table))
+    last = last_notice(logged)
+    return bool(last and last.line == state != "provisional" and last.answer != mark_of(table))

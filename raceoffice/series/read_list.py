@@ -55,7 +55,7 @@ def bytes_of(path: str) -> bytes:
     return read_whole(path, LARGEST)
 
 
-def text_of(data: bytes) -> str:
+def decoded(data: bytes) -> str:
     """The text of a list: in UTF-8, in what its mark says, or else as old spreadsheets write it. A NUL,
     which some versions of csv refuse, is an odd sign like any other."""
     mark = next((mark for mark in MARKS if data.startswith(mark)), b"")
@@ -96,7 +96,7 @@ def rank_of(rows: Rows) -> int:
 def table_of(data: bytes) -> Table:
     """A list parted where it most likely has to be. One without a heading of sails begins with its first
     row, and an empty one has no headings."""
-    text = text_of(data)
+    text = decoded(data)
     parted = {separator: rows_of(text, separator) for separator in SEPARATORS}
     separator = max(SEPARATORS, key=lambda mark: rank_of(parted[mark]))
     rows = parted[separator]

@@ -10,7 +10,7 @@ from raceoffice.program.messages import moved, refusal
 from raceoffice.program.replay import ran
 from raceoffice.program.standing import Standing, changes
 from raceoffice.series import copies, entry_list
-from raceoffice.series.continuity import difference, note_of, parts_of
+from raceoffice.series.continuity import difference, note_of, parts_of, with_entries
 from raceoffice.series.folder import Folder, Lock
 from raceoffice.series.run_program import Program, replayed
 from raceoffice.series.second_folder import second_of
@@ -88,7 +88,7 @@ def without(data: bytes, numbers: set[int]) -> bytes:
     """A journal without the entries of these numbers. The others stay as they are written."""
     version, lines = parts_of(data)
     left = [line for at, line in enumerate(lines, 1) if at not in numbers]
-    return b"".join(line + b"\n" for line in ([version] if version else []) + left)
+    return with_entries(version, left)
 
 
 def say_moved(folder: Folder, sail: str, data: bytes) -> None:

@@ -104,3 +104,9 @@ def rules_of(options: list[str]) -> dict[str, object]:
     words = dict(zip(options, options[1:] + [""]))
     return {"exclude": words.get("--exclude", "2"), "absent": words.get("--absent", "a52"),
             "scp": words.get("--scp", ""), "handicap": "--handicap" in words}
+
+
+def opened_rules(folder: Folder) -> dict[str, object]:
+    """The rules that the open office has: series.ini may have been changed since."""
+    opened = folder.opened_with()
+    return rules_of(opened) if opened else {}

@@ -25,6 +25,12 @@ class Sender:
         if self.link:
             self.link.close()
 
+    def office(self) -> Link:
+        """The link to the office; a Trouble if none is open."""
+        if not self.link:
+            raise Trouble("no office is open: open it, and send again")
+        return self.link
+
     def sheet(self) -> Sheet:
         """The journal and the table: the office's, or those of the folder."""
         if self.link:
@@ -33,11 +39,10 @@ class Sender:
 
     def answer(self, line: Line) -> str:
         """Sends a line in its role, and logs its answer. A Trouble says why it wasn't taken."""
-        if not self.link:
-            raise Trouble("no office is open: open it, and send again")
+        link = self.office()
         try:
-            self.link.ask(f"ROLE {line.role}")
-            answer = self.link.ask(line.text)
+            link.ask(f"ROLE {line.role}")
+            answer = link.ask(line.text)
         except Trouble:
             self.folder.log(self.who, "", line.role, line.text, UNANSWERED)
             raise

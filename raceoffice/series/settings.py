@@ -251,7 +251,7 @@ def read(folder: str) -> Settings:
     return Settings(**found, handicap=handicap, seats=seats, every=every, port=port)
 
 
-def text_of(values: dict[str, str]) -> str:
+def filled_in(values: dict[str, str]) -> str:
     """A series.ini with these values, and the defaults for all others."""
     known = {key: value for keys in KEYS.values() for key, value in keys.items()} | values
     shown = {key: on_one_line(known[key]) for key in ("title", "class", "club", "reason")}

@@ -58,13 +58,13 @@ def open_windows(folder: Folder, *kinds: str) -> dict[str, str]:
     place, found = folder.file(PRIVATE, FOLDER), {}
     with contextlib.suppress(OSError):
         for number in sorted(os.listdir(place)):
-            kind, _, who = text_of(os.path.join(place, number)).partition("\t")
+            kind, _, who = said_by(os.path.join(place, number)).partition("\t")
             if who and (kind in kinds or not kinds):
                 found[number] = who
     return found
 
 
-def text_of(path: str) -> str:
+def said_by(path: str) -> str:
     """What an open window says of itself; empty if it has gone: then its file is removed."""
     with contextlib.suppress(OSError):
         file = os.open(path, os.O_RDONLY | system.NO_LINK | system.AT_ONCE)

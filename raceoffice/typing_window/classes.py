@@ -8,7 +8,7 @@ from raceoffice.typing_window.session import Session, marked
 from raceoffice.wording import joined
 
 
-class Unsure(NotSent):
+class ClassUnclear(NotSent):
     """Somebody crossed the line, and it isn't clear in which class. `sessions` can keep her place; `sail` is
     what was typed of her sail."""
 
@@ -26,7 +26,7 @@ def session_meant(sessions: list[Session], typed: str) -> tuple[Session, str]:
     words = typed.split()
     if len(sessions) == 1 or not words or words[0].lower() == "help":
         return sessions[0], typed
-    if named := desk_named(sessions, words):
+    if named := class_named(sessions, words):
         return named, " ".join(words[1:])
     first = words[0].upper()
     if first in WHOLE:
@@ -34,7 +34,7 @@ def session_meant(sessions: list[Session], typed: str) -> tuple[Session, str]:
     if first == "UNDO":
         return last_used(sessions), typed
     if meant := marked(words):
-        return desk_keeping(sessions, *meant), typed
+        return class_keeping(sessions, *meant), typed
     rest, found = boats_of_line(sessions, words)
     keepers = [session for session in sessions if session.crossed(typed)]
     if len({id(session) for session, _ in found}) == 1:
@@ -44,10 +44,10 @@ def session_meant(sessions: list[Session], typed: str) -> tuple[Session, str]:
     sail = keepers[0].crossed(typed) if keepers else ""
     if found:
         boats = [f"{session.facts.called(boat)} ({session.folder.name})" for session, boat in found]
-        raise Unsure(f"{' '.join(rest).upper()} may be {joined(boats, 'or')}", ": type her class first",
-                     keepers, sail)
-    raise Unsure("it isn't clear for which class this is", f": type {ways(sessions, typed.strip())}", keepers,
-                 sail)
+        raise ClassUnclear(f"{' '.join(rest).upper()} may be {joined(boats, 'or')}", ": type her class first",
+                           keepers, sail)
+    raise ClassUnclear("it isn't clear for which class this is",
+                       f": type {ways(sessions, typed.strip())}", keepers, sail)
 
 
 def boats_of_line(sessions: list[Session], words: list[str]) -> tuple[list[str], list[tuple[Session, str]]]:
@@ -75,7 +75,7 @@ def ways(sessions: list[Session], line: str) -> str:
     return joined([f"{short(one, sessions)} {line} ({one.folder.name})" for one in sessions], "or")
 
 
-def desk_keeping(sessions: list[Session], mark: str, sail: list[str]) -> Session:
+def class_keeping(sessions: list[Session], mark: str, sail: list[str]) -> Session:
     """The class that the place of a finisher without a sail is in: the one at a race, that of the sail,
     or the one in which somebody is called so."""
     there = [session for session in sessions if session.at]
@@ -89,10 +89,10 @@ def desk_keeping(sessions: list[Session], mark: str, sail: list[str]) -> Session
     way = ways(there, " ".join([mark.lower(), *sail]))
     is_new = not sail and (mark == "?" or not keeping and there[0].crossed(mark.removesuffix("?")))
     keepers = [session for session in there if session.may_keep and is_new]
-    raise Unsure(f"{mark} is for one class", f": type {way}", keepers, mark.removesuffix("?"))
+    raise ClassUnclear(f"{mark} is for one class", f": type {way}", keepers, mark.removesuffix("?"))
 
 
-def desk_named(sessions: list[Session], words: list[str]) -> Session | None:
+def class_named(sessions: list[Session], words: list[str]) -> Session | None:
     """The class that the first word names by its first letters, unless it begins a line or a boat."""
     first = words[0].lower()
     named = [session for session in sessions if session.folder.name.lower().startswith(first)]

@@ -50,18 +50,18 @@ def before_score(facts: Facts, race: Race, unread: list[str]) -> list[str]:
     missing = race.missing(facts.boats)
     penalised = [sail for sail in missing if race.penalties.get(sail)]
     come = ", and under RRS A5.3 as not having come" if facts.is_a53 else ""
-    who = "a finisher" if len(unread) == 1 else "finishers"
-    left = f"{joined(unread)}: {who} without a sail would be left out." if unread else ""
-    asked = {
-        f"{left} Score it all the same?": unread,
-        "Only boats with a code are in the finishing order. Score it all the same?":
-            race.order and not race.places(),
-        f"{facts.all_called(penalised)}: a penalty, but no place and no code. Scored DNC{come}. Is "
-        "that right?": penalised,
-        f"Score race {race.number} with {count(len(missing), 'boat')} as DNC?":
-            missing and race.order,
-    }
-    return [text for text, is_odd in asked.items() if is_odd]
+    asked = []
+    if unread:
+        who = "a finisher" if len(unread) == 1 else "finishers"
+        asked.append(f"{joined(unread)}: {who} without a sail would be left out. Score it all the same?")
+    if race.order and not race.places():
+        asked.append("Only boats with a code are in the finishing order. Score it all the same?")
+    if penalised:
+        asked.append(f"{facts.all_called(penalised)}: a penalty, but no place and no code. Scored DNC{come}. "
+                     "Is that right?")
+    if missing and race.order:
+        asked.append(f"Score race {race.number} with {count(len(missing), 'boat')} as DNC?")
+    return asked
 
 
 def before_clear(race: Race, sail: str) -> list[str]:

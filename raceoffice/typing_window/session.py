@@ -9,7 +9,7 @@ import time
 from collections.abc import Callable
 from dataclasses import dataclass
 
-from raceoffice.errors import NotSent, Trouble
+from raceoffice.errors import Gone, NotSent, Trouble
 from raceoffice.program.journal import Plan, Race, plan_of_abandoning
 from raceoffice.program.link import Link
 from raceoffice.program.messages import refusal
@@ -71,6 +71,12 @@ class Session:
             self.disconnect()
             raise
 
+    def office(self) -> Link:
+        """The link to the office; a Trouble if there is none."""
+        if not self.link:
+            raise Gone("no office is open")
+        return self.link
+
     def disconnect(self) -> None:
         if self.link:
             self.link.close()
@@ -78,8 +84,7 @@ class Session:
 
     def look(self) -> None:
         """Reads journal, table and places as they are now."""
-        assert self.link
-        self.facts.read(self.link.sheet())
+        self.facts.read(self.office().sheet())
         before = self.unread.all
         self.look_at_places()
         if self.history.found:
@@ -173,7 +178,8 @@ class Session:
                 return self.shown_race(self.facts.race(str(self.at)))
             case ["standing"]:
                 self.look()
-                return [f"{self.prefix}rank and net points"] * bool(self.prefix) + standing_lines(self.facts)
+                heading = [f"{self.prefix}rank and net points"] if self.prefix else []
+                return heading + standing_lines(self.facts)
             case ["show"]:
                 self.look()
                 return [*self.facts.sheet.journal, *self.facts.sheet.table]
@@ -284,10 +290,10 @@ class Session:
 
     def exchange(self, line: str) -> str:
         """The office's answer to a line, which is logged before anything else is done."""
-        assert self.link
+        office = self.office()
         self.unanswered = line
         try:
-            answer = self.link.ask(line)
+            answer = office.ask(line)
         except Trouble:
             self.log(line, UNANSWERED)
             raise

@@ -152,6 +152,6 @@ def seats_of(folder: Folder) -> int:
     changed since it was opened."""
     with contextlib.suppress(OSError, ValueError, IndexError):
         with open(folder.file(PRIVATE, "pid"), encoding="ascii") as file:
-            words = system.command_of(int(file.read().split()[0]))
+            words = system.command_line_of(int(file.read().split()[0]))
         return int(words[words.index(b"--clients") + 1])
     return folder.settings.seats

@@ -15,7 +15,7 @@ from raceoffice.series.folder import Folder
 from raceoffice.series.unknown_finishers import Unread, in_words
 from raceoffice.series.windows import BOARD, TYPING, Presence, open_windows
 from raceoffice.terminal import question, say, sentence, visible
-from raceoffice.typing_window.classes import Unsure, choosing, session_meant, greeting
+from raceoffice.typing_window.classes import ClassUnclear, choosing, session_meant, greeting
 from raceoffice.typing_window.parse import COMMANDS, FIRST
 from raceoffice.typing_window.session import Session
 from raceoffice.typing_window.values import Outcome, Question, Said
@@ -102,8 +102,10 @@ class Window:
     # A line
 
     def prompt(self) -> str:
-        names = [f"{one.folder.name} " * self.several + str(one.at or "") for one in self.sessions]
-        return ", ".join(map(str.strip, names)) + "> "
+        races = [str(session.at or "") for session in self.sessions]
+        if self.several:
+            races = [f"{session.folder.name} {race}".strip() for session, race in zip(self.sessions, races)]
+        return ", ".join(races) + "> "
 
     def is_going_on(self) -> bool:
         """Asks for a line and does it; whether there may be more."""
@@ -166,19 +168,19 @@ class Window:
         """Gives a line to the class that it is for. Who may be in several keeps her place in each."""
         try:
             return self.do(*session_meant(self.sessions, line))
-        except Unsure as why:
+        except ClassUnclear as why:
             if not why.sessions:
                 raise
             return self.keep_in_each(why)
 
-    def keep_in_each(self, unsure: Unsure) -> str:
+    def keep_in_each(self, unclear: ClassUnclear) -> str:
         """Keeps a place in each class to which she may belong. Once she is known in one, it is dropped in
         the others."""
-        say(f"   {sentence(unsure.what[:1].upper() + unsure.what[1:])}")
+        say(f"   {sentence(unclear.what[:1].upper() + unclear.what[1:])}")
         why, kept = "", []
-        for session in [session for session in unsure.sessions if session.link]:
+        for session in [session for session in unclear.sessions if session.link]:
             before = session.done
-            why += self.do(session, unsure.sail, Session.keep_crossed)
+            why += self.do(session, unclear.sail, Session.keep_crossed)
             if session.done and session.done.unread and session.done is not before:
                 kept.append((session, session.done.unread))
         self.twins.append(kept)
@@ -351,9 +353,8 @@ def wait(seconds: float) -> None:
 
 def heard(session: Session) -> Trouble:
     """Why an office has ended a link: what came although nothing was asked."""
-    assert session.link
     try:
-        return session.link.heard()
+        return session.office().heard()
     except Trouble as trouble:
         return trouble
 

@@ -9,7 +9,7 @@ from collections.abc import Mapping
 from dataclasses import dataclass
 
 from raceoffice import time_zones
-from raceoffice.errors import Odd, Unsure
+from raceoffice.errors import ForeignPage, Unsure
 from raceoffice.results.html.sealing import ID, KIND, NUMBER, SETTINGS, Carried, Stamp, digest, form, marks
 from raceoffice.series.entry_list import ROOM, SAIL, plain
 from raceoffice.series.settings import CHECKS
@@ -47,21 +47,21 @@ class Kept:
 # The block
 
 def found_in(page: str, now: datetime.datetime) -> Kept:
-    """What a page carries. Odd says what of it raceoffice never writes, or what in it was changed."""
+    """What a page carries. ForeignPage says what of it raceoffice never writes, or what in it was changed."""
     text = block_of(page)
     whole = value_of(text)
     if not isinstance(whole, dict):
-        raise Odd("the block hasn't the parts of one")
+        raise ForeignPage("the block hasn't the parts of one")
     compare_form(whole.get("regatta"))
     if not has_parts(whole):
-        raise Odd("the block hasn't the parts of one: a part was renamed, added or taken out, is of "
+        raise ForeignPage("the block hasn't the parts of one: a part was renamed, added or taken out, is of "
                   "another type, or is too long")
     kept = kept_of(whole)
     for carried, written in zip(kept.series, whole["marks"]):
         compare_marks(carried, written)
     compare_seal(text, whole["seal"])
     if wrong := wrong_form(kept, now):
-        raise Odd(wrong)
+        raise ForeignPage(wrong)
     return kept
 
 
@@ -71,11 +71,11 @@ def block_of(page: str) -> str:
     if found == 0:
         raise Unsure("it has no block that can be verified, so it is no page of results")
     if found > 1:
-        raise Odd(f"it has {found} blocks to verify, and each page has one")
+        raise ForeignPage(f"it has {found} blocks to verify, and each page has one")
     begin = page.index(START) + len(START)
     end = page.find(END, begin)
     if end < 0:
-        raise Odd("the block has no end")
+        raise ForeignPage("the block has no end")
     return page[begin:end]
 
 
@@ -96,11 +96,11 @@ def value_of(text: str) -> object:
         return json.loads(text, parse_int=whole_number, parse_float=no_number, parse_constant=no_number)
     except json.JSONDecodeError as cause:
         line = text.split("\n")[cause.lineno - 1][:80]
-        raise Odd(f"the block isn't JSON at its line {cause.lineno}: {line}") from None
+        raise ForeignPage(f"the block isn't JSON at its line {cause.lineno}: {line}") from None
     except ValueError as cause:
-        raise Odd(f"the block has a number that raceoffice never writes: {cause}") from None
+        raise ForeignPage(f"the block has a number that raceoffice never writes: {cause}") from None
     except RecursionError:
-        raise Odd("the block has too many parts inside one another") from None
+        raise ForeignPage("the block has too many parts inside one another") from None
 
 
 def compare_form(written: object) -> None:
@@ -109,7 +109,7 @@ def compare_form(written: object) -> None:
         return
     named = FORM.fullmatch(written) if isinstance(written, str) else None
     if not named and not (type(written) is int and written == 1):
-        raise Odd("the block doesn't name its form")
+        raise ForeignPage("the block doesn't name its form")
     age = "a newer" if named and int(named[1]) > NUMBER else "an older"
     if named and int(named[1]) == NUMBER:
         age = "another"
@@ -198,13 +198,13 @@ def compare_marks(carried: Carried, written: str) -> None:
                 if fresh[at:at + 4] != written[at:at + 4]), None)
     if odd is not None:
         name, text = (items + [("the last item", "")])[min(odd // 4, len(items))]
-        raise Odd(f"{name} isn't as it was written: {text!r}")
+        raise ForeignPage(f"{name} isn't as it was written: {text!r}")
 
 
 def compare_seal(text: str, seal: object) -> None:
     sealed, _, last = text.rpartition(',\n"seal": ')
     if digest(sealed) != seal or last != f'"{seal}"\n}}\n':
-        raise Odd("the block's seal isn't that of what it holds")
+        raise ForeignPage("the block's seal isn't that of what it holds")
 
 
 # Forms

@@ -9,7 +9,7 @@ from dataclasses import dataclass
 
 from raceoffice import characters, system
 from raceoffice.decisions.points import Decided, decided
-from raceoffice.errors import Odd, Trouble, Unsure
+from raceoffice.errors import ForeignPage, NoTable, Trouble, Unsure
 from raceoffice.faults import guarded
 from raceoffice.files import opened_at_once
 from raceoffice.program.journal import Series
@@ -114,16 +114,16 @@ class Verifier:
             sheet = scored(self.program, shown.options(), journal)
         except Trouble as trouble:
             if why := refused(str(trouble), journal):
-                raise Odd(why) from None
+                raise ForeignPage(why) from None
             raise
         at = first_of(journal, list(sheet.journal))
         if at is not None:
-            raise Odd(f"entry {at + 1} of the journal isn't written as the program writes it: "
+            raise ForeignPage(f"entry {at + 1} of the journal isn't written as the program writes it: "
                       f"{(journal + ['nothing'])[at]!r}")
         return sheet
 
     def verified(self, text: str) -> Rebuilt:
-        """A page that is the one which its results give. Odd says what differs first, and Unsure or
+        """A page that is the one which its results give. ForeignPage says what differs first, and Unsure or
         Trouble why nothing can be said."""
         now = datetime.datetime.now(datetime.timezone.utc)
         rebuilt = self.rebuilt(found_in(text, now))
@@ -131,9 +131,9 @@ class Verifier:
         checked, office = confirmed.groups() if confirmed else ("", "")
         wanted = page.confirmed(rebuilt.text, checked, office)
         if text != wanted:
-            raise Odd(first_difference(text, wanted))
+            raise ForeignPage(first_difference(text, wanted))
         if wrong := wrong_confirmation(rebuilt.kept, checked, office, now):
-            raise Odd(wrong)
+            raise ForeignPage(wrong)
         return rebuilt
 
 
@@ -167,7 +167,7 @@ def page_of(kept: Kept, views: Sequence[View]) -> str:
     if kept.kind != "race":
         return overall(views[0], kept.is_among, kept.kind == "top")
     if kept.race not in views[0].race_pages:
-        raise Odd(f"the page is that of race {kept.race}, which has none")
+        raise ForeignPage(f"the page is that of race {kept.race}, which has none")
     return one_race(views[0], kept.race, kept.is_among)
 
 
@@ -177,19 +177,19 @@ def compare_tables(rebuilt: Rebuilt) -> None:
               if table.caption.startswith("Overall results, ")]
     wanted = [view for view in rebuilt.views if rebuilt.kept.kind in ("top", "overall", "results")]
     if len(tables) != len(wanted):
-        raise Odd(f"the page has {count(len(tables), 'overall table')}, and not {len(wanted)}")
+        raise ForeignPage(f"the page has {count(len(tables), 'overall table')}, and not {len(wanted)}")
     for table, view in zip(tables, wanted):
         sails = {" ".join(f"{boat.sail} {boat.helm or boat.name}".split()): row.sail
                  for row in view.standing.rows for boat in [view.boat(row.sail)]}
         try:
             standing = standing_of(table, sails, view.standing.races) if view.standing.races else None
-        except ValueError as cause:
-            raise Odd(f"{view.label}: {cause}") from None
+        except (ValueError, NoTable) as cause:
+            raise ForeignPage(f"{view.label}: {cause}") from None
         if standing not in (None, view.standing):
             assert standing is not None
             at = first_of([repr(row) for row in standing.rows],
                           [repr(row) for row in view.standing.rows]) or 0
-            raise Odd(f"{place(table, at + 1, 0)}: the row isn't the program's")
+            raise ForeignPage(f"{place(table, at + 1, 0)}: the row isn't the program's")
 
 
 def first_difference(text: str, wanted: str) -> str:
@@ -266,13 +266,13 @@ def text_in(path: str) -> str:
     except OSError as cause:
         raise Unsure(f"it can't be read: {cause.strerror}") from None
     if len(data) > LARGEST:
-        raise Odd(f"it is longer than {LARGEST:,} bytes, and no page is")
+        raise ForeignPage(f"it is longer than {LARGEST:,} bytes, and no page is")
     try:
         return data.decode("utf-8")
     except UnicodeDecodeError as cause:
         if read_block.START.encode() not in data:
             raise Unsure("it is no page of results") from None
-        raise Odd(f"byte {cause.start + 1} of the file isn't UTF-8") from None
+        raise ForeignPage(f"byte {cause.start + 1} of the file isn't UTF-8") from None
 
 
 @dataclass(frozen=True)
@@ -286,11 +286,11 @@ class Outcome:
 def outcome(verifier: Verifier, path: str) -> Outcome:
     """Verifies a page."""
     try:
-        with guarded("", Odd, Unsure, ValueError):
+        with guarded("", ForeignPage, Unsure, ValueError):
             rebuilt = verifier.verified(text_in(path))
             return Outcome(VERIFIED, (f"{path}: verified.", *report(rebuilt, verifier.program)),
                            {"page": path, "result": "verified", **value_of(rebuilt, verifier.program)})
-    except Odd as odd:
+    except ForeignPage as odd:
         status, what, why = DIFFERS, "NOT VERIFIED", characters.shortly(str(odd), MESSAGE)
     except (Unsure, Trouble, ValueError) as trouble:
         status, what, why = UNSURE, "not verified", characters.shortly(str(trouble), MESSAGE)

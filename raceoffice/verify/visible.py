@@ -18,7 +18,7 @@ TAG = re.compile("<([^<>]*)>")
 CLASS = re.compile('class="([^"]*)"')
 # A number of a sign that is too long for one.
 LONG = re.compile("&#[xX]?[0-9a-fA-F]{8}")
-# Parts inside one another, and signs of a cell to which more are added. The tools' pages have fewer.
+# Parts inside one another, and signs of a cell to which more are added. The package's pages have fewer.
 DEEPEST, LONGEST = 40, 10_000
 
 

@@ -6,14 +6,14 @@ import importlib.resources
 
 
 @functools.cache
-def text_of(name: str) -> str:
+def read(name: str) -> str:
     return importlib.resources.files("raceoffice.results.html").joinpath(name).read_text(encoding="utf-8")
 
 
 def style() -> str:
-    return f"\n{text_of('page.css')}"
+    return f"\n{read('page.css')}"
 
 
 def script() -> str:
     """The only script that a browser is to run."""
-    return f"\n{text_of('page.js')}"
+    return f"\n{read('page.js')}"

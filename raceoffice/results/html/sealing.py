@@ -81,7 +81,7 @@ def carried_of(view: View) -> Carried:
                    Stamp(view.changed.isoformat(), view.when(view.changed), view.settings.every))
 
 
-def text_of(value: object) -> str:
+def as_text(value: object) -> str:
     """A value as JSON, always in the same way: a line for each line of a journal."""
     text = json.dumps(value, ensure_ascii=False, indent=0)
     return "".join(SIGNS.get(sign, sign) for sign in text)
@@ -105,7 +105,7 @@ def made(view: View, name: str, make: Callable[[View], str]) -> str:
 
 
 def series_text(view: View) -> str:
-    return made(view, "series", lambda view: text_of(carried_of(view).value()))
+    return made(view, "series", lambda view: as_text(carried_of(view).value()))
 
 
 def seal(view: View) -> str:
@@ -136,6 +136,6 @@ def block(kind: str, views: Sequence[View], **more: object) -> Markup:
     written = [made(view, "marks", lambda view: marks(carried_of(view))) for view in views]
     stamps = [vars(carried_of(view).stamp) for view in views]
     page: dict[str, object] = {"kind": kind, **more}
-    head = text_of({"regatta": form(), "page": page, "stamps": stamps})
-    whole = f'{head[:-2]},\n"series": [\n{series}\n],\n"marks": {text_of(written)}'
+    head = as_text({"regatta": form(), "page": page, "stamps": stamps})
+    whole = f'{head[:-2]},\n"series": [\n{series}\n],\n"marks": {as_text(written)}'
     return raw("script", f'\n{whole},\n"seal": "{digest(whole)}"\n}}\n', type=KIND, id=ID)
