@@ -2,7 +2,8 @@
 # The whole test: the gate, then the checks of the built program and its tools.
 #   tests/gate.sh
 # It begins with the commit, or says that there are changes, and with the kit that proves. The SHA-256 of both
-# programs comes before the last line, `N passed, M failed` of both. The status is 1 if anything failed.
+# programs comes before the last line, `N passed, M failed` of both, and so does the commit once more if that is
+# another by then, or has changes: no release is made of such a log. The status is 1 if anything failed.
 set -uo pipefail
 cd "$(dirname "$(realpath "$0")")/.." || exit
 printed=$(mktemp)
@@ -25,11 +26,20 @@ count() {
     failed=$((failed + wrong))
 }
 
-commit=$(git rev-parse HEAD 2> /dev/null || echo unknown)
-echo "commit $commit$([[ -z $(git status --porcelain 2>&1) ]] || echo ' with changes')"
+# The commit that is checked out, and whether there are changes.
+tried() {
+    local commit
+    commit=$(git rev-parse HEAD 2> /dev/null || echo unknown)
+    echo "commit $commit$([[ -z $(git status --porcelain 2>&1) ]] || echo ' with changes')"
+}
+
+first=$(tried)
+echo "$first"
 echo "kit $(rt version)"
 count rt ci
 count tests/all.sh crates/regatta/out/regatta
 sha256sum crates/regatta/out/regatta crates/times/out/times
+last=$(tried)
+[[ $last == "$first" ]] || echo "$last"
 echo "$passed passed, $failed failed"
 ((failed == 0))

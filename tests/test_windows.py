@@ -121,6 +121,14 @@ class Windows(helpers.Series):
         os.mkfifo(os.path.join(self.place, "8"))
         self.assertEqual(open_windows(self.folder), {})
 
+    def test_closed_folder(self) -> None:
+        """A folder that lets nobody in is opened for this account."""
+        os.makedirs(self.place)
+        os.chmod(self.place, 0)
+        window = Presence(self.folder, TYPING, "Ann")
+        self.assertEqual(os.stat(self.place).st_mode & 0o777, 0o700)
+        window.close()
+
     def test_no_room(self) -> None:
         """A window that can't be shown is open all the same."""
         self.write("", self.place)

@@ -26,6 +26,8 @@ class Presence:
         text = f"{kind}\t{who or kind} since {time.strftime('%H:%M')}\n"
         with contextlib.suppress(OSError):
             os.makedirs(os.path.dirname(self.path), mode=0o700, exist_ok=True)
+            # Whatever the umask and the folder's old mode, windows can be shown there.
+            os.chmod(os.path.dirname(self.path), 0o700)
             for _ in range(TRIES):
                 if self.is_held():
                     os.truncate(self.file, 0)

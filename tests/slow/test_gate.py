@@ -106,6 +106,23 @@ class Gate(Scripts):
                 with open(os.path.join(self.here, path), "rb") as file:
                     self.assertIn(f"{hashlib.sha256(file.read()).hexdigest()}  {path}", self.printed[:-1])
 
+    @unittest.skipUnless(shutil.which("git"), "there is no git here")
+    def test_changed_meanwhile(self) -> None:
+        """What is changed or checked out while it runs is named before its last line."""
+        who = "-c user.name=A.Moss -c user.email=moss@example.org"
+        commit = f"git {who} add -A && git {who} commit -q -m More"
+        subprocess.run(f"git init -q && {commit}", shell=True, cwd=self.here, check=True)
+        for more, changes in [(commit, ""), ("touch another", " with changes")]:
+            path = os.path.join(self.here, "tests", "all.sh")
+            with open(path, "w", encoding="ascii") as file:
+                file.write(f"#!/bin/sh\necho new > new\n{more}\necho '{GOOD[0]}'\n")
+            subprocess.run(commit, shell=True, cwd=self.here, check=True)
+            self.ran("tests/gate.sh")
+            head = subprocess.run(["git", "rev-parse", "HEAD"], cwd=self.here, check=True, text=True,
+                                  stdout=subprocess.PIPE).stdout.strip()
+            self.assertEqual(self.printed[-2], f"commit {head}{changes}")
+            self.assertNotEqual(self.printed[0], self.printed[-2])
+
     def test_missing_part(self) -> None:
         os.remove(os.path.join(self.here, "tests", "all.sh"))
         self.assertEqual(self.ran("tests/gate.sh"), ("61 passed, 1 failed", 1))
