@@ -42,12 +42,12 @@ terms/words: first_words
 terms/digits: number_within
 terms/numbers: new
 desk/office: desk
-desk/desk: board confirm note_source run cover append commit_and_publish note_published receipt
-desk/sources: cover_all add
-desk/told: cover_all learn
-desk/pass: begins entry learn
+desk/desk: board confirm cover tell run append commit_and_publish note_published receipt
+desk/told: cover_all known_of learn
+desk/pass: begins entry
 watch/history: copy_of cover
-keeper/sealed: answer cover write_text
+keeper/sealed: answer cover
+keeper/reply_room: with_text_of
 desk/answers: reply
 board/board: prepare stage commit touched row
 board/ledger: numbers revision

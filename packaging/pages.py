@@ -25,6 +25,7 @@ STYLE = """
 body { max-width: 50rem; margin: 1rem auto; padding: 0 1rem; font: 1rem/1.5 sans-serif; color: #222; }
 pre { background: #f3f3f0; padding: .6rem .8rem; overflow-x: auto; line-height: 1.35; }
 code { background: #f3f3f0; }
+.shown { margin: 1rem 0 -.9rem; font-size: .8rem; color: #666; }
 table { border-collapse: collapse; margin: 1rem 0; }
 th, td { border: 1px solid #bbb; padding: .25rem .5rem; text-align: left; vertical-align: top; }
 nav { border-bottom: 1px solid #bbb; padding-bottom: .5rem; }
@@ -126,12 +127,14 @@ def table(lines: Lines) -> Markup:
 
 
 def fenced(lines: Lines) -> Markup:
-    lines.take()
+    """A box, below the name of the window or the file that it shows."""
+    kind, *named = lines.take().removeprefix("```").split() or [""]
     body = lines.while_so("(?!```)")
     if lines.next() is None:
         raise Fault("a box without an end")
     lines.take()
-    return tag("pre", "\n".join(body))
+    above = [tag("p", f"{kind}: {named[0]}", class_="shown")] if named else []
+    return together(*above, tag("pre", "\n".join(body)))
 
 
 def indented(lines: Lines) -> Markup:

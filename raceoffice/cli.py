@@ -17,8 +17,6 @@ import importlib
 import sys
 from types import ModuleType
 
-from raceoffice import version
-
 # Each command, the module of `commands` that does it, and what it does.
 COMMANDS = {
     "new": ("new", "ask for the settings of a new series, and write them"),
@@ -41,11 +39,20 @@ def module_of(command: str) -> ModuleType:
     return importlib.import_module(f"raceoffice.commands.{COMMANDS[command][0]}")
 
 
+class Version(argparse.Action):
+    """Says the version, which git is asked for only then."""
+
+    def __call__(self, parser: argparse.ArgumentParser, *_: object) -> None:
+        from raceoffice import version
+        print(version.in_words())
+        parser.exit()
+
+
 def parser_for(words: list[str]) -> argparse.ArgumentParser:
     """What reads a command line. Only the command that it names is loaded."""
     plain = argparse.RawDescriptionHelpFormatter
     parser = argparse.ArgumentParser("raceoffice", description=__doc__, formatter_class=plain)
-    parser.add_argument("--version", action="version", version=version.in_words())
+    parser.add_argument("--version", action=Version, nargs=0, help="say the version and the commit, and end")
     commands = parser.add_subparsers(dest="command", required=True, metavar="COMMAND")
     named = next((word for word in words if not word.startswith("-")), "")
     for name, (_, text) in COMMANDS.items():

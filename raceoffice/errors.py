@@ -30,6 +30,11 @@ class Fault(Trouble):
     """A fault of this package itself, of which only its trace says more."""
 
 
+class Unheard(OSError):
+    """Why what is said can't be written, as on a full disk. Whoever reads a pipe may have gone, too: that
+    is a BrokenPipeError."""
+
+
 class NotSent(Exception):
     """Why a line wasn't sent, in words."""
 

@@ -13,9 +13,9 @@ import traceback
 from collections.abc import Callable, Iterator
 
 from raceoffice.characters import utf8
-from raceoffice.errors import Fault, Trouble
+from raceoffice.errors import Fault, Trouble, Unheard
 from raceoffice.files import PRIVATE, append_whole
-from raceoffice.terminal import say, say_json, sentence, take_any_sign
+from raceoffice.terminal import say, say_json, say_no_more, sentence, take_any_sign
 
 NAME = "faults.txt"
 # What a shell says of a command that Ctrl-C has ended.
@@ -81,11 +81,11 @@ def tell_json(text: str) -> None:
 def status_of(work: Callable[[], int], folder: str = "", tell: Callable[[str], None] = say,
               failed: int = 1) -> int:
     """Does the work of a command; its status. That is `failed` after a Trouble, which is told in a sentence,
-    and if nobody reads what is printed any more; and 130 after Ctrl-C."""
+    and if what is said can't be written or nobody reads it any more; and 130 after Ctrl-C."""
     take_any_sign()
     try:
         try:
-            with guarded(folder, BrokenPipeError):
+            with guarded(folder, BrokenPipeError, Unheard):
                 return work()
         except Trouble as trouble:
             tell(sentence(trouble))
@@ -94,6 +94,10 @@ def status_of(work: Callable[[], int], folder: str = "", tell: Callable[[str], N
             say("")
             return INTERRUPTED
     except BrokenPipeError:
-        # Nobody reads what is said here any more, and Python would say so when it ends.
-        os.dup2(os.open(os.devnull, os.O_WRONLY), sys.stdout.fileno())
+        say_no_more()
+        return failed
+    except Unheard as unheard:
+        say_no_more()
+        with contextlib.suppress(OSError):
+            print(sentence(unheard), file=sys.stderr, flush=True)
         return failed

@@ -11,6 +11,7 @@ import time
 import unicodedata
 
 from raceoffice.characters import code_of
+from raceoffice.errors import Unheard
 
 # Control signs, signs of direction and of no width, and ends of lines that an editor doesn't show.
 HIDDEN = {"Cc", "Cf", "Zl", "Zp"}
@@ -59,13 +60,23 @@ def take_any_sign() -> None:
             stream.reconfigure(errors="replace")
 
 
+def put_out(text: str) -> None:
+    """Prints a text; Unheard if it can't be written."""
+    try:
+        print(text, flush=True)
+    except BrokenPipeError:
+        raise
+    except OSError as cause:
+        raise Unheard(f"what is said can't be written: {cause.strerror}") from None
+
+
 def say(text: str) -> None:
-    print(wrapped(visible(text)), flush=True)
+    put_out(wrapped(visible(text)))
 
 
 def say_json(value: object) -> None:
     """Prints a value for programs, in signs that every terminal has."""
-    print(json.dumps(value, indent=1), flush=True)
+    put_out(json.dumps(value, indent=1))
 
 
 def visible(text: str) -> str:
@@ -82,10 +93,14 @@ def say_if_heard(text: str, end: str = "\n") -> None:
     try:
         print(wrapped(visible(text)), end=end, flush=True)
     except OSError:
-        # What is left in the buffer would fail again when this program ends.
-        nowhere = os.open(os.devnull, os.O_WRONLY)
-        os.dup2(nowhere, sys.stdout.fileno())
-        os.close(nowhere)
+        say_no_more()
+
+
+def say_no_more() -> None:
+    """From now on nothing is printed: what is left in the buffer would fail again when this program ends."""
+    nowhere = os.open(os.devnull, os.O_WRONLY)
+    os.dup2(nowhere, sys.stdout.fileno())
+    os.close(nowhere)
 
 
 def width() -> int:

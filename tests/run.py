@@ -1,7 +1,7 @@
 #!/usr/bin/env python3
 """Runs the tests of the package against a built program, some side by side.
 
-    run.py PROGRAM [NAME ...] [--workers N]
+    run.py PROGRAM [NAME ...] [--quick] [--workers N]
 
 A NAME is a module, a class or a check: test_board, test_board.Boards.test_files. The last line is
 `N passed, M failed`. A check that can't be tried here, as without Chromium, is named in a line
@@ -165,10 +165,10 @@ class Worker:
 
 # All checks
 
-def discovered(loader: unittest.TestLoader) -> unittest.TestSuite:
-    """The tests of both folders."""
+def discovered(loader: unittest.TestLoader, is_quick: bool) -> unittest.TestSuite:
+    """The tests of both folders, or only those that take some seconds at most."""
     return unittest.TestSuite(loader.discover(folder, top_level_dir=folder)
-                              for folder in (HERE, SLOW) if os.path.isdir(folder))
+                              for folder in ([HERE] if is_quick else [HERE, SLOW]) if os.path.isdir(folder))
 
 
 @dataclass
@@ -261,6 +261,7 @@ def asked_of() -> argparse.Namespace:
     parser = argparse.ArgumentParser(description="Runs the tests of the package against a built program.")
     parser.add_argument("program", help="the built program")
     parser.add_argument("name", nargs="*", help="a module, a class or a check; all if none is named")
+    parser.add_argument("--quick", action="store_true", help="leave out the tests of the folder slow")
     parser.add_argument("--workers", type=int, default=4, metavar="N", help="how many are tried at a time")
     asked = parser.parse_args()
     if not os.access(asked.program, os.X_OK):
@@ -277,7 +278,7 @@ def main() -> int:
         os.environ["PYTHONPYCACHEPREFIX"] = sys.pycache_prefix = compiled
         os.environ["REGATTA"] = os.path.realpath(asked.program)
         loader = unittest.defaultTestLoader
-        suite = loader.loadTestsFromNames(asked.name) if asked.name else discovered(loader)
+        suite = loader.loadTestsFromNames(asked.name) if asked.name else discovered(loader, asked.quick)
         faults = [str(error) for error in loader.errors]
         checks = [check for check in checks_in(suite) if not check.id().startswith("unittest.loader.")]
         tried = try_all(parts_of(checks), asked.workers)

@@ -291,6 +291,22 @@ class Boards(helpers.Series):
             os.kill(number, signal.SIGCONT)
         window.read("one: from the office, every 1 second")
 
+    def test_nobody_hears(self) -> None:
+        """A board goes on when nobody reads what it says."""
+        folder = self.make("tide", every="1")
+        self.port = helpers.free_port(self)
+        board = subprocess.Popen([*helpers.COMMAND, "board", folder, "--http", str(self.port)],
+                                 stdout=subprocess.PIPE)
+        self.addCleanup(board.wait)
+        self.addCleanup(board.kill)
+        assert board.stdout
+        with board.stdout:
+            helpers.until("its address", lambda: b"try one phone" in next(iter(board.stdout or ())))
+        self.open("tide")
+        helpers.until("the office's results", lambda: self.now("tide")["office"] == "open")
+        self.send(*RACE, name="tide")
+        helpers.until("the race", lambda: b"race-1.html" in self.get("/tide/").data)
+
     def test_notice(self) -> None:
         """A notice shows by itself, and the rules are those of the open office."""
         self.make("fast", every="1")

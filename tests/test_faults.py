@@ -89,6 +89,16 @@ class Guarded(helpers.Series):
         self.assertEqual((told[0], told[2]), ("why.", ""))
         self.assertIn("raceoffice has a fault, ValueError; its trace is in", told[1])
 
+    def test_full(self) -> None:
+        """What is said and can't be written is no fault: one sentence says why."""
+        for words in (["check", "cup"], ["verify", "no.html", "--json", "--program", helpers.PROGRAM]):
+            with open("/dev/full", "wb") as full:
+                done = subprocess.run([*helpers.COMMAND, *words], cwd=self.here, stdout=full,
+                                      stderr=subprocess.PIPE, text=True)
+            self.assertEqual(done.stderr, "what is said can't be written: No space left on device.\n")
+            self.assertNotEqual(done.returncode, 0)
+        self.assertFalse(os.path.exists(self.faults))
+
     def test_board(self) -> None:
         """A board goes on after a fault in what it reads and in what it makes, and shows the others."""
         self.make("other")

@@ -6,6 +6,7 @@ import json
 import os
 import random
 import resource
+import shutil
 import stat
 import sys
 import traceback
@@ -14,6 +15,7 @@ from collections.abc import Callable
 from unittest import mock
 
 import helpers
+from raceoffice import system
 from raceoffice.errors import NotSent, Trouble
 from raceoffice.program.journal import Race
 from raceoffice.series import kept_places
@@ -218,6 +220,43 @@ class Files(helpers.Series):
             fcntl.flock(file, fcntl.LOCK_EX)
             self.assertEqual(self.marks(), ["?1"])
             self.assertRaisesRegex(NotSent, "another window is writing it", self.keep)
+
+    def test_replaced(self) -> None:
+        """A file that is replaced while a window waits for its lock isn't added to: nobody would read it."""
+        take_lock = system.take_lock
+        ways: list[tuple[Callable[[], object], list[str]]] = [
+            (lambda: os.replace(self.copy(), self.path), ["?1", "?2"]),
+            (lambda: os.remove(self.path), ["?1"])]
+        for replace, marks in ways:
+            self.put(b"")
+            self.keep()
+            left = [replace]
+
+            def late(file: int, patience: float) -> bool:
+                """Takes the lock once the file has been replaced."""
+                if left:
+                    left.pop()()
+                return take_lock(file, patience)
+
+            with mock.patch.object(system, "take_lock", late):
+                self.keep()
+            self.assertEqual(self.marks(), marks)
+
+    def test_replaced_always(self) -> None:
+        """A file that is replaced all the time holds nobody up for ever."""
+        def always(_file: int, _patience: float) -> bool:
+            os.replace(self.copy(), self.path)
+            return True
+
+        self.keep()
+        with mock.patch.object(system, "take_lock", always):
+            self.assertRaisesRegex(NotSent, "it is being replaced", self.keep)
+        self.assertEqual(self.marks(), ["?1"])
+
+    def copy(self) -> str:
+        """A copy of the file, beside it."""
+        shutil.copy(self.path, f"{self.path}.copy")
+        return f"{self.path}.copy"
 
     def test_side_by_side(self) -> None:
         """Windows that keep places at once give each a mark of her own."""

@@ -254,6 +254,9 @@ class Opening(helpers.Series):
     def test_remove(self) -> None:
         window = self.open()
         self.send("ENTER DEN16", "FINISH 1 DEN16", *LINES)
+        self.make("fresh")
+        found = helpers.run("remove", "fresh", "GBR7", cwd=self.here)
+        self.assertEqual(found, ("journal.txt has no entry.\n", 1))
         said = helpers.run("remove", "cup", "DEN16", cwd=self.here)[0]
         self.assertEqual(said, "the office is open: close it first, by Ctrl-C in its window.\n")
         window.press()

@@ -11,6 +11,7 @@ import os
 import random
 import re
 import stat
+import subprocess
 import time
 import unittest
 import unittest.mock
@@ -292,6 +293,19 @@ then exec sleep 60; fi\n: > {self.here}/once\nexec {helpers.PROGRAM} "$@\"""")]:
                 self.verifier.verified(page)
             time.tzset()
             self.assertRegex(page, rf"<time [^>]*>[^<]*, [0-9:]{{5}} {words}</time>")
+
+    def test_pipe(self) -> None:
+        """Whoever writes into a pipe is waited for; nobody is at one into which nobody writes."""
+        self.write(self.page(), "page.html")
+        os.mkfifo(os.path.join(self.here, "pipe"))
+        words = ["verify", "/dev/stdin", "--program", helpers.PROGRAM]
+        with subprocess.Popen(["cat", "page.html"], cwd=self.here, stdout=subprocess.PIPE) as writer:
+            done = subprocess.run([*helpers.COMMAND, *words], stdin=writer.stdout, capture_output=True,
+                                  text=True)
+        self.assertEqual(done.stdout.partition("\n")[0], "/dev/stdin: verified.")
+        said, status = helpers.run("verify", "pipe", "--program", helpers.PROGRAM, cwd=self.here)
+        self.assertEqual((said, status), ("pipe: not verified: it has no block that can be verified, so it is "
+                                          "no page of results.\n", 2))
 
     def test_statuses(self) -> None:
         """1 is for what differs, and 2 for what nothing can be said of; 1 counts more."""

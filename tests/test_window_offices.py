@@ -68,6 +68,14 @@ class Offices(helpers.Series):
         first.type("quit")
         second.read("you type as the jury")
 
+    def test_not_open(self) -> None:
+        """A window that comes before the office says what opens it, and waits for it."""
+        self.make("later")
+        window = self.window("type", "later", "--role", "jury")
+        window.read(r"Waiting: no office is open there: .* open \S*later opens it\. Ctrl-C ends this window\.")
+        self.open("later")
+        window.read("you type as the jury")
+
     def test_crash(self) -> None:
         """A kill of the office is said at the prompt; afterwards what is lost is listed."""
         office = self.open()

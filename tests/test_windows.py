@@ -5,9 +5,12 @@ import os
 import signal
 import subprocess
 import sys
+import threading
 import unittest
+from unittest import mock
 
 import helpers
+from raceoffice import system
 from raceoffice.files import PRIVATE
 from raceoffice.series.folder import Folder
 from raceoffice.series.windows import BOARD, FOLDER, OFFICE, TYPING, Presence, open_windows
@@ -75,6 +78,41 @@ class Windows(helpers.Series):
         window = Presence(self.folder, TYPING, "Ann")
         self.assertRegex(open_windows(self.folder)[str(os.getpid())], r"\AAnn since \d\d:\d\d\Z")
         window.close()
+
+    def test_looked_at(self) -> None:
+        """A window whose file somebody just takes for one that was left is known all the same."""
+        os.makedirs(self.place)
+        path = os.path.join(self.place, str(os.getpid()))
+        self.write("", path)
+        file = os.open(path, os.O_RDONLY)
+        self.assertTrue(system.take_lock(file, is_shared=True))
+
+        def removed() -> None:
+            os.remove(path)
+            os.close(file)
+
+        looks = threading.Timer(0.3, removed)
+        looks.start()
+        window = Presence(self.folder, TYPING, "Ann")
+        looks.join()
+        self.assertEqual(list(open_windows(self.folder)), [str(os.getpid())])
+        window.close()
+
+    def test_opened_again(self) -> None:
+        """Whoever has opened the file of a window that goes doesn't remove that of the next."""
+        windows, take_lock = [Presence(self.folder, BOARD)], system.take_lock
+
+        def late(file: int, is_shared: bool) -> bool:
+            """Takes the lock once the board has come again."""
+            with mock.patch.object(system, "take_lock", take_lock):
+                windows.pop().close()
+                windows.append(Presence(self.folder, BOARD))
+            return take_lock(file, is_shared=is_shared)
+
+        with mock.patch.object(system, "take_lock", late):
+            open_windows(self.folder)
+        self.assertEqual(list(open_windows(self.folder)), [str(os.getpid())])
+        windows.pop().close()
 
     def test_odd_files(self) -> None:
         """What else is in that folder is no window."""

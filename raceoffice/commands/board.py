@@ -35,7 +35,7 @@ from raceoffice.results.server import Listener
 from raceoffice.results.source import Source, need_own_names
 from raceoffice.series.folder import clock
 from raceoffice.series.settings import is_address, is_between
-from raceoffice.terminal import Once, say, sentence
+from raceoffice.terminal import Once, say, say_if_heard, sentence
 from raceoffice.wording import count
 
 # Seconds between two looks at whether an office is being closed: then the board leaves it.
@@ -53,9 +53,13 @@ class Shown:
         self.once = Once()
 
     def tell(self, about: str, text: str, stamp: str) -> None:
-        """Says a thing when it is new, and not again until it has changed."""
+        """Says a thing when it is new, and not again until it has changed. Once it is shown, the board goes
+        on if nobody hears it."""
         if self.once.is_new(about, text):
-            say(f"{stamp}{text}")
+            if stamp:
+                say_if_heard(f"{stamp}{text}")
+            else:
+                say(text)
 
     def look(self, due: list[Source], stamp: str = "") -> bool:
         """Looks at some series, shows what was found and then says what has changed; whether all
@@ -105,8 +109,8 @@ def note(folder: str, trace: str) -> None:
     """Notes what went wrong in answering a phone, and says so, once for each trace."""
     if trace not in WRITTEN:
         path = written(folder, trace)
-        say(f"{clock()} Beware: a phone wasn't answered, by a fault of raceoffice. "
-            + (f"Its trace is in {path}." if path else "Its trace couldn't be written."))
+        where = f"Its trace is in {path}." if path else "Its trace couldn't be written."
+        say_if_heard(f"{clock()} Beware: a phone wasn't answered, by a fault of raceoffice. {where}")
 
 
 def trouble_of(source: Source) -> str:
@@ -229,7 +233,7 @@ def show(asked: argparse.Namespace) -> int:
     except Stopped:
         if not is_shown or asked.once:
             raise
-        say("\nStopped. Pages that are provisional turn red in a minute.")
+        say_if_heard("\nStopped. Pages that are provisional turn red in a minute.")
         return 0
     finally:
         shown.leave()

@@ -161,14 +161,21 @@ def new(folder: str) -> int:
     say_if_any(entry_list.left_in_words(data))
     values |= asked_rules() | {"program": program_for(folder)}
     say_if_any(entry_list.rating_note(data, "entries.csv", values["handicap"] == "yes"))
-    data_of_settings = settings_with(values)
-    make_folder(folder)
-    if os.path.abspath(given) != os.path.abspath(list_path):
-        replace_whole(list_path, data)
+    is_elsewhere = os.path.abspath(given) != os.path.abspath(list_path)
+    write_new(folder, values, data if is_elsewhere else None)
+    if is_elsewhere:
         say(f"Copied {given} to {list_path}: from now on change that one.")
-    replace_whole(path, data_of_settings)
     say(f"Wrote {path}. Next: {command_name()} open {shlex.quote(folder)}")
     return 0
+
+
+def write_new(folder: str, values: dict[str, str], entries: bytes | None) -> None:
+    """Makes a folder with these settings, and with this entry list unless it has its own."""
+    written = settings_with(values)
+    make_folder(folder)
+    if entries is not None:
+        replace_whole(os.path.join(folder, "entries.csv"), entries)
+    replace_whole(os.path.join(folder, settings.NAME), written)
 
 
 def settings_with(values: dict[str, str]) -> bytes:

@@ -52,6 +52,8 @@ def remove(path: str, words: list[str]) -> int:
         raise Trouble("journal.txt ends in a torn line, as after a crash: first open the office, and "
                       "close it")
     held = folder.parts()[0]
+    if not folder.kept():
+        raise Trouble("journal.txt has no entry")
     journal = shown_journal(folder)
     about = lines_about(journal, sail)
     if text := difference(folder):

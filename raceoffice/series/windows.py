@@ -12,8 +12,9 @@ from raceoffice.series.folder import Folder
 
 FOLDER = "windows"
 OFFICE, TYPING, BOARD = "office", "typing", "board"
-# How often a window tries: one that looks for windows that have gone may take its file for one of theirs.
-TRIES = 10
+# How often a window tries, and seconds for each time: one that looks for windows that have gone may take its
+# file for one of theirs.
+TRIES, PATIENCE = 10, 0.2
 
 
 class Presence:
@@ -34,7 +35,7 @@ class Presence:
     def is_held(self) -> bool:
         """Takes the lock of a file that has this window's number; whether nobody has removed the file."""
         self.file = os.open(self.path, os.O_RDWR | os.O_CREAT | system.NO_LINK, 0o600)
-        if system.take_lock(self.file):
+        if system.take_lock(self.file, PATIENCE):
             with contextlib.suppress(FileNotFoundError):
                 if os.path.samestat(os.fstat(self.file), os.stat(self.path)):
                     return True
@@ -70,7 +71,9 @@ def said_by(path: str) -> str:
         try:
             if not system.take_lock(file, is_shared=True):
                 return os.read(file, 1000).decode("utf-8", "replace").strip()
-            os.remove(path)
+            # Another window may have a file of this name by now.
+            if os.path.samestat(os.fstat(file), os.lstat(path)):
+                os.remove(path)
         finally:
             os.close(file)
     return ""

@@ -21,10 +21,13 @@ OTHERS = {"ENTER", "SCORE", "UNSCORE", "RANK", "ROLE", "SHOW", "QUIT"}
 MAY = {"FINISH": FINISHING | {"MARK", "PENALTY", "CLEAR"},
        "JURY": {"MARK", "PENALTY", "REDRESS", "CLEAR"},
        "SCORER": FINISHING | {"ENTER", "MARK", "PENALTY", "CLEAR", "SCORE", "UNSCORE"}}
-# First words that are the window's own.
-OWN = {"AT", "RACE", "ABANDON", "STANDING", "HELP", "UNDO"}
+# What the window does by itself, as it is typed.
+OWN = {"AT": "at 3", "RACE": "race 3", "ABANDON": "abandon 3", "STANDING": "standing", "HELP": "help",
+       "UNDO": "undo"}
+# What the jury may decide, and no line has.
+DECISIONS = {"DPI", "NSC", "PRP", "TLE"}
 # All first words of lines, and of what the window does by itself.
-FIRST = SAILS.keys() | OTHERS | OWN | COMMANDS.keys()
+FIRST = SAILS.keys() | OTHERS | OWN.keys() | COMMANDS.keys()
 
 
 class Unclear(NotSent):
@@ -137,7 +140,7 @@ class Reader:
             return self.other_line(words)
         found, why = self.lines(words)
         if not found:
-            raise why
+            raise known_fault(words) or why
         line, doubt = next(iter(found.items()))
         if len(found) > 1:
             doubt = f"This may be {joined(list(found), 'or')}."
@@ -204,6 +207,8 @@ class Reader:
         if not race_number(race):
             raise NotSent(f"{short(race)} is no race: the number of the race comes after {command}")
         last = words[-1:] if command in LAST else []
+        if last and (decision := known_fault(last)):
+            raise decision
         sail = words[:-1] if last else words
         if command == "TIME" and ("".join(words) in self.boats or not sail or not last[0].isdecimal()):
             raise NotSent(f"her corrected time is missing: {short(' '.join(words).lower())} and its seconds")
@@ -228,6 +233,17 @@ class Reader:
             is_points = reading.command == "REDRESS" and reading.words[-1].isdecimal()
             is_either = race_number(number) > 0 and (is_known or is_points or not is_whole(number, sail))
         return f"{number} may be a race or a boat." if is_either and reading.kind != "bare" else ""
+
+
+def known_fault(words: list[str]) -> NotSent | None:
+    """What to type instead, if it is the window's own word that was typed, or a decision of the jury that no
+    line has."""
+    if words[0] in OWN:
+        return NotSent(f"{words[0]} is typed as {OWN[words[0]]}")
+    if words[-1] in DECISIONS:
+        return NotSent(f"{words[-1]} goes into decisions.txt, not into a line: raceoffice decisions --help "
+                       "says how")
+    return None
 
 
 def forms(words: list[str]) -> list[list[str]]:

@@ -4,17 +4,18 @@ from __future__ import annotations
 import contextlib
 import os
 import select
+import shlex
 import sys
 import time
 from collections.abc import Callable
 
 from raceoffice import system
-from raceoffice.errors import Fault, NoSeat, NotSent, Trouble
+from raceoffice.errors import Fault, Gone, NoSeat, NotSent, Trouble
 from raceoffice.faults import guarded
 from raceoffice.series.folder import Folder
 from raceoffice.series.unknown_finishers import Unread, in_words
 from raceoffice.series.windows import BOARD, TYPING, Presence, open_windows
-from raceoffice.terminal import question, say, sentence, visible
+from raceoffice.terminal import command_name, question, say, sentence, visible
 from raceoffice.typing_window.classes import ClassUnclear, choosing, session_meant, greeting
 from raceoffice.typing_window.parse import COMMANDS, FIRST
 from raceoffice.typing_window.session import Session
@@ -308,7 +309,7 @@ class Window:
                 return
             except Trouble as trouble:
                 if not told:
-                    say(f"Waiting: {trouble}{seats_taken(session, trouble)}. Ctrl-C ends this window.")
+                    say(f"Waiting: {trouble}{remedy(session, trouble)}. Ctrl-C ends this window.")
                 told = True
                 wait(AGAIN if isinstance(trouble, NoSeat) else LOOK)
 
@@ -359,8 +360,10 @@ def heard(session: Session) -> Trouble:
         return trouble
 
 
-def seats_taken(session: Session, trouble: Trouble) -> str:
-    """Who has the seats, if that is the trouble."""
+def remedy(session: Session, trouble: Trouble) -> str:
+    """What opens an office that isn't open, or who has the seats, if that is the trouble."""
+    if isinstance(trouble, Gone):
+        return f": {command_name()} open {shlex.quote(os.path.relpath(session.folder.path))} opens it"
     windows = ", ".join(open_windows(session.folder, TYPING, BOARD).values())
     return f": {windows}" if isinstance(trouble, NoSeat) and windows else ""
 

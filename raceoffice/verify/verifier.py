@@ -7,10 +7,11 @@ import re
 from collections.abc import Iterable, Sequence
 from dataclasses import dataclass
 
-from raceoffice import characters
+from raceoffice import characters, system
 from raceoffice.decisions.points import Decided, decided
 from raceoffice.errors import ForeignPage, NoTable, Trouble, Unsure
 from raceoffice.faults import guarded
+from raceoffice.files import opened_at_once
 from raceoffice.program.journal import Series
 from raceoffice.program.link import Sheet
 from raceoffice.program.messages import refusal
@@ -250,9 +251,17 @@ def bewares(view: View) -> list[str]:
     return [*view.decided.stale, *found]
 
 
+def opened_for_reading(path: str, flags: int) -> int:
+    """Opens a file. Nobody who may never come is waited for at a pipe, but whoever writes there is."""
+    number = opened_at_once(path, flags)
+    if system.LINUX:
+        os.set_blocking(number, True)
+    return number
+
+
 def text_in(path: str) -> str:
     try:
-        with open(path, "rb") as file:
+        with open(path, "rb", opener=opened_for_reading) as file:
             data = file.read(LARGEST + 1)
     except OSError as cause:
         raise Unsure(f"it can't be read: {cause.strerror}") from None
