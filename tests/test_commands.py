@@ -71,8 +71,10 @@ class ForPrograms(helpers.Series):
         self.write("Sail\n", "cup", "entries.csv")
         both = self.printed("check", "tide", "cup", status=1)
         self.assertEqual([bool(one["faults"]) for one in both], [False, True])
-        self.assertEqual(self.printed("check", "nowhere", status=1), {
-            "trouble": "nowhere has no series.ini: it isn't a series. raceoffice new nowhere makes one."})
+        none, good = self.printed("check", "nowhere", "tide", status=1)
+        self.assertEqual((none["folder"], none["faults"]), ("nowhere", [
+            "nowhere has no series.ini: it isn't a series. raceoffice new nowhere makes one."]))
+        self.assertEqual((good["folder"], good["faults"]), ("tide", []))
 
     def test_decisions(self) -> None:
         self.write("race 1 GBR7 DPI 2\n", "tide", "decisions.txt")

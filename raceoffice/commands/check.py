@@ -18,13 +18,14 @@ from __future__ import annotations
 import argparse
 from dataclasses import asdict, dataclass
 
+from raceoffice.errors import Trouble
 from raceoffice.faults import status_of, tell_json
 from raceoffice.office.backups import same_disk
 from raceoffice.series.continuity import difference
 from raceoffice.series.folder import Folder
 from raceoffice.series.health import faults, list_notes, notes, summary
 from raceoffice.series.second_folder import second_of
-from raceoffice.terminal import say, say_json
+from raceoffice.terminal import say, say_json, sentence
 
 
 @dataclass(frozen=True)
@@ -46,8 +47,11 @@ class Checked:
 
 
 def checked(path: str) -> Checked:
-    """Looks at a series."""
-    folder = Folder(path)
+    """Looks at a series. One whose settings can't be read has that as its fault."""
+    try:
+        folder = Folder(path)
+    except Trouble as trouble:
+        return Checked(path, [sentence(trouble)], "", [])
     wrong = faults(folder)
     changed = "" if wrong else difference(folder)
     known = [text for text in [*notes(folder), *list_notes(folder), second_note(folder)] if text]
