@@ -133,7 +133,7 @@ class Spoken(unittest.TestCase):
                 ("hello", None, "HELLO is no line. help lists the lines"),
                 ("race", None, "RACE is typed as race 3"), ("abandon", 3, "ABANDON is typed as abandon 3"),
                 ("undo 3", 3, "UNDO is typed as undo"), ("mark 3 7 tle", 3, "TLE goes into decisions.txt"),
-                ("7 dpi", None, "DPI goes into decisions.txt"), ("dpi 7", None, "DPI 7 is no line"),
+                ("7 dpi", None, "DPI goes into decisions.txt"), ("7 dpi", 3, "DPI goes into decisions.txt"),
                 ("mark 412 ocs", 3, "412 isn't entered"),
                 ("mark 3 412 ocs", 3, "412 isn't entered"), ("finish gbr 7", None, "GBR is no race"),
                 ("mark 101 ocs", 3, "101 may be GBR101 or GER101: type more of her sail"),

@@ -72,7 +72,7 @@ class Offices(helpers.Series):
         """A window that comes before the office says what opens it, and waits for it."""
         self.make("later")
         window = self.window("type", "later", "--role", "jury")
-        window.read(r"Waiting: no office is open there: .* open \S*later opens it\. Ctrl-C ends this window\.")
+        window.read(r"Waiting: no office is open there: .* open \S*later opens it\. Ctrl-C ends")
         self.open("later")
         window.read("you type as the jury")
 
