@@ -304,8 +304,8 @@ then exec sleep 60; fi\n: > {self.here}/once\nexec {helpers.PROGRAM} "$@\"""")]:
                                   text=True)
         self.assertEqual(done.stdout.partition("\n")[0], "/dev/stdin: verified.")
         said, status = helpers.run("verify", "pipe", "--program", helpers.PROGRAM, cwd=self.here)
-        self.assertEqual((said, status), ("pipe: not verified: it has no block that can be verified, so it is "
-                                          "no page of results.\n", 2))
+        self.assertEqual((said, status), ("pipe: not verified: it has no block that can be verified, so it "
+                                          "is no page of results.\n", 2))
 
     def test_statuses(self) -> None:
         """1 is for what differs, and 2 for what nothing can be said of; 1 counts more."""
