@@ -23,8 +23,8 @@ def opened_at_once(path: str, flags: int) -> int:
 
 
 def opened_as_ours(path: str, flags: int) -> int:
-    """Opens a file that lets in this account alone, whatever the umask."""
-    return os.open(path, flags, PRIVATE_MODE)
+    """Opens a file that lets in this account alone, whatever the umask. A pipe of this name is refused."""
+    return os.open(path, flags | system.AT_ONCE, PRIVATE_MODE)
 
 
 def read_whole(path: str, most: int, called: str = "") -> bytes:

@@ -187,6 +187,13 @@ def command_line_of(number: int) -> list[bytes]:
     return []
 
 
+def works_in(number: int, folder: str) -> bool:
+    """Whether a process has this folder for its own."""
+    with contextlib.suppress(OSError):
+        return os.path.samefile(f"/proc/{number}/cwd", folder)
+    return False
+
+
 def hold_stops() -> None:
     """From now on a signal that would end this window waits until it is asked for."""
     signal.pthread_sigmask(signal.SIG_BLOCK, STOPS)

@@ -10,7 +10,7 @@ from collections.abc import Iterator
 
 from raceoffice import system
 from raceoffice.errors import Gone, Trouble
-from raceoffice.files import PRIVATE, opened_as_ours, replace_whole
+from raceoffice.files import PRIVATE, opened_as_ours, opened_at_once, replace_whole
 from raceoffice.program.link import Link, remove_socket
 from raceoffice.program.messages import cut_note, without_note
 from raceoffice.series.folder import Folder, Lock
@@ -100,19 +100,35 @@ class Service:
         raise Trouble("the office doesn't open its socket")
 
     def take_over(self) -> None:
-        """Goes on with a program whose window has gone; a Trouble if it has one."""
+        """Goes on with a program whose window has gone; a Trouble if it has one, or comes to have one while
+        this is asked."""
+        number, since = self.without_window()
+        if not question(f"The office is open since {since}, but its window has gone. Take it over?",
+                        True):
+            raise Trouble("the office goes on without a window")
+        if self.without_window()[0] != number:
+            raise Trouble("the office was opened anew meanwhile")
+        self.number, self.link = number, self.folder.link()
+        self.note_pid()
+
+    def without_window(self) -> tuple[int, str]:
+        """The process of a program that has no window, and since when it is open; else a Trouble. The
+        numbers may be those of an earlier opening, and its process another by now."""
         try:
-            with open(self.file("pid"), encoding="ascii") as file:
+            with open(self.file("pid"), encoding="ascii", opener=opened_at_once) as file:
                 number, window, since = file.read().split()
+            program = int(number)
         except (OSError, ValueError):
             raise Trouble("the office is being opened in another window") from None
         if window in open_windows(self.folder, OFFICE):
             raise Trouble(f"the office is open in another window, since {since} (process {window})")
-        if not question(f"The office is open since {since}, but its window has gone. Take it over?",
-                        True):
-            raise Trouble("the office goes on without a window")
-        self.number, self.link = int(number), self.folder.link()
-        self.note_pid()
+        if not self.is_program(program):
+            raise Trouble("the office is being opened in another window")
+        return program, since
+
+    def is_program(self, number: int) -> bool:
+        """Whether a process is the program that serves this series: it works in the folder of its socket."""
+        return b"serve" in system.command_line_of(number) and system.works_in(number, self.file())
 
     def link_again(self) -> None:
         """Links to the program once more, if it lets somebody in."""
@@ -133,7 +149,7 @@ class Service:
     def said(self) -> str:
         """What the program has said on standard error; nothing if it can't be read."""
         with contextlib.suppress(OSError), \
-                open(self.file("fault"), encoding="utf-8", errors="replace") as file:
+                open(self.file("fault"), encoding="utf-8", errors="replace", opener=opened_at_once) as file:
             return file.read()
         return ""
 
@@ -145,7 +161,7 @@ class Service:
     def table(self) -> str:
         """What the program has printed: its table, once it has ended; nothing if it can't be read."""
         with contextlib.suppress(OSError), \
-                open(self.file("table"), encoding="utf-8", errors="replace") as file:
+                open(self.file("table"), encoding="utf-8", errors="replace", opener=opened_at_once) as file:
             return file.read().rstrip()
         return ""
 
@@ -206,7 +222,7 @@ class Service:
         """Sends the program a signal, unless it has ended."""
         if self.process:
             self.process.send_signal(number)
-        elif not self.is_over():
+        elif self.is_program(self.number):
             with contextlib.suppress(ProcessLookupError):
                 os.kill(self.number, number)
 

@@ -9,7 +9,7 @@ import time
 
 from raceoffice import system
 from raceoffice.errors import Trouble
-from raceoffice.files import PRIVATE
+from raceoffice.files import PRIVATE, opened_at_once
 from raceoffice.series.folder import Folder
 from raceoffice.typing_window.session import Session
 
@@ -151,7 +151,7 @@ def seats_of(folder: Folder) -> int:
     """The seats of the open office; those of the settings if its program doesn't tell. They may have been
     changed since it was opened."""
     with contextlib.suppress(OSError, ValueError, IndexError):
-        with open(folder.file(PRIVATE, "pid"), encoding="ascii") as file:
+        with open(folder.file(PRIVATE, "pid"), encoding="ascii", opener=opened_at_once) as file:
             words = system.command_line_of(int(file.read().split()[0]))
         return int(words[words.index(b"--clients") + 1])
     return folder.settings.seats
