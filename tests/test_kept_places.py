@@ -293,6 +293,21 @@ class Files(helpers.Series):
         self.places.note_found(["FINISH 1 A"] * 20)
         self.assertEqual(self.data().count(b'"resolved"'), 1)
 
+    def test_stopped_before_it_sent(self) -> None:
+        """A window that was stopped after its note learns that somebody else's boat has the place."""
+        self.keep()
+        unread, said = self.places.read().waiting.all[0], list[str]()
+        other = Places(self.folder, "Eve")
+        self.places.note_sent(unread, "FINISH 1 A", 12, None)
+        other.note_sent(unread, "FINISH 1 B", 12, other.read().open_line(unread))
+        other.note_answer(unread, "FINISH 1 B", "OK 13 1 1.0")
+        session = Session(self.folder, "FINISH", "Ann", lambda told: said.append(told.text), bool)
+        session.note_answer(unread, "FINISH 1 A", "OK 14 1 1.0")
+        self.assertRegex(said[0], r"Beware: \?1 of race 1 is B, by Eve at \d\d:\d\d: entry 13, FINISH 1 B\. "
+                                  r"Two boats have her place now")
+        session.note_answer(unread, "FINISH 1 B", "OK 13 1 1.0")
+        self.assertEqual(len(said), 1)
+
 
 def forked(do: Callable[[], object]) -> int:
     """The number of a child that does something, and ends."""

@@ -38,6 +38,8 @@ class Taken(helpers.Series):
             with contextlib.suppress(FileNotFoundError):
                 os.remove(path)
             os.mkfifo(path)
+        # The end of a trial reads the program's number.
+        self.addCleanup(os.remove, os.path.join(self.here, "cup", "office", "pid"))
         typing = self.client("cup", "--role", "finish")
         window.press()
         window.read(r"Close the office\? \[y/N\] $")
