@@ -459,9 +459,10 @@ class Session:
             self.places.note_answer(unread, line, answer)
         self.look_at_places()
         # This window may have been stopped before it sent the line, and somebody else have typed.
-        if answer.startswith("OK ") and self.history.boat(unread.race, unread.mark) not in ("", line.split()[2]):
-            self.say(f"   Beware: {self.history.end(unread.race, unread.mark)}. Two boats have her place now: "
-                     "one of them has to leave it", WARNING)
+        boat = self.history.boat(unread.race, unread.mark)
+        if answer.startswith("OK ") and boat not in ("", line.split()[2]):
+            self.say(f"   Beware: {self.history.end(unread.race, unread.mark)}. Two boats have her place "
+                     "now: one of them has to leave it", WARNING)
 
     def drop(self, waiting: list[Unread], why: str) -> None:
         """Keeps places no longer."""
