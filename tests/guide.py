@@ -39,6 +39,8 @@ VARIES = [(re.compile(r"\b\d{4}-\d\d-\d\d-\d{6}Z?\b"), "DATE"),
 # A question, or the prompt of those who type, and for how long nothing else comes then.
 ASKS, QUIET = re.compile(r"(> |[\]):?] )$"), 0.1
 SHOWN_PORT = "8080"
+# What a window in which somebody types prints once the office is back after a crash, up to its prompt.
+BACK = re.compile(r"The office is back with (?:.|\n)*> $")
 
 
 class Wrong(Exception):
@@ -51,6 +53,8 @@ class Window:
     def __init__(self, folder: str, port: str, command: list[str]) -> None:
         self.folder, self.port, self.command = folder, port, command
         self.terminal: helpers.Terminal | None = None
+        # Whether somebody types here, and whether the office was killed since the last box.
+        self.types = self.is_away = False
 
     def start(self, command: str) -> None:
         if self.terminal:
@@ -58,6 +62,7 @@ class Window:
         if not COMMAND.match(command):
             raise Wrong(f"the guide needs no other command than raceoffice: {command}")
         words = shlex.split(command[2:].replace(SHOWN_PORT, self.port))
+        self.types = words[1] == "type"
         # No other program is found, so that what is printed is the same on each computer.
         self.terminal = helpers.Terminal(*self.command, *words[1:], cwd=self.folder, PATH="/nowhere",
                                          PYTHONPATH=self.folder)
@@ -98,6 +103,7 @@ class Box:
         """What was typed and printed, up to the end of the tool or of what is shown."""
         if self.shown[:1] == ["..."]:
             self.skip()
+        self.window.is_away = False
         if self.shown[:1] and self.shown[0].startswith("$ "):
             self.window.start(self.shown[0])
             self.note(self.shown[0])
@@ -109,8 +115,11 @@ class Box:
         return self.went
 
     def skip(self) -> None:
-        """Leaves out what was printed since the last box."""
+        """Leaves out what was printed since the last box. After a crash that has the office's return."""
         self.note("...")
+        while self.window.is_away and not BACK.search(self.window.running.text):
+            if not self.window.running.more(helpers.PATIENCE):
+                raise Wrong("the office didn't come back in this window")
         while self.window.running.more(QUIET):
             pass
         self.window.lines()
@@ -250,6 +259,8 @@ class Play:
         """Kills the office of a series."""
         with open(os.path.join(self.folder, series, "office", "pid"), encoding="ascii") as file:
             os.kill(int(file.read().split()[0]), signal.SIGKILL)
+        for window in self.windows.values():
+            window.is_away = window.types and window.terminal is not None
 
     def close(self) -> None:
         """Ends what is left, offices too."""
