@@ -1,15 +1,13 @@
--- A boat's number is on a sheet if she is in the order, and is below the number of boats if she is
--- entered.
-use Rattle.std.proofs.Common.{◌≡◌, ℕ, ◌<◌, Bool, true, ◌||◌, List, [], ◌∷◌}
-use Rattle.std.proofs.Common.{refl, ◌∙◌, arith, length, map, nat_eq}
+-- A boat's number is in a sheet's order if she is in the journal's, and is below the number of boats
+-- if she is entered.
+use Rattle.std.proofs.Common.{◌≡◌, ℕ, ◌<◌, true, ◌||◌, List, [], ◌∷◌}
+use Rattle.std.proofs.Common.{refl, ◌∙◌, length, map, nat_eq}
 use Rattle.std.specs.List.{list_any}
 use Rattle.std.proofs.lemmas.Bool.{ltb-true}
-use Rattle.std.proofs.lemmas.List.{length-map}
 use Rattle.regatta_terms.specs.Rules.{RulesParts}
 use Rattle.regatta_terms.specs.declared.sail.Sail.{Sail}
 use Rattle.regatta_scores.specs.Order.{stands_in}
-use Rattle.regatta_scores.specs.Sheet.{boats}
-use Rattle.regatta_scores.specs.Journal.{Journal, same_sail, entered, order, held}
+use Rattle.regatta_scores.specs.Journal.{Journal, same_sail, entered, order}
 use Rattle.regatta_board.specs.Refusals.{is_entered, is_placed}
 use Rattle.regatta_board.specs.KeptJournal.{number, sheet_of}
 use Rattle.regatta_board.proofs.Found.{passes}
@@ -32,21 +30,3 @@ placed_same rules journal race boat known = by (order rules journal race)
 pub index_below : (xs : List Sail) (x : Sail) → list_any (same_sail x) xs ≡ true
     → index_in xs x < length xs
 index_below xs x h = ltb-true _ _ (passes (same_sail x) xs ∙ h)
-
-pub number_below : (rules : RulesParts) (journal : Journal) (race : ℕ) (boat : Sail)
-    → is_entered journal boat ≡ true
-    → number journal boat < boats (sheet_of rules journal race)
-number_below rules journal race boat known =
-    omega (
-      arith,
-      index_below (entered journal) boat known,
-      length-map (entered journal) (held journal race),
-    )
-
--- she is on the sheet, and placed there or not
-pub on_sheet : (rules : RulesParts) (journal : Journal) (race : ℕ) (boat : Sail) (b : Bool)
-    → is_entered journal boat ≡ true → is_placed rules journal race boat ≡ b
-    → (number journal boat < boats (sheet_of rules journal race))
-    × (stands_in nat_eq (number journal boat) (sheet_of rules journal race).order ≡ b)
-on_sheet rules journal race boat b known is =
-    (number_below rules journal race boat known, placed_same rules journal race boat known ∙ is)

@@ -1,8 +1,7 @@
 -- The scores of a board, and those after one more accepted entry.
-use Rattle.std.proofs.Common.{◌≡◌, ℕ, ◌<◌, ◌≤◌, Bool, true, false, cond, List, [], ◌∷◌, ◌++◌, refl}
-use Rattle.std.proofs.Common.{ap, ◌∙◌, sym, subst, arith, length, nat_lt, Option, Some, None, IfSome}
-use Rattle.std.specs.List.{position, position_or_len}
-use Rattle.std.proofs.lemmas.Bool.Decides.{nat_tests}
+use Rattle.std.proofs.Common.{◌≡◌, ℕ, ◌<◌, ◌≤◌, true, List, [], ◌∷◌, ◌++◌, refl}
+use Rattle.std.proofs.Common.{ap, ◌∙◌, sym, subst, arith, length, Option, Some, None}
+use Rattle.std.specs.List.{position}
 use Rattle.std.specs.Option.{option_map}
 use Rattle.regatta_terms.specs.Effects.{Act, Places, Strikes, Decides, Counts, Effect, Enters}
 use Rattle.regatta_terms.specs.Effects.{InRace, effect}
@@ -23,7 +22,7 @@ use Rattle.regatta_board.specs.BoardFacts.{BoardValue, StagedValue, IsStaged}
 use Rattle.regatta_board.specs.LedgerFacts.{IsRevision}
 use Rattle.regatta_scores.proofs.Apart.{entered_more, same_entered}
 use Rattle.regatta_board.proofs.Accepted.{MayAct, MayStep, may_step}
-use Rattle.regatta_board.proofs.Found.{found, found_more}
+use Rattle.regatta_board.proofs.Found.{at_position, found, found_more}
 use Rattle.regatta_board.proofs.Lawful.{lawful_more, accepted}
 use Rattle.regatta_board.proofs.LawfulJournals.{lawful_orderly, lawful_kept}
 use Rattle.regatta_board.proofs.Numbers.{is_same}
@@ -41,28 +40,13 @@ board_rank rules journal lawful scoring is boat =
     rank_found rules journal boat orderly.apart scoring
     (is.lines ∙ lines_kept rules journal orderly)
 
-pub position_within : {X : Type 0} (p : X → Bool) (xs : List X) (at : ℕ)
-    → position p xs ≡ Some at → at < length xs
-position_within p xs at e = by (nat_lt (position_or_len p xs) (length xs)) refl e
-  where
-    index : Option ℕ → ℕ
-    index (Some n) = n
-    index None = 0
-
-    by : (b : Bool) → nat_lt (position_or_len p xs) (length xs) ≡ b
-        → cond b (Some (position_or_len p xs)) None ≡ Some at → at < length xs
-    by true f h =
-        let same : position_or_len p xs ≡ at = ap (λ (o : Option ℕ). index o) h in
-        rw (← same) (grind (arith, nat_tests))
-    by false f h = absurd (cc)
-
 -- a boat that is entered has a line
 pub line_within : (rules : RulesParts) (journal : Journal) (scoring : Scoring)
     → IsScoring rules (kept_of rules journal) scoring → (boat : Sail) (at : ℕ)
     → position (same_sail boat) (entered journal) ≡ Some at → at < length scoring.lines
 line_within rules journal scoring is boat at e =
     let lines = ap length is.lines ∙ lines_by_long rules (kept_of rules journal) in
-    let within = position_within (same_sail boat) (entered journal) at e in
+    let within = (at_position (same_sail boat) (entered journal) at e).2 in
     omega (arith, lines, within)
 
 -- there are no more lines than boats may be entered
@@ -75,7 +59,7 @@ lines_few rules journal lawful scoring is =
     omega (arith, lines, kept.few)
 
 -- a command that may be committed was prepared on the board as it is
-module _ {entry : EntryParts} {place : ℕ} {revision : Revision} {scores : NewScores} {boat : ℕ}
+module _ {entry : EntryParts} {place : ℕ} {revision : Revision} {scores : NewScores} {boat : Option ℕ}
   where
     pub staged_on : {staged value : StagedValue} {held board : BoardValue} → staged ≡ value
         → value.board ≡ board → held ≡ board
@@ -107,26 +91,36 @@ module _ (rules : RulesParts) (entries : Journal) (lawful : is_lawful limits rul
 -- the number of the boat that an accepted command names is hers afterwards: a boat that it enters
 -- gets the number of boats
 module _ (rules : RulesParts) (entries : Journal) (e : EntryParts)
-    (none : refusal limits rules entries e ≡ None) (n : ℕ) where
+    (none : refusal limits rules entries e ≡ None) where
   named_by : (f : Effect) → effect e.command ≡ f → MayStep rules entries f
-      → IfSome (boat_named f) (λ boat. n ≡ number entries boat)
-      → IsNumberOf (entered (entries ++ e ∷ [])) f n
-  named_by (Enters s) is may at =
-      rw (entered_more entries e) (rw is (found_more (same_sail s) (entered entries) s (is_same s)
-      ∙ ap Some (sym at)))
-  named_by (InRace race act) is may at = rw (same_entered entries e race act is) (by act may at)
+      → IsNumberOf (entered (entries ++ e ∷ [])) (boat_named f)
+      (option_map (number entries) (boat_named f))
+  named_by (Enters s) is may =
+      rw (entered_more entries e) (rw is (ap Some (found_more (same_sail s) (entered entries) s
+      (is_same s))))
+  named_by (InRace race act) is may = rw (same_entered entries e race act is) (by act may)
     where
       by : (a : Act) → MayAct rules entries race a
-          → IfSome (boat_named (InRace race a)) (λ boat. n ≡ number entries boat)
-          → IsNumberOf (entered entries) (InRace race a) n
-      by (Places s placing) may at = found (same_sail s) (entered entries) may.0 ∙ ap Some (sym at)
-      by (Strikes s) may at = found (same_sail s) (entered entries) may ∙ ap Some (sym at)
-      by (Decides s d) may at = found (same_sail s) (entered entries) may ∙ ap Some (sym at)
-      by (Counts counts) may at = tt
+          → IsNumberOf (entered entries) (boat_named (InRace race a))
+          (option_map (number entries) (boat_named (InRace race a)))
+      by (Places s placing) may = ap Some (found (same_sail s) (entered entries) may.0)
+      by (Strikes s) may = ap Some (found (same_sail s) (entered entries) may)
+      by (Decides s d) may = ap Some (found (same_sail s) (entered entries) may)
+      by (Counts counts) may = refl
 
-  pub named_after : IfSome (boat_named (effect e.command)) (λ boat. n ≡ number entries boat)
-      → IsNumberOf (entered (entries ++ e ∷ [])) (effect e.command) n
-  named_after at =
+  pub named_after : IsNumberOf (entered (entries ++ e ∷ [])) (boat_named (effect e.command))
+      (option_map (number entries) (boat_named (effect e.command)))
+  named_after =
       let free = accepted rules entries e none in
       named_by (effect e.command) refl
-      (may_step rules entries e.role (effect e.command) free.0 free.1) at
+      (may_step rules entries e.role (effect e.command) free.0 free.1)
+
+-- a boat with a number is a boat with a position
+pub whose : (sails : List Sail) (named : Option Sail) (at : ℕ) → IsNumberOf sails named (Some at)
+    → (sail : Sail) × (named ≡ Some sail) × (position (same_sail sail) sails ≡ Some at)
+whose sails (Some sail) at e = (sail, refl, cc)
+whose sails None at e = absurd (cc)
+
+pub nobody : (sails : List Sail) (named : Option Sail) → IsNumberOf sails named None → named ≡ None
+nobody sails (Some sail) e = absurd (cc)
+nobody sails None e = refl

@@ -1,12 +1,10 @@
 -- Boats and their numbers in the entry list.
-use Rattle.std.proofs.Common.{◌≡◌, ℕ, zero, suc, ◌+◌, ◌≤◌, Bool, true, false, cond, not, nat_lt}
-use Rattle.std.proofs.Common.{List, [], ◌∷◌, ◌++◌, refl, ap, ◌∙◌, arith, length, position}
+use Rattle.std.proofs.Common.{◌≡◌, ℕ, zero, suc, ◌+◌, false}
+use Rattle.std.proofs.Common.{List, [], ◌∷◌, ◌++◌, refl, ap, ◌∙◌, arith, length}
 use Rattle.std.proofs.Common.{slice_get, Option, Some, None, is_some}
-use Rattle.std.specs.List.{AllZip, list_any, position_or_len}
+use Rattle.std.specs.List.{AllZip, list_any}
 use Rattle.std.specs.Map.{keys_of, lookup}
-use Rattle.std.proofs.lemmas.Bool.{ltb-false}
 use Rattle.std.proofs.lemmas.List.{map-append}
-use Rattle.std.proofs.lemmas.List.Sums.{prefix_len-le-length}
 use Rattle.std.proofs.lemmas.Map.Made.{is_some-lookup}
 use Rattle.regatta_scores.specs.Journal.{same_sail}
 use Rattle.regatta_terms.specs.declared.sail.Sail.{Sail}
@@ -59,15 +57,3 @@ no_number es boat out = by (lookup (same_sail boat) es) (is_some-lookup (same_sa
 pub listed : (es new : List (Sail × ℕ)) (boat : Sail) (n : ℕ) → new ≡ es ++ (boat, n) ∷ []
     → keys_of new ≡ keys_of es ++ boat ∷ []
 listed es new boat n e = ap keys_of e ∙ map-append (λ (x : Sail × ℕ). x.0) es ((boat, n) ∷ [])
-
--- if no element passes, the index of the first that does is past the end
-pub index_past : {X : Type 0} (p : X → Bool) (xs : List X) → position p xs ≡ None
-    → length xs ≡ position_or_len p xs
-index_past p xs e = by (nat_lt (position_or_len p xs) (length xs)) refl e
-  where
-    by : (b : Bool) → nat_lt (position_or_len p xs) (length xs) ≡ b
-        → cond b (Some (position_or_len p xs)) None ≡ None → length xs ≡ position_or_len p xs
-    by true h e = absurd (cc)
-    by false h e =
-        (let above : length xs ≤ position_or_len p xs = ltb-false (position_or_len p xs) (length xs)
-        h in omega (arith, above, prefix_len-le-length (λ x. not (p x)) xs))

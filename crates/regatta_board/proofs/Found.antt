@@ -1,8 +1,9 @@
 -- A boat is entered if and only if her number is below the number of boats; it is then her position.
 use Rattle.std.proofs.Common.{◌≡◌, ℕ, ◌+◌, Bool, true, false, cond, not, ◌||◌, List, [], ◌∷◌, refl}
 use Rattle.std.proofs.Common.{◌∙◌, ◌++◌, ap, suc, arith, length, length-append, nat_lt, Some}
-use Rattle.std.proofs.Common.{None}
+use Rattle.std.proofs.Common.{◌<◌, ◌≤◌, sym, None}
 use Rattle.std.specs.List.{list_any, position, position_or_len}
+use Rattle.std.proofs.lemmas.Bool.{ltb-true, ltb-false}
 use Rattle.std.proofs.lemmas.Bool.Decides.{nat_tests}
 use Rattle.std.proofs.lemmas.List.Sums.{prefix_len-le-length}
 use borrow.Author.Tests.{lt-ltb}
@@ -46,3 +47,33 @@ found_more p xs x h = let within : nat_lt (position_or_len p (xs ++ x ∷ []))
       prefix_len-le-length (λ y. not (p y)) xs,
     )) in
     λ i. cond (within i) (Some (index_more p xs x h i)) None
+
+-- an element at a position passes, and her index is below the length
+pub at_position : {X : Type 0} (p : X → Bool) (xs : List X) (at : ℕ) → position p xs ≡ Some at
+    → (list_any p xs ≡ true) × (at ≡ position_or_len p xs) × (at < length xs)
+at_position p xs at e = by (nat_lt (position_or_len p xs) (length xs)) refl e
+  where
+    by : (b : Bool) → nat_lt (position_or_len p xs) (length xs) ≡ b
+        → cond b (Some (position_or_len p xs)) None ≡ Some at
+        → (list_any p xs ≡ true) × (at ≡ position_or_len p xs) × (at < length xs)
+    by true f h =
+        let same : at ≡ position_or_len p xs = cc in
+        (sym (passes p xs) ∙ f, same, rw same (ltb-true _ _ f))
+    by false f h = absurd (cc)
+
+-- without a position nothing passes
+pub no_position : {X : Type 0} (p : X → Bool) (xs : List X) → position p xs ≡ None
+    → list_any p xs ≡ false
+no_position p xs e = by (nat_lt (position_or_len p xs) (length xs)) refl e
+  where
+    by : (b : Bool) → nat_lt (position_or_len p xs) (length xs) ≡ b
+        → cond b (Some (position_or_len p xs)) None ≡ None → list_any p xs ≡ false
+    by true f h = absurd (cc)
+    by false f h = sym (passes p xs) ∙ f
+
+-- if no element passes, the index of the first that does is past the end
+pub index_past : {X : Type 0} (p : X → Bool) (xs : List X) → list_any p xs ≡ false
+    → length xs ≡ position_or_len p xs
+index_past p xs none =
+    let above : length xs ≤ position_or_len p xs = ltb-false _ _ (passes p xs ∙ none) in
+    omega (arith, above, prefix_len-le-length (λ x. not (p x)) xs)

@@ -28,7 +28,7 @@ map_passed p f g same xs =
     (recursion_from_All (λ x. p x ≡ true) (filter p xs) (filter_passes p xs))
 
 -- two cases: two numbers are equal, or they are not
-one_or_other : {P : Type 0} (k r : ℕ) → (k ≡ r → P) → (k ≢ r → P) → P
+pub one_or_other : {P : Type 0} (k r : ℕ) → (k ≡ r → P) → (k ≢ r → P) → P
 one_or_other {P} k r one other = by (nat_eq k r) refl
   where
     by : (b : Bool) → nat_eq k r ≡ b → P

@@ -1,9 +1,9 @@
 -- The answer to an accepted command.
 use Rattle.std.specs.Prelude.{◌≡◌, ℕ, ◌+◌, List, [], ◌∷◌, ◌++◌, length, find, Option, Some, None}
-use Rattle.std.specs.Prelude.{IfSome, if◌then◌else◌}
+use Rattle.std.specs.Prelude.{if◌then◌else◌}
 use Rattle.std.specs.List.{position}
 use Rattle.std.specs.Option.{option_map, option_and_then}
-use Rattle.regatta_terms.specs.Effects.{TiedWith, AheadOf, Places, Strikes, Decides, Counts}
+use Rattle.regatta_terms.specs.Effects.{Places, Strikes, Decides, Counts}
 use Rattle.regatta_terms.specs.Effects.{Effect, Enters, InRace, effect}
 use Rattle.regatta_terms.specs.Entries.{EntryParts}
 use Rattle.regatta_terms.specs.Rules.{RulesParts}
@@ -22,16 +22,10 @@ boat_named (InRace race (Strikes sail)) = Some sail
 boat_named (InRace race (Decides sail decision)) = Some sail
 boat_named (InRace race (Counts counts)) = None
 
--- the boat by whose place a command places another, if any
-abbrev pub other_named : Effect → Option Sail
-other_named (InRace race (Places sail (TiedWith other))) = Some other
-other_named (InRace race (Places sail (AheadOf other))) = Some other
-other_named _ = None
-
--- the number of the first boat that a command names, if any, is her position in the entry list
-abbrev pub IsNumberOf : List Sail → Effect → ℕ → Type 0
-IsNumberOf sails e number =
-    IfSome (boat_named e) (λ boat. position (same_sail boat) sails ≡ Some number)
+-- the number of a boat, if there is one, is her position in the entry list
+abbrev pub IsNumberOf : List Sail → Option Sail → Option ℕ → Type 0
+IsNumberOf sails boat number =
+    option_map (λ sail. position (same_sail sail) sails) boat ≡ option_map Some number
 
 -- what an answer has of the boat's row, if she is entered: her rank (RRS A8), whether it is shared,
 -- and her net points

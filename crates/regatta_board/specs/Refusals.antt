@@ -1,7 +1,7 @@
 -- Which commands are refused, and why: the first reason that applies.
 use Rattle.std.specs.Prelude.{◌≡◌, ℕ, ◌+◌, min, Bool, true, false, not, ◌&&◌, ◌||◌, nat_eq, nat_le}
 use Rattle.std.specs.Prelude.{List, [], ◌∷◌, ◌++◌, length, filter, map, unwrap_or, Option, Some}
-use Rattle.std.specs.Prelude.{None, is_some, is_none, if◌then◌else◌}
+use Rattle.std.specs.Prelude.{None, is_some, is_none, if◌then◌else◌, Result, Ok, Err}
 use Rattle.std.specs.List.{last_or, list_any}
 use Rattle.std.specs.Option.{option_map_or}
 use Rattle.regatta_terms.specs.declared.limits.TheConstants.{MAX_BOATS, MAX_ENTRIES, MAX_PENALTIES}
@@ -10,7 +10,8 @@ use Rattle.regatta_terms.specs.Effects.{Penalises, Redresses, Clears, Places, St
 use Rattle.regatta_terms.specs.Effects.{Counts, Effect, Enters, InRace, effect}
 use Rattle.regatta_terms.specs.Entries.{EntryParts}
 use Rattle.regatta_terms.specs.Rules.{RulesParts}
-use Rattle.regatta_terms.specs.Roles.{may_send, is_jury, is_jury_code}
+use Rattle.regatta_terms.specs.Codes.{is_jury_code}
+use Rattle.regatta_terms.specs.Roles.{may_send, is_jury}
 use Rattle.regatta_terms.specs.declared.sail.Sail.{Sail}
 use Rattle.regatta_terms.specs.declared.command.PenaltyKind.{PenaltyKind}
 use Rattle.regatta_terms.specs.declared.command.PenaltyKind.TheVariants.{Zfp, Scp}
@@ -144,6 +145,11 @@ refusal most rules journal entry =
 abbrev pub IsRefusal : Option Refusal → Refusal → Type 0
 IsRefusal (Some due) why = why ≡ due
 IsRefusal None why = why ≡ NoMemory
+
+-- a value of which this holds, unless there is a refusal
+abbrev pub Unless : {X : Type 0} → Option Refusal → (X → Type 0) → Result X Refusal → Type 0
+Unless due P (Ok x) = (due ≡ None) × P x
+Unless due P (Err why) = due ≡ Some why
 
 -- the first entry refused after those before it: its place, from 1, and why
 abbrev pub refused_from : Limits → RulesParts → Journal → List EntryParts → Option (ℕ × Refusal)

@@ -1,30 +1,26 @@
 -- The scores that the board keeps: a column for each race, a line for each boat, and their ranking.
-use Rattle.std.specs.Prelude.{◌≡◌, ℕ, ◌+◌, ◌-◌, ◌<◌, ◌≤◌, false, List, [], length, slice_index_or}
+use Rattle.std.specs.Prelude.{◌≡◌, ◌≢◌, ℕ, ◌+◌, ◌-◌, ◌<◌, ◌≤◌, false, List, [], length, slice_index_or}
 use Rattle.std.specs.Prelude.{Option, Some, None, IfSome, ◌↔◌, ◌∷◌, ◌++◌, if◌then◌else◌, slice_set}
-use Rattle.std.specs.Prelude.{vec_capacity, unwrap_or}
-use Rattle.std.specs.Option.{option_map_or}
+use Rattle.std.specs.Prelude.{vec_capacity}
 use Rattle.regatta_terms.specs.Rules.{RulesParts}
 use Rattle.regatta_terms.specs.declared.limits.TheConstants.{MAX_RACES}
 use Rattle.regatta_terms.specs.declared.reply.Touched.{Touched}
-use Rattle.regatta_terms.specs.Effects.{Places, Strikes, Decides, Counts, Effect, Enters, InRace}
-use Rattle.regatta_scores.specs.Sheet.{Sheet, empty_sheet}
-use Rattle.regatta_scores.specs.Current.{with_changed, AreOfBoats}
+use Rattle.regatta_scores.specs.Sheet.{empty_sheet}
+use Rattle.regatta_scores.specs.Current.{with_changed, AreWithin}
 use Rattle.regatta_scores.specs.KeptRanking.{IsRanking}
 use Rattle.regatta_scores.specs.Lines.{line_by}
 use Rattle.regatta_scores.specs.RaceScores.{scores_in, ScoresAs}
 use Rattle.regatta_scores.specs.Ranking.{BoatScores, net, place}
-use Rattle.regatta_board.specs.declared.column.NewColumns.{NewColumns}
-use Rattle.regatta_board.specs.declared.column.NewColumns.TheVariants.{Same, One, All}
+use Rattle.regatta_board.specs.declared.column.NewColumn.{NewColumn}
 use Rattle.regatta_scores.specs.declared.current.NewLine.{NewLine}
-use Rattle.regatta_board.specs.declared.scoring.NewLines.{NewLines}
-use Rattle.regatta_board.specs.declared.scoring.NewLines.TheVariants as lines
-use Rattle.regatta_board.specs.declared.scoring.Ranked.{Ranked}
 use Rattle.regatta_board.specs.declared.scoring.NewScores.{NewScores}
+use Rattle.regatta_board.specs.declared.scoring.NewScores.TheVariants as scores
+use Rattle.regatta_board.specs.declared.act.Step.{Step}
+use Rattle.regatta_board.specs.declared.act.Step.TheVariants as step
 use Rattle.regatta_board.specs.declared.kept.Revision.{Revision}
 use Rattle.regatta_board.specs.declared.kept.Revision.TheVariants as revision
 use Rattle.regatta_scores.specs.declared.boats.RaceScore.{RaceScore}
 use Rattle.regatta_board.specs.Refusals.{limits}
-use Rattle.regatta_board.specs.Revisions.{revised}
 use Rattle.regatta_board.specs.Table.{Kept, column, columns, races, lines as lines_of, no_line}
 
 -- the races that count; a column for each race of a series, which is empty if the race doesn't
@@ -45,11 +41,10 @@ column_at rules kept k =
 abbrev pub AreColumns : RulesParts → Kept → List (List RaceScore) → Type 0
 AreColumns rules kept columns = (k : ℕ) → slice_index_or columns k [] ≡ column_at rules kept k
 
--- the columns, after new ones replace the old ones
-abbrev pub with_columns : List (List RaceScore) → NewColumns → List (List RaceScore)
-with_columns old Same = old
-with_columns old (One race column) = slice_set old (race - 1) column
-with_columns old (All columns) = columns.items
+-- the columns, after a new one, if there is one, replaces that of its race
+abbrev pub with_column : List (List RaceScore) → Option NewColumn → List (List RaceScore)
+with_column old None = old
+with_column old (Some new) = slice_set old (new.race - 1) new.column
 
 -- 1 if the race counts, else 0
 abbrev pub once_if_counted : Kept → ℕ → ℕ
@@ -62,13 +57,11 @@ most_remade kept (revision.Enter boats sheets) = length (races kept.counts)
 most_remade kept (revision.Sheet race sheet) = once_if_counted kept race
 most_remade kept (revision.Counts race counts) = if counts then 1 else 0
 
--- the same, by what the accepted command does
-abbrev pub most_remade_by : Kept → Effect → ℕ
-most_remade_by kept (Enters sail) = length (races kept.counts)
-most_remade_by kept (InRace race (Counts counts)) = if counts then 1 else 0
-most_remade_by kept (InRace race (Places sail placing)) = once_if_counted kept race
-most_remade_by kept (InRace race (Strikes sail)) = once_if_counted kept race
-most_remade_by kept (InRace race (Decides sail decision)) = once_if_counted kept race
+-- the same, by the step of which it is the revision
+abbrev pub most_remade_by : Kept → Step → ℕ
+most_remade_by kept (step.Enter sail) = length (races kept.counts)
+most_remade_by kept (step.Sheet race change) = once_if_counted kept race
+most_remade_by kept (step.Counts race counts) = if counts then 1 else 0
 
 -- the lines of all boats, computed from what is kept of the journal
 abbrev pub lines_by : RulesParts → Kept → List BoatScores
@@ -103,68 +96,70 @@ pub record IsPushed (rules : RulesParts) (columns : List (List RaceScore)) (boat
   pub value : IfSome line (λ found. found ≡ line_by rules (scores_in columns boat))
   pub made : after ≡ with_new before boat line
 
--- the lines, after new ones replace some or all of them, or an empty one is added
-abbrev pub with_lines : List BoatScores → NewLines → List BoatScores
-with_lines old (lines.Changed new) = with_changed old new.items
-with_lines old lines.Added = old ++ no_line ∷ []
-with_lines old (lines.All new) = new.items
+-- the columns of races other than this one stay
+abbrev pub AreOtherColumns : RulesParts → Kept → Kept → ℕ → Type 0
+AreOtherColumns rules before after race =
+    (k : ℕ) → k ≢ race - 1 → column_at rules before k ≡ column_at rules after k
 
--- if some lines are new, they are those of different boats in the order of their numbers, and there
--- are no more of them than boats; for one more boat there is room; and the lines of all boats have
--- room for all that a series may have
-abbrev pub FitBoats : List BoatScores → NewLines → Type 0
-FitBoats old (lines.Changed new) = AreOfBoats (length old) new.items × (length new.items ≤ length old)
-FitBoats old lines.Added = length old < limits.boats
-FitBoats old (lines.All new) =
-    (length new.items ≤ limits.boats) × (limits.boats ≤ vec_capacity new)
+-- this race has a new column, and those of the others stay
+abbrev pub TurnsColumn : RulesParts → Kept → Kept → ℕ → List RaceScore → Type 0
+TurnsColumn rules before after race new =
+    AreOtherColumns rules before after race × (new ≡ column_at rules after (race - 1))
 
--- the new lines turn the lines before into those after, and the ranking is theirs; without new
--- lines, the lines stay
-abbrev pub AreRanked : RulesParts → Kept → Kept → Option Ranked → Type 0
-AreRanked rules before after None = lines_by rules before ≡ lines_by rules after
-AreRanked rules before after (Some ranked) =
-    FitBoats (lines_by rules before) ranked.lines
-    × (with_lines (lines_by rules before) ranked.lines ≡ lines_by rules after)
-    × IsRanking (lines_by rules after) ranked.ranking
+-- the same boats are entered, and the same races count
+abbrev pub AreSameRaces : Kept → Kept → Type 0
+AreSameRaces before after = (after.sails ≡ before.sails) × (after.counts ≡ before.counts)
 
--- the new columns turn the columns before into those after
-abbrev pub AreNewColumns : RulesParts → Kept → Kept → NewColumns → Type 0
-AreNewColumns rules before after new =
-    (old : List (List RaceScore)) → length old ≡ MAX_RACES → AreColumns rules before old
-    → (length (with_columns old new) ≡ MAX_RACES) × AreColumns rules after (with_columns old new)
+-- one more boat is entered, and the same races count
+abbrev pub IsOneMore : Kept → Kept → Type 0
+IsOneMore before after =
+    (length after.sails ≡ length before.sails + 1) × (after.counts ≡ before.counts)
 
--- a new sheet changes only the column of its race
-abbrev pub RemakesOneColumn : RulesParts → Revision → NewColumns → Type 0
-RemakesOneColumn rules (revision.Enter boats sheets) new = Unit {0}
-RemakesOneColumn rules (revision.Sheet race sheet) new =
-    (old : List (List RaceScore))
-    → with_columns old new ≡ slice_set old (race - 1) (column rules sheet)
-RemakesOneColumn rules (revision.Counts race counts) new = Unit {0}
-
--- a revision changes the column of this race, and leaves the boats and the races that count as they
--- are
-pub record RemakesOnly (rules : RulesParts) (kept : Kept) (change : Revision) (race : ℕ)
-    (scoring : Scoring) (new : NewColumns) : Type 0 where
-  pub counts : (revised kept change).counts ≡ kept.counts
-  pub sails : (revised kept change).sails ≡ kept.sails
-  pub sheet : Sheet
-  pub column : with_columns scoring.columns new
-      ≡ slice_set scoring.columns (race - 1) (column rules sheet)
-
--- the new scores turn the scores before into those after
-pub record AreNewScores (rules : RulesParts) (before after : Kept) (new : NewScores) : Type 0 where
-  pub races : unwrap_or new.races (races before.counts) ≡ races after.counts
-  pub columns : AreNewColumns rules before after new.columns
-  pub ranked : AreRanked rules before after new.ranked
-
--- the scores, after the new ones are moved in
+-- the scores, after new ones are moved in
 abbrev pub with_scores : Scoring → NewScores → Scoring
-with_scores old new = record {
-  races = unwrap_or new.races old.races;
-  columns = with_columns old.columns new.columns;
-  lines = option_map_or (λ (ranked : Ranked). with_lines old.lines ranked.lines) new.ranked old.lines;
-  ranking = option_map_or (λ (ranked : Ranked). ranked.ranking) new.ranked old.ranking;
+with_scores old scores.Same = old
+with_scores old (scores.Column column) =
+    record old { columns = with_column old.columns (Some column) }
+with_scores old (scores.Sheet column lines ranking) = record {
+  races = old.races;
+  columns = with_column old.columns (Some column);
+  lines = with_changed old.lines lines.items;
+  ranking = ranking;
 }
+with_scores old (scores.Added columns ranking) = record {
+  races = old.races;
+  columns = columns.items;
+  lines = old.lines ++ no_line ∷ [];
+  ranking = ranking;
+}
+with_scores old (scores.Entered columns lines ranking) = record {
+  races = old.races;
+  columns = columns.items;
+  lines = lines.items;
+  ranking = ranking;
+}
+with_scores old (scores.Counts races column lines ranking) = record {
+  races = races;
+  columns = with_column old.columns (Some column);
+  lines = lines.items;
+  ranking = ranking;
+}
+
+-- the new lines can be moved in: some are those of boats, for one more boat there is room, and the
+-- lines of all boats have room for all that a series may have
+abbrev pub FitLines : List BoatScores → NewScores → Type 0
+FitLines old scores.Same = Unit {0}
+FitLines old (scores.Column column) = Unit {0}
+FitLines old (scores.Sheet column lines ranking) = AreWithin (length old) lines.items
+FitLines old (scores.Added columns ranking) = length old < limits.boats
+FitLines old (scores.Entered columns lines ranking) = limits.boats ≤ vec_capacity lines
+FitLines old (scores.Counts races column lines ranking) = limits.boats ≤ vec_capacity lines
+
+-- the new scores can be moved in, and turn the scores before into those after
+pub record AreNewScores (rules : RulesParts) (before after : Kept) (new : NewScores) : Type 0 where
+  pub fit : (old : Scoring) → IsScoring rules before old → FitLines old.lines new
+  pub turn : (old : Scoring) → IsScoring rules before old
+      → IsScoring rules after (with_scores old new)
 
 -- what an answer has about the boat with this number: rank (RRS A8), whether it is shared, net
 abbrev pub touched_at : Scoring → ℕ → Touched

@@ -1,16 +1,14 @@
 //! Columns: the scores of all boats in a race that counts, before averages.
-ghost use Rattle.std.specs.Prelude.{◌≡◌, ◌+◌, ◌-◌, ◌<◌, ◌≤◌, ◌^◌, [], true, false, length, List};
-ghost use Rattle.std.specs.Prelude.{map, slice_index_or, slice_set, IfOk, OnOk, if◌then◌else◌};
+ghost use Rattle.std.specs.Prelude.{◌≡◌, ◌+◌, ◌-◌, ◌<◌, ◌≤◌, ◌^◌, [], false, length};
+ghost use Rattle.std.specs.Prelude.{map, slice_index_or, IfOk, OnOk, if◌then◌else◌};
+ghost use Rattle.std.specs.Option.{option_copied};
 ghost use Rattle.regatta_terms.specs.Entries.{IsRace};
-ghost use Rattle.regatta_scores.specs.declared.boats.RaceScore.{RaceScore};
 ghost use Rattle.regatta_scores.specs.RaceScores.{no_score};
-ghost use Rattle.regatta_board.specs.Revisions.{revised, may_change_standing};
-ghost use Rattle.regatta_board.specs.Scoring.{AreColumns, AreNewColumns, RemakesOneColumn};
-ghost use Rattle.regatta_board.specs.Scoring.{column_at, with_columns, most_remade};
+ghost use Rattle.regatta_board.specs.Scoring.{AreColumns, column_at, once_if_counted, with_column};
 ghost use Rattle.regatta_board.specs.Table.{IsKept, column as column_of};
 ghost use Rattle.regatta_board.specs.Table.{races as races_of};
 
-use crate::kept::{Draft, Kept, Revision};
+use crate::kept::Draft;
 use regatta_scores::{
     Items, PerRace, RaceColumn, RaceScore, RaceScores, RaceSheet, Work, race_scores,
 };
@@ -50,6 +48,13 @@ impl Column {
     {
         &self.scores.as_slice()[boat]
     }
+
+    /// The scores, as lines are computed from them.
+    pub(crate) fn as_race_column(&self) -> RaceColumn<'_>
+        ensures { result ≡ self.now }
+    {
+        RaceColumn::new(&self.scores)
+    }
 }
 
 pub(crate) fn made_column(
@@ -66,15 +71,11 @@ pub(crate) fn made_column(
     Ok(Column { scores })
 }
 
-/// The columns that a command recomputes.
+/// The new column of one race. It is empty if the race doesn't count.
 #[derive(Drop)]
-pub(crate) enum NewColumns {
-    /// None: the command names a race that doesn't count.
-    Same,
-    /// The column of one race; it is empty if the race no longer counts.
-    One { race: RaceNo, column: Column },
-    /// The columns of all races that count.
-    All { columns: Vec<Column> },
+pub(crate) struct NewColumn {
+    pub race: RaceNo,
+    pub column: Column,
 }
 
 /// The column of a race, or an empty one if the race doesn't count.
@@ -122,97 +123,56 @@ pub(crate) fn all_columns(
 }
 
 /// Recomputes the column of one race.
-fn one_column(
+pub(crate) fn new_column(
     alloc: Global,
+    draft: &Draft,
     race: RaceNo,
-    sheet: &RaceSheet,
     rules: &Rules,
     work: &mut Work,
-) -> Result<NewColumns, AllocError>
+) -> Result<NewColumn, AllocError>
+    requires kept { IsKept draft.now }
     requires work { work.old + 1 < 2 ^ 32 }
-    ensures value { IfOk result (λ new. (old : List (List RaceScore)) →
-        with_columns old new ≡ slice_set old (race - 1) (column_of rules.now sheet.now)) }
-    ensures counted { OnOk result (work.new ≡ work.old + 1) }
+    ensures race { IfOk result (λ new. new.race ≡ race) }
+    ensures value { IfOk result (λ new. new.column ≡ column_at rules.now draft.now (race - 1)) }
+    ensures counted { OnOk result (work.new ≡ work.old + once_if_counted draft.now race) }
+    ensures range { IsRace race }
 {
-    let column = made_column(alloc, sheet, rules, work)?;
-    Ok(NewColumns::One { race, column })
+    let column = column_if_scored(alloc, draft, race.get(), rules, work)?;
+    Ok(NewColumn { race, column })
 }
 
-/// Empties the column of a race that no longer counts.
-fn no_column(alloc: Global, race: RaceNo) -> NewColumns
-    ensures { (old : List (List RaceScore)) →
-        with_columns old result ≡ slice_set old (race - 1) [] }
-{
-    NewColumns::One {
-        race,
-        column: Column::empty(alloc),
-    }
-}
-
-/// Recomputes the columns that a revision changes: all those of races that count if it enters a
-/// boat, else at most one.
-pub(crate) fn new_columns(
-    alloc: Global,
-    kept: &Kept,
-    revision: &Revision,
-    rules: &Rules,
-    work: &mut Work,
-) -> Result<NewColumns, AllocError>
-    requires kept { IsKept kept.now }
-    requires next { IsKept (revised kept.now revision.now) }
-    requires touched { may_change_standing kept.now revision.now ≡ true }
-    requires work { work.old + MAX_RACES < 2 ^ 32 }
-    ensures value { IfOk result
-        (AreNewColumns rules.now kept.now (revised kept.now revision.now)) }
-    ensures one { IfOk result (RemakesOneColumn rules.now revision.now) }
-    ensures counted { OnOk result
-        (work.new ≤ work.old + most_remade kept.now revision.now) }
-{
-    match revision {
-        Revision::Enter { .. } => {
-            let columns = all_columns(alloc, &Draft::new(kept, revision), rules, work)?;
-            Ok(NewColumns::All { columns })
-        }
-        Revision::Sheet { race, sheet } => one_column(alloc, *race, sheet, rules, work),
-        Revision::Counts { race, counts: true } => {
-            one_column(alloc, *race, kept.sheet(*race), rules, work)
-        }
-        Revision::Counts { race, .. } => Ok(no_column(alloc, *race)),
-    }
-}
-
-/// The column of a race, after new columns replace the old ones.
-pub(crate) fn current<'a>(old: &'a [Column], new: &'a NewColumns, race: RaceNo) -> RaceColumn<'a>
+/// The column of a race, after a new one replaces that of its race.
+fn current<'a>(old: &'a [Column], new: Option<&'a NewColumn>, race: RaceNo) -> RaceColumn<'a>
     requires old { length old.now ≡ MAX_RACES }
-    requires new { length (with_columns old.now new.now) ≡ MAX_RACES }
-    ensures { result ≡ slice_index_or (with_columns old.now new.now) (race - 1) [] }
+    ensures { result
+        ≡ slice_index_or (with_column old.now (option_copied new.entry)) (race - 1) [] }
 {
-    let at = race.get() as usize - 1;
     let column = match new {
-        NewColumns::One {
-            race: changed,
-            column,
-        } if changed.get() == race.get() => column,
-        NewColumns::Same | NewColumns::One { .. } => &old[at],
-        NewColumns::All { columns } => &columns[at],
+        Some(
+            NewColumn {
+                race: changed,
+                column,
+            },
+        ) if changed.get() == race.get() => column,
+        Some(_) | None => &old[race.get() as usize - 1],
     };
-    RaceColumn::new(&column.scores)
+    column.as_race_column()
 }
 
-/// Appends the columns of these races, after new ones replace the old ones.
+/// Appends the columns of these races, after a new one replaces that of its race.
 // The caller's list is filled, since a list that is returned is copied.
 pub(crate) fn push_columns<'a>(
     found: &mut PerRace<RaceColumn<'a>>,
     old: &'a [Column],
-    new: &'a NewColumns,
+    new: Option<&'a NewColumn>,
     races: &[RaceNo],
 )
     requires old { length old.now ≡ MAX_RACES }
-    requires new { length (with_columns old.now new.now) ≡ MAX_RACES }
     requires few { length races.now ≤ MAX_RACES }
     requires none { found.old.items ≡ [] }
     ensures { found.new.items
-        ≡ map (λ race. slice_index_or (with_columns old.now new.now) (race - 1) []) races.now }
+        ≡ map (λ race. slice_index_or (with_column old.now (option_copied new.entry)) (race - 1) [])
+        races.now }
 {
     for &race in races {
         found.push(current(old, new, race));

@@ -1,30 +1,30 @@
 //! The scores that are kept: a column for each race, a line for each boat, and their ranking.
 ghost use Rattle.std.specs.Prelude.{◌≡◌, ◌+◌, ◌-◌, ◌<◌, ◌≤◌, ◌^◌, ℕ, true, false, length};
-ghost use Rattle.std.specs.Prelude.{◌++◌, ◌∷◌, [], List, slice_index_or, All, IfOk, IfSome, OnOk};
-ghost use Rattle.std.specs.Prelude.{unwrap_or, vec_capacity};
+ghost use Rattle.std.specs.Prelude.{◌++◌, ◌∷◌, [], slice_index_or, All, IfOk, OnOk, Some};
+ghost use Rattle.std.specs.Prelude.{vec_capacity};
+ghost use Rattle.std.specs.Option.{option_copied};
+ghost use Rattle.regatta_terms.specs.Entries.{IsRace};
 ghost use Rattle.regatta_terms.specs.Rules.{RulesParts};
 ghost use Rattle.regatta_scores.specs.Current.{with_changed, AreOfBoats, AreWithin};
 ghost use Rattle.regatta_scores.specs.KeptRanking.{IsRanking};
 ghost use Rattle.regatta_scores.specs.Lines.{line_by as line_of};
 ghost use Rattle.regatta_scores.specs.RaceScores.{no_score, scores_in as scores_of, ScoresAs};
-ghost use Rattle.regatta_scores.specs.Ranking.{BoatScores};
 ghost use Rattle.regatta_board.specs.Refusals.{limits};
-ghost use Rattle.regatta_board.specs.Revisions.{revised, may_change_standing};
-ghost use Rattle.regatta_board.specs.Scoring.{IsScoring, AreNewScores, AreNewColumns};
-ghost use Rattle.regatta_board.specs.Scoring.{AreColumns, RemakesOneColumn, RemakesOnly};
-ghost use Rattle.regatta_board.specs.Scoring.{AddsBoat, FitBoats, IsPushed};
-ghost use Rattle.regatta_board.specs.Scoring.{lines_by, most_remade, with_columns, with_scores};
-ghost use Rattle.regatta_board.specs.Scoring.{touched_at, with_lines};
+ghost use Rattle.regatta_board.specs.Revisions.{revised};
+ghost use Rattle.regatta_board.specs.Scoring.{IsScoring, AreNewScores, AreColumns, AddsBoat};
+ghost use Rattle.regatta_board.specs.Scoring.{AreOtherColumns, TurnsColumn, AreSameRaces, IsOneMore};
+ghost use Rattle.regatta_board.specs.Scoring.{FitLines, IsPushed, lines_by, most_remade};
+ghost use Rattle.regatta_board.specs.Scoring.{once_if_counted, touched_at, with_column, with_scores};
 ghost use Rattle.regatta_board.specs.Table.{no_line, races as races_of, IsKept};
-ghost use Rattle.regatta_board.specs.Table.{lines as lines_of};
+ghost use Rattle.regatta_board.specs.Table.{column as column_of, lines as lines_of};
 ghost use Rattle.regatta_board.specs.Table.{table as table_of};
 
-use crate::column::{Column, NewColumns, all_columns, current, new_columns, push_columns};
+use crate::column::{Column, NewColumn, all_columns, made_column, new_column, push_columns};
 use crate::kept::{Draft, Kept, Revision};
 use crate::table::{races, sorted_rows};
 use regatta_scores::{
-    BoatLine, Items, NewLine, PerRace, RaceColumn, RaceScore, Races, Ranking, Standing, Work,
-    boat_line,
+    BoatLine, Items, NewLine, PerRace, RaceColumn, RaceScore, RaceSheet, Races, Ranking, Standing,
+    Work, boat_line,
 };
 use regatta_terms::{MAX_BOATS, MAX_RACES, RaceNo, Rules, Touched};
 use std::alloc::{AllocError, Global};
@@ -58,64 +58,40 @@ impl Model for Scoring {
     ghost invariant = { λ s. limits.boats ≤ vec_capacity s.lines };
 }
 
-/// The lines that a command recomputes.
+/// What a command changes of the scores.
 #[derive(Drop)]
-pub(crate) enum NewLines {
-    /// Those of the boats whose score in a race changed in more than its abbreviation, in the order
-    /// of their numbers. The lines of the others stay.
-    Changed { lines: Vec<NewLine> },
-    /// That of one more boat, which is empty, since no race counts. The lines of the others stay.
-    Added,
-    /// The lines of all boats, with room for all boats that a series may have.
-    All { lines: Vec<BoatLine> },
-}
-
-impl NewLines {
-    /// Whether the lines of all boats stay.
-    fn is_empty(&self) -> bool
-        ensures { result ≡ true → (old : List BoatScores) → with_lines old self.now ≡ old }
-    {
-        match self {
-            NewLines::Changed { lines } => lines.is_empty(),
-            NewLines::Added | NewLines::All { .. } => false,
-        }
-    }
-}
-
-/// New lines, and the ranking of all boats with them.
-#[derive(Drop)]
-pub(crate) struct Ranked {
-    lines: NewLines,
-    ranking: Ranking,
-}
-
-/// The scores that a command changes.
-#[derive(Drop)]
-pub(crate) struct NewScores {
-    /// `None` if the same races count.
-    races: Option<Races>,
-    columns: NewColumns,
-    /// `None` if no boat's line changes.
-    ranked: Option<Ranked>,
-}
-
-/// The ranking of all boats, after new lines replace the old ones.
-fn new_ranking(
-    alloc: Global,
-    ranking: &Ranking,
-    old: &[BoatLine],
-    new: &NewLines,
-) -> Result<Ranking, AllocError>
-    requires few { length old.now ≤ limits.boats }
-    requires each { FitBoats old.now new.now }
-    requires ranking { IsRanking old.now ranking.now }
-    ensures { IfOk result (IsRanking (with_lines old.now new.now)) }
-{
-    match new {
-        NewLines::Changed { lines } => ranking.after(alloc, old, lines),
-        NewLines::Added => ranking.with_boat(alloc, old, &BoatLine::empty()),
-        NewLines::All { lines } => Ranking::of(alloc, lines),
-    }
+pub(crate) enum NewScores {
+    /// Nothing: the sheet of a race that doesn't count changed.
+    Same,
+    /// The column of a race that counts, in which no score changed in more than its abbreviation.
+    Column {
+        column: NewColumn,
+    },
+    /// The column of a race that counts, and the lines of the boats whose score in it changed in
+    /// more than its abbreviation, in the order of their numbers.
+    Sheet {
+        column: NewColumn,
+        lines: Vec<NewLine>,
+        ranking: Ranking,
+    },
+    /// A boat is entered before a race counts. Her line is empty.
+    Added {
+        columns: Vec<Column>,
+        ranking: Ranking,
+    },
+    /// A boat is entered. The lines have room for all boats that a series may have.
+    Entered {
+        columns: Vec<Column>,
+        lines: Vec<BoatLine>,
+        ranking: Ranking,
+    },
+    /// A race begins or ceases to count. The lines have room for all boats that a series may have.
+    Counts {
+        races: Races,
+        column: NewColumn,
+        lines: Vec<BoatLine>,
+        ranking: Ranking,
+    },
 }
 
 /// Appends a boat's new line after one column is recomputed, unless a line takes the same of her
@@ -229,14 +205,13 @@ fn drafted_lines(
     alloc: Global,
     draft: &Draft,
     old: &[Column],
-    new: &NewColumns,
+    new: Option<&NewColumn>,
     races: &[RaceNo],
     rules: &Rules,
 ) -> Result<Vec<BoatLine>, AllocError>
     requires kept { IsKept draft.now }
     requires old { length old.now ≡ MAX_RACES }
-    requires new { length (with_columns old.now new.now) ≡ MAX_RACES }
-    requires columns { AreColumns rules.now draft.now (with_columns old.now new.now) }
+    requires columns { AreColumns rules.now draft.now (with_column old.now (option_copied new)) }
     requires races { races.now ≡ races_of draft.now.counts }
     ensures value { IfOk result (λ lines. lines.items ≡ lines_by rules.now draft.now) }
     ensures room { IfOk result (λ lines. limits.boats ≤ vec_capacity lines) }
@@ -247,100 +222,155 @@ fn drafted_lines(
     Ok(lines)
 }
 
-/// The lines that change when the sheet of a race that counts changes.
+/// The lines that change with the column of a race that counts.
 fn remade_lines(
     alloc: Global,
     scoring: &Scoring,
     kept: &Kept,
     revision: &Revision,
-    race: RaceNo,
-    columns: &NewColumns,
+    column: &NewColumn,
     rules: &Rules,
-) -> Result<NewLines, AllocError>
+) -> Result<Vec<NewLine>, AllocError>
     requires kept { IsKept kept.now }
     requires next { IsKept (revised kept.now revision.now) }
     requires scoring { IsScoring rules.now kept.now scoring.now }
-    requires counts { slice_index_or kept.now.counts (race - 1) false ≡ true }
-    requires turned { RemakesOnly rules.now kept.now revision.now race scoring.now columns.now }
-    requires new { AreNewColumns rules.now kept.now (revised kept.now revision.now) columns.now }
-    ensures each { IfOk result (FitBoats scoring.now.lines) }
-    ensures value { IfOk result (λ new.
-        with_lines scoring.now.lines new ≡ lines_by rules.now (revised kept.now revision.now)) }
+    requires counts { slice_index_or kept.now.counts (column.now.race - 1) false ≡ true }
+    requires same { AreSameRaces kept.now (revised kept.now revision.now) }
+    requires new { AreColumns rules.now (revised kept.now revision.now)
+        (with_column scoring.now.columns (Some column.now)) }
+    ensures each { IfOk result (λ made. AreOfBoats (length scoring.now.lines) made.items) }
+    ensures fewer { IfOk result (λ made. length made.items ≤ length scoring.now.lines) }
+    ensures value { IfOk result (λ made. with_changed scoring.now.lines made.items
+        ≡ lines_by rules.now (revised kept.now revision.now)) }
 {
     let mut found = PerRace::new();
     push_columns(
         &mut found,
         &scoring.columns,
-        columns,
+        Some(column),
         scoring.races.as_slice(),
     );
-    let old = &scoring.columns[race.get() as usize - 1];
-    let new = current(&scoring.columns, columns, race);
+    let old = &scoring.columns[column.race.get() as usize - 1];
+    let new = column.column.as_race_column();
     let lines = changed_lines(alloc, &scoring.lines, old, &new, &found, rules)?;
-    Ok(NewLines::Changed { lines })
+    Ok(lines)
 }
 
-/// Computes the lines that change with a revision and its new columns.
-fn new_lines(
+/// The scores that the sheet of a race that counts changes.
+fn scores_of_sheet(
     alloc: Global,
     scoring: &Scoring,
     kept: &Kept,
     revision: &Revision,
-    columns: &NewColumns,
-    races: &[RaceNo],
+    race: RaceNo,
+    sheet: &RaceSheet,
     rules: &Rules,
-) -> Result<NewLines, AllocError>
+    work: &mut Work,
+) -> Result<NewScores, AllocError>
     requires kept { IsKept kept.now }
     requires next { IsKept (revised kept.now revision.now) }
     requires scoring { IsScoring rules.now kept.now scoring.now }
-    requires touched { may_change_standing kept.now revision.now ≡ true }
-    requires adds { AddsBoat kept.now revision.now }
-    requires new { AreNewColumns rules.now kept.now (revised kept.now revision.now) columns.now }
-    requires one { RemakesOneColumn rules.now revision.now columns.now }
-    requires races { races.now ≡ races_of (revised kept.now revision.now).counts }
-    ensures each { IfOk result (FitBoats scoring.now.lines) }
-    ensures value { IfOk result (λ new.
-        with_lines scoring.now.lines new ≡ lines_by rules.now (revised kept.now revision.now)) }
+    requires within { IsRace race }
+    requires counts { slice_index_or kept.now.counts (race - 1) false ≡ true }
+    requires same { AreSameRaces kept.now (revised kept.now revision.now) }
+    requires others { TurnsColumn rules.now kept.now (revised kept.now revision.now) race
+        (column_of rules.now sheet.now) }
+    requires work { work.old + MAX_RACES < 2 ^ 32 }
+    ensures value { IfOk result
+        (AreNewScores rules.now kept.now (revised kept.now revision.now)) }
+    ensures counted { OnOk result (work.new ≡ work.old + 1) }
 {
-    match revision {
-        Revision::Sheet { race, .. } => {
-            let lines = remade_lines(alloc, scoring, kept, revision, *race, columns, rules)?;
-            Ok(lines)
-        }
-        // Until a race counts, a boat's line is empty.
-        Revision::Enter { .. } if races.is_empty() => Ok(NewLines::Added),
-        Revision::Enter { .. } | Revision::Counts { .. } => {
-            let draft = Draft::new(kept, revision);
-            let lines = drafted_lines(alloc, &draft, &scoring.columns, columns, races, rules)?;
-            Ok(NewLines::All { lines })
-        }
+    let column = made_column(alloc, sheet, rules, work)?;
+    let column = NewColumn { race, column };
+    let lines = remade_lines(alloc, scoring, kept, revision, &column, rules)?;
+    if lines.is_empty() {
+        return Ok(NewScores::Column { column });
     }
+    let ranking = scoring.ranking.after(alloc, &scoring.lines, &lines)?;
+    Ok(NewScores::Sheet {
+        column,
+        lines,
+        ranking,
+    })
 }
 
-/// The races that count after a revision, if it changes which do.
-fn new_races(alloc: Global, kept: &Kept, revision: &Revision) -> Result<Option<Races>, AllocError>
-    requires { IsKept (revised kept.now revision.now) }
-    ensures { IfOk result (λ new. unwrap_or new (races_of kept.now.counts)
-        ≡ races_of (revised kept.now revision.now).counts) }
+/// The scores that a boat's entry changes.
+fn scores_with_boat(
+    alloc: Global,
+    scoring: &Scoring,
+    kept: &Kept,
+    revision: &Revision,
+    rules: &Rules,
+    work: &mut Work,
+) -> Result<NewScores, AllocError>
+    requires kept { IsKept kept.now }
+    requires next { IsKept (revised kept.now revision.now) }
+    requires scoring { IsScoring rules.now kept.now scoring.now }
+    requires one { IsOneMore kept.now (revised kept.now revision.now) }
+    requires work { work.old + MAX_RACES < 2 ^ 32 }
+    ensures value { IfOk result
+        (AreNewScores rules.now kept.now (revised kept.now revision.now)) }
+    ensures counted { OnOk result (work.new
+        ≡ work.old + length (races_of (revised kept.now revision.now).counts)) }
 {
-    match revision {
-        Revision::Counts { .. } => {
-            let races = races(alloc, &Draft::new(kept, revision))?;
-            Ok(Some(Items::new(races)))
-        }
-        Revision::Enter { .. } => Ok(None),
-        Revision::Sheet { .. } => Ok(None),
+    let draft = Draft::new(kept, revision);
+    let columns = all_columns(alloc, &draft, rules, work)?;
+    let races = scoring.races.as_slice();
+    // Until a race counts, a boat's line is empty.
+    if races.is_empty() {
+        let ranking = scoring
+            .ranking
+            .with_boat(alloc, &scoring.lines, &BoatLine::empty())?;
+        return Ok(NewScores::Added { columns, ranking });
     }
+    let lines = drafted_lines(alloc, &draft, &columns, None, races, rules)?;
+    let ranking = Ranking::of(alloc, &lines)?;
+    Ok(NewScores::Entered {
+        columns,
+        lines,
+        ranking,
+    })
 }
 
-/// The races that count, after new ones, if there are any, replace the old ones.
-fn current_races<'a>(old: &'a Races, new: &'a Option<Races>) -> &'a [RaceNo]
-    ensures { result.now ≡ unwrap_or new.now old.now }
+/// The scores that change when a race begins or ceases to count.
+fn scores_of_races(
+    alloc: Global,
+    scoring: &Scoring,
+    kept: &Kept,
+    revision: &Revision,
+    race: RaceNo,
+    rules: &Rules,
+    work: &mut Work,
+) -> Result<NewScores, AllocError>
+    requires kept { IsKept kept.now }
+    requires next { IsKept (revised kept.now revision.now) }
+    requires scoring { IsScoring rules.now kept.now scoring.now }
+    requires others { AreOtherColumns rules.now kept.now (revised kept.now revision.now) race }
+    requires work { work.old + 1 < 2 ^ 32 }
+    ensures value { IfOk result
+        (AreNewScores rules.now kept.now (revised kept.now revision.now)) }
+    ensures counted { OnOk result
+        (work.new ≡ work.old + once_if_counted (revised kept.now revision.now) race) }
+    ensures range { IsRace race }
 {
-    match new {
-        Some(new) => new.as_slice(),
-        None => old.as_slice(),
-    }
+    let draft = Draft::new(kept, revision);
+    let column = new_column(alloc, &draft, race, rules, work)?;
+    let races = races(alloc, &draft)?;
+    let lines = drafted_lines(
+        alloc,
+        &draft,
+        &scoring.columns,
+        Some(&column),
+        &races,
+        rules,
+    )?;
+    let ranking = Ranking::of(alloc, &lines)?;
+    Ok(NewScores::Counts {
+        races: Items::new(races),
+        column,
+        lines,
+        ranking,
+    })
 }
 
 /// Computes what a revision changes of the scores.
@@ -362,49 +392,29 @@ pub(crate) fn new_scores(
     ensures counted { OnOk result
         (work.new ≤ work.old + most_remade kept.now revision.now) }
 {
-    if !kept.may_change_standing(revision) {
-        return Ok(NewScores {
-            races: None,
-            columns: NewColumns::Same,
-            ranked: None,
-        });
-    }
-    let columns = new_columns(alloc, kept, revision, rules, work)?;
-    let races = new_races(alloc, kept, revision)?;
-    let current = current_races(&scoring.races, &races);
-    let lines = new_lines(alloc, scoring, kept, revision, &columns, current, rules)?;
-    if lines.is_empty() {
-        return Ok(NewScores {
-            races,
-            columns,
-            ranked: None,
-        });
-    }
-    let ranking = new_ranking(alloc, &scoring.ranking, &scoring.lines, &lines)?;
-    Ok(NewScores {
-        races,
-        columns,
-        ranked: Some(Ranked { lines, ranking }),
-    })
-}
-
-fn put_races(races: &mut Races, new: Option<Races>)
-    ensures { races.new ≡ unwrap_or new races.old }
-{
-    if let Some(new) = new {
-        *races = new;
+    match revision {
+        Revision::Enter { .. } => {
+            let new = scores_with_boat(alloc, scoring, kept, revision, rules, work)?;
+            Ok(new)
+        }
+        Revision::Sheet { race, sheet } if kept.is_scored(*race) => {
+            let new = scores_of_sheet(alloc, scoring, kept, revision, *race, sheet, rules, work)?;
+            Ok(new)
+        }
+        Revision::Sheet { .. } => Ok(NewScores::Same),
+        Revision::Counts { race, .. } => {
+            let new = scores_of_races(alloc, scoring, kept, revision, *race, rules, work)?;
+            Ok(new)
+        }
     }
 }
 
-fn put_columns(columns: &mut Vec<Column>, new: NewColumns)
-    requires { length columns.old.items ≡ MAX_RACES }
-    ensures { columns.new.items ≡ with_columns columns.old.items new }
+/// Moves the new column of a race in.
+fn put_column(columns: &mut Vec<Column>, new: NewColumn)
+    requires long { length columns.old.items ≡ MAX_RACES }
+    ensures { columns.new.items ≡ with_column columns.old.items (Some new) }
 {
-    match new {
-        NewColumns::Same => {}
-        NewColumns::One { race, column } => columns[race.get() as usize - 1] = column,
-        NewColumns::All { columns: all } => *columns = all,
-    }
+    columns[new.race.get() as usize - 1] = new.column;
 }
 
 /// Moves a boat's new line in.
@@ -423,20 +433,6 @@ fn put_changed(lines: &mut [BoatLine], new: Vec<NewLine>)
     }
 }
 
-/// Moves new lines in. It doesn't allocate.
-fn put_lines(lines: &mut Vec<BoatLine>, new: NewLines)
-    requires each { FitBoats lines.old.items new }
-    requires room { limits.boats ≤ vec_capacity lines.old }
-    ensures value { lines.new.items ≡ with_lines lines.old.items new }
-    ensures room { limits.boats ≤ vec_capacity lines.new }
-{
-    match new {
-        NewLines::Changed { lines: changed } => put_changed(lines, changed),
-        NewLines::Added => lines.push_reserved(BoatLine::empty()),
-        NewLines::All { lines: all } => *lines = all,
-    }
-}
-
 impl Scoring {
     /// Computes all scores from scratch.
     pub(crate) fn of(alloc: Global, kept: &Kept, rules: &Rules) -> Result<Scoring, AllocError>
@@ -446,7 +442,7 @@ impl Scoring {
         let draft = Draft::of(kept);
         let races = races(alloc, &draft)?;
         let columns = all_columns(alloc, &draft, rules, &mut Work::new())?;
-        let lines = drafted_lines(alloc, &draft, &columns, &NewColumns::Same, &races, rules)?;
+        let lines = drafted_lines(alloc, &draft, &columns, None, &races, rules)?;
         let ranking = Ranking::of(alloc, &lines)?;
         Ok(Scoring {
             races: Items::new(races),
@@ -456,21 +452,49 @@ impl Scoring {
         })
     }
 
+    /// Moves new scores in. It doesn't allocate.
     pub(crate) fn revise(&mut self, new: NewScores)
         requires long { length self.old.columns ≡ MAX_RACES }
-        requires each { IfSome new.ranked (λ ranked. FitBoats self.old.lines ranked.lines) }
+        requires fit { FitLines self.old.lines new }
         ensures { self.new ≡ with_scores self.old new }
     {
-        let NewScores {
-            races,
-            columns,
-            ranked,
-        } = new;
-        put_races(&mut self.races, races);
-        put_columns(&mut self.columns, columns);
-        if let Some(Ranked { lines, ranking }) = ranked {
-            put_lines(&mut self.lines, lines);
-            self.ranking = ranking;
+        match new {
+            NewScores::Same => {}
+            NewScores::Column { column } => put_column(&mut self.columns, column),
+            NewScores::Sheet {
+                column,
+                lines,
+                ranking,
+            } => {
+                put_column(&mut self.columns, column);
+                put_changed(&mut self.lines, lines);
+                self.ranking = ranking;
+            }
+            NewScores::Added { columns, ranking } => {
+                self.columns = columns;
+                self.lines.push_reserved(BoatLine::empty());
+                self.ranking = ranking;
+            }
+            NewScores::Entered {
+                columns,
+                lines,
+                ranking,
+            } => {
+                self.columns = columns;
+                self.lines = lines;
+                self.ranking = ranking;
+            }
+            NewScores::Counts {
+                races,
+                column,
+                lines,
+                ranking,
+            } => {
+                self.races = races;
+                put_column(&mut self.columns, column);
+                self.lines = lines;
+                self.ranking = ranking;
+            }
         }
     }
 
@@ -499,7 +523,7 @@ impl Scoring {
         let draft = Draft::of(kept);
         let races = Vec::from_slice(alloc, self.races.as_slice())?;
         let mut found = PerRace::new();
-        push_columns(&mut found, &self.columns, &NewColumns::Same, &races);
+        push_columns(&mut found, &self.columns, None, &races);
         let places = self.ranking.places(alloc, &self.lines)?;
         let rows = sorted_rows(
             alloc,

@@ -1,3 +1,4 @@
 pub mod Beginnings
 pub mod Books
 pub mod Crashed
+pub mod KeeperRuns

@@ -1,3 +1,4 @@
 pub mod Books
+pub mod KeeperRuns
 pub mod Keepers
 pub mod Sealing

@@ -6,6 +6,7 @@ mod covered;
 mod covers;
 mod keeper;
 mod kept;
+pub mod laws;
 mod mark;
 mod need;
 mod outlet;

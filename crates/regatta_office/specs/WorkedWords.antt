@@ -80,11 +80,12 @@ pub help : (forms : ValueParser) → AskHelp forms (codes "--help" ∷ [])
 unfolding clap_on_literals regatta with_rules with_start with_seats
 help forms = (inl refl, inl refl)
 
--- the faults: no subcommand, an unknown option, an option that is given twice, a flag with a value,
--- a serving without a path, and seventeen seats
+-- the faults: no subcommand, an unknown option, the version asked of a subcommand, an option that is
+-- given twice, a flag with a value, a serving without a path, and seventeen seats
 pub faults : (forms : ValueParser) → Gives (fault_of (regatta forms))
     (([], MissingSubcommand ∷ [])
     ∷ (codes "replay" ∷ codes "--speed" ∷ [], UnknownArgument ∷ [])
+    ∷ (codes "replay" ∷ codes "--version" ∷ [], UnknownArgument ∷ [])
     ∷ (
       codes "replay" ∷ codes "--scp" ∷ codes "3" ∷ codes "--scp" ∷ codes "4" ∷ [],
       ArgumentConflict ∷ [],

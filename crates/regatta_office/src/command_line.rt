@@ -39,7 +39,12 @@ fn complain<E: Sink>(alloc: Global, errors: &mut E, complaint: Complaint) -> u8
 }
 
 /// Writes the help or the version, which was asked for, and returns the program's status.
-fn help<W: Sink, E: Sink>(alloc: Global, error: &clap::Error, output: &mut W, errors: &mut E) -> u8
+fn write_text<W: Sink, E: Sink>(
+    alloc: Global,
+    error: &clap::Error,
+    output: &mut W,
+    errors: &mut E,
+) -> u8
     ensures done { result ≡ 0 → (text : List ℕ)
         × Appends (W.contents output.old) (W.contents output.new) text }
     ensures at_most { (output.new ≡ output.old) ⊎ ((text : List ℕ)
@@ -81,7 +86,9 @@ fn answer_words<W: Sink, E: Sink>(
         × ((text : List ℕ) × Appends (W.contents output.old) (W.contents output.new) text)) }
 {
     match error.kind() {
-        ErrorKind::DisplayHelp | ErrorKind::DisplayVersion => help(alloc, error, output, errors),
+        ErrorKind::DisplayHelp | ErrorKind::DisplayVersion => {
+            write_text(alloc, error, output, errors)
+        }
         ErrorKind::OutOfMemory => complain(alloc, errors, Complaint::NoMemory),
         _ => refuse(alloc, error, errors),
     }
@@ -167,8 +174,9 @@ where
     R: Source,
     W: Sink,
     E: Sink,
-    // At status 0 the arguments ask for help or the version, and it is written. Or `clap` finds no fault in them,
-    // and the whole run that they ask for is written, with the defaults for what they leave out.
+    // At status 0 the arguments ask for help or the version, and it is written. Or `clap` finds no
+    // fault in them, and the whole run that they ask for is written, with the defaults for what they
+    // leave out.
     ensures done { result ≡ 0 → (forms : ValueParser) × TakesForms forms
         × ((AskText forms (map (λ word. word.now) words.now) × (input.new ≡ input.old)
         × ((text : List ℕ) × Appends (W.contents output.old) (W.contents output.new) text))
@@ -176,8 +184,8 @@ where
         × IsRunOf R.remaining asked input.old input.new (W.contents output.old)
         (W.contents output.new))) }
 
-    // Whatever the status, nothing is written; or help or the version, which the arguments ask for; or at most what
-    // the run that they ask for may write: of `serve`, the table.
+    // Whatever the status, nothing is written; or help or the version, which the arguments ask for;
+    // or at most what the run that they ask for may write: of `serve`, the table.
     ensures at_most { (output.new ≡ output.old) ⊎ ((forms : ValueParser) × TakesForms forms
         × ((AskText forms (map (λ word. word.now) words.now)
         × ((text : List ℕ) × Appends (W.contents output.old) (W.contents output.new) text))

@@ -1,13 +1,13 @@
 //! Why the program stops early, and what it says about it.
 ghost use Rattle.std.specs.Prelude.{◌≡◌, ◌≢◌};
-ghost use Rattle.regatta_office.specs.Complaints.{status_of};
+ghost use Rattle.regatta_office.specs.Complaints.{status_of, keep_fault_text as keep_fault_text_of};
 
 use crate::kept_start::KeptStartFault;
 use crate::run::RunFault;
 use crate::scribe::ScribeFault;
 use regatta_desk::OpenFault;
-use regatta_keep::{OpenFault as KeepOpenFault, RecoverFault};
-use regatta_keeper::{CoverFault, KeeperFault};
+use regatta_keep::{Cause, OpenFault as KeepOpenFault, RecoverFault};
+use regatta_keeper::KeeperFault;
 use regatta_service::{DoorFault, ServeFault};
 use regatta_streams::ReadFault;
 use regatta_tables::{EntriesFault, JournalFault};
@@ -50,8 +50,8 @@ pub enum Complaint {
     #[error("regatta: keep taken")]
     KeepTaken,
     /// The kept file can't be opened, locked or read, or a write or sync of it fails.
-    #[error("regatta: keep fault")]
-    KeepFault,
+    #[error("{}", keep_fault_text(*.0))]
+    KeepFault(Cause),
     /// A file, a stream or a socket fails, or no thread or reader is available.
     #[error("regatta: device fault")]
     Device,
@@ -76,9 +76,22 @@ impl Complaint {
             | Complaint::KeepDamaged { .. }
             | Complaint::KeepDiffers { .. }
             | Complaint::KeepTooLong => 1,
-            Complaint::KeepTaken | Complaint::KeepFault | Complaint::Device | Complaint::NoMemory =>
-                3,
+            Complaint::KeepTaken
+            | Complaint::KeepFault(_)
+            | Complaint::Device
+            | Complaint::NoMemory => 3,
         }
+    }
+}
+
+/// What the program says if a kept file fails: why, if somebody can do something about it.
+pub(crate) fn keep_fault_text(cause: Cause) -> &'static str
+    ensures { result.now ≡ keep_fault_text_of cause }
+{
+    match cause {
+        Cause::NoSpace => "regatta: keep fault: no space left",
+        Cause::NoPermission => "regatta: keep fault: no permission",
+        Cause::Other => "regatta: keep fault",
     }
 }
 
@@ -178,7 +191,7 @@ impl From<ServeFault> for Complaint {
         match fault {
             ServeFault::Door | ServeFault::Thread => Complaint::Device,
             ServeFault::NoMemory => Complaint::NoMemory,
-            ServeFault::Keep => Complaint::KeepFault,
+            ServeFault::Keep => Complaint::KeepFault(Cause::Other),
         }
     }
 }
@@ -188,7 +201,7 @@ impl From<KeepOpenFault> for Complaint {
     fn from(fault: KeepOpenFault) -> Complaint {
         match fault {
             KeepOpenFault::Taken => Complaint::KeepTaken,
-            KeepOpenFault::Failed => Complaint::KeepFault,
+            KeepOpenFault::Failed(cause) => Complaint::KeepFault(cause),
             KeepOpenFault::NoMemory => Complaint::NoMemory,
         }
     }
@@ -209,7 +222,7 @@ fn kept_journal(fault: JournalFault) -> Complaint {
 impl From<RecoverFault> for Complaint {
     fn from(fault: RecoverFault) -> Complaint {
         match fault {
-            RecoverFault::Log => Complaint::KeepFault,
+            RecoverFault::Log => Complaint::KeepFault(Cause::Other),
             RecoverFault::NoMemory => Complaint::NoMemory,
             RecoverFault::TooLong => Complaint::KeepTooLong,
             RecoverFault::Damaged(line) => Complaint::KeepDamaged { line },
@@ -232,17 +245,8 @@ impl From<KeptStartFault> for Complaint {
 impl From<KeeperFault> for Complaint {
     fn from(fault: KeeperFault) -> Complaint {
         match fault {
-            KeeperFault::Other => Complaint::KeepFault,
+            KeeperFault::Other => Complaint::KeepFault(Cause::Other),
             KeeperFault::NoMemory => Complaint::NoMemory,
-        }
-    }
-}
-
-impl From<CoverFault> for Complaint {
-    fn from(fault: CoverFault) -> Complaint {
-        match fault {
-            CoverFault::Log => Complaint::KeepFault,
-            CoverFault::NoMemory => Complaint::NoMemory,
         }
     }
 }

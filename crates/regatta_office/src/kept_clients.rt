@@ -18,8 +18,8 @@ use crate::series::{Beginning, kept_beginning_of, parts_of};
 use crate::stopping_gate::StoppingGate;
 use crate::table_outlet::TableOutlet;
 use regatta_desk::{Note, Office, OfficeName, Opened, Pass};
-use regatta_keep::{Log, Opened as OpenedLog, open};
-use regatta_keeper::{CoverFault, Keeper, KeeperFault, Kept, KeptBy, KeptName, cover_all};
+use regatta_keep::{Cause, Log, Opened as OpenedLog, open};
+use regatta_keeper::{CoverFault, Covered, Keeper, KeeperFault, Kept, KeptBy, KeptName, cover_all};
 use regatta_service::{
     Admitted, Door, DoorFault, Gate, ServeFault, SocketDoor, Stopping, serve_kept,
 };
@@ -37,7 +37,7 @@ use std::time::Clock;
 #[derive(Clone, Copy, Debug, PartialEq, Eq)]
 enum PrintFault {
     /// Not all of its journal is known to be on the disk.
-    Keep(CoverFault),
+    Keep(Complaint),
     /// It couldn't be written.
     Print(ScribeFault),
 }
@@ -45,9 +45,45 @@ enum PrintFault {
 impl From<PrintFault> for Complaint {
     fn from(fault: PrintFault) -> Complaint {
         match fault {
-            PrintFault::Keep(fault) => Complaint::from(fault),
+            PrintFault::Keep(complaint) => complaint,
             PrintFault::Print(fault) => Complaint::from(fault),
         }
+    }
+}
+
+/// Why the log of a keeper has failed.
+fn cause_of<N, L, R>(rt: &R, keeper: &Mutex<Keeper<N, L>>) -> Cause
+where
+    N: KeptName,
+    L: Log + Drop,
+    R: Wait,
+{
+    let mut guard = keeper.lock(rt);
+    let keeper = &mut *guard;
+    keeper.cause()
+}
+
+/// Puts all that the desk has on the disk. It takes the locks of both, so the caller must hold
+/// neither.
+///
+/// # Errors
+///
+/// `KeepFault` if the log fails or has failed, with the cause, and `NoMemory` if an allocation fails.
+fn all_covered<N, L, H, R>(
+    rt: &R,
+    keeper: &Mutex<Keeper<N, L>>,
+    office: &Office<N, H>,
+) -> Result<Covered<N>, Complaint>
+where
+    N: KeptName,
+    L: Log + Drop,
+    H: Wait + Drop,
+    R: Wait,
+{
+    match cover_all(rt, keeper, office) {
+        Ok(covered) => Ok(covered),
+        Err(CoverFault::Log) => Err(Complaint::KeepFault(cause_of(rt, keeper))),
+        Err(CoverFault::NoMemory) => Err(Complaint::NoMemory),
     }
 }
 
@@ -83,16 +119,16 @@ where
     ensures silent { IfErr result (λ fault.
         fault ≢ PrintFault.Print ScribeFault.Write → output.new ≡ output.old) }
 {
-    let covered = match cover_all(rt, keeper, office) {
+    let covered = match all_covered(rt, keeper, office) {
         Ok(covered) => covered,
-        Err(fault) => return Err(PrintFault::Keep(fault)),
+        Err(complaint) => return Err(PrintFault::Keep(complaint)),
     };
     let mut guard = office.desk(rt);
     let desk = &mut *guard;
     desk.cover_note(start);
     // All sessions have ended, so nothing has been added meanwhile; no proof knows that.
     let Some(kept) = covered.kept_of(desk) else {
-        return Err(PrintFault::Keep(CoverFault::Log));
+        return Err(PrintFault::Keep(Complaint::KeepFault(Cause::Other)));
     };
     match output.print_table(alloc, desk.board(), &kept) {
         Ok(()) => Ok(kept),
@@ -226,7 +262,7 @@ where
     let made = kept_door_of(rt, alloc, options)?;
     let (mut door, stopping) = made;
     // The start is on the disk before anybody is served.
-    cover_all(rt, &keeper, office)?;
+    all_covered(rt, &keeper, office)?;
     let gate = StoppingGate::new(rt, &keeper, stopping);
     let served = serve_kept_and_print(
         rt, alloc, office, &keeper, &mut door, passes, &gate, start, output,

@@ -13,6 +13,7 @@ mod form;
 mod kept_clients;
 mod kept_file;
 mod kept_start;
+pub mod laws;
 mod options;
 mod run;
 mod scribe;
@@ -30,6 +31,7 @@ pub use regatta_desk::{
     Desk, Next, Office, OfficeName, OpenFault, Opened, Pass, Receipt, Sheet, ShowFault,
     answer_alone,
 };
+pub use regatta_keep::Cause;
 pub use regatta_service::{
     Door, DoorFault, End, Gate, OpenGate, ServeFault, SocketDoor, serve, session,
 };

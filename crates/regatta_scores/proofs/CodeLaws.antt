@@ -7,8 +7,7 @@ use Rattle.std.proofs.lemmas.List.Sums.{count_by-le-length}
 use Rattle.regatta_terms.specs.Effects.{effect}
 use Rattle.regatta_terms.specs.declared.sail.Sail.{Sail}
 use Rattle.regatta_terms.specs.declared.command.Code.{Code}
-use Rattle.regatta_terms.specs.declared.command.Code.TheVariants.{Dnc, Dns, Ocs, Ufd, Bfd, Dnf, Ret}
-use Rattle.regatta_terms.specs.declared.command.Code.TheVariants.{Dsq, Dne}
+use Rattle.regatta_terms.specs.declared.command.Code.TheVariants.{Dnc}
 use Rattle.regatta_scores.specs.declared.sheet.Held.{Held}
 use Rattle.regatta_scores.specs.Journal.{same_sail, sail_entered, entered}
 use Rattle.regatta_scores.specs.RacePoints.{Race, Status, Finished, Coded, status, came, dnf_by}
@@ -27,26 +26,12 @@ by_parts s place_points entered cap penalty =
 
 code_at_cap : (code : Code) (p n k : ℕ) → by_parts (Coded code) p n (n + 1) k ≡ 10 * (n + 1)
 code_at_cap Dnc p n k = omega arith
-code_at_cap Dns p n k = omega arith
-code_at_cap Ocs p n k = omega arith
-code_at_cap Ufd p n k = omega arith
-code_at_cap Bfd p n k = omega arith
-code_at_cap Dnf p n k = omega arith
-code_at_cap Ret p n k = omega arith
-code_at_cap Dsq p n k = omega arith
-code_at_cap Dne p n k = omega arith
+code_at_cap _ p n k = omega arith
 
 code_by_cap : (code : Code) (p n cap k : ℕ) → code ≢ Dnc →
     by_parts (Coded code) p n cap k ≡ 10 * cap
 code_by_cap Dnc p n cap k not = absurd (not refl)
-code_by_cap Dns p n cap k not = omega arith
-code_by_cap Ocs p n cap k not = omega arith
-code_by_cap Ufd p n cap k not = omega arith
-code_by_cap Bfd p n cap k not = omega arith
-code_by_cap Dnf p n cap k not = omega arith
-code_by_cap Ret p n cap k not = omega arith
-code_by_cap Dsq p n cap k not = omega arith
-code_by_cap Dne p n cap k not = omega arith
+code_by_cap _ p n cap k not = omega arith
 
 dnc_stays : (p n cap k : ℕ) → cap ≤ n + 1 → by_parts (Coded Dnc) p n cap k ≡ 10 * (n + 1)
 dnc_stays p n cap k few = omega (arith, few)

@@ -9,7 +9,7 @@ use Rattle.regatta_scores.specs.Journal.{order}
 use Rattle.regatta_scores.specs.Standing.{standing}
 use Rattle.regatta_scores.specs.Needed.{Sentences, all, FitsToo}
 use Rattle.regatta_scores.specs.WorkedStandings.{a}
-use Rattle.regatta_scores.specs.WorkedStandings.{no_exclusions, plain, marked, row, table}
+use Rattle.regatta_scores.specs.WorkedStandings.{no_exclusions, plain, marked, coded, row, table}
 use Rattle.regatta_scores.specs.WorkedTimes.{by_times}
 use Rattle.regatta_scores.proofs.FitRaces.{capped, uncapped}
 use Rattle.regatta_scores.proofs.NeededTables.{in_each, made, one_group, no_group}
@@ -29,7 +29,7 @@ pub a3_finish_needed : FitsToo but_a3_finish
 a3_finish_needed =
     let done = finishes in
     let w = made no_exclusions done (λ race. []) 2 0 10 20 20 (upto 20) in
-    let c = marked 20 abbreviation.Dnc in
+    let c = coded 20 code.Dnc in
     alone_too but_a3_finish no_exclusions done w c 20 refl refl
     (made_fits no_exclusions done (λ race. []) 2 0 10 20 20 (upto 20) but_a3_finish
     tt (λ race e. cc) (λ e. refl) (λ race e. cc) (λ race. no_group _) refl refl (record { not_above = omega arith; not_below = omega arith })
@@ -48,7 +48,7 @@ pub a3_time_needed : FitsToo but_a3_time
 a3_time_needed =
     let done = timed in
     let w = made by_times done (λ race. []) 2 0 10 20 20 (upto 20) in
-    let c = marked 20 abbreviation.Dnc in
+    let c = coded 20 code.Dnc in
     alone_too but_a3_time by_times done w c 20 refl refl
     (made_fits by_times done (λ race. []) 2 0 10 20 20 (upto 20) but_a3_time
     (λ race e. cc) tt (λ e. refl) (λ race e. cc) (λ race. no_group _) refl refl (record { not_above = omega arith; not_below = omega arith })
@@ -66,7 +66,7 @@ pub a5_2_needed : FitsToo but_a5_2
 a5_2_needed =
     let done = coded_by code.Dnf in
     let w = made no_exclusions done (order no_exclusions done) 5 1 10 20 50 (upto 50) in
-    let c = marked 50 abbreviation.Dnf in
+    let c = coded 50 code.Dnf in
     alone_too but_a5_2 no_exclusions done w c 50 refl refl
     (made_fits no_exclusions done (order no_exclusions done) 5 1 10 20 50 (upto 50) but_a5_2
     (λ race e. refl) (λ race e. cc) tt (λ race e. cc)
@@ -87,7 +87,7 @@ pub a5_3_needed : FitsToo but_a5_3
 a5_3_needed =
     let done = coded_by code.Dnf in
     let w = made a53_rules done (order a53_rules done) 5 1 10 20 50 (upto 50) in
-    let c = marked 50 abbreviation.Dnf in
+    let c = coded 50 code.Dnf in
     alone_too but_a5_3 a53_rules done w c 50 refl refl
     (made_fits a53_rules done (order a53_rules done) 5 1 10 20 50 (upto 50) but_a5_3
     (λ race e. refl) (λ race e. cc) (λ e. cc) tt
@@ -127,7 +127,7 @@ pub dnc_needed : FitsToo but_dnc
 dnc_needed =
     let done = coded_by code.Dnc in
     let w = made no_exclusions done (order no_exclusions done) 2 0 10 30 20 (upto 20) in
-    let c = marked 30 abbreviation.Dnc in
+    let c = coded 30 code.Dnc in
     alone_too but_dnc no_exclusions done w c 30 refl refl
     (made_fits no_exclusions done (order no_exclusions done) 2 0 10 30 20 (upto 20) but_dnc
     (λ race e. refl) (λ race e. cc) (λ e. refl) (λ race e. cc)
@@ -148,7 +148,7 @@ pub coded_needed : FitsToo but_coded
 coded_needed =
     let done = coded_by code.Dnf in
     let w = made no_exclusions done (order no_exclusions done) 2 0 10 20 30 (upto 20) in
-    let c = marked 30 abbreviation.Dnf in
+    let c = coded 30 code.Dnf in
     alone_too but_coded no_exclusions done w c 30 refl refl
     (made_fits no_exclusions done (order no_exclusions done) 2 0 10 20 30 (upto 20) but_coded
     (λ race e. refl) (λ race e. cc) (λ e. refl) (λ race e. cc)
@@ -212,7 +212,7 @@ no_better_needed =
     let done = coded_by code.Dnf in
     let worse = λ (b x : ℕ). cond (nat_lt b 20) (min (b + x) 20) 33 in
     let w = made no_exclusions done (order no_exclusions done) 2 0 10 20 20 worse in
-    let c = marked 33 abbreviation.Dnf in
+    let c = coded 33 code.Dnf in
     alone_too but_no_better no_exclusions done w c 33 refl refl
     (made_fits no_exclusions done (order no_exclusions done) 2 0 10 20 20 worse but_no_better
     (λ race e. refl) (λ race e. cc) (λ e. refl) (λ race e. cc)

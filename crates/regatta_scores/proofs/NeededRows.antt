@@ -21,7 +21,7 @@ use Rattle.regatta_scores.specs.AppendixA.{Working, cells_of, Wins}
 use Rattle.regatta_scores.specs.Needed.{Sentences, all, FitsToo}
 use Rattle.regatta_scores.specs.Needed.{IsRaceScoredBy, IsCellBy, IsRowBy}
 use Rattle.regatta_scores.specs.WorkedStandings.{a, b, scorer, journal, default_rules}
-use Rattle.regatta_scores.specs.WorkedStandings.{no_exclusions, plain, marked, excluded, row, table}
+use Rattle.regatta_scores.specs.WorkedStandings.{no_exclusions, plain, marked, coded, excluded, row, table}
 use Rattle.regatta_scores.proofs.FitRaces.{capped, uncapped}
 use Rattle.regatta_scores.proofs.Sorting.{pairs_cons}
 use Rattle.regatta_scores.proofs.NeededTables.{given, in_each, wins_never, made, one_group, no_group, only, either}
@@ -187,7 +187,7 @@ pub worst_needed : FitsToo but_worst
 worst_needed =
     let done = code_and_finish code.Dnf in
     let w = usual default_rules done in
-    let one = marked 20 abbreviation.Dnf in
+    let one = coded 20 code.Dnf in
     let other = excluded 10 in
     let r = row a 1 false 20 (one ∷ other ∷ []) in
     record {
@@ -208,7 +208,7 @@ worst_needed =
     }
 
 abbrev excluded_dne : Cell
-excluded_dne = record { points = 20; mark = Some abbreviation.Dne; dropped = true }
+excluded_dne = record { points = 20; mark = Some (abbreviation.Code code.Dne); dropped = true }
 
 abbrev but_dne_counts : Sentences
 but_dne_counts = record all { dne_counts = false }
@@ -421,7 +421,7 @@ abbrev first_of_pair : ℕ → Bool → Row
 first_of_pair rank tied = row a rank tied 10 (plain 10 ∷ [])
 
 abbrev second_of_pair : ℕ → Bool → Row
-second_of_pair rank tied = row b rank tied 30 (marked 30 abbreviation.Dnc ∷ [])
+second_of_pair rank tied = row b rank tied 30 (coded 30 code.Dnc ∷ [])
 
 module _ (asked : Sentences) where
   pair_fits : (race : ℕ) → IsRaceScoredBy asked no_exclusions pair of_pair race
@@ -447,7 +447,7 @@ module _ (asked : Sentences) where
   second_row : (rank : ℕ) (tied : Bool) →
       IsRowBy asked no_exclusions pair of_pair (second_of_pair rank tied)
   second_row rank tied =
-      let c = marked 30 abbreviation.Dnc in
+      let c = coded 30 code.Dnc in
       one_cell asked no_exclusions pair of_pair b rank 30 tied c refl
       (plain_cell asked no_exclusions pair of_pair (second_of_pair rank tied) 1 c
       refl (given asked.unredressed refl) (given asked.a10 refl)

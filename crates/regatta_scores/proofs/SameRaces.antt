@@ -136,14 +136,7 @@ module _ (rules : RulesParts) (journal : Journal) (race : ℕ) (w v : Working)
           (all_at (λ b. length tied * v.base race b ≡ share) tied boat
           (b.a4_a7 at.0 at.2 at.1 (sym same_order ∙ at.3)) has)
       by (Coded code.Dnc) e = a.dnc boat e ∙ sym (b.dnc boat (sym (same_status boat) ∙ e))
-      by (Coded code.Dns) e = coded code.Dns e (λ h. cc)
-      by (Coded code.Ocs) e = coded code.Ocs e (λ h. cc)
-      by (Coded code.Ufd) e = coded code.Ufd e (λ h. cc)
-      by (Coded code.Bfd) e = coded code.Bfd e (λ h. cc)
-      by (Coded code.Dnf) e = coded code.Dnf e (λ h. cc)
-      by (Coded code.Ret) e = coded code.Ret e (λ h. cc)
-      by (Coded code.Dsq) e = coded code.Dsq e (λ h. cc)
-      by (Coded code.Dne) e = coded code.Dne e (λ h. cc)
+      by (Coded c) e = coded c e (λ h. cc)
 
   pub same_plain : (boat : Sail) → w.plain race boat ≡ v.plain race boat
   same_plain boat = by (nat_lt (w.base race boat) (10 * w.dnf race)) refl

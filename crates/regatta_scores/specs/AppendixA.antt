@@ -20,8 +20,8 @@ use Rattle.regatta_scores.specs.CorrectedTimes.{CorrectedTime}
 use Rattle.regatta_scores.specs.Journal.{Journal, same_sail, entered, scored, acts, order_after}
 use Rattle.regatta_scores.specs.Journal.{lasting_times, held}
 use Rattle.regatta_scores.specs.Order.{stands_in}
-use Rattle.regatta_scores.specs.Marks.{is_dne, mark_by}
-use Rattle.regatta_scores.specs.RacePoints.{Status, Coded, status_by, came}
+use Rattle.regatta_scores.specs.Marks.{mark_by}
+use Rattle.regatta_scores.specs.RacePoints.{Status, Coded, status_by, came, is_dne}
 use Rattle.regatta_scores.specs.RaceLaws.{points_of_places}
 use Rattle.regatta_scores.specs.RankLaws.{IsLowerAtFirst, cell_points, counting_points, comes_first}
 

@@ -9,9 +9,9 @@ use Rattle.regatta_scores.specs.declared.boats.Averaged.TheVariants.{OverNone, O
 use Rattle.regatta_scores.specs.declared.boats.RaceScore.{RaceScore}
 use Rattle.regatta_scores.specs.declared.outcomes.Outcome.{Outcome}
 use Rattle.regatta_scores.specs.Journal.{Journal, same_sail, scored}
-use Rattle.regatta_scores.specs.Marks.{is_dne, mark_by}
+use Rattle.regatta_scores.specs.Marks.{mark_by}
 use Rattle.regatta_scores.specs.Order.{stands_in}
-use Rattle.regatta_scores.specs.RacePoints.{Race, status_by, plain, journal_race}
+use Rattle.regatta_scores.specs.RacePoints.{Race, status_by, is_dne, plain, journal_race}
 
 -- her points by her redress: those given (A9(c)), or else those before redress; and over which
 -- other races an average replaces them (A9(a), (b))

@@ -8,7 +8,8 @@ use Rattle.regatta_terms.specs.Rules.{RulesParts}
 use Rattle.regatta_terms.specs.declared.rules.Absent.{Absent}
 use Rattle.regatta_terms.specs.declared.rules.Absent.TheVariants.{A52, A53}
 use Rattle.regatta_terms.specs.declared.command.Code.{Code}
-use Rattle.regatta_terms.specs.declared.command.Code.TheVariants.{Dnc}
+use Rattle.regatta_terms.specs.declared.command.Code.TheVariants.{Dnc, Dns, Ocs, Ufd, Bfd, Dnf, Ret}
+use Rattle.regatta_terms.specs.declared.command.Code.TheVariants.{Dsq, Dne}
 use Rattle.regatta_terms.specs.declared.sail.Sail.{Sail}
 use Rattle.regatta_scores.specs.declared.sheet.Held.{Held}
 use Rattle.regatta_scores.specs.Order.{in_group, stands_in}
@@ -34,8 +35,16 @@ status_by None false = Coded Dnc
 
 -- whether a boat of this status came to the starting area: all but DNC (A5.3)
 abbrev pub came : Status → Bool
+came Finished = true
 came (Coded Dnc) = false
-came _ = true
+came (Coded Dns) = true
+came (Coded Ocs) = true
+came (Coded Ufd) = true
+came (Coded Bfd) = true
+came (Coded Dnf) = true
+came (Coded Ret) = true
+came (Coded Dsq) = true
+came (Coded Dne) = true
 
 -- what the penalties of a boat add, in whole points (30.2, 44.3(c)); 20% of the race's DNF score
 -- are rounded to the nearest whole point, 0.5 upward
@@ -60,7 +69,27 @@ dnf_by A53 entered came = came + 1
 abbrev pub base_by : Status → ℕ → ℕ → ℕ → ℕ
 base_by Finished place_points entered dnf = place_points
 base_by (Coded Dnc) place_points entered dnf = 10 * (entered + 1)
-base_by (Coded code) place_points entered dnf = 10 * dnf
+base_by (Coded Dns) place_points entered dnf = 10 * dnf
+base_by (Coded Ocs) place_points entered dnf = 10 * dnf
+base_by (Coded Ufd) place_points entered dnf = 10 * dnf
+base_by (Coded Bfd) place_points entered dnf = 10 * dnf
+base_by (Coded Dnf) place_points entered dnf = 10 * dnf
+base_by (Coded Ret) place_points entered dnf = 10 * dnf
+base_by (Coded Dsq) place_points entered dnf = 10 * dnf
+base_by (Coded Dne) place_points entered dnf = 10 * dnf
+
+-- whether a code is a disqualification that is not excludable (90.3(b))
+abbrev pub is_dne : Option Code → Bool
+is_dne None = false
+is_dne (Some Dnc) = false
+is_dne (Some Dns) = false
+is_dne (Some Ocs) = false
+is_dne (Some Ufd) = false
+is_dne (Some Bfd) = false
+is_dne (Some Dnf) = false
+is_dne (Some Ret) = false
+is_dne (Some Dsq) = false
+is_dne (Some Dne) = true
 
 module _ {B : Type 0} (same : B → B → Bool) where
   -- how this boat is scored in the race: by her code, by her place, or as DNC (A5)

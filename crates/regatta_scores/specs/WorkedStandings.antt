@@ -3,6 +3,7 @@ use Rattle.std.specs.Prelude.{◌≡◌, refl, ℕ, ◌+◌, Bool, true, false, 
 use Rattle.regatta_terms.specs.Rules.{RulesParts}
 use Rattle.regatta_terms.specs.declared.rules.Absent.TheVariants.{A52}
 use Rattle.regatta_terms.specs.declared.sail.Sail.{Sail}
+use Rattle.regatta_terms.specs.declared.command.Code.{Code}
 use Rattle.regatta_terms.specs.declared.command.Code.TheVariants as code
 use Rattle.regatta_terms.specs.declared.command.Redress.TheVariants.{AllRaces}
 use Rattle.regatta_terms.specs.declared.command.Role.{Role}
@@ -66,6 +67,10 @@ plain points = record { points = points; mark = None; dropped = false }
 abbrev pub marked : ℕ → Abbrev → Cell
 marked points mark = record { points = points; mark = Some mark; dropped = false }
 
+-- points in a cell with a code
+abbrev pub coded : ℕ → Code → Cell
+coded points code = marked points (abbreviation.Code code)
+
 -- points in a cell that are excluded
 abbrev pub excluded : ℕ → Cell
 excluded points = record { points = points; mark = None; dropped = true }
@@ -113,7 +118,7 @@ abbrev pub disqualified_boats_fall_behind : WorkedCase
 disqualified_boats_fall_behind =
     worked default_rules (tie_for_first ++ jury (Mark 1 a code.Dsq) ∷ [])
     (table (1 ∷ []) (row b 1 false 10 (plain 10 ∷ []) ∷ row c 2 false 20 (plain 20 ∷ [])
-    ∷ row a 3 false 40 (marked 40 abbreviation.Dsq ∷ []) ∷ []))
+    ∷ row a 3 false 40 (coded 40 code.Dsq ∷ []) ∷ []))
 
 pub disqualified_boats_fall_behind_is : IsStanding disqualified_boats_fall_behind
 disqualified_boats_fall_behind_is = refl
@@ -128,7 +133,7 @@ abbrev pub boats_that_did_not_finish : WorkedCase
 boats_that_did_not_finish =
     worked default_rules two_of_three
     (table (1 ∷ []) (row a 1 false 10 (plain 10 ∷ []) ∷ row b 2 false 20 (plain 20 ∷ [])
-    ∷ row c 3 false 40 (marked 40 abbreviation.Dnf ∷ []) ∷ []))
+    ∷ row c 3 false 40 (coded 40 code.Dnf ∷ []) ∷ []))
 
 pub boats_that_did_not_finish_is : IsStanding boats_that_did_not_finish
 boats_that_did_not_finish_is = refl
@@ -138,8 +143,8 @@ abbrev pub late_entries_change_earlier_races : WorkedCase
 late_entries_change_earlier_races =
     worked default_rules (two_of_three ++ scorer (Enter d) ∷ [])
     (table (1 ∷ []) (row a 1 false 10 (plain 10 ∷ []) ∷ row b 2 false 20 (plain 20 ∷ [])
-    ∷ row c 3 true 50 (marked 50 abbreviation.Dnf ∷ [])
-    ∷ row d 3 true 50 (marked 50 abbreviation.Dnc ∷ []) ∷ []))
+    ∷ row c 3 true 50 (coded 50 code.Dnf ∷ [])
+    ∷ row d 3 true 50 (coded 50 code.Dnc ∷ []) ∷ []))
 
 pub late_entries_change_earlier_races_is : IsStanding late_entries_change_earlier_races
 late_entries_change_earlier_races_is = refl
@@ -172,8 +177,8 @@ abbrev pub late_entries_change_averages : WorkedCase
 late_entries_change_averages =
     worked no_exclusions (two_races ++ jury (Redress 1 a AllRaces) ∷ scorer (Enter c) ∷ [])
     (table (1 ∷ 2 ∷ []) (row b 1 false 30 (plain 20 ∷ plain 10 ∷ [])
-    ∷ row a 2 true 80 (marked 40 abbreviation.Rdg ∷ marked 40 abbreviation.Dnc ∷ [])
-    ∷ row c 2 true 80 (marked 40 abbreviation.Dnc ∷ marked 40 abbreviation.Dnc ∷ []) ∷ []))
+    ∷ row a 2 true 80 (marked 40 abbreviation.Rdg ∷ coded 40 code.Dnc ∷ [])
+    ∷ row c 2 true 80 (coded 40 code.Dnc ∷ coded 40 code.Dnc ∷ []) ∷ []))
 
 pub late_entries_change_averages_is : IsStanding late_entries_change_averages
 late_entries_change_averages_is = refl

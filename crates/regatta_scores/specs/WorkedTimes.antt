@@ -9,12 +9,11 @@ use Rattle.regatta_terms.specs.declared.command.Command.{Command}
 use Rattle.regatta_terms.specs.declared.command.Command.TheVariants.{Enter, Finish, Time, Strike}
 use Rattle.regatta_terms.specs.declared.command.Command.TheVariants.{Mark, Score}
 use Rattle.regatta_scores.specs.declared.sheet.Change.TheVariants.{Timed, Out}
-use Rattle.regatta_scores.specs.declared.table.Abbrev.TheVariants as abbreviation
 use Rattle.regatta_scores.specs.Changes.{after}
 use Rattle.regatta_scores.specs.Journal.{order, time}
 use Rattle.regatta_scores.specs.Sheet.{Sheet, empty_sheet}
 use Rattle.regatta_scores.specs.WorkedStandings.{a, b, c, scorer, jury, journal, default_rules}
-use Rattle.regatta_scores.specs.WorkedStandings.{plain, marked, row, table, WorkedCase, worked}
+use Rattle.regatta_scores.specs.WorkedStandings.{plain, coded, row, table, WorkedCase, worked}
 use Rattle.regatta_scores.specs.WorkedStandings.{IsStanding}
 
 -- rules by which corrected times determine the places
@@ -49,7 +48,7 @@ abbrev pub struck_boats_leave_the_order : WorkedCase
 struck_boats_leave_the_order =
     worked by_times struck
     (table (1 ∷ []) (row b 1 false 10 (plain 10 ∷ []) ∷ row c 2 false 20 (plain 20 ∷ [])
-    ∷ row a 3 false 40 (marked 40 abbreviation.Dnc ∷ []) ∷ []))
+    ∷ row a 3 false 40 (coded 40 code.Dnc ∷ []) ∷ []))
 
 pub struck_boats_leave_the_order_is : IsStanding struck_boats_leave_the_order
 struck_boats_leave_the_order_is = refl
@@ -104,7 +103,7 @@ abbrev pub coded_boats_with_a_time_leave_their_place : WorkedCase
 coded_boats_with_a_time_leave_their_place =
     worked by_times (three_timed ++ jury (Mark 1 b code.Dsq) ∷ [])
     (table (1 ∷ []) (row a 1 true 15 (plain 15 ∷ []) ∷ row c 1 true 15 (plain 15 ∷ [])
-    ∷ row b 3 false 40 (marked 40 abbreviation.Dsq ∷ []) ∷ []))
+    ∷ row b 3 false 40 (coded 40 code.Dsq ∷ []) ∷ []))
 
 pub coded_boats_with_a_time_leave_their_place_is : IsStanding coded_boats_with_a_time_leave_their_place
 coded_boats_with_a_time_leave_their_place_is = refl

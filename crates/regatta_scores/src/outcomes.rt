@@ -4,11 +4,12 @@ ghost use Rattle.regatta_scores.specs.Outcomes.{redress_by, score_of};
 ghost use Rattle.regatta_scores.specs.Sheet.{nothing_held};
 
 use crate::boats::{Averaged, RaceScore};
-use crate::marks::{is_dne, mark};
+use crate::codes::is_dne;
+use crate::marks::mark;
 use crate::points::tenths;
 use crate::sheet::Held;
 use crate::table::Abbrev;
-use regatta_terms::{Redress, Tenths};
+use regatta_terms::{Code, Redress, Tenths};
 
 /// What came of a boat in a race.
 #[derive(Clone, Copy)]
@@ -27,7 +28,7 @@ fn award_or(plain: Tenths, held: &Held) -> Tenths
 {
     match held.redress {
         Some(Redress::Points(points)) => tenths(points.get()),
-        _ => plain,
+        None | Some(Redress::AllRaces | Redress::RacesBefore) => plain,
     }
 }
 
@@ -49,7 +50,11 @@ pub(crate) fn bare_score(plain: Tenths, placed: bool) -> RaceScore
         points: plain,
         averaged: Averaged::OverNone,
         dne: false,
-        mark: if placed { None } else { Some(Abbrev::Dnc) },
+        mark: if placed {
+            None
+        } else {
+            Some(Abbrev::Code(Code::Dnc))
+        },
     }
 }
 
@@ -67,7 +72,7 @@ pub(crate) fn score_by(plain: Tenths, held: &Held, placed: bool) -> RaceScore
     RaceScore {
         points: award_or(plain, held),
         averaged: averages_by(held.redress),
-        dne: is_dne(held.code),
+        dne: held.code.is_some_and(is_dne),
         mark: mark(held, placed),
     }
 }

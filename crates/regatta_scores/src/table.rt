@@ -1,31 +1,15 @@
 //! The standing of a series.
-ghost use Rattle.std.specs.Prelude.{◌≡◌};
+ghost use Rattle.std.specs.Prelude.{◌≡◌, length};
 ghost use Rattle.regatta_scores.specs.Abbreviations.{abbrev_text};
 
 use crate::items::Items;
 use regatta_terms::{Code, PenaltyKind, RaceNo, Sail, Tenths};
 
-/// The abbreviation in a cell (RRS A10).
+/// The abbreviation in a cell (RRS A10): a code, a penalty or redress.
 #[derive(Clone, Copy, Debug, PartialEq, Eq)]
 pub enum Abbrev {
-    /// Did not come to the starting area.
-    Dnc,
-    /// Did not start.
-    Dns,
-    /// On the course side of the starting line.
-    Ocs,
-    /// Disqualified under RRS 30.3.
-    Ufd,
-    /// Disqualified under RRS 30.4.
-    Bfd,
-    /// Did not finish.
-    Dnf,
-    /// Retired.
-    Ret,
-    /// Disqualified.
-    Dsq,
-    /// Disqualified, and not excludable.
-    Dne,
+    /// A code.
+    Code(Code),
     /// A 20% penalty under RRS 30.2.
     Zfp,
     /// A Scoring Penalty under RRS 44.3.
@@ -37,18 +21,11 @@ pub enum Abbrev {
 impl Abbrev {
     /// The three letters that RRS A10 uses.
     pub fn text(self) -> &'static str
-        ensures { result.now ≡ abbrev_text self }
+        ensures text { result.now ≡ abbrev_text self }
+        ensures three { length result.now ≡ 3 }
     {
         match self {
-            Abbrev::Dnc => Code::Dnc.text(),
-            Abbrev::Dns => Code::Dns.text(),
-            Abbrev::Ocs => Code::Ocs.text(),
-            Abbrev::Ufd => Code::Ufd.text(),
-            Abbrev::Bfd => Code::Bfd.text(),
-            Abbrev::Dnf => Code::Dnf.text(),
-            Abbrev::Ret => Code::Ret.text(),
-            Abbrev::Dsq => Code::Dsq.text(),
-            Abbrev::Dne => Code::Dne.text(),
+            Abbrev::Code(code) => code.text(),
             Abbrev::Zfp => PenaltyKind::Zfp.text(),
             Abbrev::Scp => PenaltyKind::Scp.text(),
             Abbrev::Rdg => "RDG",

@@ -7,9 +7,10 @@ use Rattle.regatta_terms.specs.declared.reply.Reply.TheVariants.{Ranked, Bye, Bu
 use Rattle.regatta_terms.specs.declared.reply.Refusal.TheVariants.{OldNumber, NotEntered}
 use Rattle.regatta_terms.specs.declared.reply.Refusal.TheVariants.{WrongSystem}
 use Rattle.regatta_terms.specs.declared.line.LineFault.TheVariants.{BadNumber, BadSeconds}
+use Rattle.regatta_terms.specs.declared.command.Code.TheVariants as code
 use Rattle.regatta_terms.specs.declared.command.Role.TheVariants as role
 use Rattle.regatta_scores.specs.declared.table.Abbrev.{Abbrev}
-use Rattle.regatta_scores.specs.declared.table.Abbrev.TheVariants.{Dnc, Dsq, Rdg}
+use Rattle.regatta_scores.specs.declared.table.Abbrev.TheVariants as abbreviation
 use Rattle.regatta_scores.specs.declared.table.Cell.{Cell}
 use Rattle.regatta_scores.specs.declared.table.Row.{Row}
 use Rattle.regatta_scores.specs.declared.table.Standing.{Standing}
@@ -76,18 +77,18 @@ two_tied = standing (1 ∷ [])
 abbrev pub one_disqualified : Standing
 one_disqualified = standing (1 ∷ [])
     (row (codes "B") 1 false 10 (cell 10 ∷ []) ∷ row (codes "C") 2 false 20 (cell 20 ∷ [])
-    ∷ row (codes "A") 3 false 40 (marked 40 Dsq ∷ []) ∷ [])
+    ∷ row (codes "A") 3 false 40 (marked 40 (abbreviation.Code code.Dsq) ∷ []) ∷ [])
 
 -- a boat that did not come to the starting area (A5)
 abbrev one_absent : Standing
 one_absent = standing (1 ∷ [])
-    (row (codes "A") 1 false 10 (cell 10 ∷ []) ∷ row (codes "B") 2 false 30 (marked 30 Dnc ∷ [])
+    (row (codes "A") 1 false 10 (cell 10 ∷ []) ∷ row (codes "B") 2 false 30 (marked 30 (abbreviation.Code code.Dnc) ∷ [])
     ∷ [])
 
 -- an excluded score each (A2.1), and redress
 abbrev pub one_excluded : Standing
 one_excluded = standing (1 ∷ 2 ∷ [])
-    (row (codes "A") 1 false 10 (dropped 10 ∷ marked 10 Rdg ∷ [])
+    (row (codes "A") 1 false 10 (dropped 10 ∷ marked 10 abbreviation.Rdg ∷ [])
     ∷ row (codes "B") 2 false 10 (dropped 20 ∷ cell 10 ∷ []) ∷ [])
 
 pub tables : Gives table_text

@@ -1,6 +1,6 @@
 //! A boat's score in one race.
 
-ghost use Rattle.std.specs.Prelude.{◌≡◌, ◌≤◌, ◌++◌, ◌+◌, Some, length, take};
+ghost use Rattle.std.specs.Prelude.{◌≡◌, ◌≤◌, ◌++◌, ◌+◌, length, take};
 ghost use Rattle.regatta_terms.specs.Entries.{points_text};
 ghost use Rattle.regatta_tables.specs.TableTexts.{cell_text, mark_text};
 
@@ -10,26 +10,6 @@ use regatta_scores::{Abbrev, Cell};
 /// The most bytes of a score.
 pub(crate) const CELL_ROOM: usize = 12;
 
-/// A slash and the abbreviation.
-fn mark_letters(mark: Abbrev) -> [u8; 4]
-    ensures { result ≡ mark_text (Some mark) }
-{
-    match mark {
-        Abbrev::Dnc => *b"/DNC",
-        Abbrev::Dns => *b"/DNS",
-        Abbrev::Ocs => *b"/OCS",
-        Abbrev::Ufd => *b"/UFD",
-        Abbrev::Bfd => *b"/BFD",
-        Abbrev::Dnf => *b"/DNF",
-        Abbrev::Ret => *b"/RET",
-        Abbrev::Dsq => *b"/DSQ",
-        Abbrev::Dne => *b"/DNE",
-        Abbrev::Zfp => *b"/ZFP",
-        Abbrev::Scp => *b"/SCP",
-        Abbrev::Rdg => *b"/RDG",
-    }
-}
-
 /// Puts a slash and the abbreviation, if there is one.
 fn put_mark(page: &mut [u8], at: usize, mark: Option<Abbrev>) -> usize
     requires room { at + 4 ≤ length page.old }
@@ -38,7 +18,10 @@ fn put_mark(page: &mut [u8], at: usize, mark: Option<Abbrev>) -> usize
     ensures same { length page.new ≡ length page.old }
 {
     match mark {
-        Some(mark) => put_piece(page, at, &mark_letters(mark)),
+        Some(mark) => {
+            let at = put(page, at, b'/');
+            put_piece(page, at, mark.text().as_bytes())
+        }
         None => at,
     }
 }

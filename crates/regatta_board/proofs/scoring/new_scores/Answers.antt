@@ -1,68 +1,56 @@
-use Rattle.std.proofs.Common.{◌≡◌, ◌∙◌, ap, arith, length, sym, subst}
-use Rattle.std.specs.Option.{unwrap_or}
-use Rattle.regatta_scores.specs.KeptRanking.{IsRanking}
+use Rattle.std.proofs.Common.{◌≡◌, ◌∙◌, refl, sym, subst, arith, length}
+use Rattle.regatta_board.specs.declared.scoring.NewScores.TheVariants.{Same}
 use Rattle.regatta_board.specs.Revisions.{revised}
-use Rattle.regatta_board.specs.Scoring.{Scoring, FitBoats, with_lines}
-use Rattle.regatta_board.proofs.ScoringFacts.{untouched_scores, unchanged_lines}
-use Rattle.regatta_board.proofs.ScoringFacts.{are_ranked, lines_by_long}
+use Rattle.regatta_board.specs.Scoring.{AddsBoat, AreNewScores, AreOtherColumns, AreSameRaces}
+use Rattle.regatta_board.specs.Scoring.{IsOneMore, TurnsColumn, most_remade, once_if_counted}
+use Rattle.regatta_board.specs.Table.{column, races}
+use Rattle.regatta_board.proofs.ScoringFacts.{sheet_turns, other_counts, counts_now}
+use Rattle.regatta_board.proofs.ScoringFacts.{untouched_scores}
 use Rattle.regatta_board.proofs.scoring.new_scores.Goals as goal
 
-pub returns-then-not-may_change_standing-clause-value : goal.returns-then-not-may_change_standing-clause-value
-returns-then-not-may_change_standing-clause-value c =
-    untouched_scores c.args.rules.now c.args.kept.now c.args.revision.now
-    c.args.scoring.now.columns c.requires.scoring.columns
-    (sym c.may_change_standing.ensures ∙ c.if-not-may_change_standing.true)
+pub scores_with_boat-requires-clause-one : goal.scores_with_boat-requires-clause-one
+scores_with_boat-requires-clause-one c =
+    subst (λ r. IsOneMore c.args.kept.now (revised c.args.kept.now r)) (sym c.in-Enter.is)
+    (subst (AddsBoat c.args.kept.now) c.in-Enter.is c.requires.adds, refl)
 
-pub new_lines-requires-clause-races : goal.new_lines-requires-clause-races
-new_lines-requires-clause-races c =
-    c.current_races-current.ensures
-    ∙ ap (unwrap_or c.in_ok-races.races)
-    (ap (λ (s : Scoring). s.races) c.scoring.view_is ∙ c.requires.scoring.races)
-    ∙ c.in_ok-races.ensures
+pub scores_of_sheet-requires-clause-same : goal.scores_of_sheet-requires-clause-same
+scores_of_sheet-requires-clause-same c =
+    subst (λ r. AreSameRaces c.args.kept.now (revised c.args.kept.now r)) (sym c.in-Sheet.is)
+    (refl, refl)
 
-pub new_ranking-requires-clause-few : goal.new_ranking-requires-clause-few
-new_ranking-requires-clause-few c =
-    let ls = ap length (c.deref.ensures.value ∙ ap (λ (s : Scoring). s.lines) c.scoring.view_is) in
-    omega (
-      arith,
-      ls,
-      ap length c.requires.scoring.lines,
-      lines_by_long c.args.rules.now c.args.kept.now,
-      c.requires.kept.few,
-    )
+pub scores_of_sheet-requires-clause-others : goal.scores_of_sheet-requires-clause-others
+scores_of_sheet-requires-clause-others c =
+    let a = c.args in
+    subst (λ r. TurnsColumn a.rules.now a.kept.now (revised a.kept.now r) c.in-Sheet.race
+    (column a.rules.now c.in-Sheet.sheet)) (sym c.in-Sheet.is)
+    (sheet_turns a.rules.now a.kept.now c.requires.kept c.in-Sheet.race c.is_scored.ensures.range
+    c.in-Sheet.sheet (sym c.is_scored.ensures.value ∙ c.if-is_scored.true))
 
-pub new_ranking-requires-clause-each : goal.new_ranking-requires-clause-each
-new_ranking-requires-clause-each c =
-    let ls : c.deref.result.now ≡ c.args.scoring.now.lines =
-    c.deref.ensures.value ∙ ap (λ (s : Scoring). s.lines) c.scoring.view_is in
-    subst (λ xs. FitBoats xs c.in_ok-lines.lines) (sym ls) c.in_ok-lines.ensures.each
+pub scores_of_races-requires-clause-others : goal.scores_of_races-requires-clause-others
+scores_of_races-requires-clause-others c =
+    let a = c.args in
+    subst (λ r. AreOtherColumns a.rules.now a.kept.now (revised a.kept.now r) c.in-Counts.race)
+    (sym c.in-Counts.is)
+    (other_counts a.rules.now a.kept.now c.in-Counts.race c.in-Counts.counts)
 
-pub new_ranking-requires-clause-ranking : goal.new_ranking-requires-clause-ranking
-new_ranking-requires-clause-ranking c =
-    let ls : c.deref.result.now ≡ c.args.scoring.now.lines =
-    c.deref.ensures.value ∙ ap (λ (s : Scoring). s.lines) c.scoring.view_is in
-    rw (ls, ap (λ (s : Scoring). s.ranking) c.scoring.view_is) c.requires.scoring.ranking
+pub returns-in_ok-new-in-Enter-clause-counted : goal.returns-in_ok-new-in-Enter-clause-counted
+returns-in_ok-new-in-Enter-clause-counted c =
+    let same : length (races (revised c.args.kept.now c.args.revision.now).counts)
+    ≡ most_remade c.args.kept.now c.args.revision.now = rw c.in-Enter.is refl in
+    omega (arith, c.in_ok-new-in-Enter.ensures.counted, same)
 
-pub returns-then-is_empty-clause-value : goal.returns-then-is_empty-clause-value
-returns-then-is_empty-clause-value c = record {
-  races = c.in_ok-races.ensures;
-  columns = c.in_ok-columns.ensures.value;
-  ranked =
-      unchanged_lines (revised c.args.kept.now c.args.revision.now) c.requires.scoring
-      c.in_ok-lines.lines (c.is_empty.ensures c.if-is_empty.true) c.in_ok-lines.ensures.value;
-}
+pub returns-in-Sheet-2-clause-value : goal.returns-in-Sheet-2-clause-value
+returns-in-Sheet-2-clause-value c =
+    let a = c.args in
+    subst (λ r. AreNewScores a.rules.now a.kept.now (revised a.kept.now r) Same) (sym c.in-Sheet.is)
+    (untouched_scores a.rules.now a.kept.now c.in-Sheet.race c.in-Sheet.sheet
+    (sym c.is_scored.ensures.value ∙ c.if-is_scored.false))
 
-pub returns-clause-value : goal.returns-clause-value
-returns-clause-value c =
-    let ls : c.deref.result.now ≡ c.args.scoring.now.lines =
-    c.deref.ensures.value ∙ ap (λ (s : Scoring). s.lines) c.scoring.view_is in
-    record {
-      races = c.in_ok-races.ensures;
-      columns = c.in_ok-columns.ensures.value;
-      ranked =
-          are_ranked (revised c.args.kept.now c.args.revision.now) c.requires.scoring
-          (record { lines = c.in_ok-lines.lines; ranking = c.in_ok-ranking.ranking })
-          c.in_ok-lines.ensures.each c.in_ok-lines.ensures.value
-          (subst (λ xs. IsRanking (with_lines xs c.in_ok-lines.lines) c.in_ok-ranking.ranking) ls
-          c.in_ok-ranking.ensures);
-    }
+pub returns-in_ok-new-in-Counts-clause-counted : goal.returns-in_ok-new-in-Counts-clause-counted
+returns-in_ok-new-in-Counts-clause-counted c =
+    let a = c.args in
+    let same : once_if_counted (revised a.kept.now a.revision.now) c.in-Counts.race
+    ≡ most_remade a.kept.now a.revision.now =
+    rw c.in-Counts.is (counts_now a.kept.now c.requires.kept c.in-Counts.race
+    c.scores_of_races.ensures.range c.in-Counts.counts) in
+    omega (arith, c.in_ok-new-in-Counts.ensures.counted, same)

@@ -3,8 +3,8 @@ use Rattle.regatta_office.proofs.Printing.{keeps_same, of_ok, without_kept}
 use Rattle.regatta_office.proofs.kept_clients.serve_at.Goals as goal
 
 -- nothing was written yet
-pub returns-in_err-cover_all-clause-at_most : goal.returns-in_err-cover_all-clause-at_most
-returns-in_err-cover_all-clause-at_most g c =
+pub returns-in_err-all_covered-clause-at_most : goal.returns-in_err-all_covered-clause-at_most
+returns-in_err-all_covered-clause-at_most g c =
     inl (keeps_same (g.W.Device.contents c.args.output.now))
 
 pub returns-in_err-made-clause-at_most : goal.returns-in_err-made-clause-at_most
