@@ -42,7 +42,8 @@ SEATS, RACES = 16, 40
 PATIENCE = 30.0
 # A kept file goes on over rounds until it has so many entries.
 MOST_ENTRIES = 6000
-FAULT = b"regatta: keep fault\n"
+# What an office says whose file fails.
+FAULTS = (b"regatta: keep fault\n", b"regatta: keep fault: no space left\n")
 # Microseconds by which syncs are made longer, for a disk slower than that of FOLDER.
 SLOWER = 2000
 # How many of twelve clients have to share such a sync.
@@ -332,7 +333,7 @@ class Trials:
     def ended_by_fault(office, clients):
         """The office has ended since its file failed, and answers nobody."""
         status, errors = office.ended()
-        if (status, errors) != (3, FAULT):
+        if status != 3 or errors not in FAULTS:
             raise Wrong(f"status {status}: {errors!r}")
         for client in clients:
             reply = client.ask(b"ROLE JURY")

@@ -18,7 +18,7 @@ import sys
 import tempfile
 import time
 
-from raceoffice.results.http_answers import first_link
+from serve import first_link
 
 BOATS, FINISHERS, RACES = 200, 180, 15
 # None of these calls another: callgrind stops counting when it enters a second one.

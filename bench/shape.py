@@ -28,7 +28,7 @@ CRATES = Path("crates")
 # Crates that are there for tests alone. Modules of tests aren't counted in any crate.
 FOR_TESTS = {"regatta_fixtures", "regatta_trials"}
 TESTS = {"tests", "tests.rt"}
-DECIDED = "Command Line Change Revision NewColumns NewLines Reply".split()
+DECIDED = "Command Line Step Change Revision NewScores Reply".split()
 
 # Module: calls in it, in the order in which a FINISH first comes to the module.
 PATH = """
@@ -50,17 +50,17 @@ keeper/sealed: answer cover
 keeper/reply_room: with_text_of
 desk/answers: reply
 board/board: prepare stage commit touched row
-board/ledger: numbers revision
-board/kept: numbers placed after with_change may_change_standing revise
-board/named: boat_named other_named boat_named
-board/refusals: refusal is_of_other_system command_refusal place_refusal is_placed
+board/ledger: revision
+board/kept: number placed after is_scored revise
+board/refusals: act command_act finish of_system unplaced number is_placed
+board/act: on_sheet
 terms/roles: may
 scores/sheet: placed after order_after held_after seconds_after
 scores/groups: contains
 scores/orders: with_last
 terms/laws: parts_are_in_range
-board/scoring: new_scores new_races new_lines is_empty new_ranking revise put_columns put_lines touched
-board/column: new_columns
+board/scoring: new_scores scores_of_sheet remade_lines revise put_column put_changed touched
+board/column: made_column
 watch/publication: new absorb_first
 watch/publisher: append publish
 talk/replies: reply_of

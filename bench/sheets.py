@@ -15,8 +15,8 @@ import tempfile
 import threading
 from concurrent.futures import ThreadPoolExecutor
 
-from raceoffice.results.http_answers import PATIENCE, SEATS, Server, begin, first_link, read_sheet
 from season import BOATS, ENTRIES, RACES, journal, season, text
+from serve import PATIENCE, SEATS, Server, begin, first_link, read_sheet
 
 TIMES = 3
 SEASONS = ((200, 4000), (BOATS, ENTRIES))

@@ -21,7 +21,7 @@ import subprocess
 import tempfile
 import time
 
-from raceoffice.results.http_answers import JOURNAL, SEATS, Server
+from serve import JOURNAL, SEATS, Server
 
 TALKERS = 11
 MEBIBYTE = 1 << 20

@@ -43,7 +43,7 @@ twelve_boats =
     ∷ row h 8 false 160 (plain 80 ∷ plain 80 ∷ []) ∷ row i 9 false 180 (plain 90 ∷ plain 90 ∷ [])
     ∷ row j 10 false 200 (plain 100 ∷ plain 100 ∷ [])
     ∷ row k 11 false 220 (plain 110 ∷ plain 110 ∷ [])
-    ∷ row l 12 false 250 (plain 120 ∷ marked 130 Dnc ∷ []) ∷ []))
+    ∷ row l 12 false 250 (plain 120 ∷ coded 130 Dnc ∷ []) ∷ []))
 
 -- One race counts, so A's average of all other races and B's of the races before are of no race: they
 -- score what they would have without redress. The DNF score is 4, and a ZFP costs 1 point: A's 1.0
@@ -90,8 +90,9 @@ WORDS: dict[str, Any] = {
     "scorer": lambda command: command, "jury": lambda command: command,
     "plain": lambda points: Cell(points, None, False),
     "marked": lambda points, mark: Cell(points, mark, False),
+    "coded": lambda points, code: Cell(points, code, False),
     "excluded": lambda points: Cell(points, None, True),
-    "out": lambda points, mark: Cell(points, mark, True),
+    "out": lambda points, code: Cell(points, code, True),
     "row": Row, "table": Table,
     "worked": lambda rules, journal, by_hand: (Series(rules, journal), by_hand),
     **{letter: letter.upper() for letter in "abcdefghijkl"},

@@ -19,8 +19,8 @@ sys.path.insert(1, os.path.dirname(os.path.dirname(os.path.abspath(__file__))))
 from raceoffice.results.html.markup import Markup, Part, document, raw, tag, together
 
 # Each page, and what it is called in the line of links at the top.
-PAGES = {"GUIDE": "Guide", "SCORING": "How a series is scored", "RULES": "The rules", "JURY": "Decisions",
-         "VERIFY": "Verifying a page", "KEEPING": "The kept file", "FORMATS": "Formats"}
+PAGES = {"GUIDE": "Guide", "TYPING": "The typing window", "SCORING": "How a series is scored", "RULES": "The rules",
+         "JURY": "Decisions", "VERIFY": "Verifying a page", "KEEPING": "The kept file", "FORMATS": "Formats"}
 STYLE = """
 body { max-width: 50rem; margin: 1rem auto; padding: 0 1rem; font: 1rem/1.5 sans-serif; color: #222; }
 pre { background: #f3f3f0; padding: .6rem .8rem; overflow-x: auto; line-height: 1.35; }

@@ -24,6 +24,7 @@ COMMANDS = {
     "open": ("open", "open the office of a series, and be its window"),
     "type": ("type", "type finishes, codes and decisions, in a window or from a file"),
     "board": ("board", "show the results, to phones and as files"),
+    "serve": ("serve", "run the whole office for browsers: finish, scorer, jury and board"),
     "export": ("export", "write the results as a page, as CSV or as a text for a mail"),
     "provisional": ("announce", "say that the results are provisional"),
     "final": ("announce", "say that the results are final"),
@@ -44,7 +45,7 @@ class Version(argparse.Action):
 
     def __call__(self, parser: argparse.ArgumentParser, *_: object) -> None:
         from raceoffice import version
-        print(version.in_words())
+        print(version.version_text())
         parser.exit()
 
 
@@ -67,6 +68,11 @@ def parser_for(words: list[str]) -> argparse.ArgumentParser:
 def main(words: list[str] | None = None) -> int:
     """Does what a command line asks for; the status."""
     words = sys.argv[1:] if words is None else words
-    asked = parser_for(words).parse_args(words)
+    parser = parser_for(words)
+    if not words:
+        # Who doesn't know a command yet sees all of them.
+        parser.print_help(sys.stderr)
+        return 2
+    asked = parser.parse_args(words)
     status: int = module_of(asked.command).run(asked)
     return status

@@ -1,9 +1,21 @@
 """What can go wrong, as exceptions. Each has a text that says in words what happened."""
 from __future__ import annotations
 
+import contextlib
+from collections.abc import Iterator
+
 
 class Trouble(Exception):
     """Why something can't be done, in words. It is shown, and nothing stops at one with a page of Python."""
+
+
+@contextlib.contextmanager
+def as_trouble(what: str) -> Iterator[None]:
+    """Makes a Trouble of what the system refuses: what can't be done, and why."""
+    try:
+        yield
+    except OSError as cause:
+        raise Trouble(f"{what}: {cause.strerror}") from None
 
 
 class Gone(Trouble):

@@ -7,12 +7,14 @@ import secrets
 import stat
 
 from raceoffice import system
-from raceoffice.errors import NotThere, Trouble
+from raceoffice.errors import NotThere, Trouble, as_trouble
 
 # The folder in that of a series which lets in this account alone.
 PRIVATE = "office"
 # A file of a series lets in this account alone.
 PRIVATE_MODE, PUBLIC_MODE = 0o600, 0o666
+# Bytes of a file that somebody has edited that are read at most.
+LARGEST_EDITED = 1 << 20
 # Seconds that an addition waits for another: that one's process may have been stopped.
 PATIENCE = 1.0
 
@@ -45,6 +47,22 @@ def read_whole(path: str, most: int, called: str = "") -> bytes:
     if len(data) > most:
         raise Trouble(f"{called} is longer than {most:,} bytes")
     return data
+
+
+def edited_text(path: str) -> str:
+    """The text of a file that somebody writes with an editor."""
+    try:
+        return read_whole(path, LARGEST_EDITED).decode("utf-8-sig")
+    except UnicodeDecodeError:
+        raise Trouble(f"{path} isn't UTF-8 text: save it as UTF-8") from None
+
+
+def text_if_any(path: str, most: int = -1) -> str:
+    """The text of a file, or how it begins; empty if it can't be read."""
+    with contextlib.suppress(OSError), \
+            open(path, encoding="utf-8", errors="replace", opener=opened_at_once) as file:
+        return file.read(most) if stat.S_ISREG(os.fstat(file.fileno()).st_mode) else ""
+    return ""
 
 
 def place_of(path: str) -> str:
@@ -130,15 +148,9 @@ def append_whole(path: str, data: bytes, ended: bytes = b"", called: str = "") -
     """
     called = called or path
     flags = os.O_RDWR | os.O_APPEND | os.O_CREAT | system.NO_LINK | system.AT_ONCE
-    try:
-        number = os.open(path, flags, PRIVATE_MODE)
-        try:
-            if not stat.S_ISREG(os.fstat(number).st_mode):
-                raise Trouble(f"{called} can't be written: it is no plain file")
-            # One who has the lock may have been stopped.
-            is_alone = system.take_lock(number, PATIENCE)
-            write_all(number, (ended if is_torn(number) else b"") + data, is_alone)
-        finally:
-            os.close(number)
-    except OSError as cause:
-        raise Trouble(f"{called} can't be written: {cause.strerror}") from None
+    with as_trouble(f"{called} can't be written"), system.opened(path, flags, PRIVATE_MODE) as number:
+        if not stat.S_ISREG(os.fstat(number).st_mode):
+            raise Trouble(f"{called} can't be written: it is no plain file")
+        # One who has the lock may have been stopped.
+        is_alone = system.take_lock(number, PATIENCE)
+        write_all(number, (ended if is_torn(number) else b"") + data, is_alone)

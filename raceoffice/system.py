@@ -10,17 +10,20 @@ import contextlib
 import glob
 import os
 import re
+import select
 import signal
 import socket
 import sys
 import tempfile
 import time
 from collections.abc import Callable, Iterator, Mapping
+from typing import Any
 
 from raceoffice.errors import Trouble
 
 if sys.platform == "linux":
     import fcntl
+    import pwd
     import resource
     import termios
 
@@ -35,8 +38,14 @@ AT_ONCE = NOT_INHERITED | getattr(os, "O_NONBLOCK", 0)
 SOCKETS = "/proc/net/unix"
 SOCKET = re.compile(rb"^\S+: \S+ \S+ (\S+) \S+ \S+ +(\d+) (.+)$", re.MULTILINE)
 LISTENS = 1 << 16
+# What the kernel says of each file system that is mounted: its device, its folder and how it may be used. Desktops
+# mount a stick for an account below one of these folders.
+MOUNTS, MOUNT = "/proc/self/mountinfo", re.compile(r"^\d+ \d+ (\d+):(\d+) \S+ (\S+) (\S+)", re.MULTILINE)
+STICKS = ("/media", "/run/media")
 # An address of this computer in the kernel's table of networks.
 LOCAL = re.compile(r"\|-- (\S+)\s+/32 host LOCAL")
+# Seconds without a sign after which what was typed has ended, and how much of it is taken at most.
+PAUSE, MOST_TYPED = 0.05, 65536
 # The signals that end a window.
 STOPS = {signal.SIGINT, signal.SIGTERM, getattr(signal, "SIGHUP", signal.SIGTERM)}
 
@@ -48,6 +57,16 @@ def only_linux(what: str) -> None:
 
 
 # Files
+
+@contextlib.contextmanager
+def opened(path: str, flags: int, mode: int = 0o600) -> Iterator[int]:
+    """A file, open by its number for a while."""
+    number = os.open(path, flags, mode)
+    try:
+        yield number
+    finally:
+        os.close(number)
+
 
 def account() -> int:
     """The number of this account, as files have it."""
@@ -72,11 +91,8 @@ def sync_folder(path: str) -> None:
     """Puts the names in a folder on the disk."""
     if os.name == "nt":
         return
-    number = os.open(path, os.O_RDONLY | NOT_INHERITED)
-    try:
+    with opened(path, os.O_RDONLY | NOT_INHERITED) as number:
         os.fsync(number)
-    finally:
-        os.close(number)
 
 
 @contextlib.contextmanager
@@ -114,6 +130,29 @@ def room_for_files(most: int) -> int:
     return room
 
 
+# Sticks
+
+def sticks() -> dict[str, int]:
+    """The folders of the sticks that are in for this account and can be written, with their devices. No stick is
+    asked: it may hang."""
+    if not LINUX:
+        return {}
+    try:
+        places = {f"{place}/{pwd.getpwuid(account()).pw_name}" for place in STICKS}
+        with open(MOUNTS, encoding="utf-8", errors="surrogateescape") as file:
+            mounted = MOUNT.findall(file.read())
+    except (OSError, KeyError):
+        return {}
+    found = {plain_mount(folder): os.makedev(int(major), int(minor))
+             for major, minor, folder, how in mounted if "rw" in how.split(",")}
+    return {folder: device for folder, device in sorted(found.items()) if os.path.dirname(folder) in places}
+
+
+def plain_mount(text: str) -> str:
+    """A folder as it is: the kernel has spaces and the like in octal."""
+    return re.sub(r"\\([0-7]{3})", lambda found: chr(int(found[1], 8)), text)
+
+
 # Sockets
 
 def socket_of_office() -> socket.socket:
@@ -124,11 +163,8 @@ def socket_of_office() -> socket.socket:
 @contextlib.contextmanager
 def short_name(path: str) -> Iterator[str]:
     """The name by which a socket is reached: it may have 107 bytes, and a folder's path may have more."""
-    folder = os.open(os.path.dirname(path) or ".", os.O_PATH | NOT_INHERITED)
-    try:
+    with opened(os.path.dirname(path) or ".", os.O_PATH | NOT_INHERITED) as folder:
         yield f"/proc/self/fd/{folder}/{os.path.basename(path)}"
-    finally:
-        os.close(folder)
 
 
 def folders_of_sockets() -> dict[int, str]:
@@ -161,11 +197,15 @@ def sockets_at(path: str, ours: bool = True) -> list[bool]:
             continue
         # The name is that which the office was given, and may start at the office's own folder.
         folder = folders.get(int(number))
+        if folder is None and ours:
+            # Another account has this socket, and can't have made a file of ours. Its name proves nothing:
+            # links may lead from there to here by now.
+            continue
         if folder is not None or os.path.isabs(name):
             same = os.path.realpath(os.path.join(folder or "/", name)) == asked
         else:
-            # This is an office of another account, which may only have made a file of that account.
-            same = not ours
+            # Another account's office may have made that account's file.
+            same = True
         if same:
             found.append(bool(int(flags, 16) & LISTENS))
     return found
@@ -179,6 +219,11 @@ def addresses_in_networks() -> list[str]:
 
 
 # Processes
+
+def processes() -> list[int]:
+    """The numbers of the processes that run now."""
+    return [int(name) for name in os.listdir("/proc") if name.isdigit()] if LINUX else []
+
 
 def command_line_of(number: int) -> list[bytes]:
     """The words with which a process was started; none if it has ended."""
@@ -218,6 +263,24 @@ def interrupt(thread: int) -> None:
 
 # Terminals
 
-def forget_typed() -> None:
-    """Throws away what has been typed and wasn't read."""
-    termios.tcflush(0, termios.TCIFLUSH)
+def take_typed() -> bytes:
+    """What has been typed at the terminal and wasn't read, also of a line without its end. Nothing of it is
+    left there. Nothing if the terminal has just gone."""
+    with contextlib.suppress(termios.error, OSError):
+        return typed_without_lines(termios.tcgetattr(0))
+    return b""
+
+
+def typed_without_lines(before: list[Any]) -> bytes:
+    """The same of a terminal that has these settings."""
+    without_lines = [*before[:3], before[3] & ~termios.ICANON, *before[4:6], list(before[6])]
+    without_lines[6][termios.VMIN], without_lines[6][termios.VTIME] = 0, 0
+    data = b""
+    try:
+        # A terminal that gives whole lines alone holds back the one that is being typed.
+        termios.tcsetattr(0, termios.TCSANOW, without_lines)
+        while len(data) < MOST_TYPED and select.select([0], [], [], PAUSE)[0] and (more := os.read(0, 4096)):
+            data += more
+    finally:
+        termios.tcsetattr(0, termios.TCSAFLUSH, before)
+    return data

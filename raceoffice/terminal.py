@@ -1,14 +1,17 @@
 """Questions at a terminal, and what a command says."""
 from __future__ import annotations
 
+import collections
 import io
 import json
 import os
 import select
 import sys
 import textwrap
+import threading
 import time
 import unicodedata
+from collections.abc import Callable
 
 from raceoffice.characters import code_of
 from raceoffice.errors import Unheard
@@ -18,6 +21,11 @@ HIDDEN = {"Cc", "Cf", "Zl", "Zp"}
 # Clears the rest of a line.
 CLEARED = "\x1b[K"
 YES_OR_NO = "   Type y for yes, or n for no."
+# What windows that outlive their terminal have said, and it hasn't taken; how many signs it is given at once.
+UNSAID: collections.deque[str] = collections.deque(maxlen=1000)
+PIECE = 500
+# Held by the thread that gives the terminal a piece.
+SAYING = threading.RLock()
 ANSWERS = {"y": True, "yes": True, "n": False, "no": False}
 
 
@@ -42,6 +50,11 @@ class TypedLines:
             self.rest += data or b"\n"
         line, _, self.rest = self.rest.partition(b"\n")
         return line.decode("utf-8", "replace").strip()
+
+    def taken(self) -> bytes:
+        """What was read of later lines, which isn't there any more."""
+        rest, self.rest = self.rest, b""
+        return rest
 
 
 TYPED = TypedLines()
@@ -90,10 +103,31 @@ def visible(text: str) -> str:
 
 def say_if_heard(text: str, end: str = "\n") -> None:
     """Says something if there is still a terminal to say it at, for a window that outlives its own."""
+    UNSAID.append(wrapped(visible(text)) + end)
+    say_what_waits()
+
+
+def say_what_waits(patience: float = 0.0) -> None:
+    """Says what the terminal hasn't taken yet. One whose output is stopped, as by Ctrl-S, holds nobody up for
+    longer than these seconds for each piece: this is called again later."""
+    with SAYING:
+        try:
+            while UNSAID and takes_more(patience):
+                text = UNSAID.popleft()
+                if rest := text[PIECE:]:
+                    UNSAID.appendleft(rest)
+                print(text[:PIECE], end="", flush=True)
+        except OSError:
+            say_no_more()
+
+
+def takes_more(patience: float) -> bool:
+    """Whether a piece can be printed within these seconds."""
     try:
-        print(wrapped(visible(text)), end=end, flush=True)
-    except OSError:
-        say_no_more()
+        return bool(select.select([], [sys.stdout.fileno()], [], patience)[1])
+    except (OSError, ValueError):
+        # There is nothing to wait for.
+        return True
 
 
 def say_no_more() -> None:
@@ -163,27 +197,28 @@ def answer(text: str) -> str:
     return typed(text) or ""
 
 
-def question(text: str, yes: bool = False) -> bool:
+def question(text: str, yes: bool = False, tell: Callable[[str], None] = lambda given: None) -> bool:
     """Whether somebody says yes. Enter alone is the capital letter. Ctrl-C and the end of the input are
-    no, and whatever is neither yes nor no is asked again."""
+    no, and whatever is neither yes nor no is told, and asked again."""
     asked = f"{text} [{'Y/n' if yes else 'y/N'}] "
     while (given := typed(asked)) is not None:
         meant = is_yes(given, yes and sys.stdin.isatty())
         if meant is not None:
             return meant
+        tell(given)
         say(YES_OR_NO)
     return False
 
 
 class Progress:
     """Shows on a terminal how far long work is, as `cup: R12 of 40`. Nothing is shown of what takes less than
-    two seconds."""
+    two seconds, nor if nobody waits at the terminal."""
 
-    def __init__(self, name: str) -> None:
-        self.name, self.begun, self.is_shown = name, time.monotonic(), False
+    def __init__(self, name: str, is_at_terminal: bool = True) -> None:
+        self.name, self.begun, self.is_shown, self.is_at_terminal = name, time.monotonic(), False, is_at_terminal
 
     def __call__(self, done: int, whole: int) -> None:
-        if sys.stderr.isatty() and time.monotonic() > self.begun + 2.0:
+        if self.is_at_terminal and sys.stderr.isatty() and time.monotonic() > self.begun + 2.0:
             self.is_shown = True
             sys.stderr.write("\r" + visible(f"{self.name}: R{done} of {whole}") + CLEARED)
             sys.stderr.flush()
@@ -200,10 +235,6 @@ class Once:
 
     def __init__(self) -> None:
         self.said: dict[str, str] = {}
-
-    def say(self, about: str, text: str) -> None:
-        if self.is_new(about, text):
-            say(text)
 
     def is_new(self, about: str, text: str) -> bool:
         """Whether this has to be said, which it then is."""

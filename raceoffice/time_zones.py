@@ -13,11 +13,21 @@ MONTHS = ["Jan", "Feb", "Mar", "Apr", "May", "Jun", "Jul", "Aug", "Sep", "Oct", 
 MOST = 14 * 60
 # The end of a moment in words: `CET (UTC+1)`, `UTC+5:30` or `UTC`.
 END = re.compile(r"[0-9] (?:([A-Za-z]{3,6}) \()?UTC(?:([+-])([0-9]{1,2})(?::([0-9]{2}))?)?\)?")
+# Files that hold a zone, but whose names are no zone's: another computer may have another zone there.
+UNNAMED = re.compile("localtime|posixrules|Factory|(?:posix|right)/.*")
+
+
+def is_name(text: str) -> bool:
+    """Whether this is the name of a time zone, which is the same zone on each computer."""
+    try:
+        return not UNNAMED.fullmatch(text) and bool(zoneinfo.ZoneInfo(text))
+    except (OSError, ValueError, zoneinfo.ZoneInfoNotFoundError):
+        return False
 
 
 @functools.cache
 def all_zones() -> tuple[zoneinfo.ZoneInfo, ...]:
-    return tuple(zoneinfo.ZoneInfo(name) for name in sorted(zoneinfo.available_timezones()))
+    return tuple(zoneinfo.ZoneInfo(name) for name in sorted(zoneinfo.available_timezones()) if is_name(name))
 
 
 def has_name(local: datetime.datetime) -> bool:
@@ -27,7 +37,7 @@ def has_name(local: datetime.datetime) -> bool:
         (other.tzname(), other.utcoffset()) == wanted for other in map(local.astimezone, all_zones()))
 
 
-def in_words(local: datetime.datetime) -> str:
+def moment_text(local: datetime.datetime) -> str:
     """A local time with its zone and the hours from UTC, as `Thu 26 Nov 2026, 08:52 WET (UTC+0)`."""
     offset, name = local.strftime("%z"), local.tzname() or ""
     minutes = f":{offset[3:5]}" if offset[3:5] != "00" else ""
@@ -41,7 +51,7 @@ def in_words(local: datetime.datetime) -> str:
 def of_computer(moment: datetime.datetime) -> str:
     """A moment in this computer's zone. A name that no time zone has is left out."""
     local = moment.astimezone()
-    return in_words(local if has_name(local) else without_name(local))
+    return moment_text(local if has_name(local) else without_name(local))
 
 
 def without_name(local: datetime.datetime) -> datetime.datetime:
@@ -59,4 +69,4 @@ def is_of_some_computer(text: str, moment: datetime.datetime) -> bool:
     offset = datetime.timedelta(minutes=-minutes if found[2] == "-" else minutes)
     named = datetime.timezone(offset, found[1]) if found[1] else datetime.timezone(offset)
     local = moment.astimezone(named)
-    return in_words(local) == text and (not found[1] or has_name(local))
+    return moment_text(local) == text and (not found[1] or has_name(local))

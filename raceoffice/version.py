@@ -26,7 +26,7 @@ def commit() -> str:
     return done.stdout.strip()
 
 
-def in_words() -> str:
+def version_text() -> str:
     """`raceoffice 1.0, commit 30cd1c540b52`."""
     found = commit()
     return f"raceoffice {VERSION}" + (f", commit {found}" if found else "")

@@ -6,7 +6,7 @@ import re
 from html.parser import HTMLParser
 
 from raceoffice.results.html import assets
-from raceoffice.verify import read_block
+from raceoffice.verify import page_data
 
 NUMBER = r"-?[0-9]{1,5}"
 FREE = r"(?s).*"
@@ -113,7 +113,7 @@ def odd_parts(page: str) -> list[str]:
     plain = re.sub(r'"(?:[^"\\\n]|\\[0-9a-f]{1,6} )*"', '""', style.removeprefix(assets.style()))
     if not style.startswith(assets.style()) or re.search(r"url|@import|expression|[\\<]", plain):
         odd.append(f"a style {plain[:80]!r}")
-    if block != f"\n{read_block.block_of(page)}" or "<" in block:
+    if block != f"\n{page_data.block_of(page)}" or "<" in block:
         odd.append("the block isn't what `verify` reads")
     if script != assets.script():
         odd.append(f"a script {script[:40]!r}")

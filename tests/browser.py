@@ -23,7 +23,7 @@ def program() -> str:
 class Browser:
     """Chromium with one tab. What it is asked are commands of the DevTools protocol."""
 
-    def __init__(self) -> None:
+    def __init__(self, *options: str) -> None:
         self.folder = tempfile.TemporaryDirectory(ignore_cleanup_errors=True)
         to_browser, from_browser = os.pipe(), os.pipe()
 
@@ -37,7 +37,7 @@ class Browser:
         self.process = subprocess.Popen(
             [program(), "--headless=new", "--no-sandbox", "--disable-gpu", "--disable-dev-shm-usage",
              "--remote-debugging-pipe", "--hide-scrollbars", "--no-first-run",
-             "--disable-background-networking", f"--user-data-dir={self.folder.name}",
+             "--disable-background-networking", f"--user-data-dir={self.folder.name}", *options,
              "about:blank"], preexec_fn=own, close_fds=False, stdin=subprocess.DEVNULL,
             stdout=subprocess.DEVNULL, stderr=subprocess.DEVNULL)
         os.close(to_browser[0])

@@ -15,16 +15,16 @@ from typing import Any
 
 import helpers
 
-from raceoffice.commands import export
 from raceoffice.errors import ForeignPage, Trouble, Unsure
 from raceoffice.program import replay
+from raceoffice.results import exports
 from raceoffice.results.html import page as pages, sealing
 from raceoffice.results.html.listing import listing
-from raceoffice.results.html.notice import results as notice
+from raceoffice.results.html.notice_board import results as notice
 from raceoffice.results.html.overall import overall
 from raceoffice.results.html.race import one_race
-from raceoffice.results.snapshot import View
-from raceoffice.verify import read_block, verifier
+from raceoffice.results.snapshot import Snapshot
+from raceoffice.verify import page_data, verifier
 
 MARKUP = '"><script>alert(1)</script>'
 # Two boats tie; codes, a penalty, redress and an excluded score; race 3 doesn't count.
@@ -40,8 +40,8 @@ Path = tuple[object, ...]
 
 def block_in(page: str) -> str:
     """The text of a page's block."""
-    begin = page.index(read_block.START) + len(read_block.START)
-    return page[begin:page.index(read_block.END, begin)]
+    begin = page.index(page_data.START) + len(page_data.START)
+    return page[begin:page.index(page_data.END, begin)]
 
 
 def whole_of(page: str) -> dict[str, Any]:
@@ -53,7 +53,7 @@ def sealed(whole: dict[str, Any]) -> str:
     """The text of a block with marks and seal that are right for it, as far as they can be made."""
     whole = {name: value for name, value in whole.items() if name != "seal"}
     with contextlib.suppress(Exception):
-        whole["marks"] = [sealing.marks(read_block.carried_of(*both))
+        whole["marks"] = [sealing.marks(page_data.carried_of(*both))
                           for both in zip(whole["series"], whole["stamps"])]
     text = text_of(whole)[:-2]
     if list(whole) == ["regatta", "page", "stamps", "series", "marks"] and isinstance(whole["series"], list):
@@ -128,9 +128,9 @@ def unchecked() -> Iterator[None]:
     """The tools' code without what it checks: who forges a page takes that out."""
     with contextlib.ExitStack() as stack:
         for name in ("wrong_form", "wrong_confirmation"):
-            stack.enter_context(unittest.mock.patch.object(read_block, name, lambda *_: ""))
+            stack.enter_context(unittest.mock.patch.object(page_data, name, lambda *_: ""))
         for name in ("compare_form", "compare_marks", "compare_seal"):
-            stack.enter_context(unittest.mock.patch.object(read_block, name, lambda *_: None))
+            stack.enter_context(unittest.mock.patch.object(page_data, name, lambda *_: None))
         stack.enter_context(unittest.mock.patch.object(verifier, "compare_tables", lambda *_: None))
         yield
 
@@ -147,7 +147,7 @@ class Forger:
         assert found
         try:
             with unchecked():
-                kept = read_block.kept_of(whole)
+                kept = page_data.kept_of(whole)
                 made = self.verifier.rebuilt(kept)
             made_page = pages.confirmed(made.text, *found.groups())
             return with_block(made_page, text)
@@ -205,8 +205,8 @@ class ForgedPages(helpers.Series):
         self.tide, self.fleet = self.view("tide"), self.view("fleet")
         self.verifier = verifier.Verifier(helpers.PROGRAM)
 
-    def view(self, name: str) -> View:
-        return export.view_of(os.path.join(self.here, name), lambda _: None)
+    def view(self, name: str) -> Snapshot:
+        return exports.view_of(os.path.join(self.here, name), lambda _: None)
 
     def pages(self) -> dict[str, str]:
         """A page of each kind."""

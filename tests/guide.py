@@ -1,5 +1,5 @@
 #!/usr/bin/env python3
-"""Plays docs/GUIDE.md against a built program, and compares what is printed with what it shows.
+"""Plays docs/TYPING.md against a built program, and compares what is printed with what it shows.
 
     tests/guide.py PROGRAM [--fill]
 
@@ -29,7 +29,7 @@ import tempfile
 import time
 
 import helpers
-GUIDE = os.path.join(helpers.TOP, "docs", "GUIDE.md")
+GUIDE = os.path.join(helpers.TOP, "docs", "TYPING.md")
 STEP = re.compile(r"^```([^\n]*)\n(.*?)^```$|^<!-- kill (\S+) -->$", re.MULTILINE | re.DOTALL)
 COMMAND = re.compile(r"\$ raceoffice ")
 # What varies from one play to the next, and what it is compared as.
@@ -225,11 +225,11 @@ class Play:
             if window.terminal:
                 window.asked()
                 if more := window.lines():
-                    raise Wrong(f"docs/GUIDE.md: after its last box the window {name} printed\n"
+                    raise Wrong(f"docs/TYPING.md: after its last box the window {name} printed\n"
                                 + "\n".join(more))
 
     def step(self, guide: str, step: re.Match[str]) -> str:
-        place = f"docs/GUIDE.md, line {guide[:step.start()].count(chr(10)) + 1}"
+        place = f"docs/TYPING.md, line {guide[:step.start()].count(chr(10)) + 1}"
         try:
             if step[3]:
                 self.kill(step[3])

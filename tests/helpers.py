@@ -16,7 +16,7 @@ import tempfile
 import termios
 import time
 import unittest
-from collections.abc import Callable, Iterator
+from collections.abc import Callable, Iterator, Mapping
 from typing import Any
 
 TOP = os.path.dirname(os.path.dirname(os.path.abspath(__file__)))
@@ -29,6 +29,8 @@ TIMES = os.path.realpath(os.environ.get("TIMES", os.path.join(TOP, "crates/times
 needs_times = unittest.skipUnless(os.access(TIMES, os.X_OK), f"there is no program of times at {TIMES}")
 # Seconds for what has to come about. A slow machine with other work gets there, too.
 PATIENCE = 120.0
+# Seconds that a command has for its end when a trial needs it no more.
+SOON = 5.0
 ENTRIES = """\
 Boat,Sail,Helm,Club
 Kestrel,GBR 101,A. Moss,Sandhaven
@@ -40,7 +42,8 @@ Curlew,IRL 5,M. Byrne,Howth
 Dunlin,IRL 55,O. Roche,Howth
 """
 sys.path.insert(0, TOP)
-os.environ["PYTHONPATH"] = TOP
+# What measures the tests is loaded from a folder of its own.
+os.environ["PYTHONPATH"] = os.pathsep.join([TOP, *filter(None, [os.environ.get("PYTHONPATH")])])
 
 
 def trials(usual: int) -> int:
@@ -121,6 +124,16 @@ def freeze(number: int) -> None:
     until("a stopped process", lambda: states(number) == {"T"})
 
 
+def end(process: subprocess.Popen[Any]) -> None:
+    """Ends a process, if it still runs. One that doesn't end by itself is killed."""
+    process.terminate()
+    try:
+        process.wait(SOON)
+    except subprocess.TimeoutExpired:
+        process.kill()
+        process.wait()
+
+
 class Terminal:
     """A terminal and the command that runs in it, as at a person's desk."""
 
@@ -188,17 +201,18 @@ class Terminal:
             raise AssertionError(f"the tool didn't end; what came is\n{self.text}") from None
 
     def close(self) -> None:
-        if self.process.poll() is None:
-            self.process.kill()
-        self.process.wait()
+        """Ends the command, if it still runs."""
+        end(self.process)
         os.close(self.master)
 
 
 class Window(Terminal):
-    """A terminal in which a command of the race office runs."""
+    """A terminal in which a command of the race office runs. `waits` are seconds for which it waits, by
+    their names in the package, as in `{"series.second_folder.PATIENCE": 1}`."""
 
-    def __init__(self, *words: str, cwd: str | None = None) -> None:
-        super().__init__(*COMMAND, *words, cwd=cwd)
+    def __init__(self, *words: str, cwd: str | None = None, waits: Mapping[str, float] = {}) -> None:
+        super().__init__(*COMMAND, *words, cwd=cwd,
+                         WAITS=" ".join(f"raceoffice.{name}={seconds}" for name, seconds in waits.items()))
 
 
 @contextlib.contextmanager
@@ -258,14 +272,14 @@ class Series(unittest.TestCase):
                                          **values}))
         return folder
 
-    def window(self, *words: str) -> Terminal:
-        window = Window(*words, cwd=self.here)
+    def window(self, *words: str, waits: Mapping[str, float] = {}) -> Terminal:
+        window = Window(*words, cwd=self.here, waits=waits)
         self.addCleanup(window.close)
         return window
 
-    def open(self, name: str = "cup") -> Terminal:
+    def open(self, name: str = "cup", waits: Mapping[str, float] = {}) -> Terminal:
         """The window of an office that is open."""
-        window = self.window("open", name)
+        window = self.window("open", name, waits=waits)
         window.read(r"The office is open")
         self.addCleanup(self.stop, name)
         return window
@@ -273,14 +287,14 @@ class Series(unittest.TestCase):
     def stop(self, name: str) -> None:
         kill_office(os.path.join(self.here, name))
 
-    def client(self, *words: str) -> Terminal:
-        window = self.window("type", *words)
+    def client(self, *words: str, waits: Mapping[str, float] = {}) -> Terminal:
+        window = self.window("type", *words, waits=waits)
         window.read("> $")
         return window
 
-    def typist(self, role: str = "finish", *more: str) -> Terminal:
+    def typist(self, role: str = "finish", *more: str, waits: Mapping[str, float] = {}) -> Terminal:
         """The window of somebody who types for `cup`."""
-        return self.client("cup", "--role", role, *more)
+        return self.client("cup", "--role", role, *more, waits=waits)
 
     def play(self, window: Terminal, talk: str) -> None:
         """Each line of a talk that begins with > is typed; the others have to come, in order."""

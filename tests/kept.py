@@ -16,6 +16,7 @@ from raceoffice.program.link import Link
 
 HERE = os.path.dirname(os.path.abspath(__file__))
 DEVICE, FAULT = "regatta: device fault\n", "regatta: keep fault\n"
+NO_SPACE, NO_PERMISSION = "regatta: keep fault: no space left\n", "regatta: keep fault: no permission\n"
 NOWHERE = "/no/such/folder/race.sock"
 VERSION = "REGATTA 2\n"
 # A library that notes what is asked of the disk.

@@ -30,8 +30,10 @@ HERE = os.path.dirname(os.path.abspath(__file__))
 # The tests that need a browser, or take more than some seconds.
 SLOW = os.path.join(HERE, "slow")
 sys.path[1:1] = [SLOW, os.path.dirname(HERE)]
-# Seconds after which a worker that still tries the same checks is ended.
-PATIENCE = 900.0
+# Seconds after which a worker that still tries the same checks is ended; a slow machine may need more.
+PATIENCE = float(os.environ.get("PATIENCE", "900"))
+# Seconds that a worker has for its end when there are no more checks.
+LEAVE = 60.0
 # How many of the slowest checks are named.
 SLOWEST = 10
 PASSED, FAILED, SKIPPED = "passed", "failed", "not tried"
@@ -39,11 +41,17 @@ PASSED, FAILED, SKIPPED = "passed", "failed", "not tried"
 
 @dataclass
 class Report:
-    """What became of a check: how it ended, why, and in how many seconds."""
+    """What became of a check: how it ended, why, in how many seconds, and in how many of a processor."""
     name: str
     end: str = PASSED
     text: str = ""
     seconds: float = 0.0
+    processor: float = 0.0
+
+
+def processor_seconds() -> float:
+    """The processor time of this process and of those that it has waited for."""
+    return sum(os.times()[:4])
 
 
 class Result(unittest.TestResult):
@@ -52,7 +60,7 @@ class Result(unittest.TestResult):
     def __init__(self) -> None:
         super().__init__()
         self.reports: dict[str, Report] = {}
-        self.begun = time.monotonic()
+        self.begun, self.used = time.monotonic(), processor_seconds()
 
     def note(self, trial: unittest.TestCase, end: str = PASSED, text: str = "") -> None:
         """Notes an end of a check, or of a part of it: a failure outweighs what else is noted."""
@@ -64,12 +72,14 @@ class Result(unittest.TestResult):
 
     def startTest(self, test: unittest.TestCase) -> None:
         super().startTest(test)
-        self.begun = time.monotonic()
+        self.begun, self.used = time.monotonic(), processor_seconds()
 
     def stopTest(self, test: unittest.TestCase) -> None:
         super().stopTest(test)
         if test.id() in self.reports:
-            self.reports[test.id()].seconds = time.monotonic() - self.begun
+            report = self.reports[test.id()]
+            report.seconds = time.monotonic() - self.begun
+            report.processor = processor_seconds() - self.used
 
     def addSuccess(self, test: unittest.TestCase) -> None:
         super().addSuccess(test)
@@ -157,18 +167,24 @@ class Worker:
         return text, [Report(**report) for report in reports]
 
     def end(self) -> None:
-        if self.process is not None:
+        """Ends the process: it does so by itself when no more checks can come, or else is killed."""
+        if self.process is None:
+            return
+        try:
+            self.process.communicate(timeout=LEAVE)
+        except subprocess.TimeoutExpired:
             self.process.kill()
             self.process.communicate()
-            self.process = None
+        self.process = None
 
 
 # All checks
 
 def discovered(loader: unittest.TestLoader, is_quick: bool) -> unittest.TestSuite:
-    """The tests of both folders, or only those that take some seconds at most."""
+    """The tests of both folders, or only those that take some seconds at most. The others come first, so
+    that no worker has one alone at the end."""
     return unittest.TestSuite(loader.discover(folder, top_level_dir=folder)
-                              for folder in ([HERE] if is_quick else [HERE, SLOW]) if os.path.isdir(folder))
+                              for folder in ([HERE] if is_quick else [SLOW, HERE]) if os.path.isdir(folder))
 
 
 @dataclass
@@ -243,9 +259,11 @@ def try_all(parts: list[list[str]], workers: int) -> Tried:
 
 def summary(tried: Tried, faults: list[str], seconds: float) -> int:
     """Says what took longest, what wasn't tried, what failed and how many passed; the status."""
-    print(f"\nThe slowest of {len(tried.reports)} checks, which took {seconds:.0f} s together:")
+    processor = sum(report.processor for report in tried.reports)
+    print(f"\nThe slowest of {len(tried.reports)} checks, which took {seconds:.0f} s together, and "
+          f"{processor:.0f} s of processor time:")
     for report in sorted(tried.reports, key=lambda report: -report.seconds)[:SLOWEST]:
-        print(f"{report.seconds:6.1f} s  {report.name}")
+        print(f"{report.seconds:6.1f} s, {report.processor:6.1f} s  {report.name}")
     for report in tried.named(SKIPPED):
         print(f"not tried: {report.name}: {report.text}")
     for fault in faults:

@@ -8,7 +8,8 @@ import unittest
 
 import helpers
 from raceoffice.program.link import Link
-from raceoffice.series.folder import Folder, Logged
+from raceoffice.series.folder import Folder
+from raceoffice.series.log import Logged
 from raceoffice.series.last_change import (is_changed_since, mark_of, time_of_entry, time_of_notice,
                                            time_of_rules)
 

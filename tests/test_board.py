@@ -18,6 +18,7 @@ import subprocess
 import threading
 import time
 import unittest
+from collections.abc import Mapping
 from dataclasses import dataclass
 from typing import Any
 from concurrent.futures import ThreadPoolExecutor
@@ -58,7 +59,12 @@ class Relay:
         while True:
             client, _ = self.door.accept()
             office = socket.socket(socket.AF_UNIX)
-            office.connect(self.real)
+            try:
+                office.connect(self.real)
+            except OSError:  # the office has closed
+                client.close()
+                office.close()
+                continue
             threading.Thread(target=self.carry, args=(client, office, True), daemon=True).start()
             threading.Thread(target=self.carry, args=(office, client, False), daemon=True).start()
 
@@ -83,10 +89,10 @@ class Answer:
 
 
 class Boards(helpers.Series):
-    def board(self, *folders: str, **values: str) -> tuple[helpers.Terminal, str]:
+    def board(self, *folders: str, waits: Mapping[str, float] = {}) -> tuple[helpers.Terminal, str]:
         """A board for phones, and what it says before it waits."""
         self.port = helpers.free_port(self)
-        window = self.window("board", *(folders or ("cup",)), "--http", str(self.port))
+        window = self.window("board", *(folders or ("cup",)), "--http", str(self.port), waits=waits)
         return window, window.read("try one phone")
 
     def raw(self, data: bytes, patience: float = 15) -> bytes:
@@ -277,11 +283,11 @@ class Boards(helpers.Series):
             self.make(name, every="1")
             self.open(name)
         self.send(*RACE, name="one")
-        window, _ = self.board("one", "two")
+        window, _ = self.board("one", "two", waits={"results.source.PATIENCE": 2})
         number = int(self.text("one", "office", "pid").split()[0])
         helpers.freeze(number)
         try:
-            window.read(r"one: the office hasn't answered for 5 seconds\. The page says so in red\.")
+            window.read(r"one: the office hasn't answered for 2 seconds\. The page says so in red\.")
             before = self.now("two")["checked"]
             helpers.until("the other series", lambda: self.now("two")["checked"] > before)
             self.assertEqual((self.now("one")["office"], self.now("two")["office"]),
@@ -470,7 +476,7 @@ class Moments(unittest.TestCase):
     def test_zones(self) -> None:
         from raceoffice.program.journal import Series
         from raceoffice.program.standing import Standing
-        from raceoffice.results.snapshot import View
+        from raceoffice.results.snapshot import Snapshot
         from raceoffice.series import settings
         shown = [("Europe/Lisbon", (2026, 11, 26, 8, 52), "Thu 26 Nov 2026, 08:52 WET (UTC+0)"),
                  ("Europe/Lisbon", (2026, 7, 1, 23, 30), "Thu 2 Jul 2026, 00:30 WEST (UTC+1)"),
@@ -481,7 +487,7 @@ class Moments(unittest.TestCase):
             with helpers.folder() as here:
                 with open(os.path.join(here, "series.ini"), "w") as file:
                     file.write(settings.filled_in({"title": "x", "zone": zone}))
-                view = View("x", settings.read(here), Standing((), ()), Series(), {}, {},
+                view = Snapshot("x", settings.read(here), Standing((), ()), Series(), {}, {},
                             datetime.datetime(2026, 1, 1))
                 when = datetime.datetime(*moment, tzinfo=datetime.timezone.utc)
                 self.assertEqual(view.when(when), wanted)

@@ -30,8 +30,13 @@ class Tree(unittest.TestCase):
             self.assertRegex(text, "(?s)The status is|with status")
             self.assertRegex(text, rf"usage: raceoffice {name}")
 
+    def test_no_command(self) -> None:
+        """Without a command it names all of them."""
+        said, status = helpers.run()
+        self.assertEqual((said, status), (helpers.run("--help")[0], 2))
+
     def test_wrong(self) -> None:
-        for words in (list[str](), ["nothing"], ["check"], ["final", "--json"],
+        for words in (["nothing"], ["check"], ["final", "--json"],
                       ["board", "x", "--once", "--http"],
                       ["decisions", "send", "x", "--json"], ["export", "x"]):
             said, status = helpers.run(*words)

@@ -4,16 +4,20 @@ from __future__ import annotations
 
 import os
 import random
+import re
 import shutil
 import unittest
 from collections.abc import Iterator
+from unittest import mock
 
 import helpers
 from raceoffice.errors import Trouble
+from raceoffice.program.journal import Race
 from raceoffice.program.link import Link
-from raceoffice.series.continuity import difference
+from raceoffice.series.continuity import difference, difference_of_places
 from raceoffice.series.copies import newest
 from raceoffice.series.folder import Folder
+from raceoffice.series.kept_places import Places
 
 SEED, FLIPS = 63, 200
 LINES = ["FINISH 1 GBR101", "FINISH 1 GBR7", "TIE 1 NED12 GBR7", "MARK 1 FRA9 DNF", "SCORE 1",
@@ -154,13 +158,25 @@ class Continuity(helpers.Series):
         self.assertEqual(difference(self.folder), "Nobody knows whether journal.txt is what the office had: "
                          f"kept/{name} can't be read: Is a directory.")
 
+    def test_odd_copies(self) -> None:
+        """What isn't named by a moment is no copy; if kept/ can't be read, nobody knows."""
+        before = newest(self.folder)
+        for name in ("2099-13-01-101010Z.txt", "2099-01-01-106010Z.txt", "0000-01-01-101010.txt", "2099.txt",
+                     "2099-01-01-101010Z.txt.new"):
+            with open(self.file("kept", name), "wb") as file:
+                file.write(b"x")
+        self.assertEqual(newest(self.folder), before)
+        with mock.patch("os.listdir", side_effect=PermissionError(13, "Permission denied")):
+            self.assertEqual(difference(self.folder), "Nobody knows whether journal.txt is what the office "
+                             "had: kept/ can't be read: Permission denied.")
+
     def test_older_tools(self) -> None:
         """Notes without a sum, and copies named by the time of this computer, are read as well."""
         shutil.rmtree(self.file("kept"))
         log = self.text("cup", "office.log")
-        self.write("".join(f"{line.rpartition(' ')[0]}\n" if "closed\t" in line or "opened\t" in line
-                           else f"{line}\n"
-                           for line in log.splitlines()), "cup", "office.log")
+        older = re.sub(r" [0-9a-f]{16}, \w+ lines? of places [0-9a-f]{16}$", "", log, flags=re.MULTILINE)
+        self.assertNotEqual(older, log)
+        self.write(older, "cup", "office.log")
         self.assertFalse(self.is_seen(self.data.lower()))
         self.assertTrue(self.is_seen(self.data[:-20]))
         os.mkdir(self.file("kept"))
@@ -200,6 +216,110 @@ class Continuity(helpers.Series):
         self.assertIn("journal.txt has 18 entries, 1 more than when the office was closed: it was kept "
                       "without raceoffice, or somebody has added to it.\n", said)
         self.assertEqual(status, 0)
+
+
+class PlacesOfAClosedOffice(helpers.Series):
+    """office/places that isn't what the office had is asked about like the journal."""
+
+    def setUp(self) -> None:
+        super().setUp()
+        self.folder = Folder(os.path.join(self.here, "cup"))
+        self.path = self.folder.file("office", "places")
+        window = self.open()
+        for _ in range(3):
+            Places(self.folder, "Ann").keep(Race(1), "", 7)
+        window.press()
+        window.read(r"Close the office\? \[y/N\] $")
+        window.type("y")
+        self.assertEqual(window.rest()[1], 0)
+        with open(self.path, "rb") as file:
+            self.lines = file.readlines()
+
+    def put(self, *lines: bytes) -> str:
+        """How a file with these lines differs from what the office had."""
+        with open(self.path, "wb") as file:
+            file.write(b"".join(lines))
+        return difference_of_places(self.folder)
+
+    def test_each_change(self) -> None:
+        self.assertRegex(self.folder.logged()[-1].answer,
+                         "^7 entries [0-9a-f]{16}, 3 lines of places [0-9a-f]{16}$")
+        first, second, third = self.lines
+        had = "office/places isn't what the office had. It has {}. When the office was closed, it had 3{}. A " \
+              "finisher without a sail may be missing."
+        same = ", and these aren't the same"
+        for lines, held, more in [
+                ((), "no lines", ""), ((first, second), "2 lines", ""), ((second, third), "2 lines", ""),
+                ((first, second, third[:-1]), "2 lines", ""), ((first, third, second), "3 lines", same),
+                ((first, second.replace(b"?2", b"?4"), third), "3 lines", same),
+                ((first, first, second, third), "4 lines", same), ((b"\n", first, second, third), "4 lines", same)]:
+            self.assertEqual(self.put(*lines), had.format(held, more), lines)
+        # A window that was killed may have noted something when the office was gone.
+        self.assertEqual((self.put(*self.lines), self.put(*self.lines, third), self.put(*self.lines, b"{")),
+                         ("", "", ""))
+        os.remove(self.path)
+        self.assertEqual(difference_of_places(self.folder), had.format("no lines", ""))
+        os.mkdir(self.path)
+        self.assertRegex(difference_of_places(self.folder), "^Nobody knows whether office/places is what the")
+
+    def test_older_notes(self) -> None:
+        """Notes of a version that noted no places, and a log that was lost, say nothing of them."""
+        log = self.text("cup", "office.log")
+        self.write(re.sub(r", \w+ lines? of places \w+", "", log), "cup", "office.log")
+        self.assertEqual(self.put(), "")
+        os.remove(self.folder.file("office.log"))
+        self.assertEqual(self.put(), "")
+
+    def test_opening_asks(self) -> None:
+        """Without a yes nothing is opened. After it the file is what the office has."""
+        self.put(*self.lines[1:])
+        said, status = helpers.run("check", "cup", cwd=self.here)
+        self.assertIn("office/places isn't what the office had. It has 2 lines.", said)
+        self.assertEqual(status, 1)
+        said, status = helpers.run("open", "cup", lines="\n", cwd=self.here)
+        self.assertIn(f"may be missing.\n{ASKED}", said)
+        self.assertTrue("Nothing was opened." in said and status == 1, said)
+        window = self.window("open", "cup")
+        self.addCleanup(self.stop, "cup")
+        window.read(r"\[y/N\] $")
+        window.say("y", "The office is open")
+        self.assertEqual(difference_of_places(self.folder), "")
+
+    def test_changed_while_open(self) -> None:
+        """Whoever closes the office is asked about the places that it had, whatever became of the file just then;
+        and they are noted at its end."""
+        window = self.open()
+        os.remove(self.path)
+        window.press()
+        said = window.read(r"Close the office\? \[y/N\] $")
+        window.type("y")
+        said += window.rest()[0]
+        self.assertIn("3 lines that it had are there again.", said)
+        with open(self.path, "rb") as file:
+            self.assertEqual(file.readlines(), self.lines)
+
+    def test_unreadable(self) -> None:
+        """Whatever lies where the places should be, a boat is taken out, a copy becomes the journal again, and
+        both are noted."""
+        os.remove(self.path)
+        os.mkdir(self.path)
+        said, status = helpers.run("remove", "cup", "IRL5", lines="y\n", cwd=self.here)
+        self.assertEqual(status, 0, said)
+        self.assertRegex(self.folder.logged()[-1].answer, "^6 entries [0-9a-f]{16}$")
+        os.remove(self.folder.journal)
+        window = self.window("open", "cup")
+        window.read(r"Use it\? \[y/N\] $")
+        window.type("y")
+        # Nobody opens an office that couldn't keep a place.
+        self.assertIn("office/places can't be read: it isn't a plain file.", window.rest()[0])
+        self.assertEqual([entry.answer[:9] for entry in self.folder.logged() if entry.line == "restored"],
+                         ["6 entries"])
+
+    def test_removed_boat(self) -> None:
+        """After a boat was taken out, the places are what they were."""
+        said, status = helpers.run("remove", "cup", "IRL5", lines="y\n", cwd=self.here)
+        self.assertEqual((status, difference_of_places(self.folder)), (0, ""), said)
+        self.assertNotEqual(self.put(), "")
 
 
 if __name__ == "__main__":

@@ -9,7 +9,7 @@ import unittest
 
 import helpers
 import kept
-from kept import FAULT, Kept, needs_compiler, next_reply, reply_to, send
+from kept import FAULT, NO_SPACE, Kept, needs_compiler, next_reply, reply_to, send
 
 BENCH = os.path.join(helpers.TOP, "bench")
 # The calls of the disk that fail: the write of the first entry, and its sync. Four calls open a new file.
@@ -22,9 +22,9 @@ LINES = ["ROLE JURY", "RANK A", "SHOW", "QUIT", "X", "ENTER A", "ENTER B", ""]
 class Failing(Kept):
     def test_nobody_is_answered(self) -> None:
         """Once the disk has failed under one client, none of the others gets a reply, not even to a line
-        that needs no entry."""
+        that needs no entry. The office says that the disk is full, if it is."""
         library = kept.library(os.path.join(BENCH, "failing.c"), self.here)
-        for nth in (WRITE, SYNC):
+        for nth, fault in ((WRITE, NO_SPACE), (SYNC, FAULT)):
             count = os.path.join(self.here, f"count{nth}")
             self.write(count, "\0" * 16)
             self.kept, self.path = (os.path.join(self.here, f"{name}{nth}") for name in ("kept", "race.sock"))
@@ -38,7 +38,7 @@ class Failing(Kept):
                 for link, line in zip(others, LINES):
                     send(link, line)
                 self.assertEqual([next_reply(link) for link in others], [""] * len(LINES))
-                self.assertEqual(self.ended(office), ("", FAULT, 3))
+                self.assertEqual(self.ended(office), ("", fault, 3))
 
     def test_each_call(self) -> None:
         """Each write, sync and rename fails in turn: the office says so and ends, beside clients who are

@@ -9,12 +9,12 @@ import unittest
 from unittest import mock
 
 import helpers
-from raceoffice import faults
+from raceoffice import exit_status, traces
 from raceoffice.commands import board
 from raceoffice.errors import Fault, Trouble
 from raceoffice.office.window import OfficeWindow
 from raceoffice.results.publish import Files, Site
-from raceoffice.results.source import Source
+from raceoffice.results.source import ResultsSource
 from raceoffice.series.folder import Folder
 from raceoffice.typing_window import batch
 from raceoffice.typing_window.window import Window
@@ -33,10 +33,10 @@ class Guarded(helpers.Series):
         super().setUp()
         self.folder = os.path.join(self.here, "cup")
         self.faults = os.path.join(self.folder, "office", "faults.txt")
-        faults.WRITTEN.clear()
+        traces.WRITTEN.clear()
 
     def fault(self, folder: str) -> str:
-        with self.assertRaises(Fault) as raised, faults.guarded(folder):
+        with self.assertRaises(Fault) as raised, traces.guarded(folder):
             broken()
         return str(raised.exception)
 
@@ -55,21 +55,21 @@ class Guarded(helpers.Series):
     def test_no_folder(self) -> None:
         """Without a folder that takes it the trace is in a temporary file; without one it is said."""
         for folder in ("", self.folder, "/nowhere"):
-            faults.WRITTEN.clear()
+            traces.WRITTEN.clear()
             with mock.patch("tempfile.tempdir", self.here):
                 said = self.fault(folder)
             path = said.partition("its trace is in ")[2].partition(". Send")[0]
             self.assertTrue(path.startswith(self.here), said)
             self.assertIn("IndexError", self.text(path))
             os.remove(path)
-        faults.WRITTEN.clear()
+        traces.WRITTEN.clear()
         with mock.patch("tempfile.mkstemp", side_effect=OSError):
             self.assertIn("its trace couldn't be written", self.fault(""))
 
     def test_passed(self) -> None:
         """A Trouble stays as it is, and so does an exception that is named; Ctrl-C is no fault."""
         for kind in (Trouble, Odd, KeyboardInterrupt):
-            with self.assertRaises(kind) as raised, faults.guarded(self.folder, Odd):
+            with self.assertRaises(kind) as raised, traces.guarded(self.folder, Odd):
                 raise kind("why")
             self.assertNotIsInstance(raised.exception, Fault)
 
@@ -80,12 +80,12 @@ class Guarded(helpers.Series):
         def raises(kind: type[BaseException]) -> int:
             raise kind("why")
 
-        with mock.patch("tempfile.tempdir", self.here), mock.patch("raceoffice.faults.say", told.append), \
+        with mock.patch("tempfile.tempdir", self.here), mock.patch("raceoffice.exit_status.say", told.append), \
                 mock.patch("os.dup2"):
             for work, status in [(lambda: 0, 0), (lambda: 3, 3), (lambda: raises(Trouble), 5),
                                  (lambda: raises(ValueError), 5), (lambda: raises(KeyboardInterrupt), 130),
                                  (lambda: raises(BrokenPipeError), 5)]:
-                self.assertEqual(faults.status_of(work, "", told.append, 5), status)
+                self.assertEqual(exit_status.status_of(work, "", told.append, 5), status)
         self.assertEqual((told[0], told[2]), ("why.", ""))
         self.assertIn("raceoffice has a fault, ValueError; its trace is in", told[1])
 
@@ -103,11 +103,11 @@ class Guarded(helpers.Series):
         """A board goes on after a fault in what it reads and in what it makes, and shows the others."""
         self.make("other")
         with mock.patch("raceoffice.commands.board.say") as said:
-            sources = [Source(os.path.join(self.here, name)) for name in ("cup", "other")]
+            sources = [ResultsSource(os.path.join(self.here, name)) for name in ("cup", "other")]
             shown = board.Shown(sources, [Files(os.path.join(self.here, "out"), Site(sources))], None)
             self.assertTrue(shown.look(sources))
             for place in ("raceoffice.results.source.entry_list.read", "raceoffice.results.publish.one_race",
-                          "raceoffice.results.publish.results_csv", "raceoffice.results.snapshot.View.ties"):
+                          "raceoffice.results.publish.results_csv", "raceoffice.results.snapshot.Snapshot.ties"):
                 with mock.patch(place, side_effect=IndexError):
                     for source in sources:
                         source.due, source.view = 0.0, None

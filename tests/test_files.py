@@ -12,8 +12,9 @@ from collections.abc import Callable
 from unittest import mock
 
 import helpers
-from raceoffice import files
+from raceoffice import files, system
 from raceoffice.errors import Trouble
+from raceoffice.program.replay import digest_of
 from raceoffice.series.folder import Folder
 
 
@@ -73,6 +74,13 @@ class Replaced(helpers.Series):
         self.assertRaisesRegex(Trouble, "no plain file", files.append_whole, self.path, b"1")
         self.assertTrue(stat.S_ISFIFO(os.lstat(self.path).st_mode))
 
+    def test_pipe_without_words(self) -> None:
+        """A pipe in place of a file that may be missing has no text and no sum, whoever has it open."""
+        os.mkfifo(self.path)
+        with system.opened(self.path, os.O_RDWR):
+            self.assertEqual(files.text_if_any(self.path), "")
+        self.assertEqual(digest_of(self.path), "")
+
     def test_full_disk(self) -> None:
         """What can't be written whole leaves the old file, and no other."""
         files.replace_whole(self.path, b"old")
@@ -114,6 +122,26 @@ class Added(helpers.Series):
         with mock.patch("os.write", lambda number, data: write(number, data[:3])):
             self.log("FINISH 1 GBR101")
         self.assertEqual([entry.line for entry in self.folder.logged()], ["FINISH 1 GBR101"])
+
+    def test_beside_another(self) -> None:
+        """What can't be written whole is taken back, but not if another may have added a line meanwhile."""
+        path, write = os.path.join(self.here, "log"), os.write
+
+        def a_sign(number: int, data: bytes) -> int:
+            """Writes a sign of a line, and has no room for the rest."""
+            if data == b"two\n":
+                return write(number, data[:1])
+            raise OSError(errno.ENOSPC, "No space left on device")
+
+        for is_alone, left in ((True, b"one\n"), (False, b"one\nt")):
+            with open(path, "wb") as file:
+                file.write(b"one\n")
+            number = os.open(path, os.O_RDWR | os.O_APPEND)
+            with mock.patch("os.write", a_sign), self.assertRaises(OSError):
+                files.write_all(number, b"two\n", is_alone)
+            os.close(number)
+            with open(path, "rb") as read:
+                self.assertEqual(read.read(), left)
 
     def test_torn(self) -> None:
         """A line that a power cut has torn is never joined by the next, and counts nowhere."""

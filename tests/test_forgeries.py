@@ -16,10 +16,10 @@ import helpers
 from allowed import odd_parts
 from forger import ForgedPages, Forger, Path, put, resealed, seals, whole_of
 from raceoffice.errors import ForeignPage, Unsure
-from raceoffice.results.html.notice import results as notice
+from raceoffice.results.html.notice_board import results as notice
 from raceoffice.results.html.overall import overall
 from raceoffice.results.html.page import confirmed
-from raceoffice.verify import read_block, verifier
+from raceoffice.verify import page_data, verifier
 
 ANOTHER = ('<div class="scroll"><table><tr><td>1</td><th class="sail">GBR 33</th><td>2.0</td></tr></table>'
            "</div>")
@@ -35,6 +35,7 @@ RACES = [4, 0, -1, 41, 2.0, 1.0, True, None, "1", "3, RESAILED: GBR 7 FIRST BY D
 STAMPS: list[tuple[str, object]] = [
     ("when", "Never, says the jury"), ("when", "Sun 1 Mar 2026, 10:01 UTC"), ("when", ""),
     ("changed", "2026-03-01"), ("changed", "2099-03-01T10:00:00+00:00"),
+    ("changed", "9999-01-01T00:00:00+00:00"), ("changed", "9999-12-31T23:59:59+00:00"),
     ("changed", "2026-03-01T10:00:00+01:00"), ("changed", "1969-12-31T23:59:59+00:00"),
     ("changed", "2026-13-01T10:00:00+00:00"), ("changed", "2026-03-01T10:00:00.5+00:00"),
     ("every", 0), ("every", 3601), ("every", -5), ("every", "5"), ("every", True), ("every", 5.0)]
@@ -51,7 +52,7 @@ SHOWN = ["GBR 33", "GBR\u200b101", "GBR 101\u200d", "", " ", "GBR 101 (DSQ, see 
          "G\u0336B\u0336R\u0336 101", "GBR  101", "GBR 101 ", "ＧBR 101", "GBR\u00a0101", "GBR101\n"]
 ESC = "\x1b[2K\x1b[1Aresults.html: verified.\n   Scored again, every cell is the same.\x1b[8m"
 # What takes long to take apart, and isn't.
-SLOW = [read_block.START, "<!--", "<![CDATA[", "<?", "<a ", "<a b='", "</a ", "<p>", "<table>", "<tr><td>x",
+SLOW = [page_data.START, "<!--", "<![CDATA[", "<?", "<a ", "<a b='", "</a ", "<p>", "<table>", "<tr><td>x",
         "<caption><p>x", "&", "&#9", "<script>", "</script", "<style>", "<" * 9, "[", '{"a":', "\u202e"]
 
 
@@ -122,15 +123,36 @@ class Forgeries(ForgedPages):
                 with self.subTest(kind=kind, name=name, value=value):
                     self.why(self.forged(kind, ("stamps", 0, name), value))
 
+    def moved(self, kind: str, changed: str, when: str) -> str:
+        """A page that was changed at another time, with the right words for it."""
+        whole = put(whole_of(self.made[kind]), ("stamps", 0, "changed"), changed)
+        return Forger(helpers.PROGRAM, self.made[kind]).forged(put(whole, ("stamps", 0, "when"), when))
+
     def test_moments(self) -> None:
-        """A change was in the past, and not before 1970, also if its words are right."""
-        for changed, when in [("2099-03-01T10:00:00+00:00", "Sun 1 Mar 2099, 10:00 UTC"),
-                              ("1969-03-01T10:00:00+00:00", "Sat 1 Mar 1969, 10:00 UTC")]:
+        """A change wasn't before 1970, nor when the years have no words any more, also if its words are
+        right."""
+        for changed, when in [("1969-03-01T10:00:00+00:00", "Sat 1 Mar 1969, 10:00 UTC"),
+                              ("9999-03-01T10:00:00+00:00", "Mon 1 Mar 9999, 10:00 UTC")]:
             for kind in ("results", "alone", "list"):
-                whole = put(whole_of(self.made[kind]), ("stamps", 0, "changed"), changed)
-                forger = Forger(helpers.PROGRAM, self.made[kind])
-                made = forger.forged(put(whole, ("stamps", 0, "when"), when))
-                self.assertIn("the time of change is", self.why(made))
+                with self.assertRaisesRegex(ForeignPage, "the time of change is"):
+                    self.verifier.verified(self.moved(kind, changed, when))
+
+    def test_clocks(self) -> None:
+        """Of a page that was changed or confirmed in the future nothing can be said, since a clock is wrong.
+        If anything else is, the page differs."""
+        for kind in ("results", "alone", "list"):
+            made = self.moved(kind, "2099-03-01T10:00:00+00:00", "Sun 1 Mar 2099, 10:00 UTC")
+            with self.assertRaisesRegex(Unsure, "^it was changed at 2099-03-01T10:00:00.00:00 by its own word"):
+                self.verifier.verified(made)
+            with self.assertRaises(ForeignPage):
+                self.verifier.verified(made.replace("</main>", f"{LINE}</main>"))
+        for kind in ("overall", "race", "list"):
+            late = re.sub('data-checked="[^"]*"', 'data-checked="2099-03-01T10:00:00+00:00"', self.made[kind],
+                          count=1)
+            with self.assertRaisesRegex(Unsure, "^it was confirmed at 2099-03-01T10:00:00.00:00 by its own"):
+                self.verifier.verified(late)
+            with self.assertRaises(ForeignPage):
+                self.verifier.verified(late.replace("</main>", f"{LINE}</main>"))
 
     def test_confirmed(self) -> None:
         """A page was confirmed in the past, by an office of this page; that of results.py never was."""
@@ -156,7 +178,7 @@ class Forgeries(ForgedPages):
                 (("settings", "absent"), ["a54", "", "A52"]), (("settings", "handicap"), ["", "Yes", "true"]),
                 (("settings", "state"), ["", "Final", "final now"]), (("settings", "title"), [""]),
                 (("settings", "zone"),
-                 ["Mars/Base", "../UTC", "/etc/passwd", "UTC\0", "Europe", "x" * 9000])]:
+                 ["localtime", "Mars/Base", "../UTC", "/etc/passwd", "UTC\0", "Europe", "x" * 9000])]:
             for value in values:
                 with self.subTest(path=path, value=value[:20]):
                     self.why(self.forged("results", ("series", 0, *path), value))
@@ -206,6 +228,18 @@ class Forgeries(ForgedPages):
                 self.assertNotEqual(seals(made), seals(page))
                 self.assertIn(f"Seal {seals(made)[0]}:", made)
                 self.assertEqual(odd_parts(made), [])
+
+    def test_many_series(self) -> None:
+        """A page whose series take minutes together isn't waited for."""
+        for seconds, is_verified in [(290.0, True), (310.0, False)]:
+            # The beginning, and then before each of two series.
+            times = iter([0.0, 10.0, seconds])
+            self.verifier = verifier.Verifier(helpers.PROGRAM, lambda: next(times))
+            if is_verified:
+                self.verifier.verified(self.made["both"])
+            else:
+                with self.assertRaisesRegex(Unsure, "^its series take longer than 300 seconds to score$"):
+                    self.verifier.verified(self.made["both"])
 
     def test_seal_of_another(self) -> None:
         """The seal of an honest page on one of another journal is found."""
@@ -292,11 +326,11 @@ class Forgeries(ForgedPages):
     def test_time(self) -> None:
         """What isn't a page is found out in a second, however it is written."""
         page = self.made["results"]
-        cases = [read_block.START * 20_000]
+        cases = [page_data.START * 20_000]
         for piece in SLOW:
             few, many = 60_000 // len(piece), 1_000_000 // len(piece)
             cases += [page + piece * few, page + piece * many,
-                      read_block.START + piece * many + read_block.END,
+                      page_data.START + piece * many + page_data.END,
                       page.replace("<main", f"{piece * few}<main"), page.replace("</td>", piece * few, 1)]
         for text in cases:
             begun = time.process_time()

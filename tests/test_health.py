@@ -27,6 +27,20 @@ class Survey(helpers.Series):
         self.assertEqual(health.disk_fault(folder), "")
         self.assertEqual(sorted(os.listdir(folder.file("office"))), before)
 
+    def test_names_in_the_way(self) -> None:
+        """The file with which the disk is tried is a new one: it spoils no other, and waits for nobody."""
+        folder = self.folder()
+        probe = folder.file("office", f"probe-{os.getpid()}")
+        self.write("precious", "other")
+        makes: list[Callable[[], object]] = [lambda: os.symlink(os.path.join(self.here, "other"), probe),
+                                             lambda: os.link(os.path.join(self.here, "other"), probe),
+                                             lambda: os.mkfifo(probe)]
+        for make in makes:
+            make()
+            self.assertIsNone(health.room_fault(folder))
+            self.assertEqual(self.text("other"), "precious")
+            self.assertFalse(os.path.lexists(probe))
+
     def test_no_sockets(self) -> None:
         with mock.patch("socket.socket.bind", side_effect=PermissionError(1, "not permitted")):
             self.assertEqual(health.disk_fault(self.folder()), "This disk takes no sockets (often a "

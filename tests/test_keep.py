@@ -8,7 +8,7 @@ import signal
 import socket
 import stat
 
-from kept import DEVICE, FAULT, VERSION, Kept
+from kept import DEVICE, FAULT, NO_PERMISSION, VERSION, Kept
 
 A, B, C = (f"1 {at} SCORER ENTER {sail}\n" for at, sail in enumerate("ABC", 1))
 MANY = range(100, 200)
@@ -115,6 +115,11 @@ class Keeping(Kept):
         for path in ("/no/such/folder/kept", "/dev/null", os.path.dirname(self.kept)):
             self.kept = path
             self.assertEqual(self.said(), ("", FAULT, 3))
+
+    def test_no_permission(self) -> None:
+        """A file that may not be written is named as such. Nobody may write this one."""
+        self.kept = "/proc/sys/kernel/ostype"
+        self.assertEqual(self.said(), ("", NO_PERMISSION, 3))
 
     def test_pipes(self) -> None:
         """A pipe under a name that the opening of a torn file wants is refused, and left."""

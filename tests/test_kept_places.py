@@ -21,8 +21,11 @@ from raceoffice.program.journal import Race
 from raceoffice.series import kept_places
 from raceoffice.series.folder import Folder
 from raceoffice.series.kept_places import History, Note, Places
-from raceoffice.typing_window.session import Session
-from raceoffice.typing_window.values import Said
+from raceoffice.session.dialogue import Said
+from raceoffice.session.finishers import keep
+from raceoffice.session.sending import note_answer
+from raceoffice.session.session import Session
+from raceoffice.session.undo import undo
 from test_unknown_finishers import dropped, kept
 
 # Signs and values that break readers.
@@ -126,7 +129,9 @@ class Files(helpers.Series):
         """Whatever one line has, nothing stops, and the places of the other lines stay."""
         dice = random.Random(63)
         good = [kept("?1", "AB"), kept("101?", "AB"), Note("sent", 1, "101?", line="FINISH 1 A", entries=3),
-                kept("?2", "ABC"), dropped("101?"), kept("?3", "ABC")]
+                kept("?2", "ABC"), dropped("101?"), kept("?3", "ABC"),
+                Note("kept", 1, "?4", finisher="0123456789abcdef", also=("../fleet",)),
+                Note("leaving", 1, "101?", line="STRIKE 1 A", entries=3)]
         lines = [note.text() for note in good]
         for _ in range(1000):
             at = dice.randrange(len(lines))
@@ -194,9 +199,9 @@ class Files(helpers.Series):
         said: list[Said] = []
         session = Session(self.folder, "FINISH", "Ann", said.append, bool)
         with mock.patch.object(session.places, "data", side_effect=Trouble("it can't be read")):
-            self.assertTrue(session.keep_place(Race(1)))
+            self.assertTrue(keep(session, Race(1)))
         self.assertIn("?1 keeps her place", said[-1].text)
-        self.assertRaisesRegex(NotSent, "office/places can't be read", session.undo)
+        self.assertRaisesRegex(NotSent, "office/places can't be read", undo, session)
         self.assertEqual(self.marks(), ["?1"])
 
     def test_full(self) -> None:
@@ -258,9 +263,29 @@ class Files(helpers.Series):
         shutil.copy(self.path, f"{self.path}.copy")
         return f"{self.path}.copy"
 
+    def test_line_taken_out(self) -> None:
+        """If any line is taken out while the office is open, each place is afterwards as it was: one that has
+        ended isn't open again."""
+        self.keep()
+        unread = self.places.read().waiting.all[0]
+        self.places.note_sent(unread, "FINISH 1 A", 12, None)
+        self.places.note_answer(unread, "FINISH 1 A", "OK 13 1 1.0")
+        self.keep()
+        noted = self.places.lines()
+        for at in range(len(noted)):
+            for more in ([], ["dropped"]):
+                self.put(b"".join(noted[:at] + noted[at + 1:]))
+                if more and at != 3:
+                    self.places.drop(self.places.read().waiting.of(1)[-1:], "none")
+                self.assertEqual(self.places.put_in_again(noted), (1, ""))
+                self.assertEqual(self.marks(), [] if more and at != 3 else ["?2"], at)
+                self.assertEqual(self.places.read().boat(1, "?1"), "A")
+
     def test_side_by_side(self) -> None:
         """Windows that keep places at once give each a mark of her own."""
-        children = [forked(lambda: [self.keep() for _ in range(20)]) for _ in range(4)]
+        # Each waits for all the others, however slow the machine is.
+        with mock.patch.object(kept_places, "LOCK", helpers.PATIENCE):
+            children = [forked(lambda: [self.keep() for _ in range(20)]) for _ in range(4)]
         for child in children:
             self.assertEqual(os.waitpid(child, 0)[1], 0)
         self.assertEqual(self.marks(), [f"?{at}" for at in range(1, 81)])
@@ -302,10 +327,10 @@ class Files(helpers.Series):
         other.note_sent(unread, "FINISH 1 B", 12, other.read().open_line(unread))
         other.note_answer(unread, "FINISH 1 B", "OK 13 1 1.0")
         session = Session(self.folder, "FINISH", "Ann", lambda told: said.append(told.text), bool)
-        session.note_answer(unread, "FINISH 1 A", "OK 14 1 1.0")
+        note_answer(session, unread, "FINISH 1 A", "OK 14 1 1.0")
         self.assertRegex(said[0], r"Beware: \?1 of race 1 is B, by Eve at \d\d:\d\d: entry 13, FINISH 1 B\. "
                                   r"Two boats have her place now")
-        session.note_answer(unread, "FINISH 1 B", "OK 13 1 1.0")
+        note_answer(session, unread, "FINISH 1 B", "OK 13 1 1.0")
         self.assertEqual(len(said), 1)
 
 

@@ -18,12 +18,14 @@ LAYERS = [
     ["errors", "characters", "time_zones", "version"],
     ["system"],
     ["files", "wording", "terminal"],
-    ["faults"],
+    ["traces"],
+    ["exit_status"],
     ["program"],
     ["series"],
-    ["decisions"],
+    ["decisions", "session"],
     ["results"],
     ["verify", "corrected", "office", "typing_window"],
+    ["web"],
     ["commands"],
     ["cli"],
     ["__main__"],
@@ -111,6 +113,12 @@ class Layers(unittest.TestCase):
             for name in free:
                 del left[name]
         self.assertEqual(sorted(left), [])
+
+    def test_decisions_of_pages(self) -> None:
+        """In the web one module alone asks how decisions are worked out."""
+        found = {name for name, needs in self.needs.items() if name.startswith("web.")
+                 and any(other.startswith("decisions.") for other in needs)}
+        self.assertEqual(found, {"web.preview"})
 
     def test_all_have_a_layer(self) -> None:
         for name in self.trees:

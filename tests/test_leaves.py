@@ -17,10 +17,10 @@ import helpers
 from allowed import odd_parts
 from forger import MARKUP, ForgedPages, Forger, Path, leaves, others, put, seals, whole_of
 from raceoffice.results.html.listing import listing
-from raceoffice.results.html.notice import results as notice
+from raceoffice.results.html.notice_board import results as notice
 from raceoffice.results.html.overall import overall
 from raceoffice.results.html.race import one_race
-from raceoffice.verify.visible import seen
+from raceoffice.verify.visible import Seen
 
 COUNT = int(os.environ.get("MUTATIONS", "1000"))
 SEED = int(os.environ.get("SEED", "11"))
@@ -33,7 +33,7 @@ class Leaves(ForgedPages):
 
     def texts(self, page: str) -> list[str]:
         """What is seen of a page, without the moment of the last change."""
-        found = seen(page)
+        found = Seen(page)
         cells = [cell.text for table in found.tables for row in table.rows for cell in row]
         return [table.caption for table in found.tables] + cells + [
             text for tag, text in found.texts if tag != "time" and "Last changed" not in text]

@@ -11,8 +11,10 @@ import tempfile
 import threading
 import unittest
 from collections.abc import Iterator
+from unittest import mock
 
 import helpers
+from raceoffice import system
 from raceoffice.program import messages
 from raceoffice.errors import NoSeat, Trouble
 from raceoffice.program import link as links
@@ -225,6 +227,23 @@ class Ways(unittest.TestCase):
         self.assertEqual(serving.wait(helpers.PATIENCE), 3)
         assert serving.stdout
         self.assertEqual(serving.stdout.read(), "TABLE 2 RACES\n1= A 0.0\n1= B 0.0\n")
+
+    def test_link_of_another_account(self) -> None:
+        """A socket of another account isn't the office's, wherever links lead from its name by now: it would
+        keep the office shut, and those who type away from it."""
+        os.mkdir("other")
+        name = f"race-{os.getpid()}.sock"
+        made = os.path.join(self.here, "other", name)
+        with socket.socket(socket.AF_UNIX, socket.SOCK_STREAM) as door:
+            door.bind(made)
+            door.listen()
+            os.remove(made)
+            os.rmdir("other")
+            os.symlink(self.here, "other")
+            self.assertEqual(system.sockets_at(name), [True])
+            with mock.patch.object(system, "folders_of_sockets", return_value={}):
+                self.assertEqual(system.sockets_at(name), [])
+                self.assertEqual(system.sockets_at(name, ours=False), [True])
 
     def test_no_descriptor(self) -> None:
         """A client for whom the office has no descriptor gets BUSY, and the office goes on."""

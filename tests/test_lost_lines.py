@@ -4,8 +4,8 @@ from __future__ import annotations
 import unittest
 
 import helpers
-from raceoffice.series.folder import Logged
-from raceoffice.series.lost_lines import as_kept, unsaved
+from raceoffice.series.log import Logged
+from raceoffice.series.lost_lines import as_kept, Unsaved
 
 HEAD = "These lines were answered, and are lost. Type them again in this order, before any other:"
 
@@ -15,7 +15,7 @@ class Lost(helpers.Series):
         """What is said of a log, a line and its answer each, beside a journal."""
         logged = [Logged("", "1", "Ann", "2", "FINISH", line, answer) for line, answer in lines]
         entries = [f"2 {at} FINISH {line}" for at, line in enumerate(journal, 1)]
-        return [line.strip() for line in unsaved(entries, logged).in_words()]
+        return [line.strip() for line in Unsaved.read(entries, logged).in_words()]
 
     def test_at_its_place(self) -> None:
         """An older journal in which others typed since has other lines at the same numbers."""

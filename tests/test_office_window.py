@@ -5,23 +5,29 @@ from __future__ import annotations
 import contextlib
 import fcntl
 import os
+import select
+import shutil
 import signal
 import subprocess
 import sys
 import threading
 import time
 import unittest
-from collections.abc import Iterator
+from collections.abc import Iterator, Mapping
 from unittest import mock
 
 import helpers
+from hanging_folder import Hanging
+from raceoffice import system
 from raceoffice.errors import Trouble
 from raceoffice.office import keeping, process as office_process
 from raceoffice.office.window import OfficeWindow
+from raceoffice.program.journal import Race
 from raceoffice.program.link import Link
 from raceoffice.series import second_folder
 from raceoffice.series.copies import newest
 from raceoffice.series.folder import Folder, Lock
+from raceoffice.series.kept_places import Places
 from raceoffice.series.second_folder import Second
 
 
@@ -44,11 +50,11 @@ class Windows(helpers.Series):
         """The number of the program's process."""
         return int(self.text("cup", "office", "pid").split()[0])
 
-    def copied(self, **values: str) -> helpers.Terminal:
+    def copied(self, waits: Mapping[str, float] = {}) -> helpers.Terminal:
         """The window of an office that is open, with a second folder."""
         os.mkdir(os.path.join(self.here, "stick"))
         self.write(self.text("cup", "series.ini").replace("copy = ", "copy = ../stick"), "cup", "series.ini")
-        return self.open()
+        return self.open(waits=waits)
 
     def piped(self, stdin: int) -> tuple[subprocess.Popen[str], Iterator[str]]:
         """The window of an office without a terminal, and the lines that it says from its opening on."""
@@ -124,6 +130,27 @@ class Stopped(Windows):
         self.assertEqual(opened.wait(helpers.PATIENCE), 0)
         self.assertFalse(os.path.exists(self.path("office", "race.sock")))
 
+    def test_terminal_stopped(self) -> None:
+        """A window whose terminal is stopped by Ctrl-S still keeps the office, and closes it in order. What it
+        had to say is said once the terminal goes on."""
+        window = self.open()
+        window.read("Ctrl-C closes it")
+        self.stop_terminal(window)
+        self.replace_journal()
+        helpers.until("the warning", lambda: os.path.exists(self.path("office", "beware")))
+        os.write(window.master, b"\x11")
+        window.read("Beware: journal.txt isn't what the office keeps")
+        self.stop_terminal(window)
+        window.process.terminate()
+        self.assertEqual(window.process.wait(helpers.PATIENCE), 0)
+        self.assertIn("\tclosed\t", self.text("cup", "office.log"))
+
+    def stop_terminal(self, window: helpers.Terminal) -> None:
+        """Presses Ctrl-S, and waits until the terminal takes nothing more."""
+        with system.opened(f"/proc/{window.process.pid}/fd/1", os.O_WRONLY | os.O_NOCTTY) as screen:
+            os.write(window.master, b"\x13")
+            helpers.until("a stopped terminal", lambda: not select.select([], [screen], [], 0)[1])
+
     def test_program_that_is_stopped(self) -> None:
         """A program that doesn't listen to SIGTERM is ended all the same, and the window says why."""
         window = self.open()
@@ -150,12 +177,11 @@ class Stopped(Windows):
         self.assertIn("GBR101", self.text("cup", self.newest_copy()))
         self.assertEqual(status, 0)
 
-    def taken_over(self) -> office_process.Service:
+    def taken_over(self) -> office_process.OfficeProcess:
         """A running office, as the window sees it that takes it over."""
-        found = office_process.Service(Folder(self.path()))
+        found = office_process.OfficeProcess(Folder(self.path()))
         self.assertTrue(found.lock.is_taken())
-        with mock.patch("raceoffice.office.process.question", return_value=True):
-            found.take_over()
+        found.take_over(lambda _: True)
         return found
 
 
@@ -186,6 +212,16 @@ class Questions(Windows):
         said, status = window.rest()
         self.assertIn("Closed. journal.txt has 7 entries, and so has kept/", said)
         self.assertEqual(status, 0)
+
+    def test_typed_at_a_terminal_before(self) -> None:
+        """What was typed before the question is no answer to it, and is said."""
+        window = self.open()
+        self.client("cup", "--role", "finish")
+        os.write(window.master, b"y\ny")
+        os.kill(window.process.pid, signal.SIGINT)
+        window.read("No answer, since it came before the question: y\n"
+                    "No answer, since it came before the question: y\n" + self.ASKED)
+        window.say("n", "The office stays open")
 
     def test_signal(self) -> None:
         """SIGTERM closes the office also while it asks, and so does the loss of the terminal."""
@@ -247,13 +283,16 @@ class Questions(Windows):
         self.assertEqual(opened.wait(helpers.PATIENCE), 0)
 
 
+# How long a second folder may take, for a trial in which it hangs.
+HANGS = {"series.second_folder.PATIENCE": 1.0}
+
+
 class Disks(Windows):
     def test_second_folder_hangs(self) -> None:
         """A second folder that hangs costs the second copy, and nothing else."""
-        window, typist = self.copied(), self.client("cup", "--role", "finish")
-        copy = os.path.join(self.here, "stick", "cup-journal.txt")
-        os.remove(copy)
-        os.mkfifo(copy)
+        hanging = Hanging(self)
+        window, typist = self.copied(waits=HANGS), self.client("cup", "--role", "finish")
+        hanging.begin(os.path.join(self.here, "stick"))
         typist.say("finish 1 101", r"OK 8 .*\n> $")
         window.read(r"No second copy: .*stick doesn't answer\.\n")
         self.replace_journal()
@@ -272,8 +311,8 @@ class Disks(Windows):
         """A series whose second folder hangs can be checked, opened and closed."""
         os.mkdir(os.path.join(self.here, "stick"))
         self.make("copied", copy="../stick")
-        os.mkfifo(os.path.join(self.here, "stick", "copied-journal.txt"))
-        window = self.window("open", "copied")
+        Hanging(self).begin(os.path.join(self.here, "stick"))
+        window = self.window("open", "copied", waits=HANGS)
         window.read(r"No second copy: .*stick doesn't answer\.\n(.|\n)*The office is open")
         self.addCleanup(self.stop, "copied")
         window.press()
@@ -422,7 +461,7 @@ class Starts(Windows):
         folder = Folder(self.slow())
         folder.make_private()
         with mock.patch("raceoffice.office.process.PATIENCE", 0.3), self.assertRaises(Trouble) as raised:
-            office_process.Service(folder).start()
+            office_process.OfficeProcess(folder).start()
         self.assertEqual(str(raised.exception), "the office doesn't open its socket")
         self.assertFalse(self.is_running("slow"))
         for stop in ("press", "terminate", "hang up"):
@@ -451,8 +490,9 @@ class Starts(Windows):
 
     def test_looked_at(self) -> None:
         """A tool that looks at journal.txt just then doesn't keep the office from opening."""
-        self.open().press()
-        helpers.until("the end", lambda: not self.is_running("cup"))
+        window = self.open()
+        window.press()
+        window.rest()
         with open(self.path("journal.txt"), "rb") as file:
             fcntl.flock(file, fcntl.LOCK_SH)
             window = self.window("open", "cup")
@@ -514,6 +554,77 @@ class Clocks(Windows):
                          + ["kept/1970-03-11-104000Z.txt"])
         self.assertEqual(said, ["No dated copy: kept/ can't be made: File exists."])
 
+    def test_places_that_are_taken_away(self) -> None:
+        """While the office is open nobody loses a place by taking its file away, or by putting an old one in
+        its place."""
+        with self.office_window() as (found, said):
+            places = Places(found.folder, "Ann")
+            path, race = self.path("office", "places"), Race(1, [["GBR7"]])
+
+            def looked() -> str:
+                said.clear()
+                found.look()
+                return " ".join(said)
+
+            self.assertEqual(looked(), "")
+            self.assertEqual([places.keep(race, "", 1), places.keep(race, "101", 1)], ["?1", "101?"])
+            places.drop(places.read().waiting.of(1)[:1], "none")
+            self.assertEqual(looked(), "")
+            before = self.text("cup", "office", "places")
+            os.remove(path)
+            self.assertEqual(looked(), "Beware: somebody has changed office/places. 3 lines that it had are there "
+                                       "again.")
+            self.assertEqual((self.text("cup", "office", "places"), looked()), (before, ""))
+            first, second, _ = before.splitlines(keepends=True)
+            for old, lines in ((first, "2 lines that it had are"), (first + second, "1 line that it had is")):
+                self.write(old, "new")
+                os.replace(os.path.join(self.here, "new"), path)
+                self.assertIn(lines, looked())
+                self.assertEqual(places.read().waiting.marks(1), ["101?"])
+            os.remove(path)
+            self.assertEqual(places.keep(Race(1, [["GBR7"], ["NED12"]]), "", 2), "?1")
+            self.assertIn("1 line that it had is there again. Not ?1 in race 1: another", looked())
+            self.assertEqual(places.read().waiting.marks(1), ["?1", "101?"])
+            os.remove(path)
+            os.mkdir(path)
+            self.assertIn("office/places can't be read", looked())
+            self.assertEqual(looked(), "")
+            os.rmdir(path)
+            self.assertIn("2 lines", looked())
+            self.assertEqual(places.read().waiting.marks(1), ["?1", "101?"])
+
+    def test_another_stick(self) -> None:
+        """An empty stick has the copy ten seconds after it was put in, although nothing was typed, and one
+        that is pulled is missed."""
+        os.mkdir(os.path.join(self.here, "stick"))
+        self.write(self.text("cup", "series.ini").replace("copy = ", "copy = ../stick"), "cup", "series.ini")
+        with self.office_window() as (found, said), contextlib.closing(found.backups.second):
+            for seconds, stick, entries in [(0, "in", 1), (9, "another", 0), (10, "in", 1), (19, "pulled", 0),
+                                            (20, "pulled", 0), (21, "another", 1)]:
+                self.now = float(seconds)
+                if stick != "in":
+                    shutil.rmtree(os.path.join(self.here, "stick"), ignore_errors=True)
+                if stick == "another":
+                    os.mkdir(os.path.join(self.here, "stick"))
+                found.look()
+                self.assertEqual(self.held("stick", "cup-journal.txt"), entries, seconds)
+                is_missed = any("stick isn't there" in text for text in said)
+                self.assertEqual(is_missed, seconds >= 20, said)
+
+    def test_odd_files(self) -> None:
+        """Places that can't be read aren't copied, and a damaged journal is said at the end."""
+        os.mkdir(os.path.join(self.here, "stick"))
+        self.write(self.text("cup", "series.ini").replace("copy = ", "copy = ../stick"), "cup", "series.ini")
+        with self.office_window() as (found, said), contextlib.closing(found.backups.second):
+            os.mkdir(self.path("office", "places"))
+            found.look()
+            why = f"{self.path('office', 'places')} can't be read: it isn't a plain file."
+            self.assertEqual(said, [f"Beware: {why}", f"No second copy: {why}"])
+            os.rmdir(self.path("office", "places"))
+            found.look()
+            self.write("REGATTA 2\n1 1 SCORER ENTER GBR7\n\0\nx\n", "cup", "journal.txt")
+            self.assertIn("journal.txt is damaged after line 2. ", found.last_copy(""))
+
     def test_door(self) -> None:
         """Each minute the door is looked at, and what is wrong with it is said once."""
         with self.office_window() as (found, said), mock.patch.object(found.service, "lets_in") as lets_in:
@@ -562,9 +673,10 @@ class Seconds(Windows):
 
     def test_slow_and_late(self) -> None:
         """One that is slow is waited for once; what it does at last counts, and no other is started."""
-        os.mkdir(os.path.join(self.here, "stick"))
+        stick, hanging = os.path.join(self.here, "stick"), Hanging(self)
+        os.mkdir(stick)
+        hanging.begin(stick)
         found = self.second()
-        os.mkfifo(found.path)
         silent = second_folder.Answer(f"{os.path.dirname(found.path)} doesn't answer")
         with mock.patch("raceoffice.series.second_folder.PATIENCE", 0.3):
             self.assertEqual(found.ask("save", "x\n"), silent)
@@ -572,22 +684,22 @@ class Seconds(Windows):
             for _ in range(20):
                 self.assertEqual(found.ask("save", "x\n"), silent)
             self.assertLess(time.monotonic() - began, 0.3)
-        with open(found.path, "w"):
-            pass
+        hanging.end(stick)
         helpers.until("a late answer", lambda: not found.ask("look").fault)
         self.assertIs(found.process, process)
 
     def test_given_up(self) -> None:
         """One that hangs for good is ended, and another one tries again."""
-        os.mkdir(os.path.join(self.here, "stick"))
+        stick, hanging = os.path.join(self.here, "stick"), Hanging(self)
+        os.mkdir(stick)
+        hanging.begin(stick, is_for_good=True)
         found = self.second()
-        os.mkfifo(found.path)
         with mock.patch("raceoffice.series.second_folder.PATIENCE", 0.2), \
                 mock.patch("raceoffice.series.second_folder.GIVE_UP", 0.4):
             self.assertNotEqual(found.ask("save", "x\n").fault, "")
             process = found.process
             assert process
-            os.remove(found.path)
+            hanging.end(stick)
             helpers.until("a copy", lambda: not found.ask("save", "x\n").fault)
         self.assertIsNotNone(process.poll())
         with open(found.path, encoding="ascii") as file:

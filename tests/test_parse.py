@@ -6,7 +6,8 @@ import unittest
 from typing import Any
 
 from raceoffice.errors import NotSent
-from raceoffice.typing_window.parse import Reader, race_number
+from raceoffice.session.dialogue import Question
+from raceoffice.session.parse import Reader, race_number
 
 BOATS = ["GBR101", "GER101", "GBR7", "NED12", "FRA9", "GBR33", "IRL5", "IRL55", "DEN820", "GBR77", "GBR1042"]
 
@@ -18,9 +19,9 @@ def reader(at: int | None = 3, boats: list[str] | None = None, **more: Any) -> R
 class Spoken(unittest.TestCase):
     def line(self, typed: str, asked: list[str] | None = None, yes: bool = True, **more: Any) -> str:
         """The line of what was typed; what was asked is added."""
-        def ask(text: str) -> bool:
-            assert asked is not None, text
-            asked.append(text)
+        def ask(question: Question) -> bool:
+            assert asked is not None, question.text
+            asked.append(question.text)
             return yes
         return reader(**more).line(typed, ask)
 

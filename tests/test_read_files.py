@@ -16,6 +16,7 @@ import helpers
 from raceoffice.corrected import sheets, times
 from raceoffice.decisions import decision_lines
 from raceoffice.errors import Trouble
+from raceoffice.files import edited_text
 from raceoffice.program import journal, replay
 from raceoffice.program.standing import Score, Standing
 from raceoffice.series import entry_list, headings, read_list, settings
@@ -142,7 +143,7 @@ class Readers(unittest.TestCase):
                 found = settings.read(name)
                 assert all(len(str(value).splitlines()) < 2 for value in vars(found).values())
                 found.options(), found.in_words()
-                changed = settings.with_value(settings.text_in(path), "notice", "reason", "why")
+                changed = settings.with_value(edited_text(path), "notice", "reason", "why")
                 assert settings.problems(changed) == []
 
             self.each("settings", read)
@@ -170,7 +171,7 @@ class Readers(unittest.TestCase):
                 with open(path, "wb") as file:
                     file.write(data)
                 for ruling in decision_lines.rulings_of(decision_lines.read(name))[0]:
-                    decision_lines.in_words(ruling, "2.0")
+                    decision_lines.ruling_text(ruling, "2.0")
                     assert 1 <= ruling.race <= 40 and entry_list.fault_of(ruling.sail) == ""
 
             self.each("decisions", read)

@@ -19,7 +19,7 @@ SENTENCE = re.compile(
 LAW = re.compile(r"^pub fn (\w+)", re.MULTILINE)
 CASE = re.compile(r"^abbrev pub (\w+) : WorkedCase\n(.*?)^pub ", re.MULTILINE | re.DOTALL)
 ROW = re.compile(r"row (\w) (\d+) (true|false) (\d+)\s*\(((?:[^()])*)\)")
-CELL = re.compile(r"(plain|marked|excluded|out) (\d+)(?: abbreviation\.(\w+))?")
+CELL = re.compile(r"(plain|marked|coded|excluded|out) (\d+)(?: (?:abbreviation|code)\.(\w+))?")
 NAME = re.compile(r"`(\w+)`")
 EXAMPLE = re.compile(r"^\*Example\* `(\w+)`.*?\n\n(\|.*?)\n\n", re.MULTILINE | re.DOTALL)
 

@@ -2,8 +2,8 @@
 from __future__ import annotations
 
 import contextlib
+import itertools
 import os
-import threading
 import time
 import unittest
 from unittest import mock
@@ -26,10 +26,13 @@ class Seats(helpers.Series):
         """It comes once a seat is free, and until then never."""
         folder, end = self.folder(), time.monotonic() + helpers.PATIENCE
         said: list[str] = []
+        waits = itertools.count(1)
 
         def wait(_: float) -> None:
             self.assertLess(time.monotonic(), end, "no seat came")
             self.assertTrue(helpers.is_listening(path))
+            if next(waits) == 20:
+                second.close()
             time.sleep(0.01)
 
         with helpers.served("--clients", "2", "--sessions", "4", folder=folder.file("office")) as (path, _), \
@@ -39,7 +42,6 @@ class Seats(helpers.Series):
             for link in (first, second):
                 link.ask("RANK A")
             window = Window([folder], "FINISH", "")
-            threading.Timer(0.5, second.close).start()
             window.wait_for(window.sessions[0])
             self.assertTrue(helpers.is_listening(path))
             assert window.sessions[0].link

@@ -9,7 +9,10 @@ import helpers
 from raceoffice.program.journal import Race
 from raceoffice.series.folder import Folder
 from raceoffice.series.kept_places import Places
+from raceoffice.series.second_folder import answered
 
+# Bytes of a copy that are read at most.
+LARGEST = 4 << 20
 PLACES = ("cup", "office", "places")
 COPY = ("stick", "cup-places")
 
@@ -33,8 +36,8 @@ class Copies(helpers.Series):
             shutil.rmtree(os.path.join(self.here, "cup", name))
         os.remove(os.path.join(self.here, "cup", "journal.txt"))
 
-    def test_restored(self) -> None:
-        """A series that is restored from the second folder knows who is without a sail, and where."""
+    def lose_with_a_place(self) -> None:
+        """An office of nine entries, and the first of two places, are copied and then lost."""
         window, finish = self.open(), self.client("cup", "--role", "finish")
         self.play(finish, """
 > at 1
@@ -50,6 +53,10 @@ class Copies(helpers.Series):
         finish.type("quit")
         finish.rest()
         self.lose(window)
+
+    def test_restored(self) -> None:
+        """A series that is restored from the second folder knows who is without a sail, and where."""
+        self.lose_with_a_place()
         window = self.window("open", "cup")
         self.addCleanup(self.stop, "cup")
         window.read(r"\.\./stick/cup-journal\.txt has 9\. Use it\? \[y/N\] $")
@@ -65,6 +72,31 @@ class Copies(helpers.Series):
         window.read(r"Close the office\? \[y/N\] $")
         window.type("y")
         self.assertEqual(window.rest()[1], 0)
+
+    def test_put_back_by_hand(self) -> None:
+        """If somebody has put the copy of the journal back, its places come with it."""
+        self.lose_with_a_place()
+        shutil.copy(os.path.join(self.here, "stick", "cup-journal.txt"),
+                    os.path.join(self.here, "cup", "journal.txt"))
+        window = self.window("open", "cup")
+        self.addCleanup(self.stop, "cup")
+        said = window.read("The office is open")
+        self.assertRegex(said, r"are taken up from the second folder\.\n(.|\n)*Kept without a sail: \?1 in race 1")
+        self.assertNotIn("No second copy", said)
+        self.assertEqual(self.text(*PLACES), self.text(*COPY))
+
+    def test_no_copy(self) -> None:
+        """A file that is too long to be a copy is read no further, and one that is no plain file not at all."""
+        path = os.path.join(self.here, *COPY)
+        for size, fault in [(LARGEST, ""), (LARGEST + 1, f"{path} is longer than 4,194,304 bytes")]:
+            with open(path, "wb") as file:
+                file.truncate(size)
+            answer = answered("read", path, "")
+            self.assertEqual((answer.fault, len(answer.text)), (fault, 0 if fault else size))
+        self.assertEqual(answered("save", path, "x").fault, f"{path} is longer than 4,194,304 bytes")
+        os.remove(path)
+        os.mkfifo(path)
+        self.assertEqual(answered("read", path, "").fault, f"{path} is no plain file")
 
     def test_of_another(self) -> None:
         """Places that go on otherwise than these are left on the second disk, and it is said; those of

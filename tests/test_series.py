@@ -251,6 +251,22 @@ class Opening(helpers.Series):
         again = self.window("open", "cup")
         again.read(r"open since 09:00, but its window has gone\. Take it over\? \[Y/n\] ")
 
+    def test_new_with_all_exclusions(self) -> None:
+        """Up to four scores are excluded; what of a list isn't read is said."""
+        self.write("Sail,Helm,Phone\nGBR 7,J. Hale,07700\n", "boats.csv")
+        said, status = helpers.run("new", "spring", lines="Spring\n\n\nboats.csv\n3\n4\n8\n12\n16\nn\n\nn\n\n",
+                                   cwd=self.here)
+        self.assertEqual(status, 0, said)
+        self.assertIn("Phone", said)
+        self.assertIn("exclude = 4,8,12,16\n", self.text("spring", "series.ini"))
+
+    def test_new_without_a_list(self) -> None:
+        """Of a list that isn't put right no series is made."""
+        self.write("Boat\nKestrel\n", "boats.csv")
+        said, status = helpers.run("new", "spring", lines="Spring\n\n\nboats.csv\nn\n", cwd=self.here)
+        self.assertTrue(said.endswith("the entry list isn't right. Nothing was written.\n"), said)
+        self.assertEqual((status, os.path.exists(os.path.join(self.here, "spring"))), (1, False))
+
     def test_remove(self) -> None:
         window = self.open()
         self.send("ENTER DEN16", "FINISH 1 DEN16", *LINES)
@@ -294,6 +310,26 @@ class Opening(helpers.Series):
                       "in this race.\n", said)
         self.assertEqual((self.held(), status), (10, 1))
 
+    def test_remove_declined(self) -> None:
+        """A boat who isn't taken out after all, who is the only one, or in whose journal somebody has typed,
+        stays."""
+        journal = "REGATTA 2\n1 1 SCORER ENTER DEN16\n"
+        for text, why in [(journal + "1 2 SCORER ENTER GBR7\n", "Nothing was changed.\n"),
+                          (journal, "DEN16 can't be taken out: no boat would be left.\n"),
+                          (journal + "1 2 SCORER ENTER 7\n1 3 SCORER\n", "fault 1 line 4.\n")]:
+            self.write(text, "cup", "journal.txt")
+            said, status = helpers.run("remove", "cup", "DEN16", lines="n\n", cwd=self.here)
+            self.assertEqual((said[-len(why):], status), (why, 1))
+            self.assertEqual(self.text("cup", "journal.txt"), text)
+
+    def test_remove_without_the_stick(self) -> None:
+        """If the second folder isn't there, it is said that it has the old journal."""
+        self.write(self.text("cup", "series.ini").replace("copy = ", "copy = ../stick"), "cup", "series.ini")
+        self.write("REGATTA 2\n1 1 SCORER ENTER DEN16\n1 2 SCORER ENTER GBR7\n", "cup", "journal.txt")
+        said, status = helpers.run("remove", "cup", "DEN16", lines="y\n", cwd=self.here)
+        self.assertRegex(said, r"No second copy: .*/stick isn't there\.\n")
+        self.assertEqual((self.held(), status), (1, 0))
+
     def test_long_path(self) -> None:
         deep = os.path.join("d" * 100, "e" * 100)
         os.makedirs(os.path.join(self.here, deep))
@@ -325,12 +361,12 @@ class Opening(helpers.Series):
 
     def test_somebody_stays(self) -> None:
         """A client that isn't a window of ours doesn't keep the office open for ever."""
-        window = self.open()
+        window = self.open(waits={"office.keeping.LEAVE": 2})
         link = Link(os.path.join(self.here, "cup", "office", "race.sock"))
         link.ask("ROLE FINISH")
         window.press()
         said, status = window.rest()
-        self.assertIn("still there after 10 seconds: somebody who isn't in office.log. The office is "
+        self.assertIn("still there after 2 seconds: somebody who isn't in office.log. The office is "
                       "stopped", said)
         self.assertIn("TABLE 7 RACES\n1= FRA9 0.0\n", said)
         self.assertEqual(status, 0)

@@ -18,7 +18,7 @@ from collections.abc import Iterator
 from concurrent.futures import ThreadPoolExecutor
 
 import helpers
-from raceoffice import faults
+from raceoffice import traces
 from raceoffice.commands import board
 from raceoffice.results import http_answers, server
 
@@ -255,7 +255,7 @@ class Faults(unittest.TestCase):
             os.mkdir(os.path.join(here, "office"))
             for trace in (f"one {here}", f"one {here}", f"two {here} \udcff"):
                 board.note(here, trace)
-            with open(os.path.join(here, "office", faults.NAME), encoding="utf-8") as file:
+            with open(os.path.join(here, "office", traces.NAME), encoding="utf-8") as file:
                 self.assertEqual(file.read().count("one "), 1)
         self.assertEqual(said.getvalue().count("Beware: a phone wasn't answered"), 2)
 

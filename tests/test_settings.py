@@ -43,7 +43,9 @@ class Settings(unittest.TestCase):
         for key, value in [("exclude", "1"), ("exclude", "8,4"), ("exclude", "4,"),
                            ("exclude", "2,3,4,5,6"), ("exclude", "41"), ("absent", "a5.3"),
                            ("scp", "0"), ("scp", "20%"), ("handicap", "1"), ("seats", "17"),
-                           ("zone", "Europe/Lisboa"), ("zone", "../x"), ("state", "done"),
+                           ("zone", "Europe/Lisboa"), ("zone", "../x"), ("zone", "localtime"),
+                           ("zone", "posixrules"), ("zone", "Factory"), ("zone", "right/UTC"),
+                           ("zone", "posix/Europe/Lisbon"), ("state", "done"),
                            ("every", "0"), ("port", "70000"), ("address", "localhost"),
                            ("address", "10.0.0.256"),
                            ("title", "")]:

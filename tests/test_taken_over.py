@@ -3,10 +3,23 @@ from __future__ import annotations
 
 import contextlib
 import os
+import signal
 import subprocess
+import sys
 import unittest
 
 import helpers
+from raceoffice.office.process import OfficeProcess
+from raceoffice.series.folder import Folder
+
+# Opens an office, and does something else when it should note which process the program is.
+STOPPED = """\
+import os, signal, sys
+from raceoffice import cli
+from raceoffice.office.process import OfficeProcess
+OfficeProcess.note_pid = lambda service: {}
+sys.exit(cli.main(["open", "cup"]))
+"""
 
 
 class Taken(helpers.Series):
@@ -28,6 +41,49 @@ class Taken(helpers.Series):
         self.assertEqual(second.rest(), ("the office is being opened in another window.\n", 1))
         first.say("y", "The office is open")
         self.assertIsNone(other.poll())
+
+    def starter(self, instead: str) -> subprocess.Popen[bytes]:
+        """A window that does this instead of noting its program."""
+        found = subprocess.Popen([sys.executable, "-c", STOPPED.format(instead)], cwd=self.here,
+                                 stdin=subprocess.DEVNULL)
+        self.addCleanup(found.wait)
+        self.addCleanup(found.kill)
+        return found
+
+    def service(self) -> OfficeProcess:
+        """What knows of the program of `cup`, which is ended with the trial although nobody may have noted
+        its process."""
+        folder = Folder(os.path.join(self.here, "cup"))
+        folder.make_private()
+        found = OfficeProcess(folder)
+        self.addCleanup(os.close, found.lock.file)
+        self.addCleanup(self.kill_all, found)
+        return found
+
+    def kill_all(self, service: OfficeProcess) -> None:
+        for number in service.programs():
+            os.kill(number, signal.SIGKILL)
+
+    def test_killed_before_it_noted(self) -> None:
+        """A program whose window was killed just after its start is taken over by the next one, whether or
+        not an earlier opening has noted anything."""
+        self.service()
+        for noted in ("", "1 1 09:00\n"):
+            self.write(noted, "cup", "office", "pid")
+            self.assertEqual(self.starter("os.kill(os.getpid(), 9)").wait(helpers.PATIENCE), -9)
+            window = self.window("open", "cup")
+            window.read(r"The office is open, but its window has gone\. Take it over\? \[Y/n\] $")
+            window.say("y", "The office is open")
+            window.press()
+            self.assertIn("Closed.", window.rest()[0])
+
+    def test_not_noted_yet(self) -> None:
+        """A window that has started its program and not noted it yet keeps it."""
+        service = self.service()
+        self.starter("signal.pause()")
+        helpers.until("the program", service.programs)
+        self.assertEqual(self.window("open", "cup").rest(),
+                         ("the office is being opened in another window.\n", 1))
 
     def test_pipes(self) -> None:
         """Pipes in office/ hold nobody up."""

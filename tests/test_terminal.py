@@ -1,13 +1,19 @@
 """What a tool says is broken at spaces, as wide as the terminal; what is an answer to its questions."""
 from __future__ import annotations
 
+import concurrent.futures
+import contextlib
 import io
+import itertools
 import os
+import time
+import unicodedata
 import unittest
 from unittest import mock
 
 import helpers
-from raceoffice.terminal import Progress, question, visible, wrapped
+from raceoffice import characters
+from raceoffice.terminal import Progress, question, say_if_heard, visible, wrapped
 
 
 class Prompt(unittest.TestCase):
@@ -57,6 +63,30 @@ class Questions(helpers.Series):
             self.assertFalse(os.path.exists(os.path.join(self.here, "other")))
 
 
+class Several(unittest.TestCase):
+    """Several threads say something at once, as those that keep the offices of several classes."""
+
+    def test_at_once(self) -> None:
+        """Each line is said once, whole, and nobody stumbles over what another says."""
+        def takes_more(_: float) -> bool:
+            # Another thread has its turn here.
+            time.sleep(0.0005)
+            return True
+
+        texts = [[f"{name} {at} " + "." * 600 for at in range(40)] for name in range(4)]
+
+        def say_all(own: list[str]) -> None:
+            for text in own:
+                say_if_heard(text)
+
+        said = io.StringIO()
+        with mock.patch("raceoffice.terminal.takes_more", takes_more), contextlib.redirect_stdout(said), \
+                concurrent.futures.ThreadPoolExecutor(len(texts)) as pool:
+            for done in [pool.submit(say_all, own) for own in texts]:
+                done.result()
+        self.assertEqual(sorted(said.getvalue().splitlines()), sorted(itertools.chain(*texts)))
+
+
 class Shown(unittest.TestCase):
     def test_visible(self) -> None:
         """No sign moves the cursor or turns what is shown: it is shown by its number."""
@@ -65,6 +95,11 @@ class Shown(unittest.TestCase):
                             ("\u202eGBR\u200b 7", r"\u202eGBR\u200b 7"), ("a\x85b\u2028c", r"a\x85b\u2028c"),
                             ("J\u00fcrgen\u00a0S.\n\tx", "J\u00fcrgen\u00a0S.\n\tx")]:
             self.assertEqual(visible(text), shown)
+
+    def test_overlays(self) -> None:
+        """Each sign that lies over the one before it is named to who verifies a page."""
+        signs = [chr(number) for number in range(0x110000) if unicodedata.combining(chr(number)) == 1]
+        self.assertEqual([sign for sign in signs if not characters.has_odd(f"A{sign}")], [])
 
     def test_progress(self) -> None:
         """How far work is comes after two seconds, on a terminal alone, and goes at the end."""

@@ -13,6 +13,7 @@ import helpers
 from raceoffice.corrected import times
 from raceoffice.errors import Trouble
 from raceoffice.program.find import found_program
+from raceoffice.program.link import Link
 from raceoffice.series.folder import Folder
 
 RATED = """\
@@ -89,6 +90,17 @@ class Times(helpers.Series):
         self.assertIn("3 boats, no lines.", self.said("1", "--send"))
         self.assertIn("\ttimes\t\tSCORER\tTIME 1 GBR7 3545\tOK 6 ", self.text("club", "office.log"))
 
+    def test_typed_meanwhile(self) -> None:
+        """Nothing is sent if somebody types before the answer: one of the lines may be theirs."""
+        self.open("club")
+        window = self.window("times", "club", "1", "--send")
+        window.read(r"Send them\? \[y/N\] $")
+        with contextlib.closing(Link(os.path.join(self.here, "club", "office", "race.sock"))) as link:
+            link.ask("TIME 1 GBR7 3545")
+        window.type("y")
+        self.assertEqual(window.rest(), ("Somebody else has typed meanwhile. Nothing was sent: send again.\n", 1))
+        self.assertEqual(self.held("club"), 5)
+
     def test_refused(self) -> None:
         """A line that the office refuses stops the rest."""
         self.write(RATED + "Curlew,IRL 5,1000,1000\n", "club", "entries.csv")
@@ -128,6 +140,14 @@ class Times(helpers.Series):
         for line in ["NED12 .*new; she holds RET", "GBR7 +RET +new", "FRA9 +DSQ +the jury types this code",
                      "TIME 1 NED12 3217\nMARK 1 GBR7 RET\n$"]:
             self.assertRegex(said, line)
+
+    def test_no_boat_finished(self) -> None:
+        """A sheet in which each boat has a code needs no rating, and has no time."""
+        self.write("Sail\nGBR 7\nNED 12\n", "club", "entries.csv")
+        self.sheet(1, "Sail,Elapsed\nGBR 7,DNF\nNED 12,RET\n")
+        said = self.said("1")
+        self.assertIn("2 boats, 2 lines.", said)
+        self.assertTrue(said.endswith("MARK 1 GBR7 DNF\nMARK 1 NED12 RET\n"), said)
 
     def test_codes_sent(self) -> None:
         """A boat that has no time any more has a code, and never neither of both."""
@@ -270,10 +290,10 @@ class Sums(unittest.TestCase):
 
     def test_program(self) -> None:
         """Another program is no program of sums."""
-        self.assertIn("nothing", times.in_words("", "a", "b", {}))
+        self.assertIn("nothing", times.program_fault("", "a", "b", {}))
         rows: dict[str, Sequence[int]] = {"ratings": [2, 4], "sheet": [7]}
         for row, wanted in [(2, 2), (3, 4), (1, 1), (9, 9)]:
-            self.assertEqual(times.in_words(f"times: ratings fault 8 row {row}: bad", "a", "b", rows),
+            self.assertEqual(times.program_fault(f"times: ratings fault 8 row {row}: bad", "a", "b", rows),
                              f"b, row {wanted}: bad")
         self.assertTrue(re.fullmatch(times.SUM, "A 1 * 2 / 3 -> 4"))
         with self.assertRaises(Trouble):

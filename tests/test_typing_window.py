@@ -10,8 +10,11 @@ import helpers
 from raceoffice.errors import NotSent
 from raceoffice.series.folder import Folder
 from raceoffice.series.kept_places import Note
-from raceoffice.typing_window.session import Session
-from raceoffice.typing_window.values import ANSWER, Outcome, Said
+from raceoffice.series.unknown_finishers import Waiting
+from raceoffice.session.answers import outcome
+from raceoffice.session.dialogue import ANSWER, Outcome, Said
+from raceoffice.session.facts import Facts
+from raceoffice.session.session import Session
 
 
 class Client(helpers.Series):
@@ -217,8 +220,22 @@ OK 12   3rd in race 1
    Not sent.
 > before 1 5 33
    5 is IRL 5 Curlew
+> n
+> enter den 16
+> 9
+Not sent, since it answers no question: 9
+   Type y for yes, or n for no.
+   DEN16 isn't on the entry list. Enter DEN16? Only raceoffice remove takes her out again. [y/N]
+> y
+OK 14   DEN16 is entered: 8 boats now. Her name comes from entries.csv: add her there
 """)
         self.assertEqual(self.text("five", "office.log").count("\tOK 12"), 1)
+
+    def test_entered(self) -> None:
+        """Of a boat that the entry list has it isn't said that she should be added."""
+        facts = Facts(Folder(os.path.join(self.here, "cup")))
+        self.assertEqual(outcome(facts, "ENTER GBR7", Waiting(), 9, "").text,
+                         "OK 9   GBR 7 Sea Pink is entered: no boats now")
 
     def test_odd_races(self) -> None:
         """Lines that the program takes, and that the rules hardly mean."""
@@ -666,6 +683,20 @@ OK 9   1st in race 1
         os.write(window.master, b"enter den 16\nyes\n")
         window.read(r"Not sent, since a question came before it: yes\n(.|\n)*\[y/N\] $")
         window.say("n", "Not sent.\n> $")
+
+    def test_half_typed_ahead(self) -> None:
+        """Half a line that was typed before a question came is no part of its answer, and it is said."""
+        self.open()
+        window = self.typist("scorer")
+        os.write(window.master, b"enter den 16\nyes\ny")
+        window.read(r"Not sent, since a question came before it: yes\n"
+                    r"Not sent, since a question came before it: y\n(.|\n)*\[y/N\] $")
+        window.say("", "Not sent.\n> $")
+        self.play(window, "> at 1")
+        os.write(window.master, b"12\x16\n7\ny\ny")
+        window.read(r"before it: y\nNot sent, since a question came before it: y\n"
+                    r"   Send these 2 finishes in race 1\? \[y/N\] $")
+        window.say("", "Not sent.\n1> $")
 
     def test_pasted(self) -> None:
         """Pasted lines stop at the first that is refused."""

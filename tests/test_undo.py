@@ -6,11 +6,12 @@ import unittest
 
 import helpers
 from raceoffice.errors import NotSent
-from raceoffice.program.journal import CODES, Series
+from raceoffice.program.codes import CODES
+from raceoffice.program.journal import Series
 from raceoffice.program.link import Sheet
 from raceoffice.series.folder import Folder
-from raceoffice.typing_window.facts import Facts
-from raceoffice.typing_window.undo import reversal
+from raceoffice.session.facts import Facts
+from raceoffice.session.undo import reversal
 
 BOATS = ["GBR7", "NED12", "FRA9", "GBR33"]
 
@@ -92,7 +93,7 @@ class Undoing(helpers.Series):
         for _ in range(dice.randint(1, 12)):
             race = Series.read([f"1 1 SCORER {line}" for line in lines]).race(1)
             finished = [boat for group in race.order for boat in group]
-            ways = [f"MARK 1 {boat} {dice.choice(CODES)}" for boat in BOATS]
+            ways = [f"MARK 1 {boat} {dice.choice(list(CODES))}" for boat in BOATS]
             ways += [f"PENALTY 1 {boat} {dice.choice(['ZFP', 'SCP'])}" for boat in BOATS]
             ways += [f"REDRESS 1 {boat} {dice.choice(['ALL', '2.5'])}" for boat in BOATS]
             ways += [f"CLEAR 1 {boat}" for boat in BOATS if race.held(boat)]
@@ -147,6 +148,30 @@ OK 15   race 1 counts no longer
 > y
 > undo
    Not sent: race 1 was taken away by 2 lines: type again what stays of it.
+""")
+
+    def test_undo_of_another_form(self) -> None:
+        """A line is known again in the one form that the journal has of it."""
+        self.open()
+        jury, scorer = self.client("cup", "--role", "jury"), self.client("cup", "--role", "scorer")
+        self.play(jury, """
+> redress 1 7 3
+> y
+OK 8   redress 3.0 in race 1
+> undo
+   REDRESS 1 GBR7 3.0 is taken back by CLEAR 1 GBR7. Send it? [y/N]
+> y
+OK 9
+""")
+        self.play(scorer, """
+> finish 01 7
+> undo
+   FINISH 1 GBR7 is taken back by STRIKE 1 GBR7. Send it? [y/N]
+> n
+> score 01
+> y
+> undo
+   SCORE 1 is taken back by UNSCORE 1. Send it? [y/N]
 """)
 
     def test_undo_of_places(self) -> None:

@@ -2,11 +2,12 @@
 from __future__ import annotations
 
 import unittest
+from collections.abc import Sequence
 
 from raceoffice.errors import NotSent
 from raceoffice.program.journal import Race
 from raceoffice.series.kept_places import History, Note
-from raceoffice.series.unknown_finishers import Waiting, in_words
+from raceoffice.series.unknown_finishers import Waiting, marks_by_race
 
 
 def race_of(*groups: str) -> Race:
@@ -14,9 +15,9 @@ def race_of(*groups: str) -> Race:
     return Race(1, [list(group) for group in groups])
 
 
-def kept(mark: str, behind: str = "", race: int = 1) -> Note:
+def kept(mark: str, behind: str = "", race: int = 1, entries: int = 0) -> Note:
     """A place that was kept behind these boats; each letter is one."""
-    return Note("kept", race, mark, "Ann", typed=mark.partition("?")[0], behind=tuple(behind))
+    return Note("kept", race, mark, "Ann", typed=mark.partition("?")[0], behind=tuple(behind), entries=entries)
 
 
 def known(mark: str, sail: str) -> Note:
@@ -27,9 +28,9 @@ def dropped(mark: str, race: int = 1) -> Note:
     return Note("dropped", race, mark, why="none")
 
 
-def waiting(*notes: Note) -> Waiting:
-    """Who is kept after these notes."""
-    return History.read(b"".join(note.text() for note in notes)).waiting
+def waiting(*notes: Note, journal: Sequence[str] = ()) -> Waiting:
+    """Who is kept after these notes, and with this journal."""
+    return History.read(b"".join(note.text() for note in notes), journal).waiting
 
 
 class Unread(unittest.TestCase):
@@ -41,6 +42,72 @@ class Unread(unittest.TestCase):
                             (("A", "C"), "BEFORE 1 X C"), (("C", "D"), "BEFORE 1 X C"),
                             (("B", "A"), "FINISH 1 X"), ((), "FINISH 1 X")]:
             self.assertEqual(meant.line("X", race_of(*order)), line, order)
+
+    def test_corrected_order(self) -> None:
+        """She was seen after A and B, and before C. A boat that is struck and entered again is ahead of her as
+        before, unless she stands now behind somebody who finished later."""
+        def line(*later: str) -> str:
+            journal = ["FINISH 1 A", "FINISH 1 B", *later]
+            note = kept("?1", "AB", entries=3)
+            race = Race(1)
+            for text in journal:
+                race.follow([text.split()[0], *text.split()[2:]])
+            return History.read(note.text(), ["ENTER Z", *journal, "MARK 2 A OCS"]).waiting.all[0].line("X", race)
+        c = "FINISH 1 C"
+        for later, wanted in [
+                ((c,), "BEFORE 1 X C"), (("STRIKE 1 A", c), "BEFORE 1 X C"),
+                # She crossed the line after C.
+                ((c, "STRIKE 1 A", "FINISH 1 A"), "BEFORE 1 X C"),
+                ((c, "STRIKE 1 B", "TIE 1 B C"), "BEFORE 1 X C"),
+                ((c, "FINISH 1 D", "STRIKE 1 B", "BEFORE 1 B D"), "BEFORE 1 X C"),
+                ((c, "STRIKE 1 A", "STRIKE 1 B", "FINISH 1 B", "FINISH 1 A"), "BEFORE 1 X C"),
+                # Only their own order was corrected.
+                ((c, "STRIKE 1 A", "BEFORE 1 A C"), "BEFORE 1 X C"),
+                ((c, "STRIKE 1 B", "BEFORE 1 B A"), "BEFORE 1 X C"),
+                (("STRIKE 1 A", "FINISH 1 A"), "FINISH 1 X"),
+                (("STRIKE 1 A", "FINISH 1 A", c), "BEFORE 1 X C"),
+                (("STRIKE 1 A", "STRIKE 1 B", "FINISH 1 B", "FINISH 1 A", c), "BEFORE 1 X C"),
+                # Those who finished later are ahead of her if somebody says so.
+                ((c, "STRIKE 1 C", "BEFORE 1 C A"), "FINISH 1 X"), ((c, "STRIKE 1 C", "TIE 1 C B"), "FINISH 1 X"),
+                ((c, "STRIKE 1 A", "BEFORE 1 A C", "STRIKE 1 C", "BEFORE 1 C A"), "FINISH 1 X"),
+                (("TIE 1 C A",), "FINISH 1 X"), (("BEFORE 1 C A", "FINISH 1 D"), "BEFORE 1 X D")]:
+            self.assertEqual(line(*later), wanted, later)
+
+    def test_corrected_order_of_two(self) -> None:
+        """The order is A, ?1, B, ?2, C. A boat comes back behind one place and ahead of the other."""
+        both = [kept("?1", "A", entries=1), kept("?2", "AB", entries=2)]
+        journal = ["FINISH 1 A", "FINISH 1 B", "FINISH 1 C"]
+        for later, order, places in [
+                (["STRIKE 1 B", "BEFORE 1 B C"], "ABC", ("2nd", "4th")),
+                (["STRIKE 1 A", "BEFORE 1 A C"], "BAC", ("1st", "4th")),
+                (["STRIKE 1 A", "FINISH 1 A"], "BCA", ("1st", "3rd")),
+                (["STRIKE 1 B", "STRIKE 1 C", "STRIKE 1 A", "FINISH 1 A"], "A", ("2nd", "3rd"))]:
+            found = waiting(*both, journal=journal + later).places(race_of(*order))
+            self.assertEqual(found, dict(zip(("?1", "?2"), places)), later)
+
+    def test_kept_behind_others(self) -> None:
+        """A boat that was struck, and of which somebody says that she finished after a place, is behind it. What
+        was sent for that place still counts."""
+        sent = Note("sent", 1, "?1", line="BEFORE 1 X A", entries=4)
+        notes = [kept("?1", "AB", entries=2), sent, kept("?1", "B", entries=3)]
+        journal = ["FINISH 1 A", "FINISH 1 B", "STRIKE 1 A", "FINISH 1 A"]
+        found = waiting(*notes, journal=journal)
+        self.assertEqual(found.all[0].line("X", race_of("B", "A")), "BEFORE 1 X A")
+        self.assertEqual(found.given, ((1, "?1"),))
+        self.assertEqual(waiting(*notes, journal=[*journal, "BEFORE 1 X A"]).all, ())
+        # An older line that is put in again changes nothing.
+        found = waiting(*notes, notes[0], journal=journal)
+        self.assertEqual(found.all[0].line("X", race_of("B", "A")), "BEFORE 1 X A")
+
+    def test_other_journals(self) -> None:
+        """With a journal that is shorter, or has lines that no office takes, she is behind the same boats."""
+        note = kept("?1", "AB", entries=9)
+        journals: list[list[str]] = [
+            [], ["FINISH 1 A"], ["FINISH 1 A", "FINISH 1 B", "FINISH 1 C"],
+            ["BEFORE 1 A Q", "TIE 1 A", "FINISH 1", "FINISH", "", "?", "FINISH 1 B", "FINISH 1 C"]]
+        for journal in journals:
+            found = waiting(note, journal=journal).all[0]
+            self.assertEqual(found.line("X", race_of("A", "B", "C")), "BEFORE 1 X C", journal)
 
     def test_two(self) -> None:
         """The order is A, ?1, B, ?2, C. The second is known first, and finishes behind ?1."""
@@ -92,7 +159,7 @@ class Unread(unittest.TestCase):
                          ("101?3", "1?", "?3"))
         self.assertEqual(found.one(1, "101?2").typed, "101")
         self.assertRaises(NotSent, found.one, 1, "101?")
-        self.assertEqual(in_words(found.all), "?1, 101?2 and ?2 in race 1")
+        self.assertEqual(marks_by_race(found.all), "?1, 101?2 and ?2 in race 1")
 
     def test_place_on_the_water(self) -> None:
         """Boats with a code have no place, and a finisher ahead of her has one, read or not."""

@@ -21,14 +21,14 @@ from typing import Any
 import helpers
 
 from forger import block_in, journal_of, resealed
-from raceoffice.commands import export
 from raceoffice.errors import ForeignPage, Unsure
 from raceoffice.program.standing import Score
-from raceoffice.results.html import notice, overall
+from raceoffice.results import exports
+from raceoffice.results.html import notice_board, overall
 from raceoffice.results.html.markup import Markup, tag
 from raceoffice.results.html.page import confirmed
-from raceoffice.results.snapshot import View
-from raceoffice.verify import read_block, verifier
+from raceoffice.results.snapshot import Snapshot
+from raceoffice.verify import page_data, verifier
 
 COUNT = int(os.environ.get("CHANGES", "1000"))
 SIGNS = "0123456789ABCXYZabcxyz .,-=/()<>&\"'\\éß"
@@ -61,10 +61,10 @@ class Pages(helpers.Series):
         self.verifier = verifier.Verifier(helpers.PROGRAM)
 
     def page(self, *names: str) -> str:
-        return notice.results([self.view(name) for name in names or ("tide",)])
+        return notice_board.results([self.view(name) for name in names or ("tide",)])
 
-    def view(self, name: str = "tide") -> View:
-        return export.view_of(os.path.join(self.here, name), lambda _: None)
+    def view(self, name: str = "tide") -> Snapshot:
+        return exports.view_of(os.path.join(self.here, name), lambda _: None)
 
     def odd(self, page: str) -> str:
         """Why a page isn't verified."""
@@ -76,7 +76,7 @@ class Pages(helpers.Series):
         """Each one-character change of settings, journal or table is found."""
         dice, page = random.Random(8), self.page()
         self.verifier.verified(page)
-        begin = page.index(read_block.START)
+        begin = page.index(page_data.START)
         spans = {"settings": (page.index('"settings"', begin), page.index('"decisions"', begin)),
                  "journal": (page.index('"journal"', begin), page.index("</script>", begin)),
                  "table": (page.index("<table>"), page.index("</table>")),
@@ -185,7 +185,7 @@ class Pages(helpers.Series):
     def test_blocks(self) -> None:
         """A page without a block, with two, or with one that isn't one, is no page to verify."""
         page = self.page()
-        block = f"{read_block.START}{block_in(page)}</script>"
+        block = f"{page_data.START}{block_in(page)}</script>"
         for text, why in [(page.replace(block, block * 2), "2 blocks"),
                           (page.replace(block, block.removesuffix("</script>")), "isn't JSON at its"),
                           (page[:page.index("</script>")], "the block has no end"),

@@ -6,25 +6,30 @@ import signal
 import socket
 import threading
 import unittest
+from unittest import mock
 
 import helpers
 from raceoffice.errors import Trouble
 from raceoffice.series.folder import Folder
-from raceoffice.typing_window.session import Session
-from raceoffice.typing_window.watcher import News, Watcher
+from raceoffice.session.session import Session
+from raceoffice.typing_window.watcher import News, Watcher, has_no_seat, seats_of
+
+
+# How long an answer may take, for a trial that waits for none.
+SHORT = {"program.link.PATIENCE": 3.0}
 
 
 class Offices(helpers.Series):
     def test_no_answer(self) -> None:
         """A line without an answer is looked for after the crash, and listed by the office."""
         office = self.open()
-        window = self.typist("scorer")
+        window = self.typist("scorer", waits=SHORT)
         window.say("enter den 16", r"\[y/N\] $")
         number = int(self.text("cup", "office", "pid").split()[0])
         helpers.freeze(number)
         window.type("y")
         window.read("No answer came to: ENTER DEN16\nIt may be in the journal, or not.\nBeware: the "
-                    "office hasn't answered for 10 seconds. Waiting")
+                    "office hasn't answered for 3 seconds. Waiting")
         os.kill(number, signal.SIGKILL)
         office.rest()
         again = self.window("open", "cup")
@@ -37,11 +42,11 @@ class Offices(helpers.Series):
     def test_not_sent(self) -> None:
         """A line that the office didn't get, since it had stopped, comes back."""
         self.open()
-        window = self.typist()
+        window = self.typist(waits=SHORT)
         number = int(self.text("cup", "office", "pid").split()[0])
         helpers.freeze(number)
         window.type("finish 1 7")
-        window.read("Not sent: finish 1 7\nBeware: the office hasn't answered for 10 seconds. Waiting")
+        window.read("Not sent: finish 1 7\nBeware: the office hasn't answered for 3 seconds. Waiting")
         os.kill(number, signal.SIGCONT)
         window.read("The office is back with 7 entries.\n> $")
         window.say("finish 1 7", "OK 8 ")
@@ -80,7 +85,8 @@ class Offices(helpers.Series):
         """A kill of the office is said at the prompt; afterwards what is lost is listed."""
         office = self.open()
         window = self.typist()
-        window.say("finish 1 101", "OK 8 .*\n> $")
+        # The journal has her line in its one form.
+        window.say("finish 01 101", "OK 8 .*\n> $")
         self.assertEqual(self.held(), 8)
         os.kill(int(self.text("cup", "office", "pid").split()[0]), signal.SIGKILL)
         window.read(r"Beware: the office has gone\. Waiting for the office; Ctrl-C ends this window\.")
@@ -162,10 +168,40 @@ class Offices(helpers.Series):
         self.assertIn("\tleft\t", self.text("cup", "office.log"))
 
 
-class Signals(unittest.TestCase):
+class Watching(helpers.Series):
+    """What is looked at while somebody is at the prompt."""
+
+    def setUp(self) -> None:
+        super().setUp()
+        self.addCleanup(signal.signal, signal.SIGUSR1, signal.getsignal(signal.SIGUSR1))
+
+    def test_closed_meanwhile(self) -> None:
+        """A link that the window closes just then isn't heard."""
+        session = Session(Folder(os.path.join(self.here, "cup")), "FINISH", "", print, bool)
+        with socket.socket() as link:
+            session.link = mock.Mock(fileno=link.fileno)
+            link.close()
+            self.assertFalse(Watcher([session]).is_heard(0))
+
+    def test_seats(self) -> None:
+        """Whether an office is full is known as far as the system tells, and by its settings if its program
+        doesn't."""
+        folder = Folder(self.make("two", seats="2"))
+        self.assertEqual(seats_of(folder), 2)
+        for sockets, full in (([True, False], False), ([True, False, False], True)):
+            with mock.patch("raceoffice.system.sockets_at", return_value=sockets):
+                self.assertEqual(has_no_seat(folder), full)
+        with mock.patch("raceoffice.system.sockets_at", side_effect=Trouble("nobody can say")):
+            self.assertFalse(has_no_seat(folder))
+
+    def test_without_readline(self) -> None:
+        """Where Python can't edit lines, they are typed all the same."""
+        with mock.patch("raceoffice.typing_window.watcher.readline", None), \
+                mock.patch("builtins.input", return_value="101"):
+            self.assertEqual(Watcher([]).ask("> "), "101")
+
     def test_late_signal(self) -> None:
         """A signal that was meant for one prompt doesn't interrupt the next, nor what comes between."""
-        self.addCleanup(signal.signal, signal.SIGUSR1, signal.getsignal(signal.SIGUSR1))
         watcher = Watcher([])
         watcher.prompts, watcher.interrupted = 2, 1
         for watcher.at_prompt in (True, False):

@@ -46,6 +46,8 @@ class Words(unittest.TestCase):
                     ("regatta: start refused 16 at 2", "disagree on handicap"),
                     ("regatta: keep taken", "Another office has journal.txt"),
                     ("regatta: keep fault", "Is the disk full?"),
+                    ("regatta: keep fault: no space left", "The disk is full: make space."),
+                    ("regatta: keep fault: no permission", "This account may not write journal.txt"),
                     ("regatta: keep damaged after line 2", "journal.txt is damaged after line 2."),
                     ("regatta: keep damaged after line 0", "journal.txt is no journal"),
                     ("regatta: keep journal fault 1 line 2", "isn't a line of a journal: '1 1 SCORER"),

@@ -18,11 +18,13 @@ from __future__ import annotations
 
 import argparse
 import os
+from collections.abc import Sequence
 
 from raceoffice.errors import Trouble
-from raceoffice.faults import status_of
-from raceoffice.series.announce import announce
+from raceoffice.exit_status import status_of
+from raceoffice.results.announce import Open, announce, asked_of, need_reason, open_points, sheet_now
 from raceoffice.series.folder import Folder
+from raceoffice.terminal import answer, question, say
 
 
 def folders_and_reason(words: list[str]) -> tuple[list[str], str]:
@@ -41,7 +43,33 @@ def folders_and_reason(words: list[str]) -> tuple[list[str], str]:
 def announce_all(state: str, words: list[str]) -> int:
     """Says of some series that their results are final, or not; the status."""
     folders, reason = folders_and_reason(words)
-    return max([announce(path, state, reason) for path in folders])
+    return max([announce_one(path, state, reason) for path in folders])
+
+
+def announce_one(path: str, state: str, reason: str) -> int:
+    """Says of a series whether its results are final, once somebody agrees to what is open; the status."""
+    folder = Folder(path)
+    table: tuple[str, ...] = ()
+    if state == "amended" and not reason:
+        reason = answer("Why? The board shows it: ")
+    reason = need_reason(state, reason)
+    if state != "provisional":
+        sheet = sheet_now(folder)
+        table = sheet.table
+        if not is_agreed(state, open_points(folder, sheet)):
+            say("Nothing was announced.")
+            return 1
+    announce(folder, state, reason, table)
+    say(f"The results of {path} are {state}" + (f": {reason}" if reason else "") + ".")
+    return 0
+
+
+def is_agreed(state: str, points: Sequence[Open]) -> bool:
+    """Whether all races are scored and all finishers are known, or somebody agrees to leave some out. A boat
+    without a name is only named."""
+    for point in points:
+        say(point.text)
+    return all(point.kind == "boats-unnamed" for point in points) or question(asked_of(state, points).text)
 
 
 def arguments(parser: argparse.ArgumentParser) -> None:

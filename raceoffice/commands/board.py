@@ -28,24 +28,27 @@ import time
 
 from raceoffice import system
 from raceoffice.errors import Trouble
-from raceoffice.faults import WRITTEN, guarded, status_of, written
+from raceoffice.exit_status import status_of
 from raceoffice.results.http_answers import Board, addresses
 from raceoffice.results.publish import Files, Site, served
 from raceoffice.results.server import Listener
-from raceoffice.results.source import Source, need_own_names
+from raceoffice.results.source import ResultsSource, need_own_names
 from raceoffice.series.folder import clock
 from raceoffice.series.settings import is_address, is_between
-from raceoffice.terminal import Once, say, say_if_heard, sentence
+from raceoffice.terminal import Once, say, say_if_heard, say_what_waits, sentence
+from raceoffice.traces import WRITTEN, guarded, written
 from raceoffice.wording import count
 
 # Seconds between two looks at whether an office is being closed: then the board leaves it.
 TICK = 0.5
+# Seconds that a terminal has to take what is said last.
+LAST = 2.0
 
 
 class Shown:
     """The series that are shown, where they are shown, and what was said of them last."""
 
-    def __init__(self, sources: list[Source], files: list[Files], board: Board | None,
+    def __init__(self, sources: list[ResultsSource], files: list[Files], board: Board | None,
                  is_once: bool = False) -> None:
         self.sources, self.files, self.board, self.is_once = sources, files, board, is_once
         self.site = Site(sources)
@@ -61,7 +64,7 @@ class Shown:
             else:
                 say(text)
 
-    def look(self, due: list[Source], stamp: str = "") -> bool:
+    def look(self, due: list[ResultsSource], stamp: str = "") -> bool:
         """Looks at some series, shows what was found and then says what has changed; whether all
         went well."""
         troubles = [trouble_of(source) for source in due]
@@ -113,7 +116,7 @@ def note(folder: str, trace: str) -> None:
         say_if_heard(f"{clock()} Beware: a phone wasn't answered, by a fault of raceoffice. {where}")
 
 
-def trouble_of(source: Source) -> str:
+def trouble_of(source: ResultsSource) -> str:
     """Looks at one series; why its page stays as it was, or nothing."""
     source.due = time.monotonic() + source.settings.every
     try:
@@ -124,7 +127,7 @@ def trouble_of(source: Source) -> str:
     return ""
 
 
-def said_of(source: Source, trouble: str, width: int, is_later: bool, is_once: bool) -> str:
+def said_of(source: ResultsSource, trouble: str, width: int, is_later: bool, is_once: bool) -> str:
     """What is shown of a series, from where and how often."""
     view = source.view
     name = f"{source.name}: " if is_later else f"{source.name:<{width}}  "
@@ -174,9 +177,9 @@ def refuse_options(asked: argparse.Namespace) -> None:
         asked.complain("--address is for phones: it goes with --http")
 
 
-def sources_of(folders: list[str]) -> list[Source]:
+def sources_of(folders: list[str]) -> list[ResultsSource]:
     """The series, whose folders have to have different names: they are addresses."""
-    found = list(map(Source, folders))
+    found = list(map(ResultsSource, folders))
     names = [source.folder.name for source in found]
     for name in names:
         if name in ("index.html", "now.json"):
@@ -185,7 +188,7 @@ def sources_of(folders: list[str]) -> list[Source]:
     return found
 
 
-def files_of(asked: argparse.Namespace, sources: list[Source]) -> list[Files]:
+def files_of(asked: argparse.Namespace, sources: list[ResultsSource]) -> list[Files]:
     """Where pages are written: one folder for all, or that which each series.ini names."""
     if asked.page:
         return [Files(asked.page, Site(sources, asked.once))]
@@ -229,11 +232,13 @@ def show(asked: argparse.Namespace) -> int:
             return 0 if well else 1
         while True:
             time.sleep(TICK)
+            say_what_waits()
             shown.round()
     except Stopped:
         if not is_shown or asked.once:
             raise
         say_if_heard("\nStopped. Pages that are provisional turn red in a minute.")
+        say_what_waits(LAST)
         return 0
     finally:
         shown.leave()

@@ -19,9 +19,9 @@ import argparse
 from dataclasses import asdict, dataclass
 
 from raceoffice.errors import Trouble
-from raceoffice.faults import status_of, tell_json
+from raceoffice.exit_status import status_of, tell_json
 from raceoffice.office.backups import same_disk
-from raceoffice.series.continuity import difference
+from raceoffice.series.continuity import differences
 from raceoffice.series.folder import Folder
 from raceoffice.series.health import faults, list_notes, notes, summary
 from raceoffice.series.second_folder import second_of
@@ -53,7 +53,7 @@ def checked(path: str) -> Checked:
     except Trouble as trouble:
         return Checked(path, [sentence(trouble)], "", [])
     wrong = faults(folder)
-    changed = "" if wrong else difference(folder)
+    changed = "" if wrong else differences(folder)
     known = [text for text in [*notes(folder), *list_notes(folder), second_note(folder)] if text]
     if wrong:
         return Checked(path, wrong, changed, known)

@@ -28,23 +28,18 @@ from __future__ import annotations
 
 import argparse
 import contextlib
-import os
+import dataclasses
 from dataclasses import dataclass
 
 from raceoffice.decisions import decision_lines
 from raceoffice.decisions.held import holdings
 from raceoffice.decisions.points import Decided, decided
-from raceoffice.errors import Trouble
-from raceoffice.faults import status_of, tell_json
+from raceoffice.exit_status import status_of, tell_json
 from raceoffice.program.replay import Line
 from raceoffice.series.run_program import opened_rules
 from raceoffice.series.sender import Sender
-from raceoffice.series.settings import Settings
-from raceoffice.terminal import command_name, question, say, say_json, sentence
+from raceoffice.terminal import question, say, say_json, sentence
 from raceoffice.wording import count
-
-WHO = "decisions"
-
 
 @dataclass(frozen=True)
 class State:
@@ -56,33 +51,18 @@ class State:
 class Decisions(Sender):
     """A series with its decisions."""
 
-    def __init__(self, path: str) -> None:
-        super().__init__(path, WHO)
-
-    def settings(self) -> list[str]:
-        """The rules as options: those of the open office, if one is open."""
-        rules = opened_rules(self.folder) if self.link else {}
-        values = {**vars(self.folder.settings), **rules}
-        return Settings(**values).options()
-
     def state(self) -> State:
+        """The decisions by the rules of the open office, if one is open, or else by those of the settings."""
         journal = self.sheet().journal
+        rules = opened_rules(self.folder) if self.link else {}
+        options = dataclasses.replace(self.folder.settings, **rules).options()
         text = decision_lines.read(self.folder.path)
-        return State(decided(self.folder.program, self.settings(), journal, text), journal)
+        return State(decided(self.folder.program, options, journal, text), journal)
 
-    def send(self, lines: list[Line]) -> int:
-        """Sends lines up to the first that isn't taken; how many were."""
-        for at, line in enumerate(lines):
-            try:
-                self.answer(line)
-            except Trouble as why:
-                say(f"Stopped at {line}: {why}.")
-                # What a CLEAR before them took is in these lines alone.
-                say("Not sent, and to be typed in this order:")
-                for rest in lines[at:]:
-                    say(f"      {rest}   ({rest.role.lower()})")
-                return at
-        return len(lines)
+
+def with_role(line: Line) -> str:
+    """A line that somebody may have to type."""
+    return f"      {line}   ({line.role.lower()})"
 
 
 def shown(found: Decided) -> list[str]:
@@ -90,14 +70,14 @@ def shown(found: Decided) -> list[str]:
     said = [f"   {sentence(text)}" for text in found.wrong]
     for verdict in found.verdicts:
         said.append(f"   {sentence(verdict)}")
-        said += [f"      {line}   ({line.role.lower()})" for line in verdict.lines]
+        said += map(with_role, verdict.lines)
     return said
 
 
 def unexplained(state: State) -> list[str]:
     """Redress in points that no decision explains: it may be the jury's own, or that of a line that
     was taken out."""
-    ruled = {(verdict.ruling.race, verdict.ruling.sail) for verdict in state.decided.verdicts}
+    ruled = {verdict.ruling.key for verdict in state.decided.verdicts}
     return [f"   Race {race}, {sail}: the journal has redress of {held.redress} points, and "
             f"{decision_lines.NAME} has no line for it."
             for (race, sail), held in sorted(holdings(state.journal).items())
@@ -113,7 +93,7 @@ def show(series: Decisions) -> int:
         say(text)
     if found.lines:
         lines = count(len(found.lines), "line")
-        say(f"{lines} to send: {command_name()} decisions send {os.path.relpath(series.folder.path)}")
+        say(f"{lines} to send: {series.folder.command('decisions send')}")
     return 1 if found.stale else 0
 
 
@@ -133,16 +113,32 @@ def show_json(series: Decisions) -> int:
     return 1 if state.decided.stale else 0
 
 
-def check(series: Decisions) -> int:
+def say_stale(found: Decided) -> int:
     """Names the decisions that aren't in the scores as they have to be; the status."""
-    state = series.state()
-    stale = state.decided.stale
-    for text in stale:
+    for text in found.stale:
         say(sentence(text))
-    kept = sum(verdict.is_kept for verdict in state.decided.verdicts)
-    say(f"{count(kept, 'decision')} in the scores, {count(len(stale), 'other')} out of date or in "
+    return 1 if found.stale else 0
+
+
+def check(series: Decisions) -> int:
+    """Names the decisions that aren't in the scores, and says how many are; the status."""
+    found = series.state().decided
+    status = say_stale(found)
+    kept = sum(verdict.is_kept for verdict in found.verdicts)
+    say(f"{count(kept, 'decision')} in the scores, {count(len(found.stale), 'other')} out of date or in "
         "doubt.")
-    return 1 if stale else 0
+    return status
+
+
+def taken(series: Decisions, lines: list[Line]) -> int:
+    """Sends lines up to the first that isn't taken, and lists the others; how many were."""
+    left = series.send(lines)
+    if left:
+        # What a CLEAR before them took is in these lines alone.
+        say("Not sent, and to be typed in this order:")
+    for line in left:
+        say(with_role(line))
+    return len(lines) - len(left)
 
 
 def send(series: Decisions) -> int:
@@ -162,19 +158,14 @@ def send(series: Decisions) -> int:
         say("Somebody else has typed meanwhile, and the decisions come to something else now. Nothing "
             "was sent: send again.")
         return 1
-    taken = series.send(lines)
-    say(f"{taken} of {count(len(lines), 'line')} taken.")
-    if taken < len(lines):
-        return 1
-    stale = series.state().decided.stale
-    for text in stale:
-        say(sentence(text))
-    return 1 if stale else 0
+    number = taken(series, lines)
+    say(f"{number} of {count(len(lines), 'line')} taken.")
+    return 1 if number < len(lines) else say_stale(series.state().decided)
 
 
 def work_out(folder: str, what: str) -> int:
     """Does a command; the status."""
-    with contextlib.closing(Decisions(folder)) as series:
+    with contextlib.closing(Decisions(folder, "decisions")) as series:
         return {"show": show, "check": check, "send": send, "json": show_json}[what](series)
 
 

@@ -14,52 +14,19 @@ The status is 0 if all was written, 1 if not, and 130 after Ctrl-C.
 from __future__ import annotations
 
 import argparse
-import dataclasses
 import sys
-from collections.abc import Callable, Sequence
 
-from raceoffice.faults import status_of
+from raceoffice.exit_status import status_of
 from raceoffice.files import replace_whole
-from raceoffice.program.replay import developed
-from raceoffice.results.html.notice import results
-from raceoffice.results.html.sealing import version_of
+from raceoffice.results.exports import FORMS, views_of
 from raceoffice.results.mail import mail
-from raceoffice.results.snapshot import View, as_json, csv_heads, csv_row, labels_of, results_value
-from raceoffice.results.source import Source, need_own_names
-from raceoffice.results.spreadsheet import Cell, csv_of
-from raceoffice.terminal import Progress, say, sentence, visible
+from raceoffice.results.snapshot import Snapshot
+from raceoffice.terminal import say, visible
 from raceoffice.wording import count, joined
 
 
 def warn(text: str) -> None:
     sys.stderr.write(f"{visible(text)}\n")
-
-
-def view_of(folder: str, tell: Callable[[str], None] = warn) -> View:
-    """The results of a series by its journal, with the standing after each race. `tell` is called with
-    each trouble that doesn't keep them from being shown."""
-    source = Source(folder)
-    source.show(source.from_journal())
-    for text in source.notes.values():
-        if text:
-            tell(f"{source.name}: {sentence(text)}")
-    view = source.view
-    assert view is not None
-    progress = Progress(source.name)
-    course = developed(source.folder.program, view.settings.options(), view.journal, view.standing.races,
-                       progress)
-    progress.end()
-    return dataclasses.replace(view, course=course)
-
-
-def rows_of(views: Sequence[View]) -> list[list[Cell]]:
-    """The rows of the CSV; of several series the first column says which."""
-    races = sorted({race for view in views for race in view.standing.races})
-    rows = [(label, csv_row(view, row, races)) for label, view in zip(labels_of(views), views)
-            for row in view.standing.rows]
-    if len(views) == 1:
-        return [csv_heads(races), *(row for _, row in rows)]
-    return [["class", *csv_heads(races)], *([label, *row] for label, row in rows)]
 
 
 def arguments(parser: argparse.ArgumentParser) -> None:
@@ -81,21 +48,12 @@ def refuse_options(asked: argparse.Namespace) -> None:
         asked.complain("nothing is asked for: add --html F, --csv F, --json F or --text")
 
 
-def views_of(folders: Sequence[str]) -> list[View]:
-    """The results of the series, whose folders have to have different names: a page knows them by these."""
-    views = [view_of(folder) for folder in folders]
-    need_own_names([view.name for view in views])
-    return views
-
-
-def write(asked: argparse.Namespace, views: list[View]) -> int:
+def write(asked: argparse.Namespace, views: list[Snapshot]) -> int:
     """Writes and prints what was asked for; the status."""
-    if asked.html:
-        replace_whole(asked.html, results(views).encode(), True)
-    if asked.csv:
-        replace_whole(asked.csv, csv_of(rows_of(views), asked.semicolons), True)
-    if asked.json:
-        replace_whole(asked.json, as_json([results_value(view, version_of(view)) for view in views]), True)
+    csv = "semicolons" if asked.semicolons else "csv"
+    for path, form in ((asked.html, "html"), (asked.csv, csv), (asked.json, "json")):
+        if path:
+            replace_whole(path, FORMS[form].data(views), True)
     if asked.text:
         say(mail(views))
     else:
@@ -107,5 +65,4 @@ def write(asked: argparse.Namespace, views: list[View]) -> int:
 
 def run(asked: argparse.Namespace) -> int:
     refuse_options(asked)
-
-    return status_of(lambda: write(asked, views_of(asked.folder)), asked.folder[0], warn)
+    return status_of(lambda: write(asked, views_of(asked.folder, warn, True)), asked.folder[0], warn)

@@ -23,7 +23,7 @@ from __future__ import annotations
 
 import argparse
 
-from raceoffice.faults import status_of
+from raceoffice.exit_status import status_of
 from raceoffice.series.create import new
 
 

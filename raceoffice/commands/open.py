@@ -19,19 +19,13 @@ The status is 0 after the office was closed, 1 if something was refused or the p
 from __future__ import annotations
 
 import argparse
-import os
 
-from raceoffice.faults import status_of
-from raceoffice.files import replace_whole
-from raceoffice.office.window import OfficeWindow
-from raceoffice.series import copies
-from raceoffice.series.continuity import note_of
-from raceoffice.series.copies import best_copy, places_with
+from raceoffice.exit_status import status_of
+from raceoffice.office.before_opening import is_right, mend
+from raceoffice.office.window import OfficeWindow, ask
 from raceoffice.series.folder import Folder
-from raceoffice.series.health import disk_fault, faults, journal_fault, lost_journal
-from raceoffice.series.kept_places import Places
-from raceoffice.series.second_folder import second_of
-from raceoffice.terminal import question, say
+from raceoffice.series.health import disk_fault
+from raceoffice.terminal import say
 
 
 def open_(path: str) -> int:
@@ -43,32 +37,11 @@ def open_(path: str) -> int:
         return 1
     office_window = OfficeWindow(folder)
     if not office_window.service.lock.is_taken():
-        mend(folder)
-    wrong = faults(folder)
-    for text in wrong:
-        say(text)
-    if wrong:
+        mend(folder, ask)
+    if not is_right(folder, say):
         say("Nothing was opened.")
         return 1
     return office_window.open()
-
-
-def mend(folder: Folder) -> None:
-    """Offers what puts a series without a journal right: its best copy."""
-    # Nothing may replace a file that an office has.
-    if journal_fault(folder) or folder.is_held() or folder.kept():
-        return
-    lost = lost_journal(folder)
-    if not lost:
-        return
-    with second_of(folder) as second:
-        copy, data = best_copy(folder, second)
-        places = places_with(folder, second, data)
-    if copy and question(f"{lost} Use it?"):
-        Places(folder).put_back(places)
-        replace_whole(os.path.realpath(folder.journal), data)
-        copies.keep(folder, data)
-        folder.log("", "", "", "restored", note_of(data))
 
 
 def arguments(parser: argparse.ArgumentParser) -> None:

@@ -35,7 +35,7 @@ from __future__ import annotations
 import argparse
 
 from raceoffice.corrected.times import correct
-from raceoffice.faults import status_of
+from raceoffice.exit_status import status_of
 
 
 def arguments(parser: argparse.ArgumentParser) -> None:

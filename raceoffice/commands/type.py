@@ -29,16 +29,15 @@ import sys
 
 from raceoffice.characters import is_utf8
 from raceoffice.errors import Trouble
-from raceoffice.faults import status_of
+from raceoffice.exit_status import status_of
+from raceoffice.program.messages import ROLES
 from raceoffice.series.folder import Folder
 from raceoffice.series.settings import is_between
+from raceoffice.session.session import Session
 from raceoffice.terminal import answer, command_name, say
 from raceoffice.typing_window.batch import LARGEST, Batch, lines_of
-from raceoffice.typing_window.session import Session
 from raceoffice.typing_window.window import Window, show
 from raceoffice.wording import on_one_line
-
-ROLES = ["FINISH", "JURY", "SCORER"]
 
 
 def asked_role() -> str:

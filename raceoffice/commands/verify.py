@@ -19,7 +19,7 @@ from __future__ import annotations
 import argparse
 
 from raceoffice import characters
-from raceoffice.faults import status_of, tell_json
+from raceoffice.exit_status import status_of, tell_json
 from raceoffice.program.find import program_at
 from raceoffice.terminal import say
 from raceoffice.verify.verifier import UNSURE, verify

@@ -8,7 +8,7 @@ from __future__ import annotations
 import re
 from dataclasses import dataclass
 
-from raceoffice.program.journal import CODES
+from raceoffice.program.codes import CODES
 from raceoffice.series.entry_list import fault_of, plain
 from raceoffice.series.headings import SHEET, columns
 from raceoffice.series.read_list import Table, as_csv, table_of, wrong_form

@@ -13,6 +13,8 @@ from fractions import Fraction
 from raceoffice import system
 from raceoffice.corrected.sheets import Entry, entries_of, for_program
 from raceoffice.errors import Trouble
+from raceoffice.files import edited_text
+from raceoffice.program.codes import OF_JURY
 from raceoffice.program.find import found_program
 from raceoffice.program.journal import Race, Series
 from raceoffice.program.replay import Line, not_run
@@ -21,11 +23,10 @@ from raceoffice.series.folder import Folder
 from raceoffice.series.headings import rating_columns
 from raceoffice.series.read_list import as_csv, bytes_of, name_of, table_of
 from raceoffice.series.sender import Sender
-from raceoffice.series.settings import lines_of, text_in
+from raceoffice.series.settings import lines_of
 from raceoffice.terminal import question, say
 from raceoffice.wording import count, duration
 
-WHO = "times"
 SHEETS, RULES = "times", "rules.ini"
 KEYS = {"times": {"system": "", "rounding": "half-up", "overnight": "", "program": ""}}
 SYSTEMS = {"tcf": "time on time", "py": "Portsmouth Yardstick", "tod": "time on distance"}
@@ -36,8 +37,8 @@ PATIENCE = 60.0
 FAULT = re.compile(r"times: (ratings|sheet) fault \d+ row (\d+): (.*)")
 NUMBER = "[0-9]{1,12}"
 SUM = re.compile(f"([A-Z0-9-]{{1,12}}) ({NUMBER}(?: [-+*/] {NUMBER})*) -> ([0-9]{{1,6}})")
-# The codes that only the jury gives.
-OF_JURY = ("DSQ", "DNE")
+# The note of a boat that the office doesn't know.
+STRANGER = "not entered: the office refuses her line"
 
 
 @dataclass(frozen=True)
@@ -52,7 +53,7 @@ class Rules:
     def read(cls, folder: Folder) -> Rules:
         """The rules of a series; a Trouble says what is wrong with them."""
         path = folder.file(SHEETS, RULES)
-        found, wrong = lines_of(text_in(path), f"{SHEETS}/{RULES}", KEYS)
+        found, wrong = lines_of(edited_text(path), f"{SHEETS}/{RULES}", KEYS)
         if wrong:
             raise Trouble("\n".join(wrong))
         values = KEYS["times"] | {key: value for key, (_, value) in found.items()}
@@ -117,20 +118,15 @@ def rated(data: bytes, path: str, race: int, system: str) -> Rated:
     table = table_of(data)
     begins = {first: at for first, at in rating_columns(table.heads, system).items() if first <= race}
     if not begins:
-        raise Trouble(f"{name_of(path)}, row {table.first}: no column of ratings. " + wanted_heading(system))
+        other = {"py": " or PY", "tcf": " or TCF"}.get(system, "")
+        raise Trouble(f"{name_of(path)}, row {table.first}: no column of ratings. It is headed Rating{other}")
     at = begins[max(begins)]
     sails = list(entry_list.boats_of(table))
     rows = [[sail, table.number(row, at)] for sail, (_, row) in zip(sails, table.rows)]
     return Rated(as_csv([["Sail", "Rating"], *rows]), tuple(number for number, _ in table.rows))
 
 
-def wanted_heading(system: str) -> str:
-    """How a column of ratings is headed."""
-    other = {"py": " or PY", "tcf": " or TCF"}.get(system, "")
-    return f"It is headed Rating{other}"
-
-
-def in_words(fault: str, sheet: str, ratings: str, rows: dict[str, Sequence[int]]) -> str:
+def program_fault(fault: str, sheet: str, ratings: str, rows: dict[str, Sequence[int]]) -> str:
     """What the program says of a list, with the file and its row. `rows` are the numbers of those that it
     was given."""
     found = FAULT.fullmatch(fault)
@@ -138,12 +134,10 @@ def in_words(fault: str, sheet: str, ratings: str, rows: dict[str, Sequence[int]
         return f"the program says {fault.removeprefix('times: ') or 'nothing'}"
     name = sheet if found[1] == "sheet" else ratings
     said = re.sub(r"^entries fault \d+: |,? (?:in|from) row \d+", "", found[3])
-    return f"{name}, row {row_at(int(found[2]), rows.get(found[1], ()))}: {said}"
-
-
-def row_at(number: int, rows: Sequence[int]) -> int:
-    """The number in a list of a row that the program was given: its first is that of the headings."""
-    return rows[number - 2] if 2 <= number < len(rows) + 2 else number
+    number, given = int(found[2]), rows.get(found[1], ())
+    # The first row that the program was given is that of the headings.
+    row = given[number - 2] if 2 <= number < len(given) + 2 else number
+    return f"{name}, row {row}: {said}"
 
 
 def sheet_name(race: int) -> str:
@@ -151,15 +145,11 @@ def sheet_name(race: int) -> str:
     return f"{SHEETS}/race-{race}.csv"
 
 
-class Times(Sender):
-    """A series with its sheets of times."""
+class Sheets:
+    """The sheets of times of a series, and what the program makes of them."""
 
-    def __init__(self, path: str) -> None:
-        super().__init__(path, WHO)
-        if not self.folder.settings.handicap:
-            self.close()
-            raise Trouble(f"{path} isn't a series by corrected time: its series.ini needs handicap = yes")
-        self.rules = Rules.read(self.folder)
+    def __init__(self, folder: Folder) -> None:
+        self.folder, self.rules = folder, Rules.read(folder)
 
     def races(self) -> list[int]:
         """The races that have a sheet of times."""
@@ -184,7 +174,7 @@ class Times(Sender):
         if done.returncode:
             rows = {"ratings": ratings.rows, "sheet": [entry.number for entry in timed]}
             said = done.stderr.decode("utf-8", "replace").strip()
-            raise Trouble(in_words(said, sheet_name(race), name_of(self.folder.entries), rows))
+            raise Trouble(program_fault(said, sheet_name(race), name_of(self.folder.entries), rows))
         head, *lines = done.stdout.decode("ascii", "replace").splitlines() or [""]
         found = [SUM.fullmatch(line) for line in lines]
         if head != f"RACE {race} {self.rules.rounding}" or not all(found):
@@ -202,17 +192,24 @@ class Times(Sender):
         except (OSError, subprocess.TimeoutExpired) as cause:
             raise not_run(self.rules.program, cause) from cause
 
-    def send(self, lines: list[str]) -> int:
-        """Sends lines as the scorer, up to the first that isn't taken; how many were."""
-        for at, line in enumerate(lines):
-            try:
-                say(f"   {line:<24} {self.answer(Line('SCORER', line))}")
-            except Trouble as why:
-                say(f"Stopped at {line}: {why}.")
-                for rest in lines[at:]:
-                    say(f"   not sent: {rest}")
-                return at
-        return len(lines)
+
+    def beside(self, race: int, journal: Sequence[str]) -> Compared:
+        """A race beside the journal."""
+        rows = self.rows(race)
+        timed = [entry for entry in rows if entry.is_timed]
+        others = [entry for entry in rows if not entry.is_timed]
+        return compared(race, self.times(race, timed), journal, others)
+
+
+class Times(Sender, Sheets):
+    """A series with its sheets of times, and the lines that its office is sent."""
+
+    def __init__(self, path: str) -> None:
+        Sender.__init__(self, path, "times")
+        if not self.folder.settings.handicap:
+            self.close()
+            raise Trouble(f"{path} isn't a series by corrected time: its series.ini needs handicap = yes")
+        Sheets.__init__(self, self.folder)
 
 
 @dataclass(frozen=True)
@@ -244,9 +241,12 @@ def time_beside(record: Race, time: Time) -> Beside:
 
 
 def code_beside(record: Race, entry: Entry) -> Beside:
-    """A code beside what the journal has of the boat. A time that she had goes after it is there."""
+    """A code beside what the journal has of the boat, or no code. A time that she had goes after it is
+    there."""
     was = record.codes.get(entry.sail, "")
     lines: list[str] = []
+    if not entry.code:
+        return Beside("no time and no code in the sheet")
     if entry.code in OF_JURY and was != entry.code:
         return Beside("the jury types this code")
     if was in OF_JURY and was != entry.code:
@@ -264,33 +264,22 @@ def compared(race: int, times: list[Time], journal: Sequence[str],
     """The corrected times and codes beside those of the journal. `others` are rows without a time."""
     series = Series.read(list(journal))
     record = series.race(race)
-    rows = [time_row(record, time, series.boats) for time in times]
-    rows += [other_row(record, entry, series.boats) for entry in others]
+    rows = [(time.sail, time_text(time), time_beside(record, time)) for time in times]
+    rows += [(entry.sail, f"{entry.code or '-':<36}", code_beside(record, entry)) for entry in others]
+    shown = [f"   {sail:<12} {text} {found.note if sail in series.boats else STRANGER}"
+             for sail, text, found in rows]
     named = {time.sail for time in times} | {entry.sail for entry in others}
     left = [f"   {sail:<12} isn't in the sheet, and stands as {record.times[sail]}"
             for sail in sorted(set(record.times) - named)]
-    return Compared((*(shown for shown, _ in rows), *left),
-                    tuple(line for _, found in rows for line in found.lines), record.counts)
+    return Compared((*shown, *left), tuple(line for _, _, found in rows for line in found.lines),
+                    record.counts)
 
 
-def time_row(record: Race, time: Time, boats: Sequence[str]) -> tuple[str, Beside]:
-    """What is shown of a boat with a time."""
-    found = time_beside(record, time)
+def time_text(time: Time) -> str:
+    """A boat's time with its sum."""
     # Cut and not rounded: a time just below a half has to look so.
     exact = f"{int(time.exact * 10000) / 10000:.4f}"
-    return (f"   {time.sail:<12} {time.sum:<36} {exact:>12} {time.seconds:>7}   {duration(time.seconds)}   "
-            f"{noted(found, time.sail, boats)}"), found
-
-
-def other_row(record: Race, entry: Entry, boats: Sequence[str]) -> tuple[str, Beside]:
-    """What is shown of a boat with a code, or with neither time nor code."""
-    found = code_beside(record, entry) if entry.code else Beside("no time and no code in the sheet")
-    return f"   {entry.sail:<12} {entry.code or '-':<36} {noted(found, entry.sail, boats)}", found
-
-
-def noted(found: Beside, sail: str, boats: Sequence[str]) -> str:
-    """The note of a boat, also if the office doesn't know her."""
-    return found.note if sail in boats else "not entered: the office refuses her line"
+    return f"{time.sum:<36} {exact:>12} {time.seconds:>7}   {duration(time.seconds)}  "
 
 
 def show(series: Times, race: int, found: Compared) -> None:
@@ -308,10 +297,7 @@ def run(series: Times, races: list[int], is_sent: bool) -> int:
     journal = series.sheet().journal
     lines: list[str] = []
     for race in races:
-        rows = series.rows(race)
-        timed = [entry for entry in rows if entry.is_timed]
-        others = [entry for entry in rows if not entry.is_timed]
-        found = compared(race, series.times(race, timed), journal, others)
+        found = series.beside(race, journal)
         show(series, race, found)
         lines += found.lines
     if not lines:
@@ -327,7 +313,11 @@ def run(series: Times, races: list[int], is_sent: bool) -> int:
     if series.sheet().journal != journal:
         say("Somebody else has typed meanwhile. Nothing was sent: send again.")
         return 1
-    return 0 if series.send(lines) == len(lines) else 1
+    left = series.send([Line("SCORER", line) for line in lines],
+                       lambda line, answer: say(f"   {line.text:<24} {answer}"))
+    for line in left:
+        say(f"   not sent: {line}")
+    return 1 if left else 0
 
 
 def races_of(series: Times, text: str) -> list[int]:

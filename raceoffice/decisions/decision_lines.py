@@ -13,8 +13,9 @@ from collections.abc import Sequence
 from dataclasses import dataclass
 
 from raceoffice.errors import NotThere
+from raceoffice.files import edited_text
 from raceoffice.series.entry_list import fault_of, plain
-from raceoffice.series.settings import rows_of, text_in
+from raceoffice.series.settings import rows_of
 from raceoffice.wording import joined
 
 NAME = "decisions.txt"
@@ -59,6 +60,11 @@ class Ruling:
 
     def __str__(self) -> str:
         return f"race {self.race} {self.sail} {self.kind} {self.how}".rstrip()
+
+    @property
+    def key(self) -> tuple[int, str]:
+        """What it is about: the race and the boat."""
+        return self.race, self.sail
 
     @property
     def label(self) -> str:
@@ -139,7 +145,7 @@ def rulings_of(text: str) -> tuple[list[Ruling], list[str]]:
         except ValueError as cause:
             wrong.append(f"{NAME}, line {at}: {cause}")
             continue
-        same = [other.line for other in found if (other.race, other.sail) == (ruling.race, ruling.sail)]
+        same = [other.line for other in found if other.key == ruling.key]
         if same:
             wrong.append(f"{NAME}, line {at}: line {same[0]} decides about {ruling.sail} in race "
                          f"{ruling.race} already")
@@ -151,12 +157,12 @@ def rulings_of(text: str) -> tuple[list[Ruling], list[str]]:
 def read(folder: str) -> str:
     """The text of a series' decisions; empty if there are none."""
     try:
-        return text_in(os.path.join(folder, NAME))
+        return edited_text(os.path.join(folder, NAME))
     except NotThere:
         return ""
 
 
-def in_words(ruling: Ruling, points: str) -> str:
+def ruling_text(ruling: Ruling, points: str) -> str:
     """A decision as a note says it: `Post-Race Penalty of 30%: 7.0 points`."""
     meaning = MEANING[ruling.kind]
     if ruling.kind in PENALTIES:

@@ -1,12 +1,12 @@
 """What each boat holds in each race by the journal, with the role that gave it to her."""
 from __future__ import annotations
 
+from collections import defaultdict
 from collections.abc import Sequence
 from dataclasses import dataclass, field
 
+from raceoffice.program.codes import OF_JURY
 from raceoffice.program.replay import Line
-
-HARD = ("DSQ", "DNE")
 
 
 @dataclass
@@ -23,7 +23,7 @@ class Holding:
     def take(self, role: str, command: str, what: str) -> None:
         """Follows one entry of the journal about her."""
         if command == "MARK":
-            if what in HARD:
+            if what in OF_JURY:
                 self.before = (self.code, self.role)
             self.code, self.role = what, role
         elif command == "PENALTY":
@@ -33,7 +33,7 @@ class Holding:
         elif command == "CLEAR":
             self.code, self.role, self.before, self.redress = "", "", ("", ""), ""
             self.penalties = []
-        self.was_decided |= command == "REDRESS" or what in HARD or \
+        self.was_decided |= command == "REDRESS" or what in OF_JURY or \
             (command == "PENALTY" and role == "JURY")
 
     @property
@@ -43,7 +43,7 @@ class Holding:
     @property
     def is_of_jury(self) -> bool:
         """Whether she holds anything that the jury gave her."""
-        return bool(self.redress or self.code in HARD
+        return bool(self.redress or self.code in OF_JURY
                     or any(role == "JURY" for _, role in self.penalties))
 
     @property
@@ -52,14 +52,13 @@ class Holding:
         return self.redress[:1].isdigit()
 
 
-def holdings(journal: Sequence[str]) -> dict[tuple[int, str], Holding]:
+def holdings(journal: Sequence[str]) -> defaultdict[tuple[int, str], Holding]:
     """What each boat holds, by race and sail."""
-    found: dict[tuple[int, str], Holding] = {}
+    found: defaultdict[tuple[int, str], Holding] = defaultdict(Holding)
     for entry in journal:
         _, _, role, command, *rest = entry.split()
         if command in ("MARK", "PENALTY", "REDRESS", "CLEAR"):
-            holding = found.setdefault((int(rest[0]), rest[1]), Holding())
-            holding.take(role, command, rest[2] if len(rest) > 2 else "")
+            found[int(rest[0]), rest[1]].take(role, command, rest[2] if len(rest) > 2 else "")
     return found
 
 
@@ -82,6 +81,6 @@ def reinstated(race: int, sail: str, held: Holding) -> list[Line]:
     """The lines that take away what the jury gave her, and leave what the committee did."""
     if not held.is_of_jury:
         return []
-    code, role = held.before if held.code in HARD else (held.code, held.role)
+    code, role = held.before if held.code in OF_JURY else (held.code, held.role)
     kept = Holding(code, role, penalties=[given for given in held.penalties if given[1] != "JURY"])
     return [cleared(race, sail), *restored(race, sail, kept)]

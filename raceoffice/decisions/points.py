@@ -9,16 +9,15 @@ from __future__ import annotations
 from collections.abc import Sequence
 from dataclasses import dataclass
 
-from raceoffice.decisions.decision_lines import AVERAGES, NAME, PENALTIES, Ruling, in_words, rulings_of
-from raceoffice.decisions.held import HARD, Holding, cleared, holdings, marked, reinstated, restored
+from raceoffice.decisions.decision_lines import AVERAGES, NAME, PENALTIES, Ruling, ruling_text, rulings_of
+from raceoffice.decisions.held import Holding, cleared, holdings, marked, reinstated, restored
 from raceoffice.errors import Trouble
+from raceoffice.program.codes import AS_DNF, OF_JURY
 from raceoffice.program.journal import Race, Series
 from raceoffice.program.replay import Line, scored
 from raceoffice.program.standing import Score, Standing
 from raceoffice.wording import joined, one_decimal
 
-# The codes whose points are the score for Did Not Finish, under RRS A5.2 and A5.3.
-AS_DNF = ("DNS", "OCS", "UFD", "BFD", "DNF", "RET", "DSQ", "DNE")
 OUT = ("TLE", "NSC")
 
 
@@ -57,8 +56,7 @@ class Decided:
     @property
     def labels(self) -> dict[tuple[int, str], str]:
         """What the cells of decisions show, by race and sail."""
-        return {(verdict.ruling.race, verdict.ruling.sail): verdict.ruling.label
-                for verdict in self.verdicts
+        return {verdict.ruling.key: verdict.ruling.label for verdict in self.verdicts
                 if verdict.ruling.label and (verdict.held or verdict.is_kept)}
 
     @property
@@ -72,17 +70,16 @@ class Decided:
         return [line for verdict in self.verdicts for line in verdict.lines]
 
     def verdict(self, race: int, sail: str) -> Verdict | None:
-        return next((verdict for verdict in self.verdicts
-                     if (verdict.ruling.race, verdict.ruling.sail) == (race, sail)), None)
+        return next((verdict for verdict in self.verdicts if verdict.ruling.key == (race, sail)), None)
 
 
 def words_of(verdict: Verdict) -> str:
     """A decision as a note on a page says it."""
-    said = in_words(verdict.ruling, verdict.held or verdict.points)
+    said = ruling_text(verdict.ruling, verdict.held or verdict.points)
     if verdict.is_kept:
         return said
     if verdict.why:
-        return f"{in_words(verdict.ruling, '')}. Not in the scores: {verdict.why}"
+        return f"{ruling_text(verdict.ruling, '')}. Not in the scores: {verdict.why}"
     wanted = f", and {verdict.points} by the scores as they are" if verdict.points else ""
     return f"{said}{wanted}. Out of date" if verdict.held else f"{said}. Not in the scores yet"
 
@@ -101,7 +98,7 @@ def weighed(program: str, options: list[str], journal: Sequence[str],
             rulings: list[Ruling]) -> list[Verdict]:
     """Each decision with its points and the lines that differ from what the journal holds."""
     held, series = holdings(journal), Series.read(list(journal))
-    barred = {ruling: why_barred(ruling, series, held_by(held, ruling)) for ruling in rulings}
+    barred = {ruling: why_barred(ruling, series, held[ruling.key]) for ruling in rulings}
     figures = figured(program, options, journal, rulings, barred)
     lost = {ruling: why for ruling, why in figures.why.items() if ruling.kind == "TLE"}
     if lost:
@@ -109,7 +106,7 @@ def weighed(program: str, options: list[str], journal: Sequence[str],
         barred |= lost
         figures = figured(program, options, journal, rulings, barred)
     return [Verdict(ruling, why=barred[ruling]) if barred[ruling]
-            else verdict(ruling, held_by(held, ruling), figures) for ruling in rulings]
+            else verdict(ruling, held[ruling.key], figures) for ruling in rulings]
 
 
 def figured(program: str, options: list[str], journal: Sequence[str], rulings: list[Ruling],
@@ -117,15 +114,11 @@ def figured(program: str, options: list[str], journal: Sequence[str], rulings: l
     """The figures of the decisions that aren't barred, with their points."""
     held = holdings(journal)
     open_ones = [ruling for ruling in rulings if not barred[ruling]]
-    base = [line for ruling in open_ones for line in without(ruling, held_by(held, ruling))]
+    base = [line for ruling in open_ones for line in without(ruling, held[ruling.key])]
     figures = Figures(program, options, journal, base, open_ones)
     for ruling in sorted(open_ones, key=lambda ruling: ruling.kind in AVERAGES):
         figures.work_out(ruling)
     return figures
-
-
-def held_by(held: dict[tuple[int, str], Holding], ruling: Ruling) -> Holding:
-    return held.get((ruling.race, ruling.sail), Holding())
 
 
 def why_barred(ruling: Ruling, series: Series, held: Holding) -> str:
@@ -134,7 +127,7 @@ def why_barred(ruling: Ruling, series: Series, held: Holding) -> str:
         return f"{ruling.sail} isn't entered"
     if ruling.kind == "REINSTATE":
         return "" if held.was_decided else "the jury has decided nothing about her there"
-    if held.code in HARD:
+    if held.code in OF_JURY:
         return f"she holds {held.code} there, which no points replace"
     if held.redress and not held.is_points:
         return f"she holds redress {held.redress} there, which isn't of {NAME}"
@@ -153,6 +146,18 @@ def without(ruling: Ruling, held: Holding) -> list[Line]:
     lines = [cleared(race, sail), *restored(race, sail, held)] if held.redress else []
     # A boat that is TLE or NSC isn't in the order: each boat behind her moves up (RRS A6.1).
     return lines + ([marked(race, sail, "DNF")] if ruling.kind in OUT and not held.code else [])
+
+
+def taken_out(ruling: Ruling, journal: Sequence[str]) -> list[Line]:
+    """The lines after which a journal has nothing of a decision that is taken out: her points go, and what was
+    beneath them is given back. The DNF of a boat with a place, which is TLE or NSC, goes too. What REINSTATE took
+    away doesn't come back."""
+    held, series = holdings(journal)[ruling.key], Series.read(list(journal))
+    is_placed = ruling.kind in OUT and held.code == "DNF" and series.race(ruling.race).is_in_order(ruling.sail)
+    if ruling.kind == "REINSTATE" or not (held.is_points or is_placed):
+        return []
+    kept = Holding("", "", penalties=held.penalties) if is_placed else held
+    return [cleared(ruling.race, ruling.sail), *restored(ruling.race, ruling.sail, kept)]
 
 
 def verdict(ruling: Ruling, held: Holding, figures: Figures) -> Verdict:
@@ -205,7 +210,7 @@ class Figures:
             return coded[0], []
         came = [sail for sail in self.series.boats if self.came(number, sail)] or self.series.boats
         marking = [marked(number, came[0], "DNF")]
-        if self.held.get((number, came[0]), Holding()).is_any:
+        if self.held[number, came[0]].is_any:
             return came[0], [cleared(number, came[0]), *marking]
         return came[0], marking
 
@@ -221,8 +226,7 @@ class Figures:
     def came(self, number: int, sail: str) -> bool:
         """Whether a boat came to the starting area: her status isn't DNC."""
         race = self.series.race(number)
-        has_place = any(sail in group for group in race.order)
-        return race.codes.get(sail, "" if has_place else "DNC") != "DNC"
+        return race.codes.get(sail, "" if race.is_in_order(sail) else "DNC") != "DNC"
 
     def work_out(self, ruling: Ruling) -> None:
         """Finds a decision's points, or why it has none."""
@@ -256,8 +260,7 @@ class Figures:
             self.why[ruling] = f"nobody finished in race {race}"
             return
         tenths = ruling.tenths if after is None else self.last[race] + 10 * after
-        held = self.held.get((race, ruling.sail), Holding())
-        tenths += sum(self.cost(race, kind) for kind, _ in held.penalties)
+        tenths += sum(self.cost(race, kind) for kind, _ in self.held[ruling.key].penalties)
         self.points[ruling] = one_decimal(min(tenths, self.dnf[race]))
 
     def cost(self, race: int, kind: str) -> int:
@@ -297,8 +300,7 @@ class Figures:
 
     def tenths(self, race: int, sail: str) -> int:
         """A boat's points in a race, by another decision if there is one."""
-        other = next((points for ruling, points in self.points.items()
-                      if (ruling.race, ruling.sail) == (race, sail)), "")
+        other = next((points for ruling, points in self.points.items() if ruling.key == (race, sail)), "")
         return Score(other, "", False).tenths if other else self.cells[race, sail].tenths
 
 

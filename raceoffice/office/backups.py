@@ -4,14 +4,16 @@ from __future__ import annotations
 
 import contextlib
 
-from raceoffice.errors import Trouble
+from raceoffice.errors import NotSent, Trouble
 from raceoffice.program.link import Sheet
 from raceoffice.series import copies
 from raceoffice.series.continuity import first_entries
 from raceoffice.series.folder import VERSION, Folder
 from raceoffice.series.kept_places import Places
 from raceoffice.series.run_program import replayed
-from raceoffice.series.second_folder import Second, places_copy_of
+from raceoffice.series.second_folder import Second, copy_of, places_copy_of
+from raceoffice.terminal import sentence
+from raceoffice.wording import count
 
 CHANGED = "journal.txt isn't what the office keeps: somebody has changed or replaced it"
 
@@ -31,6 +33,9 @@ class Backups:
         self.copied: tuple[int, object] = (-1, None)
         # Why there is no second copy, and what else should be known of it.
         self.trouble = self.note = ""
+        # The places as this window saw them last: their lines, and the state of their file.
+        self.noted: list[bytes] = []
+        self.noted_state: object = None
         # What the office has, and how journal.txt began when this window came.
         self.sheet = Sheet((), ())
         self.first: list[str] | None = None
@@ -39,10 +44,21 @@ class Backups:
         """Copies the journal; a Trouble if journal.txt isn't what the office keeps. A copy that fails
         is only remembered."""
         self.sheet = sheet
+        self.take_up_folder()
         if self.second.path and (self.copied != (len(sheet.journal), self.places.state()) or self.trouble):
             self.copy(sheet)
         if not self.is_kept():
             raise Trouble(CHANGED)
+
+    def take_up_folder(self) -> None:
+        """Takes up a second folder that the settings have come to name while the office is open, or leaves one."""
+        if self.second.path != copy_of(self.folder):
+            self.second.close()
+            self.second, self.copied, self.trouble, self.note = Second(self.folder), (-1, None), "", ""
+
+    def look_again(self) -> None:
+        """Has the copy looked at next time, although nothing is new: another stick may be in by then."""
+        self.copied = (-1, None)
 
     def copy(self, sheet: Sheet) -> None:
         """Copies the journal to the second disk, and remembers what is wrong with that."""
@@ -52,13 +68,43 @@ class Backups:
         self.trouble, self.copied = answer.fault or self.copy_places(), (len(sheet.journal), state)
         self.note = same_disk(self.second.path) if self.second.is_on_our_disk(answer) else ""
 
+    def take_up_places(self) -> bool:
+        """Takes up the places that the second folder has with this journal, if none is noted here: somebody
+        has put the copy of the journal back by hand. Whether there were any."""
+        if self.places.data():
+            return False
+        text = copies.places_with(self.folder, self.second, self.folder.parts()[0])
+        self.places.put_back(text)
+        return bool(text)
+
+    def guard_places(self) -> str:
+        """Puts places in again that somebody has taken out of their file; what is said of that, or nothing.
+        While an office is open lines are only added there."""
+        state = self.places.state()
+        if state == self.noted_state and (state or not self.noted):
+            return ""
+        try:
+            again, others = 0, ""
+            if self.noted and self.places.lines()[:len(self.noted)] != self.noted:
+                again, others = self.places.put_in_again(self.noted)
+            self.noted = self.places.lines()
+        except (Trouble, NotSent) as trouble:
+            return f"Beware: {sentence(trouble)}"
+        self.noted_state = state
+        if not again and not others:
+            return ""
+        verb, more = ("is" if again == 1 else "are",
+                      f" Not {others}: another finisher is called so by now." if others else "")
+        return (f"Beware: somebody has changed office/places. {count(again, 'line')} that it had {verb} there "
+                f"again.{more}")
+
     def copy_places(self) -> str:
         """Copies the places to the second disk; why that failed, or nothing."""
         try:
             text = self.places.text()
         except Trouble as trouble:
             return str(trouble)
-        return self.second.ask("save", text, places_copy_of(self.folder)).fault
+        return self.second.ask("save", text, places_copy_of(self.second)).fault
 
     def is_kept(self) -> bool:
         """Whether journal.txt is what the office has; a Trouble if it can't be read."""

@@ -5,27 +5,26 @@ It asks nobody, and needs no terminal: whoever opens an office hears what it say
 from __future__ import annotations
 
 import contextlib
-import os
-import shlex
 import time
 from collections.abc import Callable
 
 from raceoffice.errors import Fault, Trouble
-from raceoffice.faults import guarded, in_words
 from raceoffice.office.backups import Backups
-from raceoffice.office.process import LEAVE, Service
+from raceoffice.office.process import LEAVE, OfficeProcess
 from raceoffice.program.link import Sheet, remove_socket
 from raceoffice.series.continuity import note_of
 from raceoffice.series.folder import Folder, clock
 from raceoffice.series.health import is_full, remove_probes
-from raceoffice.series.lost_lines import unsaved
+from raceoffice.series.lost_lines import Unsaved
 from raceoffice.series.run_program import Program
 from raceoffice.series.windows import BOARD, TYPING, open_windows
-from raceoffice.terminal import Once, command_name, sentence
+from raceoffice.terminal import Once, sentence
+from raceoffice.traces import guarded, fault_sentence
 from raceoffice.wording import count
 
-# Seconds between two looks at the journal, at the door, and between two dated copies.
-LOOK, DOOR, DATED = 1.0, 60.0, 3600.0
+# Seconds between two looks at the journal, at a second folder that has all, at the door, and between two
+# dated copies.
+LOOK, SECOND, DOOR, DATED = 1.0, 10.0, 60.0, 3600.0
 NOBODY = "The office lets nobody in any more. Close it by Ctrl-C, and open it again."
 
 
@@ -50,9 +49,10 @@ class Keeping:
 
     def __init__(self, folder: Folder, say: Callable[[str], None], is_hurried: Callable[[], bool],
                  now: Callable[[], float] = time.monotonic) -> None:
-        self.folder, self.backups, self.service = folder, Backups(folder), Service(folder)
+        self.folder, self.backups, self.service = folder, Backups(folder), OfficeProcess(folder)
         self.say, self.is_hurried = say, is_hurried
-        self.looks, self.door, self.dated = Due(LOOK, now), Due(DOOR, now), Due(DATED, now)
+        self.looks, self.second = Due(LOOK, now), Due(SECOND, now)
+        self.door, self.dated = Due(DOOR, now), Due(DATED, now)
         self.once, self.warned = Once(), ""
 
     # Its beginning
@@ -64,8 +64,10 @@ class Keeping:
         remove_probes(self.folder)
         if remove_socket(self.folder.socket):
             self.say("The office wasn't closed properly last time. Its old socket has been removed.")
-        for text in unsaved(self.folder.kept(), self.folder.logged()).in_words():
+        for text in Unsaved.read(self.folder.kept(), self.folder.logged()).in_words():
             self.say(text)
+        if self.backups.take_up_places():
+            self.say("The places of finishers without a sail are taken up from the second folder.")
         self.service.start()
 
     def begin(self) -> None:
@@ -75,7 +77,12 @@ class Keeping:
 
     def note_opened(self) -> None:
         rules = " ".join(self.folder.settings.options())
-        self.folder.log("", "", rules, "opened", note_of(self.backups.data()))
+        self.folder.log("", "", rules, "opened", self.note())
+
+    def note(self) -> str:
+        """What the log notes of what the office has."""
+        self.say_once("places", self.backups.guard_places())
+        return note_of(self.backups.data(), self.backups.noted)
 
     # While it is open
 
@@ -95,7 +102,11 @@ class Keeping:
         return True
 
     def look(self) -> None:
-        """Copies what is new, and now and then makes a dated copy and looks at the door."""
+        """Sees that no place is lost, and copies what is new. Now and then it looks at the copy and at the door,
+        and makes a dated copy."""
+        self.say_once("places", self.backups.guard_places())
+        if self.second.has_come():
+            self.backups.look_again()
         self.save(self.service.link.sheet())
         if self.dated.has_come():
             self.keep_dated()
@@ -140,8 +151,8 @@ class Keeping:
         # On a full disk the program can't write what it says, either.
         why = ["The disk is full: make space."] if is_full(self.folder) else self.service.fault()
         self.folder.set_beware("")
-        self.say(" ".join([clock(), "The office has gone.", *why, *self.saved(), "Open it again: "
-                               f"{command_name()} open {shlex.quote(os.path.relpath(self.folder.path))}"]))
+        self.say(" ".join([clock(), "The office has gone.", *why, *self.saved(),
+                           f"Open it again: {self.folder.command('open')}"]))
         return 1
 
     def saved(self) -> list[str]:
@@ -175,7 +186,7 @@ class Keeping:
 
     def stop(self, cause: Exception, beside: str) -> str:
         """Stops the program although others are there; what `save_last` gives."""
-        why = sentence(cause if isinstance(cause, Trouble) else in_words(self.folder.path, cause))
+        why = sentence(cause if isinstance(cause, Trouble) else fault_sentence(self.folder.path, cause))
         with contextlib.suppress(Trouble):
             beside = beside or self.save_last(self.service.link.sheet())
         self.service.stop()
@@ -220,7 +231,7 @@ class Keeping:
         self.folder.set_closing(False)
         self.folder.set_beware("")
         try:
-            self.folder.log("", "", "", "closed", note_of(self.backups.data()))
+            self.folder.log("", "", "", "closed", self.note())
         except Trouble as trouble:
             said.append(sentence(trouble))
         self.say(" ".join([clock(), "Closed.", *said]))

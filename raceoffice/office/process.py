@@ -5,18 +5,21 @@ import contextlib
 import os
 import signal
 import subprocess
+import threading
 import time
-from collections.abc import Iterator
+from collections.abc import Callable, Iterator
 
 from raceoffice import system
 from raceoffice.errors import Gone, Trouble
-from raceoffice.files import PRIVATE, opened_as_ours, opened_at_once, replace_whole
+from raceoffice.files import PRIVATE, opened_as_ours, opened_at_once, replace_whole, text_if_any
 from raceoffice.program.link import Link, remove_socket
 from raceoffice.program.messages import cut_note, without_note
 from raceoffice.series.folder import Folder, Lock
 from raceoffice.series.run_program import Program, serve_words
 from raceoffice.series.windows import OFFICE, Presence, open_windows
-from raceoffice.terminal import question, say
+from raceoffice.session.dialogue import Question
+from raceoffice.session.question_words import question
+from raceoffice.terminal import say
 
 # The number of clients after which the program ends. Closing uses up the rest, so that it ends by
 # itself, with its table.
@@ -30,7 +33,7 @@ TRIES, BETWEEN = 5, 0.3
 TAKEN = "regatta: keep taken"
 
 
-class Service:
+class OfficeProcess:
     """The program that serves a series, and this window's link to it."""
 
     def __init__(self, folder: Folder) -> None:
@@ -72,6 +75,8 @@ class Service:
     def spawn(self) -> None:
         """Starts the program, and links to it. It gets a session of its own, so that Ctrl-C in this
         window doesn't reach it."""
+        # Nobody takes the program over from this window before it is noted.
+        self.show()
         with open(self.file("table"), "wb", opener=opened_as_ours) as table, \
                 open(self.file("fault"), "wb", opener=opened_as_ours) as fault, stops_deferred():
             # A file that may not grow is a failed write then: Python leaves SIGXFSZ ignored.
@@ -99,12 +104,11 @@ class Service:
                 time.sleep(0.02)
         raise Trouble("the office doesn't open its socket")
 
-    def take_over(self) -> None:
+    def take_over(self, ask: Callable[[Question], bool]) -> None:
         """Goes on with a program whose window has gone; a Trouble if it has one, or comes to have one while
         this is asked."""
         number, since = self.without_window()
-        if not question(f"The office is open since {since}, but its window has gone. Take it over?",
-                        True):
+        if not ask(question("take-over", str, since=since.removeprefix(" since "))):
             raise Trouble("the office goes on without a window")
         if self.without_window()[0] != number:
             raise Trouble("the office was opened anew meanwhile")
@@ -112,23 +116,36 @@ class Service:
         self.note_pid()
 
     def without_window(self) -> tuple[int, str]:
-        """The process of a program that has no window, and since when it is open; else a Trouble. The
-        numbers may be those of an earlier opening, and its process another by now."""
-        try:
-            with open(self.file("pid"), encoding="ascii", opener=opened_at_once) as file:
-                number, window, since = file.read().split()
-            program = int(number)
-        except (OSError, ValueError):
-            raise Trouble("the office is being opened in another window") from None
-        if window in open_windows(self.folder, OFFICE):
+        """The process of a program that has no window, and since when it is open if that is noted; else a
+        Trouble."""
+        number, window, since = self.noted()
+        windows = open_windows(self.folder, OFFICE)
+        if window in windows:
             raise Trouble(f"the office is open in another window, since {since} (process {window})")
-        if not self.is_program(program):
+        if self.is_program(number):
+            return number, f" since {since}"
+        # Its window may have been killed before it noted the program.
+        found = self.programs()
+        if windows or not found:
             raise Trouble("the office is being opened in another window")
-        return program, since
+        return found[0], ""
+
+    def noted(self) -> tuple[int, str, str]:
+        """What is noted of the program: its process, that of its window, and since when it is open. It may
+        be of an earlier opening, and another process have its number by now."""
+        with contextlib.suppress(OSError, ValueError), \
+                open(self.file("pid"), encoding="ascii", opener=opened_at_once) as file:
+            number, window, since = file.read().split()
+            return int(number), window, since
+        return 0, "", ""
 
     def is_program(self, number: int) -> bool:
         """Whether a process is the program that serves this series: it works in the folder of its socket."""
         return b"serve" in system.command_line_of(number) and system.works_in(number, self.file())
+
+    def programs(self) -> list[int]:
+        """The processes that are the program, whether or not they were noted."""
+        return [number for number in system.processes() if self.is_program(number)]
 
     def link_again(self) -> None:
         """Links to the program once more, if it lets somebody in."""
@@ -136,9 +153,13 @@ class Service:
         with contextlib.suppress(Trouble):
             self.link = self.folder.link()
 
+    def show(self) -> None:
+        """Shows that this window is open."""
+        self.presence = self.presence or Presence(self.folder, OFFICE)
+
     def note_pid(self) -> None:
         """Notes the program's process and this window's."""
-        self.presence = self.presence or Presence(self.folder, OFFICE)
+        self.show()
         replace_whole(self.file("pid"), f"{self.number} {os.getpid()} {time.strftime('%H:%M')}\n".encode())
 
     # What it says
@@ -148,10 +169,7 @@ class Service:
 
     def said(self) -> str:
         """What the program has said on standard error; nothing if it can't be read."""
-        with contextlib.suppress(OSError), \
-                open(self.file("fault"), encoding="utf-8", errors="replace", opener=opened_at_once) as file:
-            return file.read()
-        return ""
+        return text_if_any(self.file("fault"))
 
     def fault(self) -> list[str]:
         """Why the program ended by itself, in words; none if it didn't say."""
@@ -160,10 +178,7 @@ class Service:
 
     def table(self) -> str:
         """What the program has printed: its table, once it has ended; nothing if it can't be read."""
-        with contextlib.suppress(OSError), \
-                open(self.file("table"), encoding="utf-8", errors="replace", opener=opened_at_once) as file:
-            return file.read().rstrip()
-        return ""
+        return text_if_any(self.file("table")).rstrip()
 
     def is_over(self) -> bool:
         """Whether the program has ended. It holds the lock as long as it lives."""
@@ -237,7 +252,10 @@ class Service:
 @contextlib.contextmanager
 def stops_deferred() -> Iterator[None]:
     """Lets a signal that ends this window come only after the program that it starts has been noted: else
-    the program would stay, and nobody would know of it."""
+    the program would stay, and nobody would know of it. Signals come to the main thread, and end no other."""
+    if threading.current_thread() is not threading.main_thread():
+        yield
+        return
     handlers = {number: signal.getsignal(number) for number in system.STOPS}
     caught = {number: handler for number, handler in handlers.items() if callable(handler)}
     came: list[int] = []

@@ -5,7 +5,6 @@ It outlives its terminal: what it says then is heard by nobody, and the office i
 from __future__ import annotations
 
 import contextlib
-import dataclasses
 import signal
 import sys
 import time
@@ -13,21 +12,21 @@ from collections.abc import Callable
 
 from raceoffice import system
 from raceoffice.errors import Trouble
-from raceoffice.faults import guarded
+from raceoffice.office.before_opening import is_meant
 from raceoffice.office.keeping import Keeping
-from raceoffice.program.messages import moved
-from raceoffice.series import entry_list
-from raceoffice.series.continuity import difference
 from raceoffice.series.folder import Folder, clock
-from raceoffice.series.health import changes_of_rules, notes, rules_before, summary
+from raceoffice.series.health import notes, summary
 from raceoffice.series.kept_places import kept_in_words
-from raceoffice.series.run_program import rules_of
 from raceoffice.series.windows import TYPING, open_windows
-from raceoffice.terminal import TYPED, YES_OR_NO, is_yes, question, say, say_if_heard, sentence
+from raceoffice.session.dialogue import Question
+from raceoffice.terminal import TYPED, YES_OR_NO, is_yes, question, say, say_if_heard, say_what_waits, sentence
+from raceoffice.traces import guarded
 from raceoffice.wording import count
 
 # Seconds between two looks for a signal.
 TICK = 0.2
+# Seconds that a terminal has to take what is said last.
+LAST = 2.0
 
 
 class OfficeWindow(Keeping):
@@ -42,10 +41,10 @@ class OfficeWindow(Keeping):
         """Opens the office, and is its window until it is closed; the status."""
         with contextlib.closing(self.backups.second):
             if self.service.lock.is_taken():
-                self.service.take_over()
+                self.service.take_over(lambda asked: question(asked.text, True))
                 self.folder.set_closing(False)
                 self.folder.set_beware("")
-            elif not (self.is_continued() and self.is_agreed()):
+            elif not is_meant(self.folder, say, ask):
                 say("Nothing was opened.")
                 return 1
             else:
@@ -55,27 +54,9 @@ class OfficeWindow(Keeping):
             except BaseException:
                 self.service.undo_start()
                 raise
-            return self.stay()
-
-    def is_continued(self) -> bool:
-        """Whether journal.txt goes on from what the office had, or somebody opens it all the same."""
-        text = difference(self.folder)
-        if not text:
-            return True
-        say(text)
-        return question("Open the office all the same?")
-
-    def is_agreed(self) -> bool:
-        """Whether the rules are those of the last opening, or somebody agrees to what they move."""
-        before = rules_before(self.folder)
-        if not before:
-            return True
-        rules = dataclasses.replace(self.folder.settings, **rules_of(before))
-        say(f"The rules were: {rules.in_words()}\nThey are now: {self.folder.settings.in_words()}")
-        names = entry_list.read_if_there(self.folder.entries)
-        for change in changes_of_rules(self.folder, before):
-            say(f"   {moved(change, str(names.get(change.after.sail, change.after.sail)))}")
-        return question("Go on with the new rules?")
+            status = self.stay()
+            say_what_waits(LAST)
+            return status
 
     def start(self) -> None:
         """Opens the office. A signal that comes meanwhile ends both."""
@@ -101,6 +82,7 @@ class OfficeWindow(Keeping):
         """Copies the journal until the office is closed or has gone; the status."""
         while True:
             time.sleep(TICK)
+            say_what_waits()
             number = system.stop_that_waits()
             if number and self.is_to_close(number):
                 return self.close()
@@ -122,6 +104,7 @@ class OfficeWindow(Keeping):
         try:
             with guarded(self.folder.path):
                 windows = list(open_windows(self.folder, TYPING).values())
+                self.say_once("places", self.backups.guard_places())
                 kept = kept_in_words(self.folder)
         except Trouble as trouble:
             return f"Beware: {sentence(trouble)}"
@@ -132,9 +115,12 @@ class OfficeWindow(Keeping):
 
     def is_yes(self, text: str) -> bool:
         """Whether somebody says yes. Ctrl-C and the end of the input are no; any other signal closes the
-        office without an answer. The journal is copied while the question waits."""
+        office without an answer. The journal is copied while the question waits. What was typed before the
+        question is no answer to it."""
+        forget_typed()
         say_if_heard(text, end="")
         while True:
+            say_what_waits()
             given = typed_now()
             meant = None if given is None else is_yes(given)
             if meant is not None:
@@ -147,6 +133,19 @@ class OfficeWindow(Keeping):
             if self.looks.has_come() and not self.goes_on():
                 say_if_heard("")
                 return False
+
+
+def ask(asked: Question) -> bool:
+    """Whether somebody says yes; Enter alone is no."""
+    return question(asked.text)
+
+
+def forget_typed() -> None:
+    """Says what was typed when nothing was asked, and forgets it."""
+    if sys.stdin.isatty():
+        for line in (TYPED.taken() + system.take_typed()).decode("utf-8", "replace").splitlines():
+            if line.strip():
+                say_if_heard(f"No answer, since it came before the question: {line[:80]}")
 
 
 def typed_now() -> str | None:

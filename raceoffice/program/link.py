@@ -9,7 +9,7 @@ from dataclasses import dataclass
 
 from raceoffice import system
 from raceoffice.characters import utf8
-from raceoffice.errors import Gone, NoSeat, Trouble
+from raceoffice.errors import Gone, NoSeat, Trouble, as_trouble
 
 # How long an answer may take, in seconds, and how many bytes of one are read at most. A sheet of
 # 500 boats, 40 races and 8,192 entries has less than a quarter of that.
@@ -38,11 +38,16 @@ def unreachable(path: str, cause: OSError) -> Trouble:
 class Link:
     """One client of the office: it asks one line at a time, and reads the whole answer."""
 
-    def __init__(self, path: str, patience: float = PATIENCE) -> None:
+    def __init__(self, path: str, patience: float | None = None) -> None:
         self.lines: collections.deque[str] = collections.deque()
-        self.rest, self.patience = b"", patience
-        self.socket = system.socket_of_office()
-        self.socket.settimeout(patience)
+        self.rest, self.patience = b"", PATIENCE if patience is None else patience
+        # Whether something was asked whose whole answer wasn't read, as after Ctrl-C.
+        self.is_owed = False
+        try:
+            self.socket = system.socket_of_office()
+        except OSError as cause:
+            raise unreachable(path, cause) from None
+        self.socket.settimeout(self.patience)
         try:
             with system.short_name(path) as name:
                 self.socket.connect(name)
@@ -79,7 +84,17 @@ class Link:
         return text
 
     def ask(self, line: str) -> str:
-        """The answer to a line; of SHOW the first line of it."""
+        """The answer to a line, which has one line itself."""
+        answer = self.begun(line)
+        self.is_owed = False
+        return answer
+
+    def begun(self, line: str) -> str:
+        """The first line of the answer to a line. Until all of it is read nothing else is asked: what comes
+        late would be taken for the answer to that."""
+        if self.is_owed:
+            raise Trouble("the office still owes an answer")
+        self.is_owed = True
         try:
             self.socket.sendall(utf8(line) + b"\n")
         except TimeoutError:
@@ -91,7 +106,7 @@ class Link:
 
     def sheet(self) -> Sheet:
         """The journal's lines and the table's."""
-        words = (first := self.ask("SHOW")).split()
+        words = (first := self.begun("SHOW")).split()
         if len(words) != 2 or words[0] != "JOURNAL" or not re.fullmatch("[0-9]{1,9}", words[1]):
             raise Trouble(f"the office doesn't show its journal: it said {first[:60]!r}")
         lines: list[str] = []
@@ -104,12 +119,15 @@ class Link:
         journal, table = lines[:int(words[1])], lines[int(words[1]):-1]
         if not table or not table[0].startswith("TABLE "):
             raise Trouble(f"what answers there is no office: it said {first[:60]!r}")
+        self.is_owed = False
         return Sheet(tuple(journal), tuple(table))
 
     def heard(self) -> Trouble:
-        """What came although nothing was asked: why the office ended this link."""
-        text = self.line()
-        return Trouble(f"the office said {text!r}, which nobody had asked for")
+        """Why the office ended this link: what came although nothing was asked."""
+        try:
+            return Trouble(f"the office said {self.line()!r}, which nobody had asked for")
+        except Trouble as trouble:
+            return trouble
 
 
 def remove_socket(path: str) -> bool:
@@ -133,10 +151,8 @@ def remove_socket(path: str) -> bool:
     if found:
         raise Trouble(f"an office is still there with its last clients: it lets nobody in at {path} "
                       "any more, and ends when they leave. The file stays until then")
-    try:
+    with as_trouble(f"{path} can't be removed"):
         os.remove(path)
-    except OSError as cause:
-        raise Trouble(f"{path} can't be removed: {cause.strerror}") from None
     return True
 
 

@@ -3,7 +3,9 @@ from __future__ import annotations
 
 import os
 import re
+from collections.abc import Mapping
 
+from raceoffice.files import text_if_any
 from raceoffice.program.standing import Change, Row, Score
 from raceoffice.wording import count, ordinal
 
@@ -60,6 +62,8 @@ KEPT = {
     "fault": "journal.txt can't be opened, or can't be put on the disk. Is the disk full? May this "
              "account write the file? It must be a plain file with one name, and nobody else may change, "
              "move or remove it while the office is open.",
+    "fault: no space left": "The disk is full: make space.",
+    "fault: no permission": "This account may not write journal.txt, or a file beside it.",
     "too long": "journal.txt is longer than 1,048,576 bytes.",
     "damaged after line 0": NO_JOURNAL,
     r"damaged after line (\d+)": DAMAGED,
@@ -118,26 +122,43 @@ def start_fault(said: str, journal: str, entries: str) -> list[str]:
 
 def line_of(path: str, number: int) -> str:
     """A line of a file, cut after 80 letters; empty if there is none."""
-    try:
-        with open(path, encoding="utf-8", errors="replace") as file:
-            return next((line.rstrip("\n")[:80] for at, line in enumerate(file, 1)
-                         if at == number), "")
-    except OSError:
-        return ""
+    lines = text_if_any(path).split("\n")
+    return "".join(lines[number - 1:number])[:80]
 
 
 def rank_of(row: Row) -> str:
-    return ordinal(row.rank) + (" (tied)" if row.shared else "")
+    return rank_words(row.rank, row.shared)
+
+
+def rank_words(rank: object, is_tied: object) -> str:
+    return ordinal(int(str(rank))) + (" (tied)" if is_tied else "")
 
 
 def score_of(score: Score) -> str:
     return score.points + (f"/{score.code}" if score.code else "")
 
 
+def move_values(change: Change) -> dict[str, str | int | tuple[str, ...]]:
+    """How a boat moved, as values: her rank, her net and her scores."""
+    was, now = change.before, change.after
+    return {"sail": now.sail, "was": was.rank, "was_tied": was.shared, "rank": now.rank, "tied": now.shared,
+            "before": was.net, "net": now.net, "races": tuple(str(number) for number, _, _ in change.races),
+            "scores_before": tuple(score_of(score) for _, score, _ in change.races),
+            "scores": tuple(score_of(score) for _, _, score in change.races)}
+
+
+def move_words(boat: str, values: Mapping[str, object]) -> str:
+    """How a boat moved, in words."""
+    was, now = rank_words(values["was"], values["was_tied"]), rank_words(values["rank"], values["tied"])
+    rank = f"{was} to {now}" if was != now else now
+    before, net = values["before"], values["net"]
+    points = f"net {before} to {net}" if before != net else f"net {net}"
+    races, scores_before, scores = values["races"], values["scores_before"], values["scores"]
+    assert isinstance(races, tuple) and isinstance(scores_before, tuple) and isinstance(scores, tuple)
+    cells = [f"race {number}: {a} to {b}" for number, a, b in zip(races, scores_before, scores)]
+    return f"{boat}: {rank}, {points}" + (f" ({'; '.join(cells)})" if cells else "")
+
+
 def moved(change: Change, boat: str) -> str:
     """How a boat moved: her rank, her net and her scores."""
-    was, now = change.before, change.after
-    rank = f"{rank_of(was)} to {rank_of(now)}" if rank_of(was) != rank_of(now) else rank_of(now)
-    net = f"net {was.net} to {now.net}" if was.net != now.net else f"net {now.net}"
-    cells = [f"race {number}: {score_of(a)} to {score_of(b)}" for number, a, b in change.races]
-    return f"{boat}: {rank}, {net}" + (f" ({'; '.join(cells)})" if cells else "")
+    return move_words(boat, move_values(change))

@@ -8,6 +8,7 @@ import itertools
 import os
 import re
 import signal
+import stat
 import subprocess
 import threading
 from collections.abc import Callable, Sequence
@@ -179,6 +180,8 @@ def digest_of(program: str) -> str:
     try:
         found = os.stat(program)
         key = (os.path.realpath(program), found.st_mtime_ns, found.st_size)
+        if not stat.S_ISREG(found.st_mode):
+            return ""
         if key not in KNOWN:
             with open(program, "rb") as file:
                 KNOWN[key] = hashlib.sha256(file.read()).hexdigest()

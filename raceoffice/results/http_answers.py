@@ -7,6 +7,7 @@ from __future__ import annotations
 import base64
 import gzip
 import hashlib
+import http
 import re
 import socket
 import urllib.parse
@@ -19,9 +20,6 @@ from raceoffice.results.html import assets
 
 # How many bytes a request may have.
 LARGEST = 8192
-REASONS = {200: "OK", 301: "Moved Permanently", 304: "Not Modified", 400: "Bad Request",
-           404: "Not Found", 405: "Method Not Allowed", 408: "Request Timeout",
-           431: "Request Header Fields Too Large"}
 WORDS = {301: "The page is at the address with a slash at its end.",
          400: "This isn't a request that is answered here.",
          404: "There is no such page here.", 405: "This board can only be read.",
@@ -98,7 +96,7 @@ def address_of(path: str) -> str:
 
 
 def with_head(status: int, fields: Mapping[str, str], body: bytes = b"") -> bytes:
-    lines = [f"HTTP/1.1 {status} {REASONS[status]}", f"Date: {formatdate(usegmt=True)}",
+    lines = [f"HTTP/1.1 {status} {http.HTTPStatus(status).phrase}", f"Date: {formatdate(usegmt=True)}",
              *(f"{name}: {value}" for name, value in {**SAFE, **fields}.items()),
              "Connection: close"]
     return "\r\n".join([*lines, "", ""]).encode("latin-1") + body

@@ -9,7 +9,7 @@ from raceoffice.program.standing import Row, Score
 from raceoffice.results.html.overall import tie_words
 from raceoffice.results.html.page import MEANING
 from raceoffice.results.html.sealing import seal_words
-from raceoffice.results.snapshot import View
+from raceoffice.results.snapshot import Snapshot
 from raceoffice.wording import count
 
 COLUMNS = 72
@@ -27,7 +27,7 @@ def cell(number: int, score: Score) -> str:
     return f"R{number}\u00a0{text}"
 
 
-def row_lines(view: View, row: Row) -> list[str]:
+def row_lines(view: Snapshot, row: Row) -> list[str]:
     """A boat: rank, sail, names and net, and below them her scores."""
     boat = view.boat(row.sail)
     rank = f"{row.rank}{'=' if row.shared else ''}" if view.standing.races else "-"
@@ -42,10 +42,9 @@ def row_lines(view: View, row: Row) -> list[str]:
             *(line.replace("\u00a0", " ") for line in wrapped(scores + total, " " * 5, " " * 5))]
 
 
-def heading(view: View) -> list[str]:
+def heading(view: Snapshot) -> list[str]:
     shown = view.settings
-    title = f"{shown.title}: {shown.group}" if shown.group else shown.title
-    lines = wrapped(title) + [("=" * min(COLUMNS, len(title)))]
+    lines = wrapped(view.title) + [("=" * min(COLUMNS, len(view.title)))]
     lines += wrapped(shown.club) if shown.club else []
     lines += wrapped(f"{shown.state.capitalize()}. Last changed {view.when(view.changed)}.")
     lines += wrapped(shown.reason) if shown.reason else []
@@ -54,7 +53,7 @@ def heading(view: View) -> list[str]:
     return lines
 
 
-def notes(view: View) -> list[str]:
+def notes(view: Snapshot) -> list[str]:
     """Ties, decisions and abbreviations."""
     found = [(tie_words(view, group), "Tie: ") for group in view.ties()]
     found += [(f"{words_of(each)}.", f"Race {each.ruling.race}, {view.boat(each.ruling.sail).sail}: ")
@@ -66,7 +65,7 @@ def notes(view: View) -> list[str]:
     return [line for text, name in found for line in wrapped(name + text, "", "  ")]
 
 
-def one_class(view: View) -> str:
+def one_class(view: Snapshot) -> str:
     """One class."""
     stale = [line for text in view.decided.stale for line in wrapped(f"! {text}.", "", "  ")]
     stale = ["DECISIONS THAT THESE SCORES DON'T HAVE AS THEY SHOULD:", *stale, ""] if stale else []
@@ -77,6 +76,6 @@ def one_class(view: View) -> str:
                       "-" * COLUMNS, *notes(view), "", *below, ""])
 
 
-def mail(views: Sequence[View]) -> str:
+def mail(views: Sequence[Snapshot]) -> str:
     """All classes."""
     return "\n\n".join(map(one_class, views))

@@ -11,14 +11,14 @@ import urllib.parse
 from collections.abc import Callable, Mapping
 from dataclasses import dataclass
 
-from raceoffice.errors import Trouble
+from raceoffice.errors import as_trouble
 from raceoffice.files import replace_whole
 from raceoffice.results.html import listing, page
 from raceoffice.results.html.overall import overall
 from raceoffice.results.html.race import one_race
 from raceoffice.results.html.sealing import version_of
-from raceoffice.results.snapshot import View, labels_of, as_json, now_json, results_csv, results_value
-from raceoffice.results.source import Source
+from raceoffice.results.snapshot import Snapshot, labels_of, as_json, now_json, results_csv, results_value
+from raceoffice.results.source import ResultsSource
 
 HTML, CSV, JSON = "text/html; charset=utf-8", "text/csv; charset=utf-8", "application/json"
 # The least seconds between two writings of a file that has only been confirmed.
@@ -37,11 +37,11 @@ class Made:
 class Site:
     """The pages of some series. One is made when what it shows changes, and only then."""
 
-    def __init__(self, sources: list[Source], is_once: bool = False) -> None:
+    def __init__(self, sources: list[ResultsSource], is_once: bool = False) -> None:
         self.sources, self.is_once = sources, is_once
         self.made: dict[str, Made] = {}
 
-    def office(self, source: Source) -> str:
+    def office(self, source: ResultsSource) -> str:
         """Where the results of a series come from; pages that are made once aren't kept up to date."""
         return "once" if self.is_once else source.office
 
@@ -53,12 +53,12 @@ class Site:
         if old and old.key == key and not fresh:
             return old.stamped
         plain = old.plain if old and old.key == key else make()
-        stamped = {address: (HTML, page.stamped(text, checked, office))
+        stamped = {address: (HTML, page.confirmed(text, checked.isoformat(), office).encode())
                    for address, text in plain.items()}
         self.made[name] = Made(key, plain, stamped)
         return stamped
 
-    def of_series(self, view: View) -> dict[str, str]:
+    def of_series(self, view: Snapshot) -> dict[str, str]:
         """The pages of one series; alone, it is at the top as well."""
         here, is_among = f"/{view.address}/", len(self.sources) > 1
         found = {f"{here}race-{number}.html": one_race(view, number, is_among)
@@ -68,7 +68,7 @@ class Site:
             found["/index.html"] = overall(view, is_top=True)
         return found
 
-    def front(self, views: list[View], fresh: bool) -> dict[str, tuple[str, bytes]]:
+    def front(self, views: list[Snapshot], fresh: bool) -> dict[str, tuple[str, bytes]]:
         """The list of several series, with what its script asks for."""
         if len(self.sources) == 1:
             return {}
@@ -96,7 +96,7 @@ class Site:
             version = version_of(view)
             found |= self.kept(view.name, version, functools.partial(self.of_series, view), fresh,
                                source.checked, self.office(source))
-            found |= {f"{here}results.csv": (CSV, results_csv(view)),
+            found |= {f"{here}results.csv": (CSV, results_csv([view])),
                       f"{here}results.json": (JSON, as_json(results_value(view, version))),
                       f"{here}now.json": (JSON, now_json(version, source.checked,
                                                          self.office(source)))}
@@ -126,7 +126,8 @@ class Files:
         for address in sorted(texts, key=lambda address: address.endswith("/now.json")):
             self.put(address, texts[address][1])
         for address in self.old_pages(texts):
-            remove(self.path(address))
+            with as_trouble(f"{self.path(address)} can't be removed"):
+                os.remove(self.path(address))
             self.written.pop(address, None)
 
     def old_pages(self, texts: Mapping[str, object]) -> list[str]:
@@ -147,16 +148,7 @@ class Files:
         if self.written.get(address) == data:
             return
         path = self.path(address)
-        try:
+        with as_trouble(f"{os.path.dirname(path)} can't be made"):
             os.makedirs(os.path.dirname(path), exist_ok=True)
-        except OSError as cause:
-            raise Trouble(f"{os.path.dirname(path)} can't be made: {cause.strerror}") from None
         replace_whole(path, data, True)
         self.written[address] = data
-
-
-def remove(path: str) -> None:
-    try:
-        os.remove(path)
-    except OSError as cause:
-        raise Trouble(f"{path} can't be removed: {cause.strerror}") from None

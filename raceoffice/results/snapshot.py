@@ -22,7 +22,7 @@ CHANGED = "The results have changed since they were declared {}."
 
 
 @dataclass(frozen=True)
-class View:
+class Snapshot:
     """One series at one moment; `key` is all that it was made from.
 
     `journal` and `program`, the SHA-256 of the program's file, are what a page carries for those who
@@ -51,6 +51,12 @@ class View:
     def label(self) -> str:
         """What the series is called among others."""
         return self.settings.group or self.settings.title
+
+    @property
+    def title(self) -> str:
+        """The series, with its class if it has one."""
+        shown = self.settings
+        return f"{shown.title}: {shown.group}" if shown.group else shown.title
 
     @property
     def address(self) -> str:
@@ -128,13 +134,13 @@ class View:
     def when(self, moment: datetime.datetime) -> str:
         """A moment with its zone and the hours from UTC, as `Thu 26 Nov 2026, 08:52 WET (UTC+0)`."""
         if self.settings.zone:
-            return time_zones.in_words(self.local(moment))
+            return time_zones.moment_text(self.local(moment))
         if self.said and moment == self.changed:
             return self.said
         return time_zones.of_computer(moment)
 
 
-def labels_of(views: Sequence[View]) -> list[str]:
+def labels_of(views: Sequence[Snapshot]) -> list[str]:
     """What each series is called, with its folder's name if another is called the same."""
     labels = [view.label for view in views]
     return [label if labels.count(label) == 1 else f"{label} ({view.name})"
@@ -154,7 +160,7 @@ def labelled(standing: Standing, labels: dict[tuple[int, str], str]) -> Standing
 HEADS = ["rank", "tied", "sail", "helm", "boat", "club", "net", "total"]
 
 
-def csv_row(view: View, row: Row, races: Sequence[int]) -> list[Cell]:
+def csv_row(view: Snapshot, row: Row, races: Sequence[int]) -> list[Cell]:
     """A boat's row: names, then points, code and whether it is excluded of each of these races."""
     boat = view.boat(row.sail)
     found = dict(zip(view.standing.races, row.scores))
@@ -176,13 +182,21 @@ def csv_heads(races: Sequence[int]) -> list[Cell]:
     return [*HEADS, *(f"R{number}{what}" for number in races for what in ("", " code", " excluded"))]
 
 
-def results_csv(view: View) -> bytes:
-    """A row for each boat."""
-    races = view.standing.races
-    return csv_of([csv_heads(races), *(csv_row(view, row, races) for row in view.standing.rows)])
+def csv_rows(views: Sequence[Snapshot]) -> list[list[Cell]]:
+    """The headings, and a row for each boat; of several series the first column says which."""
+    races = sorted({race for view in views for race in view.standing.races})
+    rows = [(label, csv_row(view, row, races)) for label, view in zip(labels_of(views), views)
+            for row in view.standing.rows]
+    if len(views) == 1:
+        return [csv_heads(races), *(row for _, row in rows)]
+    return [["class", *csv_heads(races)], *([label, *row] for label, row in rows)]
 
 
-def results_value(view: View, version: str) -> dict[str, object]:
+def results_csv(views: Sequence[Snapshot], semicolons: bool = False) -> bytes:
+    return csv_of(csv_rows(views), semicolons)
+
+
+def results_value(view: Snapshot, version: str) -> dict[str, object]:
     """The same for programs; points are texts, since they are exact to a tenth."""
     shown = view.settings
 

@@ -13,14 +13,14 @@ from raceoffice.program.journal import Series, last_scored
 from raceoffice.program.link import Link, Sheet
 from raceoffice.program.replay import digest_of, nets_before_exclusion
 from raceoffice.program.standing import Standing
-from raceoffice.results.snapshot import CHANGED, View, labelled
+from raceoffice.results.snapshot import CHANGED, Snapshot, labelled
 from raceoffice.series import entry_list, settings
 from raceoffice.series.folder import Folder
 from raceoffice.series.last_change import is_changed_since, time_of_entry, time_of_notice, time_of_rules
 from raceoffice.series.run_program import opened_rules, replayed
 from raceoffice.series.settings import Settings
 from raceoffice.series.windows import BOARD, Presence
-from raceoffice.terminal import command_name, sentence
+from raceoffice.terminal import sentence
 
 # Seconds that an office may take for its answer.
 PATIENCE = 5.0
@@ -36,7 +36,7 @@ def need_own_names(names: list[str]) -> None:
         raise Trouble(f"two of the folders are called {twice[0]}, and each needs a name of its own")
 
 
-class Source:
+class ResultsSource:
     """One series, looked at again and again. `view` is what is shown, and None before the first
     success; `office` is `open`, `journal` or `away`; `checked` is when it was confirmed last."""
 
@@ -44,7 +44,7 @@ class Source:
         self.folder = Folder(path)
         self.link: Link | None = None
         self.presence: Presence | None = None
-        self.view: View | None = None
+        self.view: Snapshot | None = None
         self.office, self.checked = "away", now()
         self.settings = self.folder.settings
         self.rules: dict[str, object] = {}
@@ -82,7 +82,7 @@ class Source:
             return self.view.boats if self.view else {}
         name = os.path.basename(self.folder.entries)
         self.note("names", "" if found else f"No names are shown: {name} has faults, which "
-                  f"{command_name()} check {os.path.relpath(self.folder.path)} lists")
+                  f"{self.folder.command('check')} lists")
         return found or (self.view.boats if self.view else {})
 
     def decisions(self) -> str:
@@ -174,7 +174,7 @@ class Source:
         standing = Standing.read(list(sheet.table))
         series = Series.read(list(sheet.journal))
         found = self.decided(sheet, shown, key[3])
-        fresh = View(self.folder.name, shown, labelled(standing, found.labels), series, key[2],
+        fresh = Snapshot(self.folder.name, shown, labelled(standing, found.labels), series, key[2],
                      self.totals(sheet, standing, shown), now(), key, sheet.journal, found, digest)
         if old is not None and old.results() == fresh.results():
             changed = old.changed

@@ -1,29 +1,35 @@
-"""Whether journal.txt goes on from what the office had: the newest copy in kept/, and the end that
-office.log notes, have to be its beginning."""
+"""Whether journal.txt and office/places go on from what the office had: the newest copy in kept/, and the ends
+that office.log notes, have to be their beginning."""
 from __future__ import annotations
 
 import hashlib
 import re
+from collections.abc import Sequence
 from dataclasses import dataclass
 
 from raceoffice.errors import Trouble
 from raceoffice.series.copies import Copy, bytes_of, newest
-from raceoffice.series.folder import Folder, Logged, shown
+from raceoffice.series.folder import Folder, shown
+from raceoffice.series.kept_places import Places
+from raceoffice.series.log import Logged
 from raceoffice.wording import count
 
 # What the office notes when it is opened or closed, and when a copy becomes the journal again.
 NOTING = ("opened", "closed", "restored")
-NOTED = re.compile(r"(no|[0-9]{1,9}) entr(?:y|ies)(?: ([0-9a-f]{16}))?")
+NOTED = re.compile(r"(no|[0-9]{1,9}) entr(?:y|ies)(?: ([0-9a-f]{16}))?"
+                   r"(?:, (no|[0-9]{1,9}) lines? of places ([0-9a-f]{16}))?")
 HINT = "If nobody meant that, compare the two before you open the office."
 
 
 @dataclass(frozen=True)
 class Noted:
-    """The end of a journal as the log has it: when, how many entries, and a short sum of them. Older
-    versions noted no sum."""
+    """The end of a journal as the log has it: when, how many entries, and a short sum of them; and how many
+    lines of places, with a sum of these. Older versions noted no sum, or no places."""
     when: str
     entries: int
     digest: str
+    lines: int = 0
+    lines_digest: str = ""
 
 
 def parts_of(data: bytes) -> tuple[bytes, list[bytes]]:
@@ -46,10 +52,20 @@ def first_entries(data: bytes, number: int) -> bytes:
     return with_entries(version, entries[:number])
 
 
-def note_of(data: bytes) -> str:
-    """What the log notes of a journal."""
+def note_of(data: bytes, places: Sequence[bytes]) -> str:
+    """What the log notes of a journal, and of the lines of office/places."""
     entries = len(parts_of(data)[1])
-    return f"{count(entries, 'entry', 'entries')} {digest_of(data)}"
+    return (f"{count(entries, 'entry', 'entries')} {digest_of(data)}, "
+            f"{count(len(places), 'line')} of places {digest_of(b''.join(places))}")
+
+
+def note_now(folder: Folder, data: bytes) -> str:
+    """What the log notes of a journal, and of office/places as it is now. If that can't be read, nothing of it
+    is compared at the next opening."""
+    try:
+        return note_of(data, Places(folder).lines())
+    except Trouble:
+        return note_of(data, []).partition(",")[0]
 
 
 def digest_of(data: bytes) -> str:
@@ -62,9 +78,13 @@ def noted_end(logged: list[Logged]) -> Noted | None:
     for entry in logged:
         read = NOTED.match(entry.answer) if entry.line in NOTING else None
         if read:
-            number = 0 if read[1] == "no" else int(read[1])
-            found = Noted(entry.line, number, read[2] or "")
+            found = Noted(entry.line, number_of(read[1]), read[2] or "", number_of(read[3]), read[4] or "")
     return found
+
+
+def number_of(text: str | None) -> int:
+    """A number as `count` writes it."""
+    return int(text) if text and text != "no" else 0
 
 
 def difference(folder: Folder) -> str:
@@ -81,6 +101,27 @@ def difference(folder: Folder) -> str:
         return from_copy(data, held, last)
     noted = noted_end(folder.logged())
     return from_note(data, noted) if noted else ""
+
+
+def differences(folder: Folder) -> str:
+    """How journal.txt and office/places aren't what the office had; empty if both go on from that."""
+    return "\n".join(filter(None, [difference(folder), difference_of_places(folder)]))
+
+
+def difference_of_places(folder: Folder) -> str:
+    """How office/places isn't what the office had; empty if it goes on from that, or if that wasn't noted."""
+    noted = noted_end(folder.logged())
+    if noted is None or not noted.lines_digest:
+        return ""
+    try:
+        held = Places(folder).lines()
+    except Trouble as trouble:
+        return f"Nobody knows whether office/places is what the office had: {trouble}."
+    if digest_of(b"".join(held[:noted.lines])) == noted.lines_digest:
+        return ""
+    same = ", and these aren't the same" if len(held) >= noted.lines else ""
+    return (f"office/places isn't what the office had. It has {count(len(held), 'line')}. When the office was "
+            f"{noted.when}, it had {noted.lines}{same}. A finisher without a sail may be missing.")
 
 
 def added(folder: Folder) -> str:

@@ -2,12 +2,13 @@
 from __future__ import annotations
 
 import calendar
+import contextlib
 import os
 import re
 import time
 from dataclasses import dataclass
 
-from raceoffice.errors import Trouble
+from raceoffice.errors import as_trouble
 from raceoffice.files import read_whole, replace_whole
 from raceoffice.series.folder import LARGEST, Folder, entries_of, whole_part
 from raceoffice.series.second_folder import Second, copy_of, places_copy_of
@@ -39,15 +40,17 @@ def copy_named(name: str) -> Copy | None:
     return Copy(second, int(found[3] or 1), os.path.join(KEPT, name))
 
 
+def dated(folder: Folder) -> list[Copy]:
+    """The dated copies, the newest last."""
+    names: list[str] = []
+    with as_trouble("kept/ can't be read"), contextlib.suppress(FileNotFoundError, NotADirectoryError):
+        names = os.listdir(folder.file(KEPT))
+    return sorted(copy for name in names if (copy := copy_named(name)))
+
+
 def newest(folder: Folder) -> Copy | None:
     """The newest dated copy; None if there is none."""
-    try:
-        names = os.listdir(folder.file(KEPT))
-    except (FileNotFoundError, NotADirectoryError):
-        return None
-    except OSError as cause:
-        raise Trouble(f"kept/ can't be read: {cause.strerror}") from None
-    return max((copy for name in names if (copy := copy_named(name))), default=None)
+    return max(dated(folder), default=None)
 
 
 def bytes_of(folder: Folder, copy: Copy) -> bytes:
@@ -57,10 +60,8 @@ def bytes_of(folder: Folder, copy: Copy) -> bytes:
 
 def keep(folder: Folder, data: bytes, more: str = "") -> str:
     """Makes a copy that is the newest, whatever the clock says; its name."""
-    try:
+    with as_trouble("kept/ can't be made"):
         os.makedirs(folder.file(KEPT), mode=0o700, exist_ok=True)
-    except OSError as cause:
-        raise Trouble(f"kept/ can't be made: {cause.strerror}") from None
     last, second, number = newest(folder), int(time.time()), 1
     if last and last.second >= second:
         second, number = last.second, last.number + 1
@@ -88,4 +89,4 @@ def places_with(folder: Folder, second: Second, data: bytes) -> str:
         return ""
     ours, theirs = entries_of(data), entries_of(second.ask("read").text.encode())
     is_of_this = theirs and theirs == ours[:len(theirs)]
-    return second.ask("read", path=places_copy_of(folder)).text if is_of_this else ""
+    return second.ask("read", path=places_copy_of(second)).text if is_of_this else ""

@@ -8,7 +8,7 @@ import tempfile
 from collections.abc import Callable
 
 from raceoffice.characters import utf8
-from raceoffice.errors import Trouble
+from raceoffice.errors import Trouble, as_trouble
 from raceoffice.files import replace_whole
 from raceoffice.program.find import found_program
 from raceoffice.series import entry_list, settings
@@ -118,10 +118,8 @@ def boats_in_words(boats: list[entry_list.Boat]) -> str:
 
 
 def make_folder(folder: str) -> None:
-    try:
+    with as_trouble(f"{folder} can't be made"):
         os.makedirs(folder, mode=0o755, exist_ok=True)
-    except OSError as cause:
-        raise Trouble(f"{folder} can't be made: {cause.strerror}") from None
 
 
 def try_folder(folder: str) -> None:
@@ -133,9 +131,8 @@ def try_folder(folder: str) -> None:
         path = os.path.dirname(path)
     make_folder(folder)
     try:
-        tempfile.TemporaryFile(dir=folder).close()
-    except OSError as cause:
-        raise Trouble(f"nothing can be written in {folder}: {cause.strerror}") from None
+        with as_trouble(f"nothing can be written in {folder}"):
+            tempfile.TemporaryFile(dir=folder).close()
     finally:
         for made in missing:
             with contextlib.suppress(OSError):
@@ -176,6 +173,17 @@ def write_new(folder: str, values: dict[str, str], entries: bytes | None) -> Non
     if entries is not None:
         replace_whole(os.path.join(folder, "entries.csv"), entries)
     replace_whole(os.path.join(folder, settings.NAME), written)
+
+
+def make(folder: str, values: dict[str, str], entries: bytes) -> None:
+    """Makes a new series of which nothing has to be asked. A Trouble says what is wrong; nothing is written
+    then."""
+    if os.path.lexists(os.path.join(folder, settings.NAME)):
+        raise Trouble(f"{folder} has a {settings.NAME} already. Nothing was changed")
+    values = {"copy": "", "program": program_for(folder), **values}
+    if wrong := settings.problems(settings.filled_in(values)) + entry_list.problems(entries, "The list"):
+        raise Trouble("\n".join(wrong))
+    write_new(folder, values, entries)
 
 
 def settings_with(values: dict[str, str]) -> bytes:

@@ -92,17 +92,13 @@ def list_notes(folder: Folder) -> list[str]:
     return [text for text in found if text]
 
 
-def entries_logged(folder: Folder) -> int:
-    """The most entries that the log has seen at an opening or closing."""
-    return max((entry.entries for entry in folder.logged() if entry.line in ("opened", "closed")), default=0)
-
-
 def lost_journal(folder: Folder) -> str:
     """What the log and the copies say of a journal that is empty or gone."""
     with second_of(folder) as second:
         path, data = best_copy(folder, second)
     held = len(entries_of(data))
-    had = max(entries_logged(folder), held)
+    logged = [entry.entries for entry in folder.logged() if entry.line in ("opened", "closed")]
+    had = max([held, *logged])
     if not had:
         return ""
     copy = f" {os.path.relpath(path, folder.path)} has {held}." if path else ""
@@ -116,7 +112,8 @@ def disk_fault(folder: Folder) -> str:
         return f"The disk {why}. Nothing was opened or changed."
     path = probe_of(folder)
     try:
-        make_socket(path)
+        with system.socket_of_office() as made, system.short_name(path) as name:
+            made.bind(name)
     except OSError:
         return ("This disk takes no sockets (often a stick). Copy the folder to the computer's own "
                 "disk.")
@@ -129,8 +126,10 @@ def room_fault(folder: Folder) -> OSError | None:
     """Why the disk has no room for what an opening and its day may write; None if it has."""
     path = probe_of(folder)
     size = os.path.getsize(folder.journal) if os.path.exists(folder.journal) else 0
+    remove_probe(path)
     try:
-        with open(path, "wb") as file:
+        # It has to be a new file: a link of this name may lead to another, and a pipe holds up who opens it.
+        with open(path, "xb") as file:
             file.write(b"\0" * (2 * size + ROOM))
             file.flush()
             os.fsync(file.fileno())
@@ -145,12 +144,6 @@ def is_full(folder: Folder) -> bool:
     """Whether the disk is full."""
     cause = room_fault(folder)
     return cause is not None and cause.errno == errno.ENOSPC
-
-
-def make_socket(path: str) -> None:
-    """Makes a socket at this path, which may be longer than the 107 bytes of a socket's."""
-    with system.socket_of_office() as made, system.short_name(path) as name:
-        made.bind(name)
 
 
 def probe_of(folder: Folder) -> str:
@@ -175,17 +168,11 @@ def notes(folder: Folder) -> list[str]:
                               kept_in_words(folder)) if note]
 
 
-def boats_entered(folder: Folder) -> list[str]:
-    """The boats of the journal as the program reads it; none if it can't."""
-    try:
-        return Series.read(list(replayed(folder, folder.settings.options()).journal)).boats
-    except Trouble:
-        return []
-
-
 def boats_left(folder: Folder) -> str:
     """Which boats of the entry list aren't entered; empty before the first opening."""
-    entered = boats_entered(folder)
+    entered: list[str] = []
+    with contextlib.suppress(Trouble):
+        entered = Series.read(list(replayed(folder, folder.settings.options()).journal)).boats
     left = [str(boat) for sail, boat in entry_list.read_if_there(folder.entries).items()
             if sail not in entered]
     if not entered or not left:

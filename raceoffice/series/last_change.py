@@ -6,7 +6,7 @@ import datetime
 import hashlib
 from collections.abc import Sequence
 
-from raceoffice.series.folder import Logged
+from raceoffice.series.log import Logged
 from raceoffice.series.lost_lines import is_entry
 from raceoffice.series.settings import STATES
 

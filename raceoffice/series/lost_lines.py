@@ -6,7 +6,7 @@ import re
 from dataclasses import dataclass, field
 from decimal import Decimal
 
-from raceoffice.series.folder import Logged
+from raceoffice.series.log import Logged
 from raceoffice.wording import count, spans
 
 # What the log has in place of an answer that never came.
@@ -39,6 +39,14 @@ class Unsaved:
     journal: list[str]
     answered: dict[int, Logged] = field(default_factory=dict)
     unanswered: list[Logged] = field(default_factory=list)
+
+    @classmethod
+    def read(cls, journal: list[str], logged: list[Logged]) -> Unsaved:
+        """What the log has beyond a journal."""
+        found = cls(journal)
+        for entry in logged:
+            found.follow(entry)
+        return found
 
     def follow(self, entry: Logged) -> None:
         """Reads one line of the log. What was there at a closing isn't lost, nor is what came before."""
@@ -82,11 +90,3 @@ class Unsaved:
 
 def shown(entry: Logged) -> str:
     return f"{entry.role:<8}{entry.line}" + (f"   ({entry.name})" if entry.name else "")
-
-
-def unsaved(journal: list[str], logged: list[Logged]) -> Unsaved:
-    """What the log has beyond a journal."""
-    found = Unsaved(journal)
-    for entry in logged:
-        found.follow(entry)
-    return found

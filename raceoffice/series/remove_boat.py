@@ -10,7 +10,7 @@ from raceoffice.program.messages import moved, refusal
 from raceoffice.program.replay import ran
 from raceoffice.program.standing import Standing, changes
 from raceoffice.series import copies, entry_list
-from raceoffice.series.continuity import difference, note_of, parts_of, with_entries
+from raceoffice.series.continuity import differences, note_now, parts_of, with_entries
 from raceoffice.series.folder import Folder, Lock
 from raceoffice.series.run_program import Program, replayed
 from raceoffice.series.second_folder import second_of
@@ -54,9 +54,10 @@ def remove(path: str, words: list[str]) -> int:
     held = folder.parts()[0]
     if not folder.kept():
         raise Trouble("journal.txt has no entry")
-    journal = shown_journal(folder)
+    # The program takes lines in several forms, and shows each entry in one.
+    journal = list(replayed(folder, folder.settings.options()).journal)
     about = lines_about(journal, sail)
-    if text := difference(folder):
+    if text := differences(folder):
         say(text)
     say(f"{count(len(about), 'entry goes', 'entries go')}:")
     for at, line in about.items():
@@ -69,19 +70,12 @@ def remove(path: str, words: list[str]) -> int:
     copy = copies.keep(folder, held)
     replace(folder, data)
     copies.keep(folder, data)
-    folder.log("", "", "", f"removed {sail}", note_of(data))
-    folder.log("", "", "", "closed", note_of(data))
+    note = note_now(folder, data)
+    folder.log("", "", "", f"removed {sail}", note)
+    folder.log("", "", "", "closed", note)
     left = count(len(journal) - len(about), "entry", "entries")
     say(f"{sail} is taken out. journal.txt has {left}; {copy} has all {len(journal)}.")
     return 0
-
-
-def shown_journal(folder: Folder) -> list[str]:
-    """The journal as the program shows it, however journal.txt is written, entry by entry."""
-    journal = list(replayed(folder, folder.settings.options()).journal)
-    if len(journal) != len(parts_of(folder.parts()[0])[1]):
-        raise Trouble("journal.txt has lines that are no entries: open the office, and close it")
-    return journal
 
 
 def without(data: bytes, numbers: set[int]) -> bytes:

@@ -42,12 +42,10 @@ class Program:
     def begin(self) -> None:
         """Makes the journal of a new series, with the boats of its list. It is there whole or, after a
         crash, not at all: in one with a part of them the others would be missing."""
-        done = ran(self.path, [*self.folder.settings.options(), "--print", "journal"],
-                   boats=given(self.folder.entries))
-        if done.returncode:
-            raise Trouble("\n".join(self.in_words(done.stderr)).removesuffix("."))
+        journal = self.output(ran(self.path, [*self.folder.settings.options(), "--print", "journal"],
+                                  boats=given(self.folder.entries)))
         self.folder.save_torn()
-        replace_whole(os.path.realpath(self.folder.journal), done.stdout.encode())
+        replace_whole(os.path.realpath(self.folder.journal), journal.encode())
 
     def in_words(self, said: str) -> list[str]:
         """What the program said of the series' files, in words."""
@@ -64,10 +62,13 @@ class Program:
 
     def table(self, options: list[str]) -> str:
         """The table that these rules give, as the program prints it."""
-        done = self.replay(options)
+        return self.output(self.replay(options)).rstrip()
+
+    def output(self, done: subprocess.CompletedProcess[str]) -> str:
+        """What the program has printed; a Trouble says what it finds wrong."""
         if done.returncode:
             raise Trouble("\n".join(self.in_words(done.stderr)).removesuffix("."))
-        return done.stdout.rstrip()
+        return done.stdout
 
 
 def why_not_run(path: str, trouble: Trouble) -> str:

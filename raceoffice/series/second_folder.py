@@ -16,9 +16,9 @@ import time
 from collections.abc import Iterator
 from dataclasses import dataclass
 
-from raceoffice.errors import Trouble
-from raceoffice.files import replace_whole
-from raceoffice.series.folder import VERSION, Folder
+from raceoffice.errors import NotThere, Trouble
+from raceoffice.files import read_whole, replace_whole
+from raceoffice.series.folder import LARGEST, VERSION, Folder
 
 MODULE = "raceoffice.series.second_folder"
 # Seconds that the process may take to start, and to answer; and after which another one is tried.
@@ -27,10 +27,12 @@ START, PATIENCE, GIVE_UP = 30.0, 5.0, 60.0
 
 @dataclass(frozen=True)
 class Answer:
-    """Why a request failed, or nothing; the device of the second folder; the copy, if it was asked for."""
+    """Why a request failed, or nothing; the device of the second folder; the copy, if it was asked for; when that
+    was written last, in seconds since 1970, or 0 if it isn't there."""
     fault: str = ""
     device: int = 0
     text: str = ""
+    written: float = 0.0
 
 
 class Second:
@@ -138,9 +140,9 @@ def copy_of(folder: Folder) -> str:
     return os.path.join(folder.file(copy), f"{folder.name}-journal.txt") if copy else ""
 
 
-def places_copy_of(folder: Folder) -> str:
+def places_copy_of(second: Second) -> str:
     """The file of the copy of the places on a second disk."""
-    return os.path.join(folder.file(folder.settings.copy), f"{folder.name}-places")
+    return os.path.join(os.path.dirname(second.path), f"{second.folder.name}-places")
 
 
 @contextlib.contextmanager
@@ -155,20 +157,16 @@ def second_of(folder: Folder) -> Iterator[Second]:
 
 # In the process itself
 
-def text_in(path: str) -> str:
+def text_of_copy(path: str) -> str:
     """What the copy holds; nothing if there is none."""
-    try:
-        with open(path, encoding="utf-8", errors="replace") as file:
-            return file.read()
-    except FileNotFoundError:
-        return ""
-    except OSError as cause:
-        raise Trouble(f"{path} can't be read: {cause.strerror}") from None
+    with contextlib.suppress(NotThere):
+        return read_whole(path, LARGEST).decode("utf-8", "replace").replace("\r\n", "\n")
+    return ""
 
 
 def save_to(path: str, text: str) -> None:
     """Makes a file hold a journal, or places, that go on where the file ends."""
-    held = text_in(path)
+    held = text_of_copy(path)
     if not text.removeprefix(VERSION).startswith(held.removeprefix(VERSION)):
         raise Trouble(f"{path} holds lines that the office doesn't have. It is left as it is")
     if text != held:
@@ -187,10 +185,17 @@ def answered(what: str, path: str, text: str) -> Answer:
         elif what == "replace":
             replace_whole(path, text.encode())
         elif what == "read":
-            found = text_in(path)
-        return Answer(device=os.stat(place).st_dev, text=found)
+            found = text_of_copy(path)
+        return Answer(device=os.stat(place).st_dev, text=found, written=written_at(path))
     except (Trouble, OSError) as cause:
         return Answer(str(cause))
+
+
+def written_at(path: str) -> float:
+    """When a file was written last; 0 if it isn't there."""
+    with contextlib.suppress(FileNotFoundError):
+        return os.stat(path).st_mtime
+    return 0.0
 
 
 def main() -> None:

@@ -2,6 +2,7 @@
 from __future__ import annotations
 
 import os
+from collections.abc import Callable, Sequence
 
 from raceoffice.errors import Trouble
 from raceoffice.program.link import Link, Sheet
@@ -10,6 +11,7 @@ from raceoffice.program.replay import Line
 from raceoffice.series.folder import Folder
 from raceoffice.series.lost_lines import UNANSWERED
 from raceoffice.series.run_program import replayed
+from raceoffice.terminal import say
 
 
 class Sender:
@@ -50,3 +52,14 @@ class Sender:
         if not answer.startswith("OK "):
             raise Trouble(refusal(answer))
         return answer
+
+    def send(self, lines: Sequence[Line], tell: Callable[[Line, str], None] = lambda *_: None) -> list[Line]:
+        """Sends lines up to the first that isn't taken, and says why that wasn't; those that weren't.
+        `tell` hears each answer."""
+        for at, line in enumerate(lines):
+            try:
+                tell(line, self.answer(line))
+            except Trouble as why:
+                say(f"Stopped at {line}: {why}.")
+                return list(lines[at:])
+        return []

@@ -9,13 +9,13 @@ import ipaddress
 import os
 import re
 import shlex
-import zoneinfo
 from collections.abc import Callable, Mapping
 from dataclasses import dataclass
 from typing import Any
 
+from raceoffice import time_zones
 from raceoffice.errors import NotThere, Trouble
-from raceoffice.files import read_whole
+from raceoffice.files import edited_text
 from raceoffice.terminal import command_name
 from raceoffice.wording import TIMES, joined, on_one_line, sign
 
@@ -27,6 +27,7 @@ KEYS = {
     "notice": {"state": "provisional", "reason": ""},
     "board": {"every": "5", "address": "", "port": "8080", "page": ""},
 }
+DEFAULTS = {key: value for keys in KEYS.values() for key, value in keys.items()}
 TEMPLATE = """\
 [series]
 title = {title}
@@ -68,8 +69,6 @@ port = {port}
 # a folder for the pages as files, to be uploaded; empty: none
 page = {page}
 """
-# Bytes of a file of settings that are read at most.
-LARGEST = 1 << 20
 # What ends a line in every editor, and what is no part of a value: control signs, and ends of lines
 # that editors don't show.
 LINE_END = re.compile("\r\n|\r|\n")
@@ -177,13 +176,6 @@ def is_exclude(text: str) -> bool:
     return numbers == sorted(set(numbers)) and all(2 <= number <= 40 for number in numbers)
 
 
-def is_zone(text: str) -> bool:
-    try:
-        return text == "" or bool(zoneinfo.ZoneInfo(text))
-    except (OSError, ValueError, zoneinfo.ZoneInfoNotFoundError):
-        return False
-
-
 def is_address(text: str) -> bool:
     """Whether a computer may have this address."""
     try:
@@ -199,7 +191,7 @@ def is_between(low: int, high: int) -> Callable[[str], bool]:
 
 CHECKS: dict[str, tuple[Callable[[str], object], str]] = {
     "title": (bool, "a title"),
-    "zone": (is_zone, "the name of a time zone, as Europe/Lisbon"),
+    "zone": (lambda text: text == "" or time_zones.is_name(text), "the name of a time zone, as Europe/Lisbon"),
     "exclude": (is_exclude, "none, or up to four rising numbers from 2 to 40, as 4,8"),
     "absent": (["a52", "a53"].__contains__, "a52 or a53"),
     "scp": (lambda text: text == "" or is_between(1, 99)(text), "whole points from 1 to 99"),
@@ -216,9 +208,8 @@ CHECKS: dict[str, tuple[Callable[[str], object], str]] = {
 def problems(text: str) -> list[str]:
     """What is wrong with a series.ini, line by line."""
     values, wrong = lines_of(text)
-    defaults = {key: value for keys in KEYS.values() for key, value in keys.items()}
     for key, (is_right, wanted) in CHECKS.items():
-        at, value = values.get(key, (0, defaults[key]))
+        at, value = values.get(key, (0, DEFAULTS[key]))
         if not is_right(value):
             place = f"{NAME}, line {at}" if at else NAME
             shown = repr(value[:60]) if value else "empty"
@@ -226,25 +217,21 @@ def problems(text: str) -> list[str]:
     return wrong
 
 
-def text_in(path: str) -> str:
-    """The text of a file that somebody writes with an editor."""
-    try:
-        return read_whole(path, LARGEST).decode("utf-8-sig")
-    except UnicodeDecodeError:
-        raise Trouble(f"{path} isn't UTF-8 text: save it as UTF-8") from None
-
-
 def read(folder: str) -> Settings:
     """The settings of a folder; a Trouble says all that is wrong with them."""
     try:
-        text = text_in(os.path.join(folder, NAME))
+        text = edited_text(os.path.join(folder, NAME))
     except NotThere:
         raise Trouble(f"{folder} has no {NAME}: it isn't a series. "
                       f"{command_name()} new {shlex.quote(folder)} makes one") from None
     if wrong := problems(text):
         raise Trouble("\n".join(wrong))
-    found: dict[str, Any] = {key: value for keys in KEYS.values() for key, value in keys.items()}
-    found |= values_of(text)
+    return settings_of(values_of(text))
+
+
+def settings_of(values: dict[str, str]) -> Settings:
+    """The settings with these values, and the defaults for all others."""
+    found: dict[str, Any] = DEFAULTS | values
     found["group"] = found.pop("class")
     handicap = found.pop("handicap") == "yes"
     seats, every, port = (int(found.pop(key)) for key in ("seats", "every", "port"))
@@ -253,7 +240,7 @@ def read(folder: str) -> Settings:
 
 def filled_in(values: dict[str, str]) -> str:
     """A series.ini with these values, and the defaults for all others."""
-    known = {key: value for keys in KEYS.values() for key, value in keys.items()} | values
+    known = DEFAULTS | values
     shown = {key: on_one_line(known[key]) for key in ("title", "class", "club", "reason")}
     return TEMPLATE.format(**{**known, **shown})
 

@@ -69,13 +69,10 @@ def open_windows(folder: Folder, *kinds: str) -> dict[str, str]:
 def said_by(path: str) -> str:
     """What an open window says of itself; empty if it has gone: then its file is removed."""
     with contextlib.suppress(OSError):
-        file = os.open(path, os.O_RDONLY | system.NO_LINK | system.AT_ONCE)
-        try:
+        with system.opened(path, os.O_RDONLY | system.NO_LINK | system.AT_ONCE) as file:
             if not system.take_lock(file, is_shared=True):
                 return os.read(file, 1000).decode("utf-8", "replace").strip()
             # Another window may have a file of this name by now.
             if os.path.samestat(os.fstat(file), os.lstat(path)):
                 os.remove(path)
-        finally:
-            os.close(file)
     return ""

@@ -6,8 +6,9 @@ from dataclasses import dataclass
 
 from raceoffice.errors import Trouble
 from raceoffice.series.settings import rows_of
+from raceoffice.session.sending import send
+from raceoffice.session.session import Session
 from raceoffice.terminal import say
-from raceoffice.typing_window.session import Session
 from raceoffice.wording import count
 
 LARGEST = 4 << 20
@@ -53,7 +54,9 @@ class Batch:
         try:
             plain = " ".join(line.upper().split())
             self.session.look()
-            return self.session.do(line).is_taken if plain == "SHOW" else self.session.send(plain)
+            if plain == "SHOW":
+                return self.session.do(line).is_taken
+            return send(self.session, plain)
         except Trouble as trouble:
             raise Trouble(f"{trouble}. Line {at} had no answer: look whether it is in the journal "
                           "before you send it again. The lines after it weren't sent") from None

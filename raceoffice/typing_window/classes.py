@@ -3,8 +3,9 @@ from __future__ import annotations
 
 from raceoffice.errors import NotSent
 from raceoffice.program.messages import ROLES
-from raceoffice.typing_window.parse import COMMANDS, FIRST, OTHERS, SAILS, boats_meant
-from raceoffice.typing_window.session import Session, marked
+from raceoffice.session.finishers import marked
+from raceoffice.session.parse import COMMANDS, FIRST, OTHERS, SAILS, boats_meant
+from raceoffice.session.session import Session
 from raceoffice.wording import joined
 
 

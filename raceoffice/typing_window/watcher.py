@@ -11,7 +11,7 @@ from raceoffice import system
 from raceoffice.errors import Trouble
 from raceoffice.files import PRIVATE, opened_at_once
 from raceoffice.series.folder import Folder
-from raceoffice.typing_window.session import Session
+from raceoffice.session.session import Session
 
 try:
     # Arrow keys, and the lines typed before.

@@ -3,23 +3,25 @@ from __future__ import annotations
 
 import contextlib
 import os
+import secrets
 import select
-import shlex
 import sys
 import time
 from collections.abc import Callable
 
 from raceoffice import system
 from raceoffice.errors import Fault, Gone, NoSeat, NotSent, Trouble
-from raceoffice.faults import guarded
 from raceoffice.series.folder import Folder
-from raceoffice.series.unknown_finishers import Unread, in_words
+from raceoffice.series.kept_places import Twin
+from raceoffice.series.lost_lines import as_kept
+from raceoffice.series.unknown_finishers import marks_by_race
 from raceoffice.series.windows import BOARD, TYPING, Presence, open_windows
-from raceoffice.terminal import command_name, question, say, sentence, visible
+from raceoffice.session.dialogue import Outcome, Question, Said
+from raceoffice.session.parse import COMMANDS, FIRST
+from raceoffice.session.session import Session
+from raceoffice.terminal import question, say, sentence, visible
+from raceoffice.traces import guarded
 from raceoffice.typing_window.classes import ClassUnclear, choosing, session_meant, greeting
-from raceoffice.typing_window.parse import COMMANDS, FIRST
-from raceoffice.typing_window.session import Session
-from raceoffice.typing_window.values import Outcome, Question, Said
 from raceoffice.typing_window.watcher import AGAIN, LOOK, News, Watcher, has_no_seat
 from raceoffice.wording import count
 
@@ -35,8 +37,6 @@ class Window:
         self.sessions = [Session(folder, role, name, show, self.ask) for folder in folders]
         self.watcher = Watcher(self.sessions)
         self.present: list[Presence] = []
-        # The places that were kept in several classes for one finisher.
-        self.twins: list[list[tuple[Session, Unread]]] = []
 
     @property
     def several(self) -> bool:
@@ -82,8 +82,7 @@ class Window:
         for session in sessions or self.sessions:
             session.look_at_places()
             if session.unread.all and session.role != "JURY":
-                of = f" of {session.folder.name}" if self.several else ""
-                say(f"Kept without a sail{of}: {in_words(session.unread.all)}.")
+                say(f"Kept without a sail{self.of(session)}: {marks_by_race(session.unread.all)}.")
 
     def leave(self) -> None:
         """Leaves all offices."""
@@ -178,26 +177,21 @@ class Window:
         """Keeps a place in each class to which she may belong. Once she is known in one, it is dropped in
         the others."""
         say(f"   {sentence(unclear.what[:1].upper() + unclear.what[1:])}")
-        why, kept = "", []
-        for session in [session for session in unclear.sessions if session.link]:
-            before = session.done
-            why += self.do(session, unclear.sail, Session.keep_crossed)
-            if session.done and session.done.unread and session.done is not before:
-                kept.append((session, session.done.unread))
-        self.twins.append(kept)
+        why, finisher = "", secrets.token_hex(8)
+        there = [session for session in unclear.sessions if session.link]
+        for session in there:
+            others = [os.path.relpath(other.folder.path, session.folder.path) for other in there
+                      if other is not session]
+            twin = Twin(finisher, tuple(others)) if others else Twin()
+            why += self.do(session, unclear.sail, lambda meant, sail: meant.keep_crossed(sail, twin))
         return why
 
-    def drop_twins(self) -> None:
-        """Drops places in other classes of finishers who are known in one."""
-        for twins in list(self.twins):
-            known = [session for session, unread in twins if session.history.boat(unread.race, unread.mark)]
-            for session, unread in twins:
-                if known and session not in known and unread.mark in session.unread.marks(unread.race):
-                    session.drop_safely([unread], f"she is known in {known[0].folder.name}")
-                    if unread.mark not in session.unread.marks(unread.race):
-                        say(f"   {session.folder.name}: {unread.mark} is dropped.")
-            if known:
-                self.twins.remove(twins)
+    def follow(self, session: Session) -> None:
+        """Has the other classes look at their places if this one has changed any of them."""
+        for other in self.sessions:
+            if other.folder.path in session.twins.changed:
+                other.look_at_places()
+        session.twins.changed.clear()
 
     def do(self, session: Session, line: str,
            action: Callable[[Session, str], Outcome] = Session.do) -> str:
@@ -207,7 +201,7 @@ class Window:
             raise NotSent(f"the office of {session.folder.name} has gone. Write {line.upper()} down")
         try:
             outcome = action(session, line)
-            self.drop_twins()
+            self.follow(session)
             if self.several and line.strip().lower() == "help":
                 say(choosing(self.sessions))
             return "" if outcome.is_taken else "since the line before it wasn't taken"
@@ -220,7 +214,7 @@ class Window:
     def ask(self, asked: Question) -> bool:
         """Whether somebody says yes. What was typed before the question is no answer to it."""
         self.drop_typed("since a question came before it")
-        return question(visible(f"   {asked.prefix}{asked.text}"))
+        return is_yes(f"   {asked.prefix}{asked.text}")
 
     def is_agreed(self, lines: list[str]) -> bool:
         """Whether somebody agrees to a pasted list of bare sails, which are shown by their names."""
@@ -240,7 +234,8 @@ class Window:
             say(f"{at:>6}  {session.facts.called(sail)}{''.join(f'   {word}' for word in last)}")
         are_finishes = all(line.startswith("FINISH ") for line in meant)
         what = count(len(meant), "finish", "finishes") if are_finishes else count(len(meant), "line")
-        return question(f"   Send these {what} in race {session.at}?")
+        self.drop_typed("since a question came before it")
+        return is_yes(f"   Send these {what} in race {session.at}?")
 
     # When an office goes
 
@@ -253,7 +248,7 @@ class Window:
             if session.link is None:
                 self.try_again(session)
             elif select.select([session.link], [], [], 0)[0]:
-                self.lost(session, heard(session))
+                self.lost(session, session.link.heard())
 
     def say_warnings(self) -> None:
         """Says what the offices' windows say is wrong, once."""
@@ -330,13 +325,13 @@ class Window:
             at = max(session.sent)
             say(f"Your last line, OK {at} {session.sent[at]}, is among them.")
         if line:
-            say(f"{line} is {'in the journal' if line in later else 'not in the journal'}.")
+            say(f"{line} is {'in the journal' if as_kept(line) in later else 'not in the journal'}.")
         self.say_kept([session])
 
     def drop_typed(self, why: str) -> None:
-        """Shows the lines that wait at the prompt already, and sends none of them."""
+        """Shows the lines that wait at the prompt already, also one without its end, and sends none of them."""
         if sys.stdin.isatty():
-            not_sent(typed_already().splitlines(), why)
+            not_sent(system.take_typed().decode("utf-8", "replace").splitlines(), why)
 
 
 def show(said: Said) -> None:
@@ -352,18 +347,10 @@ def wait(seconds: float) -> None:
         raise End("") from None
 
 
-def heard(session: Session) -> Trouble:
-    """Why an office has ended a link: what came although nothing was asked."""
-    try:
-        return session.office().heard()
-    except Trouble as trouble:
-        return trouble
-
-
 def remedy(session: Session, trouble: Trouble) -> str:
     """What opens an office that isn't open, or who has the seats, if that is the trouble."""
     if isinstance(trouble, Gone):
-        return f": {command_name()} open {shlex.quote(os.path.relpath(session.folder.path))} opens it"
+        return f": {session.folder.command('open')} opens it"
     windows = ", ".join(open_windows(session.folder, TYPING, BOARD).values())
     return f": {windows}" if isinstance(trouble, NoSeat) and windows else ""
 
@@ -374,10 +361,6 @@ def not_sent(lines: list[str], why: str) -> None:
             say(f"Not sent, {why}: {line[:80]}")
 
 
-def typed_already() -> str:
-    """What has been typed before the prompt came, which is thrown away."""
-    data = b""
-    while select.select([0], [], [], 0.05)[0] and (more := os.read(0, 65536)):
-        data += more
-    system.forget_typed()
-    return data.decode("utf-8", "replace")
+def is_yes(text: str) -> bool:
+    """Whether somebody says yes. What is typed for the office meanwhile is named: it isn't sent."""
+    return question(visible(text), tell=lambda given: not_sent([given], "since it answers no question"))

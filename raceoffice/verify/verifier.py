@@ -4,13 +4,13 @@ from __future__ import annotations
 import datetime
 import os
 import re
-from collections.abc import Iterable, Sequence
+import time
+from collections.abc import Callable, Iterable, Sequence
 from dataclasses import dataclass
 
 from raceoffice import characters, system
 from raceoffice.decisions.points import Decided, decided
 from raceoffice.errors import ForeignPage, NoTable, Trouble, Unsure
-from raceoffice.faults import guarded
 from raceoffice.files import opened_at_once
 from raceoffice.program.journal import Series
 from raceoffice.program.link import Sheet
@@ -19,16 +19,17 @@ from raceoffice.program.replay import developed, digest_of, nets_before_exclusio
 from raceoffice.program.standing import Standing
 from raceoffice.results.html import page
 from raceoffice.results.html.listing import listing
-from raceoffice.results.html.notice import results
+from raceoffice.results.html.notice_board import results
 from raceoffice.results.html.overall import overall
 from raceoffice.results.html.race import one_race
 from raceoffice.results.html.sealing import Carried, seal_words
-from raceoffice.results.snapshot import View, labelled
-from raceoffice.series.settings import Settings, rows_of
+from raceoffice.results.snapshot import Snapshot, labelled
+from raceoffice.series.settings import Settings, rows_of, settings_of
 from raceoffice.terminal import Progress, say, say_json, sentence
-from raceoffice.verify import read_block
-from raceoffice.verify.read_block import Kept, found_in, moment_of, wrong_confirmation
-from raceoffice.verify.visible import difference, first_of, place, seen, standing_of
+from raceoffice.traces import guarded
+from raceoffice.verify import page_data
+from raceoffice.verify.page_data import Kept, found_in, moment_of, still_to_come, wrong_confirmation
+from raceoffice.verify.visible import Seen, difference, first_of, place, standing_of
 from raceoffice.wording import count
 
 CONFIRMED = re.compile('<!DOCTYPE html>\n<html lang="en" data-live="(?:yes|no)" data-every="[0-9]{1,4}" '
@@ -39,6 +40,8 @@ LARGEST = 64 << 20
 MESSAGE, LONGER = 400, 1 << 16
 # The most texts with odd signs that are named, and series whose scores are kept.
 BEWARES, SCORED = 5, 20
+# Seconds after which no other series of a page is scored.
+PATIENCE = 300.0
 VERIFIED, DIFFERS, UNSURE = 0, 1, 2
 
 
@@ -46,7 +49,7 @@ VERIFIED, DIFFERS, UNSURE = 0, 1, 2
 class Rebuilt:
     """A page made again from what it carries: what that is, its series and its text."""
     kept: Kept
-    views: tuple[View, ...]
+    views: tuple[Snapshot, ...]
     text: str
 
 
@@ -54,31 +57,35 @@ class Verifier:
     """Has one program score what pages carry. What it scored before is kept for the other pages of the
     same series."""
 
-    def __init__(self, program: str) -> None:
-        self.program = os.path.abspath(program)
-        self.views: dict[str, View] = {}
+    def __init__(self, program: str, now: Callable[[], float] = time.monotonic) -> None:
+        self.program, self.now = os.path.abspath(program), now
+        self.views: dict[str, Snapshot] = {}
         self.last: Rebuilt | None = None
 
     def rebuilt(self, kept: Kept) -> Rebuilt:
         """The page that raceoffice writes of what a page carries."""
         if self.last is None or self.last.kept != kept:
-            views = tuple(self.view(carried, kept.kind == "results") for carried in kept.series)
+            end = self.now() + PATIENCE
+            views = tuple(self.view(carried, kept.kind == "results", end) for carried in kept.series)
             made = Rebuilt(kept, views, page_of(kept, views))
             compare_tables(made)
             self.last = made
         return self.last
 
-    def view(self, carried: Carried, with_course: bool) -> View:
-        """A series as the program scores it."""
+    def view(self, carried: Carried, with_course: bool, end: float) -> Snapshot:
+        """A series as the program scores it; Unsure if that would begin after the `end`."""
         key = repr((carried, with_course))
         if key not in self.views:
+            if self.now() > end:
+                raise Unsure(f"its series take longer than {PATIENCE:g} seconds to score")
             if len(self.views) >= SCORED:
                 self.views.clear()
             self.views[key] = self.fresh_view(carried, with_course)
         return self.views[key]
 
-    def fresh_view(self, carried: Carried, with_course: bool) -> View:
-        shown, journal = settings_of(carried), list(carried.journal)
+    def fresh_view(self, carried: Carried, with_course: bool) -> Snapshot:
+        shown = settings_of({**carried.settings, "every": str(carried.stamp.every)})
+        journal = list(carried.journal)
         sheet = self.sheet(shown, journal)
         standing, options = Standing.read(list(sheet.table)), shown.options()
         text = "".join(f"{line}\n" for line in carried.decisions)
@@ -88,7 +95,7 @@ class Verifier:
         course = self.course(carried.name, options, journal, standing) if with_course else ()
         changed = moment_of(carried.stamp.changed)
         assert changed is not None
-        return View(carried.name, shown, labelled(standing, found.labels),
+        return Snapshot(carried.name, shown, labelled(standing, found.labels),
                     Series.read(list(sheet.journal)), carried.names(), totals, changed, None,
                     carried.journal, found, carried.program, course, carried.stamp.when)
 
@@ -125,15 +132,18 @@ class Verifier:
     def verified(self, text: str) -> Rebuilt:
         """A page that is the one which its results give. ForeignPage says what differs first, and Unsure or
         Trouble why nothing can be said."""
-        now = datetime.datetime.now(datetime.timezone.utc)
-        rebuilt = self.rebuilt(found_in(text, now))
+        rebuilt = self.rebuilt(found_in(text))
         confirmed = CONFIRMED.match(text)
         checked, office = confirmed.groups() if confirmed else ("", "")
         wanted = page.confirmed(rebuilt.text, checked, office)
         if text != wanted:
             raise ForeignPage(first_difference(text, wanted))
-        if wrong := wrong_confirmation(rebuilt.kept, checked, office, now):
+        if wrong := wrong_confirmation(rebuilt.kept, checked, office):
             raise ForeignPage(wrong)
+        # An honest page, too, may have been made while a clock was wrong.
+        if odd := still_to_come(rebuilt.kept, checked, datetime.datetime.now(datetime.timezone.utc)):
+            raise Unsure(f"{odd}. All else is right. Set the clock right, and verify the page again; if it "
+                         "is right, make the page again")
         return rebuilt
 
 
@@ -150,15 +160,7 @@ def refused(trouble: str, journal: list[str]) -> str:
     return f"entry {at} of the journal {why}: {(journal + [''] * at)[at - 1]!r}"
 
 
-def settings_of(carried: Carried) -> Settings:
-    """The settings that a page carries."""
-    values = dict(carried.settings)
-    group, handicap = values.pop("class"), values.pop("handicap")
-    return Settings(**values, group=group, handicap=handicap == "yes", program="", entries="", seats=16,
-                    copy="", every=carried.stamp.every, port=8080, page="")
-
-
-def page_of(kept: Kept, views: Sequence[View]) -> str:
+def page_of(kept: Kept, views: Sequence[Snapshot]) -> str:
     """The page that raceoffice writes of these series."""
     if kept.kind == "list":
         return listing(views)
@@ -173,7 +175,7 @@ def page_of(kept: Kept, views: Sequence[View]) -> str:
 
 def compare_tables(rebuilt: Rebuilt) -> None:
     """Compares the overall tables that raceoffice writes with the program's, cell by cell."""
-    tables = [table for table in seen(rebuilt.text).tables
+    tables = [table for table in Seen(rebuilt.text).tables
               if table.caption.startswith("Overall results, ")]
     wanted = [view for view in rebuilt.views if rebuilt.kept.kind in ("top", "overall", "results")]
     if len(tables) != len(wanted):
@@ -199,7 +201,7 @@ def first_difference(text: str, wanted: str) -> str:
     line = f"line {at + 1} of the file isn't as raceoffice writes it: {part(ours, at)!r}"
     if len(text) > len(wanted) + LONGER:
         return f"the page is longer than the right one, and {line}"
-    return difference(seen(text), seen(wanted)) or (
+    return difference(Seen(text), Seen(wanted)) or (
         f"all that is seen is right, but {line}. Was the page changed by hand?")
 
 
@@ -237,7 +239,7 @@ def report(rebuilt: Rebuilt, program: str) -> list[str]:
     return lines
 
 
-def bewares(view: View) -> list[str]:
+def bewares(view: Snapshot) -> list[str]:
     """What of a verified page isn't what it seems, or what the scores don't have as they should."""
     shown = view.settings
     texts = [view.name, shown.title, shown.group, shown.club, shown.reason]
@@ -259,7 +261,7 @@ def opened_for_reading(path: str, flags: int) -> int:
     return number
 
 
-def text_in(path: str) -> str:
+def text_of_page(path: str) -> str:
     try:
         with open(path, "rb", opener=opened_for_reading) as file:
             data = file.read(LARGEST + 1)
@@ -270,7 +272,7 @@ def text_in(path: str) -> str:
     try:
         return data.decode("utf-8")
     except UnicodeDecodeError as cause:
-        if read_block.START.encode() not in data:
+        if page_data.START.encode() not in data:
             raise Unsure("it is no page of results") from None
         raise ForeignPage(f"byte {cause.start + 1} of the file isn't UTF-8") from None
 
@@ -287,7 +289,7 @@ def outcome(verifier: Verifier, path: str) -> Outcome:
     """Verifies a page."""
     try:
         with guarded("", ForeignPage, Unsure, ValueError):
-            rebuilt = verifier.verified(text_in(path))
+            rebuilt = verifier.verified(text_of_page(path))
             return Outcome(VERIFIED, (f"{path}: verified.", *report(rebuilt, verifier.program)),
                            {"page": path, "result": "verified", **value_of(rebuilt, verifier.program)})
     except ForeignPage as odd:

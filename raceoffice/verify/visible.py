@@ -58,8 +58,8 @@ class Table:
         return next((cell.text for cell in self.rows[at] if cell.is_sail), "")
 
 
-class Reader:
-    """Takes a page apart."""
+class Seen:
+    """A page, taken apart into its tables and its other texts."""
 
     def __init__(self, page: str) -> None:
         self.tables: list[Table] = []
@@ -121,17 +121,6 @@ class Reader:
 
 def longer(text: str, more: str) -> str:
     return text + more if len(text) < LONGEST else text
-
-
-@dataclass(frozen=True)
-class Seen:
-    tables: tuple[Table, ...]
-    texts: tuple[tuple[str, str], ...]
-
-
-def seen(page: str) -> Seen:
-    reader = Reader(page)
-    return Seen(tuple(reader.tables), tuple(reader.texts))
 
 
 # Two pages beside each other

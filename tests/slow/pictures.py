@@ -14,16 +14,23 @@ import unittest
 
 import browser
 import helpers
+import web_screens
 
 
 @unittest.skipUnless(browser.program() and shutil.which("pdftoppm"), "Chromium or pdftoppm isn't installed")
 class Pictures(unittest.TestCase):
-    def test_pictures(self) -> None:
-        screens = os.path.join(helpers.TOP, "tests", "screens.py")
+    def test_board(self) -> None:
+        self.need_same("screens.py", [helpers.PROGRAM], ["board-phone.png", "board-desktop.png", "board-print.png"])
+
+    def test_office(self) -> None:
+        self.need_same("web_screens.py", [], web_screens.NAMES)
+
+    def need_same(self, script: str, words: list[str], names: list[str]) -> None:
+        """Makes pictures again, and needs those in docs/ to have the same size."""
         with tempfile.TemporaryDirectory() as here:
-            subprocess.run([sys.executable, screens, helpers.PROGRAM, here], check=True,
+            subprocess.run([sys.executable, os.path.join(helpers.TOP, "tests", script), *words, here], check=True,
                            stdout=subprocess.DEVNULL)
-            for name in ("board-phone.png", "board-desktop.png", "board-print.png"):
+            for name in names:
                 heads = []
                 for folder in (here, os.path.join(helpers.TOP, "docs")):
                     with open(os.path.join(folder, name), "rb") as file:

@@ -341,6 +341,9 @@ class Sent(helpers.Series):
         said, status = self.decisions("check")
         self.assertEqual(status, 1)
         self.assertIn("no decisions in the scores, 5 others", said)
+        said, status = self.decisions()
+        self.assertIn("\n6 lines to send: raceoffice decisions send cup\n", said)
+        self.assertEqual(status, 1)
         said, status = self.decisions("send", lines="n\n")
         self.assertIn("Not sent.", said)
         said, status = self.decisions("send", lines="y\n")
@@ -353,6 +356,8 @@ class Sent(helpers.Series):
         self.write(self.text("cup", "decisions.txt").replace("DUTY sailed", "DUTY all"), "cup",
                    "decisions.txt")
         self.assertEqual(self.decisions("send", lines="y\n")[1], 0)
+        said, status = self.decisions("send")
+        self.assertEqual((said.splitlines()[-1], status), ("Nothing is to be sent.", 0))
         self.late()
 
     def test_typed_meanwhile(self) -> None:
@@ -430,7 +435,7 @@ class Sent(helpers.Series):
         """If the office goes while lines are sent, those that it didn't take are listed."""
         # Twelve boats: DNF is 13, a ZFP costs 3, 30% is 4, and she was second.
         self.typed("ENTER ITA4", "ENTER ITA5")
-        desk = decisions.Decisions(os.path.join(self.here, "cup"))
+        desk = decisions.Decisions(os.path.join(self.here, "cup"), "decisions")
         lines = desk.state().decided.lines
         self.assertEqual([line.text for line in lines][:3],
                          ["CLEAR 1 GBR7", "PENALTY 1 GBR7 ZFP", "REDRESS 1 GBR7 9.0"])
@@ -446,8 +451,9 @@ class Sent(helpers.Series):
                 return real.ask(line)
 
         with unittest.mock.patch.object(desk, "link", Gone()), \
-                unittest.mock.patch("raceoffice.commands.decisions.say", said.append):
-            self.assertEqual(desk.send(lines), 1)
+                unittest.mock.patch("raceoffice.commands.decisions.say", said.append), \
+                unittest.mock.patch("raceoffice.series.sender.say", said.append):
+            self.assertEqual(decisions.taken(desk, lines), 1)
         assert real
         real.close()
         self.assertEqual(said[:4], [

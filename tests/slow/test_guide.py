@@ -1,14 +1,21 @@
-"""The guide: its boxes are played, and what it says of the commands is what they say."""
+"""The guide: the boxes of its chapter about the typing window are played, and what both say of pages and commands is
+what those say."""
 from __future__ import annotations
 
+import json
+import os
 import re
 import unittest
+from typing import Any
 
 import guide
 import helpers
 from raceoffice.program import messages
-from raceoffice.typing_window import parse
+from raceoffice.session import parse
 
+TEXTS = os.path.join(helpers.TOP, "raceoffice", "web", "static", "texts")
+# The most words of the guide, and the least letters of a text with values that is recognised by them.
+MOST, LETTERS = 3200, 5
 ROLES = {"finish": "FINISH", "jury": "JURY", "scorer": "SCORER"}
 
 
@@ -17,7 +24,47 @@ def slug(heading: str) -> str:
     return re.sub(r"[^\w\- ]", "", heading.lower()).replace(" ", "-")
 
 
+def page(name: str) -> str:
+    with open(os.path.join(helpers.TOP, "docs", name), encoding="utf-8") as file:
+        return file.read()
+
+
+def seen_on_pages() -> list[str]:
+    """What the pages say in English, as patterns: each form of a text, with anything for its values; and its part
+    before a colon."""
+    texts: dict[str, Any] = {}
+    for name in ("en.json", "en-desk.json"):
+        with open(os.path.join(TEXTS, name), encoding="utf-8") as file:
+            texts |= json.load(file)
+    forms = [form for text in texts.values() for form in (text.values() if isinstance(text, dict) else [text])]
+    forms += [form.partition(":")[0] for form in forms if ":" in form]
+    wordy = [form for form in forms if "{" not in form or len(re.sub(r"\{\w+\}|\W", "", form)) >= LETTERS]
+    return [re.sub(r"\\\{\w+\\\}", ".+", re.escape(form)) for form in wordy]
+
+
+class Pages(unittest.TestCase):
+    """The guide of the office in browsers."""
+
+    def test_words(self) -> None:
+        """It is short, and each button, field and sign that it names is on the pages."""
+        text = page("GUIDE.md")
+        self.assertLessEqual(len(text.split()), MOST)
+        named = re.findall(r"\*\*([^*]+)\*\*", text)
+        self.assertGreater(len(named), 60)
+        seen = re.compile("|".join(seen_on_pages()))
+        self.assertEqual([words for words in named if words != "?" and not seen.fullmatch(words)], [])
+
+    def test_contents(self) -> None:
+        """Each section of both pages is in the contents, in order."""
+        for name in ("GUIDE.md", "TYPING.md"):
+            text = page(name)
+            contents = re.findall(r"^\d+\. \[([^\]]*)\]\(#([^)]*)\)$", text, re.MULTILINE)
+            headings = re.findall("^## (.*)$", text, re.MULTILINE)
+            self.assertEqual(contents, [(text, slug(text)) for text in headings if text != "Contents"])
+
+
 class Guide(unittest.TestCase):
+    """The chapter about the typing window."""
     text: str
 
     @classmethod
@@ -74,12 +121,6 @@ class Guide(unittest.TestCase):
             for role in ROLES.values() if whose == "all" else [ROLES[one] for one in whose.split(" and ")]:
                 said[role].update(lines)
         self.assertEqual(said, parse.MAY)
-
-    def test_contents(self) -> None:
-        """Each section is in the contents, in order."""
-        contents = re.findall(r"^\d+\. \[([^\]]*)\]\(#([^)]*)\)$", self.text, re.MULTILINE)
-        headings = re.findall("^## (.*)$", self.text, re.MULTILINE)
-        self.assertEqual(contents, [(text, slug(text)) for text in headings if text != "Contents"])
 
 
 if __name__ == "__main__":

@@ -8,6 +8,7 @@ import unittest
 
 import helpers
 from raceoffice.program import journal as journals
+from raceoffice.program.codes import OF_COMMITTEE
 from raceoffice.program.standing import Row, Standing, changes, tie_break
 
 COUNT = 300
@@ -37,7 +38,7 @@ def correction_of(dice: random.Random, race: int, boats: list[str]) -> list[str]
     """The lines of a decision or a correction; some are refused."""
     boat, other = dice.choice(boats), dice.choice(boats)
     return dice.choice([
-        [f"STRIKE {race} {boat}"], [f"MARK {race} {boat} {dice.choice(journals.CODES[:7])}"],
+        [f"STRIKE {race} {boat}"], [f"MARK {race} {boat} {dice.choice(OF_COMMITTEE)}"],
         ["ROLE JURY", f"MARK {race} {boat} {dice.choice(['DSQ', 'DNE'])}", "ROLE SCORER"],
         [f"PENALTY {race} {boat} {dice.choice(['ZFP', 'SCP'])}"],
         ["ROLE JURY", f"REDRESS {race} {boat} {dice.choice(['ALL', 'PRIOR', '2.5'])}",

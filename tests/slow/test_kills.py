@@ -18,12 +18,13 @@ from typing import Any
 import helpers
 from raceoffice.errors import NotSent, Trouble
 from raceoffice.series.folder import Folder
-from raceoffice.typing_window.session import Session
-from raceoffice.typing_window.values import Said
+from raceoffice.session.dialogue import Said
+from raceoffice.session.session import Session
 
-# What is typed, and between which lines the steps are counted.
+# What is typed, and at which lines the steps are counted.
 TYPED = ["101", "?", "12", "?1 33"]
 COUNTED = ("?", "?1 33")
+UNDONE = [*TYPED, "undo"]
 # Every call by which a window changes anything, or learns of it.
 CALLS = [(os, "open"), (os, "write"), (os, "fsync"), (os, "ftruncate"), (os, "close"), (fcntl, "flock"),
          (socket.socket, "sendall"), (socket.socket, "recv")]
@@ -63,6 +64,8 @@ class Kills(helpers.Series):
         self.folder = Folder(os.path.join(self.here, "cup"))
         self.folder.make_private()
         self.race, self.places = 0, self.folder.file("office", "places")
+        self.lines: list[str] = TYPED
+        self.counted: tuple[str, ...] = COUNTED
         self.program: subprocess.Popen[bytes] | None = None
         self.addCleanup(self.close)
 
@@ -129,6 +132,14 @@ class Kills(helpers.Series):
                 self.trial(stop, victim)
         return steps
 
+    def test_undo(self) -> None:
+        """The window, or both, are killed before each step of an undo: either the boat is in the order or her place
+        is kept, never both, and never neither."""
+        self.lines, self.counted = UNDONE, ("undo",)
+        for victim in ("window", "both"):
+            steps = self.each_step(victim)
+            self.assertEqual([steps.count(name) for name in ("sendall", "write")], [3, 3], steps)
+
     def test_on_the_disk(self) -> None:
         """A line is on the disk before it is answered, and before what it speaks of is sent."""
         self.next_race()
@@ -146,9 +157,14 @@ class Kills(helpers.Series):
         """Kills before this step, and looks at what is left; the steps that were taken."""
         race = self.next_race()
         program = self.serving()
+        files = f"/proc/{program.pid}/fd"
+        held = len(os.listdir(files))
         said, steps = self.typed(stop, victim, program.pid)
         if stop and victim in ("program", "both"):
             program.wait()
+        else:
+            # What a window sent before it was killed is taken before its link ends.
+            helpers.until("the end of its link", lambda: len(os.listdir(files)) <= held)
         self.serving()
         self.look(said, race)
         return steps
@@ -190,8 +206,8 @@ class Kills(helpers.Series):
                 session.connect()
                 with contextlib.suppress(Trouble):
                     session.do(f"at {self.race}")
-                    for line in TYPED:
-                        steps.is_on = line in COUNTED
+                    for line in self.lines:
+                        steps.is_on = line in self.counted
                         session.do(line)
                 steps.is_on = False
             write(into, b"STEPS " + json.dumps(steps.taken).encode())
@@ -210,7 +226,7 @@ class Kills(helpers.Series):
         is_in = ["GBR33"] in session.facts.race(str(race)).order
         if KEPT in said or is_in:
             self.assertNotEqual(is_in, "?1" in session.unread.marks(race), said)
-        if "NED12" in said.partition(KEPT)[2] and OK in said.partition("33")[2]:
+        if self.lines == TYPED and "NED12" in said.partition(KEPT)[2] and OK in said.partition("33")[2]:
             self.assertTrue(is_in, said)
         for mark in session.unread.marks(race):
             session.do(f"at {race}")
@@ -221,13 +237,14 @@ class Kills(helpers.Series):
         self.assertEqual(session.unread.all, (), told)
         if (race, "?1") in session.history.kept:
             lines = [line for line in session.facts.commands if line.split()[1:3] == [str(race), "GBR33"]]
-            self.assertEqual(len(lines), 1)
+            self.assertIn(len(lines), [1] if self.lines == TYPED else [1, 3])
             order = [sail for group in session.facts.race(str(race)).order for sail in group]
             self.assertEqual(order, [sail for sail in ("GBR101", "GBR33", "NED12") if sail in order])
             with open(self.places, encoding="ascii") as file:
                 notes = [json.loads(line) for line in file if line.strip()]
             ends = [note for note in notes if (note["what"], note["race"]) == ("resolved", race)]
-            self.assertEqual([session.facts.commands[end["entry"] - 1] for end in ends], lines)
+            put = [line for line in lines if not line.startswith("STRIKE ")]
+            self.assertEqual([session.facts.commands[end["entry"] - 1] for end in ends], put)
         session.disconnect()
 
     def test_all_windows(self) -> None:

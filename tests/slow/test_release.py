@@ -186,9 +186,10 @@ class Releases(unittest.TestCase):
                          set(COMMANDS))
 
     def test_pages(self) -> None:
-        """Each link of the pages leads to a place in one of them, and each box of the guide is there."""
+        """Each link of the pages leads to a place in one of them, and each box and picture of the guide is there."""
         folder = os.path.join(self.archive(), "share", "doc", "regatta", "html")
-        texts = {name: "\n".join(lines_of(os.path.join(folder, name))) for name in os.listdir(folder)}
+        texts = {name: "\n".join(lines_of(os.path.join(folder, name))) for name in os.listdir(folder)
+                 if name.endswith(".html")}
         links = [(name, link) for name, text in texts.items() for link in re.findall('href="([^"]*)"', text)]
         self.assertGreater(len(links), 50)
         for name, link in links:
@@ -196,7 +197,10 @@ class Releases(unittest.TestCase):
             self.assertIn(page or name, texts)
             self.assertTrue(not place or f'id="{place}"' in texts[page or name], link)
         boxes = len(re.findall("^```[a-z]", guide.read(), re.MULTILINE))
-        self.assertGreaterEqual(texts["guide.html"].count("<pre>"), boxes)
+        self.assertGreaterEqual(texts["typing.html"].count("<pre>"), boxes)
+        pictures = re.findall('<img src="([^"]*)"', "".join(texts.values()))
+        self.assertGreater(len(pictures), 5)
+        self.assertEqual([name for name in pictures if not os.path.exists(os.path.join(folder, name))], [])
 
     def test_lintian(self) -> None:
         if not shutil.which("lintian"):

@@ -7,7 +7,7 @@ from __future__ import annotations
 
 from raceoffice.program.standing import Row
 from raceoffice.results.html.markup import NOTHING, Markup, separated, tag, together
-from raceoffice.results.snapshot import View
+from raceoffice.results.snapshot import Snapshot
 
 # How many boats have a line, and the last rank that has a height of its own.
 LINES, DEEPEST = 8, 16
@@ -19,7 +19,7 @@ PHONE, NEAREST, FARTHEST, NUMBER = 206, 15, 40, 30
 DASHES = ["", "7 3", "2 3", "11 3 2 3", "", "7 3", "2 3", "11 3 2 3"]
 
 
-def ranks(view: View) -> dict[str, list[tuple[int, bool]]]:
+def ranks(view: Snapshot) -> dict[str, list[tuple[int, bool]]]:
     """Each boat's rank after each race, and whether she shares it."""
     found: dict[str, list[tuple[int, bool]]] = {row.sail: [] for row in view.standing.rows}
     for standing in view.course:
@@ -63,7 +63,7 @@ def line(at: int, row: Row, places: list[tuple[int, bool]], deepest: int, name: 
                tag("text", f"{rank} {name}", x=x + 20, y=end + 5), class_=f"c{at}")
 
 
-def axes(view: View, deepest: int, has_later: bool) -> Markup:
+def axes(view: Snapshot, deepest: int, has_later: bool) -> Markup:
     """The numbers of the races above, as many as fit, and of the ranks on the left."""
     count, apart = len(view.standing.races), step(len(view.standing.races))
     every = -(-NUMBER // apart)
@@ -79,7 +79,7 @@ def axes(view: View, deepest: int, has_later: bool) -> Markup:
     return tag("g", *races, *lines, class_="axes")
 
 
-def picture(view: View) -> Markup:
+def picture(view: Snapshot) -> Markup:
     rows, found = view.standing.rows[:LINES], ranks(view)
     worst = max(rank for row in rows for rank, _ in found[row.sail])
     deepest = min(max(worst, len(rows)), DEEPEST)
@@ -95,7 +95,7 @@ def picture(view: View) -> Markup:
     return tag("div", drawn, class_="scroll", role="region", aria_label="Chart of ranks", tabindex=0)
 
 
-def table(view: View) -> Markup:
+def table(view: Snapshot) -> Markup:
     """The same as a table, for all boats."""
     found = ranks(view)
     heads = [tag("th", f"R{number}", scope="col") for number in view.standing.races]
@@ -110,7 +110,7 @@ def table(view: View) -> Markup:
                    tabindex=0))
 
 
-def chart(view: View) -> Markup:
+def chart(view: Snapshot) -> Markup:
     """The chart and its table; nothing before the second race."""
     if len(view.course) < 2 or not view.standing.rows:
         return NOTHING

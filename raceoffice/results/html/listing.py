@@ -6,16 +6,16 @@ from collections.abc import Sequence
 from raceoffice.results.html.markup import NOTHING, Markup, separated, tag, together
 from raceoffice.results.html.page import SCORING, framed
 from raceoffice.results.html.sealing import block, digest, version_of
-from raceoffice.results.snapshot import View
+from raceoffice.results.snapshot import Snapshot
 from raceoffice.wording import count
 
 
-def version(views: Sequence[View]) -> str:
+def version(views: Sequence[Snapshot]) -> str:
     """Another text whenever one of the series is another."""
     return digest("".join(view.name + version_of(view) for view in views))[:8]
 
 
-def leaders(view: View) -> Markup:
+def leaders(view: Snapshot) -> Markup:
     """Who is first: up to three boats that share the rank."""
     first = [row for row in view.standing.rows if row.rank == 1] if view.standing.races else []
     boats = [view.boat(row.sail) for row in first[:3]]
@@ -24,7 +24,7 @@ def leaders(view: View) -> Markup:
     return tag("p", which, ": ", separated(names, " and ")) if names else NOTHING
 
 
-def entry(view: View, above: Sequence[str]) -> Markup:
+def entry(view: Snapshot, above: Sequence[str]) -> Markup:
     """A series in the list: what isn't above it already, how far it is, and who leads."""
     shown, stale = view.settings, len(view.decided.stale)
     sub = " · ".join(text for text in (shown.title, shown.club)
@@ -43,7 +43,7 @@ def entry(view: View, above: Sequence[str]) -> Markup:
         tag("p", tag("a", "Spreadsheet", href=f"{view.address}/results.csv"), " (CSV)", class_="sub"))
 
 
-def listing(views: Sequence[View]) -> str:
+def listing(views: Sequence[Snapshot]) -> str:
     """The page before the pages of several series."""
     titles = list(dict.fromkeys(view.settings.title for view in views))
     clubs = list(dict.fromkeys(view.settings.club for view in views if view.settings.club))

@@ -4,11 +4,12 @@ from __future__ import annotations
 from collections.abc import Sequence
 
 from raceoffice.decisions.points import words_of
+from raceoffice.program.codes import AS_DNF
 from raceoffice.program.standing import Row, Score, tie_break
 from raceoffice.results.html.markup import NOTHING, Markup, separated, tag, together
 from raceoffice.results.html.page import bar, code, finding, foot, head, key, name_heads, points, who, whole
 from raceoffice.results.html.sealing import block
-from raceoffice.results.snapshot import View
+from raceoffice.results.snapshot import Snapshot
 from raceoffice.wording import TIMES, joined, one_decimal, ordinal, spans
 
 # On paper the races after these are in a second table.
@@ -34,13 +35,13 @@ body { font-size: 7.4pt; } th, td { padding: .4mm .6mm 0; } .r abbr { font-size:
 
 # The table
 
-def tie_words(view: View, group: Sequence[Row]) -> str:
+def tie_words(view: Snapshot, group: Sequence[Row]) -> str:
     """How the boats of a tie were ranked."""
     said = [broken(view, better, worse) for better, worse in zip(group, group[1:])]
     return f"{group[0].net} points each. " + " ".join(said)
 
 
-def broken(view: View, better: Row, worse: Row) -> str:
+def broken(view: Snapshot, better: Row, worse: Row) -> str:
     """By which rule one boat is ranked ahead of another, and with which scores."""
     one, other = view.boat(better.sail).sail, view.boat(worse.sail).sail
     found = tie_break(view.standing.races, better, worse)
@@ -71,14 +72,14 @@ def cell(score: Score) -> Markup:
                class_="r win" if is_win else "r")
 
 
-def rank(view: View, row: Row) -> Markup:
+def rank(view: Snapshot, row: Row) -> Markup:
     if not view.standing.races:
         return tag("td", tag("span", "–"), class_="rank")
     medal = f"m{row.rank}" if row.rank <= 3 else None
     return tag("td", tag("span", row.rank, "=" if row.shared else "", class_=medal), class_="rank")
 
 
-def line(view: View, row: Row, mark: str) -> Markup:
+def line(view: Snapshot, row: Row, mark: str) -> Markup:
     """A boat's row in the overall results."""
     boat = view.boat(row.sail)
     tie = tag("a", mark, href=f"#{view.ids}tie-{mark}", aria_label=f"tie, note {mark}") if mark else NOTHING
@@ -101,7 +102,7 @@ def race_heads(races: Sequence[int], prefix: str | None) -> Markup:
                       for number in races))
 
 
-def table(view: View, prefix: str | None) -> Markup:
+def table(view: Snapshot, prefix: str | None) -> Markup:
     marks = {row.sail: letter(at) for at, group in enumerate(view.ties()) for row in group}
     rows = [line(view, row, marks.get(row.sail, "")) for row in view.standing.rows]
     excluded = " Scores in brackets and struck through are excluded." if view.totals else ""
@@ -117,7 +118,7 @@ def table(view: View, prefix: str | None) -> Markup:
                aria_labelledby=f"{view.ids}caption", tabindex=0)
 
 
-def second_table(view: View, prefix: str | None) -> Markup:
+def second_table(view: Snapshot, prefix: str | None) -> Markup:
     """On paper: the races for which the first table has no room."""
     races = view.standing.races[MOST_COLUMNS:]
     if not races:
@@ -135,7 +136,7 @@ def second_table(view: View, prefix: str | None) -> Markup:
 
 # The notes below it
 
-def ties(view: View) -> Markup:
+def ties(view: Snapshot) -> Markup:
     items = [tag("li", tag("b", letter(at)), tie_words(view, group), id=f"{view.ids}tie-{letter(at)}")
              for at, group in enumerate(view.ties())]
     if not items:
@@ -143,7 +144,7 @@ def ties(view: View) -> Markup:
     return tag("section", tag("h2", "How ties were broken"), tag("ul", *items, class_="ties"))
 
 
-def overall_key(view: View) -> Markup:
+def overall_key(view: Snapshot) -> Markup:
     used = {score.code for row in view.standing.rows for score in row.scores}
     more = NOTHING
     if view.totals:
@@ -153,18 +154,18 @@ def overall_key(view: View) -> Markup:
     return key(sorted(used), more)
 
 
-def absent_words(view: View) -> str:
+def absent_words(view: Snapshot) -> str:
     """What a boat scores that has no place, by the rule that applies."""
     boats = len(view.standing.rows)
     if view.settings.absent == "a53":
-        return ("RRS A5.3: OCS, UFD, BFD, DNS, DNF, RET, DSQ and DNE score the number of boats that "
+        return (f"RRS A5.3: {joined(AS_DNF)} score the number of boats that "
                 "came to the starting area, plus one. DNC scores the number of boats entered, "
                 f"{boats}, plus one.")
     return ("RRS A5.2: boats that did not start or finish, retired or were disqualified score the "
             f"number of boats entered, {boats}, plus one.")
 
 
-def rules(view: View) -> Markup:
+def rules(view: Snapshot) -> Markup:
     """The rules that the scores follow, and the races that count."""
     shown, labels = view.settings, view.decided.labels
     codes = {score.code for row in view.standing.rows
@@ -199,12 +200,12 @@ def repeated(kinds: list[str]) -> str:
     return joined(each)
 
 
-def decisions(view: View) -> Markup:
+def decisions(view: Snapshot) -> Markup:
     """What the table can't show: what was decided, how redress was given, and penalties that were
     repeated."""
     races = [view.race(number) for number in view.standing.races]
-    ruled = {(verdict.ruling.race, verdict.ruling.sail): words_of(verdict)
-             for verdict in view.decided.verdicts if verdict.ruling.race in view.standing.races}
+    ruled = {verdict.ruling.key: words_of(verdict) for verdict in view.decided.verdicts
+             if verdict.ruling.race in view.standing.races}
     says = [(number, sail, text) for (number, sail), text in ruled.items()]
     says += [(race.number, sail, f"redress, {redress_words(how)}")
              for race in races for sail, how in race.redress.items()
@@ -218,14 +219,14 @@ def decisions(view: View) -> Markup:
     return tag("section", tag("h2", "Redress and penalties"), tag("ul", *items))
 
 
-def notes(view: View) -> Markup:
+def notes(view: Snapshot) -> Markup:
     """What is below the table."""
     return tag("div", ties(view), overall_key(view), rules(view), decisions(view), class_="notes")
 
 
 # The head, the style, and the page
 
-def facts(view: View) -> list[Markup]:
+def facts(view: Snapshot) -> list[Markup]:
     """The boats and races, and how many scores are excluded."""
     boats, races, worst = len(view.standing.rows), len(view.standing.races), view.excluded
     yet = "" if races else " scored yet"
@@ -235,14 +236,14 @@ def facts(view: View) -> list[Markup]:
             together(tag("b", TIMES[worst]), scores)]
 
 
-def asides(view: View) -> list[Markup]:
+def asides(view: Snapshot) -> list[Markup]:
     """What places follow, and which rule gives the scores of boats without one."""
     order = "corrected time" if view.settings.handicap else "order of finishing"
     return [together("places by ", tag("b", order)),
             together("DNF etc. under ", tag("b", f"RRS A5.{view.settings.absent[-1]}"))]
 
 
-def fits(view: View) -> int:
+def fits(view: Snapshot) -> int:
     """The width from which on the table needs no scrolling of its own."""
     return max(450 + 55 * len(view.standing.races) + (64 if view.totals else 0), 736)
 
@@ -259,7 +260,7 @@ def paper_style(boats: int, races: int) -> str:
     return DENSE.format(*letters) if races > 14 else ""
 
 
-def style(view: View, scope: str = "main.standing") -> str:
+def style(view: Snapshot, scope: str = "main.standing") -> str:
     """What depends on the number of columns. From the width `fits` on the page scrolls, and below it
     the table does: helms are below the sails then, and the other names are shown if they are asked for."""
     races, rows = len(view.standing.races), f"{scope} > .scroll"
@@ -285,27 +286,21 @@ def style(view: View, scope: str = "main.standing") -> str:
 """
 
 
-def more_names(view: View) -> Markup:
+def more_names(view: Snapshot) -> Markup:
     """The switch that shows more names on a phone."""
     return tag("label", tag("input", type="checkbox", id="more"), " ",
                "Boat, club" if view.has_helms else "Club", class_="more")
 
 
-def title_of(view: View) -> str:
-    shown = view.settings
-    return f"{shown.title}: {shown.group}" if shown.group else shown.title
-
-
-def overall(view: View, is_among: bool = False, is_top: bool = False) -> str:
+def overall(view: Snapshot, is_among: bool = False, is_top: bool = False) -> str:
     """The page of the overall results. It is among those of several series, or at the top of the pages
     of one, or in their folder."""
     prefix = f"{view.address}/" if is_top else ""
-    title = title_of(view)
     carried = block("top", [view]) if is_top else block("overall", [view], among=is_among)
     body = tag("main", separated([
-        "", head(view, is_among, view.settings.club, title, facts(view), asides(view)),
+        "", head(view, is_among, view.settings.club, view.title, facts(view), asides(view)),
         bar(view, 0, prefix, more_names(view)), table(view, prefix), second_table(view, prefix),
         notes(view), foot(view, prefix), carried, ""], "\n"), class_="standing")
     boats, races = len(view.standing.rows), len(view.standing.races)
     printed = f"{style(view)}@media print {{ {paper_style(boats, races)} }}\n"
-    return whole(view, f"{title} · {view.settings.state}", body, printed, prefix)
+    return whole(view, f"{view.title} · {view.settings.state}", body, printed, prefix)

@@ -2,28 +2,20 @@
 in itself, for phones, desks and paper."""
 from __future__ import annotations
 
-import datetime
 import re
 from collections.abc import Sequence
 
-from raceoffice.files import opened_at_once
+from raceoffice.files import text_if_any
+from raceoffice.program.codes import CODES
 from raceoffice.results.html import assets
 from raceoffice.results.html.markup import (NOTHING, Markup, attributes, document, raw, separated, tag,
                                             together)
 from raceoffice.results.html.sealing import seal_words, version_of
-from raceoffice.results.snapshot import View
+from raceoffice.results.snapshot import Snapshot
 from raceoffice.series.entry_list import Boat
 
 MEANING = {
-    "DNC": ("did not come to the starting area", ""),
-    "DNS": ("did not start", ""),
-    "OCS": ("on the course side at the start (RRS 28.1, 30.1)", "hard"),
-    "UFD": ("broke the flag U rule (RRS 30.3)", "hard"),
-    "BFD": ("broke the black flag rule (RRS 30.4)", "hard"),
-    "DNF": ("did not finish", ""),
-    "RET": ("retired", ""),
-    "DSQ": ("disqualified", "hard"),
-    "DNE": ("disqualified; the score can’t be excluded (RRS 90.3(b))", "hard"),
+    **{word: (code.meaning, "hard" if code.is_breach else "") for word, code in CODES.items()},
     "ZFP": ("20% penalty at the start (RRS 30.2)", "kind"),
     "SCP": ("Scoring Penalty (RRS 44.3)", "kind"),
     "RDG": ("redress given (RRS A9)", "given"),
@@ -62,13 +54,13 @@ def who(boat: Boat) -> Markup:
     return together(tag("b", first), tag("span", " · ".join(rest)) if rest else NOTHING)
 
 
-def finding(view: View, sail: str) -> str:
+def finding(view: Snapshot, sail: str) -> str:
     """What "Find" looks at in a row."""
     boat = view.boat(sail)
     return " ".join([boat.sail, boat.helm, boat.name, boat.club])
 
 
-def name_heads(view: View) -> str:
+def name_heads(view: Snapshot) -> str:
     return "Helm, boat · club" if view.has_helms else "Boat, club"
 
 
@@ -83,7 +75,7 @@ def key(words: Sequence[str], more: Markup = NOTHING) -> Markup:
 
 # The frame of each page
 
-def nav(view: View, is_among: bool) -> Markup:
+def nav(view: Snapshot, is_among: bool) -> Markup:
     """The way to the list of all series. Their names are there: on this page nothing could show that
     they are right. Its script asks for them."""
     if not is_among:
@@ -97,7 +89,7 @@ def classes(items: Sequence[Markup]) -> Markup:
     return tag("nav", tag("ul", *items, class_="classes"), aria_label="Classes")
 
 
-def state(view: View) -> Markup:
+def state(view: Snapshot) -> Markup:
     """Provisional, final or amended, and since when."""
     word, when = view.settings.state, view.when(view.changed)
     time = tag("time", when, datetime=view.changed.isoformat())
@@ -105,7 +97,7 @@ def state(view: View) -> Markup:
                tag("p", tag("span", "Last changed"), " ", time, class_="when"), class_="state")
 
 
-def stale(view: View) -> Markup:
+def stale(view: Snapshot) -> Markup:
     """What the jury decided and the scores don't have as it has to be."""
     items = [tag("li", f"{text}.") for text in view.decided.stale]
     if not items:
@@ -114,7 +106,7 @@ def stale(view: View) -> Markup:
     return together(tag("div", head, tag("ul", *items), class_="reason stale"), "\n")
 
 
-def head(view: View, is_among: bool, above: str, title: str, facts: Sequence[Markup],
+def head(view: Snapshot, is_among: bool, above: str, title: str, facts: Sequence[Markup],
          asides: Sequence[Markup] = ()) -> Markup:
     """What a page begins with. The asides are facts for which a phone has no room."""
     shown = view.settings
@@ -135,7 +127,7 @@ def way(text: str, to: str, is_here: bool, is_open: bool = False) -> Markup:
                          class_="open" if is_open else None))
 
 
-def ways(view: View, here: int, prefix: str) -> Markup:
+def ways(view: Snapshot, here: int, prefix: str) -> Markup:
     """The way to the races, and back to the overall results."""
     items = [way("Overall", f"{prefix}index.html", here == 0)]
     items += [way(f"R{number}", f"{prefix}race-{number}.html", number == here,
@@ -151,12 +143,12 @@ def finder(more: Markup = NOTHING) -> Markup:
                tag("span", id="found", role="status"), more, class_="find")
 
 
-def bar(view: View, here: int, prefix: str, more: Markup = NOTHING) -> Markup:
+def bar(view: Snapshot, here: int, prefix: str, more: Markup = NOTHING) -> Markup:
     """Above the table: the races, and the field that finds a boat."""
     return tag("div", ways(view, here, prefix), "\n", finder(more), class_="bar")
 
 
-def foot(view: View, prefix: str | None = None) -> Markup:
+def foot(view: Snapshot, prefix: str | None = None) -> Markup:
     """What a page ends with. `prefix` leads to the series' own folder, if the page is of one."""
     sheet = NOTHING
     if prefix is not None:
@@ -169,7 +161,7 @@ def foot(view: View, prefix: str | None = None) -> Markup:
         "\n")
 
 
-def whole(view: View, title: str, body: Markup, style: str, prefix: str) -> str:
+def whole(view: Snapshot, title: str, body: Markup, style: str, prefix: str) -> str:
     """A page from its parts. `stamped` adds when it was confirmed."""
     live = "yes" if view.settings.state == "provisional" else "no"
     below = " · ".join([title, f"last changed {view.when(view.changed)}",
@@ -214,19 +206,10 @@ def framed(title: str, live: str, every: int, version: str, now: str, body: Mark
 
 def is_ours(path: str) -> bool:
     """Whether a file is a page that a board has made."""
-    try:
-        with open(path, encoding="utf-8", errors="replace", opener=opened_at_once) as opened:
-            start = opened.read(1000)
-    except OSError:
-        return False
-    return OURS.match(start) is not None
+    return OURS.match(text_if_any(path, 1000)) is not None
 
 
 def confirmed(page: str, checked: str, office: str) -> str:
     """The page with the moment at which it was confirmed last, and where from."""
     return page.replace(attributes(**UNCONFIRMED),
                         attributes(data_checked=checked, data_office=office), 1)
-
-
-def stamped(page: str, checked: datetime.datetime, office: str) -> bytes:
-    return confirmed(page, checked.isoformat(), office).encode()

@@ -4,15 +4,16 @@ from __future__ import annotations
 from collections.abc import Mapping
 
 from raceoffice.decisions.points import words_of
-from raceoffice.program.journal import CODES, Race
+from raceoffice.program.codes import CODES
+from raceoffice.program.journal import Race
 from raceoffice.results.html.markup import NOTHING, Markup, separated, tag, together
 from raceoffice.results.html.page import bar, code, finding, foot, head, key, name_heads, points, who, whole
 from raceoffice.results.html.sealing import block
-from raceoffice.results.snapshot import View
+from raceoffice.results.snapshot import Snapshot
 from raceoffice.wording import duration
 
 
-def remarks(view: View, race: Race, sail: str) -> Markup:
+def remarks(view: Snapshot, race: Race, sail: str) -> Markup:
     """What a boat holds beside her place, below her name."""
     kinds = race.penalties.get(sail, [])
     says = [together(code(kind), f" × {kinds.count(kind)}" if kinds.count(kind) > 1 else "")
@@ -28,7 +29,7 @@ def remarks(view: View, race: Race, sail: str) -> Markup:
     return tag("em", separated(says, ", ")) if says else NOTHING
 
 
-def row(view: View, race: Race, sail: str, first: Markup, with_time: bool) -> Markup:
+def row(view: Snapshot, race: Race, sail: str, first: Markup, with_time: bool) -> Markup:
     scores, boat = view.scores(race.number), view.boat(sail)
     cells = [tag("td", first, class_="place"), tag("th", boat.sail, scope="row", class_="sail"),
              tag("td", who(boat), remarks(view, race, sail), class_="who")]
@@ -42,7 +43,7 @@ def row(view: View, race: Race, sail: str, first: Markup, with_time: bool) -> Ma
     return tag("tr", *cells, data_find=finding(view, sail))
 
 
-def heads(view: View, race: Race, first: str, with_time: bool) -> Markup:
+def heads(view: Snapshot, race: Race, first: str, with_time: bool) -> Markup:
     """The headings of a table of a race."""
     cells = [tag("th", text, scope="col", class_=name) for text, name in
              ((first, "place"), ("Sail", "sail"), (name_heads(view), "who"))]
@@ -54,7 +55,7 @@ def heads(view: View, race: Race, first: str, with_time: bool) -> Markup:
     return tag("thead", tag("tr", *cells))
 
 
-def table(view: View, race: Race, label: str, caption: str, first: str, boats: Mapping[str, Markup],
+def table(view: Snapshot, race: Race, label: str, caption: str, first: str, boats: Mapping[str, Markup],
           with_time: bool = False) -> Markup:
     """The boats of one kind, each with what is in the first column."""
     if not boats:
@@ -68,18 +69,18 @@ def table(view: View, race: Race, label: str, caption: str, first: str, boats: M
                     tag("div", made, class_="scroll", role="region", aria_labelledby=label, tabindex=0))
 
 
-def unrecorded(view: View, race: Race) -> list[str]:
+def unrecorded(view: Snapshot, race: Race) -> list[str]:
     """The boats without a place, a code and redress."""
     return [sail for sail in race.missing(view.series.boats) if sail not in race.redress]
 
 
-def tables(view: View, race: Race) -> Markup:
+def tables(view: Snapshot, race: Race) -> Markup:
     """The boats of a race: those with a place, with a code, and without either."""
     counts, labels = race.number in view.standing.races, view.decided.labels
     places = {sail: together(place, "=" if shared else "")
               for sail, (place, shared) in race.places().items()}
     coded = {sail: code(labels.get((race.number, sail), race.codes[sail]))
-             for sail in sorted(race.codes, key=lambda sail: (CODES.index(race.codes[sail]), sail))}
+             for sail in sorted(race.codes, key=lambda sail: (list(CODES).index(race.codes[sail]), sail))}
     coded |= {sail: code(labels.get((race.number, sail), "RDG"))
               for sail in race.missing(view.series.boats) if sail in race.redress}
     missing = {sail: code("DNC") if counts else together("–") for sail in unrecorded(view, race)}
@@ -90,7 +91,7 @@ def tables(view: View, race: Race) -> Markup:
               "Code" if counts else "", missing))
 
 
-def facts(view: View, race: Race) -> list[Markup]:
+def facts(view: Snapshot, race: Race) -> list[Markup]:
     """Whether it is scored, and how many boats finished or hold a code."""
     counts, boats = race.number in view.standing.races, len(view.series.boats)
     finished, missing = len(race.places()), len(unrecorded(view, race))
@@ -102,7 +103,7 @@ def facts(view: View, race: Race) -> list[Markup]:
     return [*found, together("of ", tag("b", boats), " boats")]
 
 
-def words_used(view: View, race: Race) -> list[str]:
+def words_used(view: Snapshot, race: Race) -> list[str]:
     """The abbreviations that the page has."""
     used = [*race.codes.values(), *(kind for kinds in race.penalties.values() for kind in kinds)]
     if race.redress:
@@ -113,7 +114,7 @@ def words_used(view: View, race: Race) -> list[str]:
     return used
 
 
-def one_race(view: View, number: int, is_among: bool = False) -> str:
+def one_race(view: Snapshot, number: int, is_among: bool = False) -> str:
     """The page of one race, which may be among those of several series."""
     shown, race = view.settings, view.race(number)
     title = f"{shown.group} · Race {number}" if shown.group else f"Race {number}"

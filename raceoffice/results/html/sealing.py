@@ -10,7 +10,7 @@ from dataclasses import dataclass
 
 from raceoffice.results.html import assets
 from raceoffice.results.html.markup import Markup, raw
-from raceoffice.results.snapshot import View
+from raceoffice.results.snapshot import Snapshot
 from raceoffice.series.entry_list import Boat
 from raceoffice.series.settings import rows_of
 
@@ -62,7 +62,7 @@ class Carried:
         return {boat[0]: Boat(*boat[1:]) for boat in self.boats}
 
 
-def settings_of(view: View) -> dict[str, str]:
+def settings_of(view: Snapshot) -> dict[str, str]:
     """The settings that a page shows or that its scores follow."""
     shown = view.settings
     return {**{name: getattr(shown, name) for name in SETTINGS}, "class": shown.group,
@@ -74,7 +74,7 @@ def without_note(line: str) -> str:
     return line.partition("#")[0].strip()
 
 
-def carried_of(view: View) -> Carried:
+def carried_of(view: Snapshot) -> Carried:
     boats = [(sail, boat.sail, boat.helm, boat.name, boat.club) for sail, boat in view.boats.items()]
     return Carried(view.name, view.program, settings_of(view), tuple(boats),
                    tuple(map(without_note, rows_of(view.decided.text))), tuple(view.journal),
@@ -84,7 +84,9 @@ def carried_of(view: View) -> Carried:
 def as_text(value: object) -> str:
     """A value as JSON, always in the same way: a line for each line of a journal."""
     text = json.dumps(value, ensure_ascii=False, indent=0)
-    return "".join(SIGNS.get(sign, sign) for sign in text)
+    for sign, number in SIGNS.items():
+        text = text.replace(sign, number)
+    return text
 
 
 def digest(text: str) -> str:
@@ -97,29 +99,29 @@ def form() -> str:
     return f"{NUMBER}-{digest(assets.style() + assets.script())[:8]}"
 
 
-def made(view: View, name: str, make: Callable[[View], str]) -> str:
+def made(view: Snapshot, name: str, make: Callable[[Snapshot], str]) -> str:
     """A text of a series, made once: a board has many pages of one series."""
     if name not in view.memo:
         view.memo[name] = make(view)
     return view.memo[name]
 
 
-def series_text(view: View) -> str:
+def series_text(view: Snapshot) -> str:
     return made(view, "series", lambda view: as_text(carried_of(view).value()))
 
 
-def seal(view: View) -> str:
+def seal(view: Snapshot) -> str:
     """The SHA-256 of what a series' pages carry: it is the same on all pages, and as long as nothing
     has changed."""
     return made(view, "seal", lambda view: digest(series_text(view)))
 
 
-def seal_words(view: View) -> str:
+def seal_words(view: Snapshot) -> str:
     """The first half of the seal, in groups that can be read out."""
     return " ".join(seal(view)[at:at + 4] for at in range(0, 32, 4))
 
 
-def version_of(view: View) -> str:
+def version_of(view: Snapshot) -> str:
     """Another text whenever anything that a series' pages show is another."""
     return made(view, "version", lambda view: f"{view.series.entries}-" + digest(
         f"{seal(view)} {view.changed.isoformat()} {view.settings.every}")[:8])
@@ -130,7 +132,7 @@ def marks(carried: Carried) -> str:
     return "".join(digest(f"{name}\t{text}")[:4] for name, text in carried.items())
 
 
-def block(kind: str, views: Sequence[View], **more: object) -> Markup:
+def block(kind: str, views: Sequence[Snapshot], **more: object) -> Markup:
     """The block of a page: its form and kind, what else says which page it is, and its series."""
     series = ",\n".join(map(series_text, views))
     written = [made(view, "marks", lambda view: marks(carried_of(view))) for view in views]

@@ -1,0 +1,85 @@
+"""The whole office in browsers: finish, jury and scorer open a link, and the board is open to all.
+
+    raceoffice serve [FOLDER ...] [--http PORT] [--name HOST] [--certificate FILE [--key FILE]] [--new ROLE]
+
+Without a folder the scorer's page makes a series in this one, from an entry list and what the sailing
+instructions say. --browser opens that page here. If this folder has series whose results aren't final, it
+asks whether to open them.
+
+It opens the office of each series, keeps it as `raceoffice open` does, and serves the board at / and the
+office's pages to those with a link. A link of each role is printed, with a code for cameras. It is shown this
+once: --new makes another, and the old one and its devices are out. An office that is open in another window
+is joined, and stays open at the end; a program whose window has gone is taken over.
+
+A tap is done once, however often a phone sends it: a reload, a dead line and a crash cost no finisher and
+double none. Who types in other windows (raceoffice type) does so beside the pages.
+
+On plain HTTP whoever is in the network and listens can read what devices send, also what lets them write: use
+a Wi-Fi of your own with a password, or --certificate with one that phones trust, for the name of --name.
+
+To stop it by Ctrl-C closes the offices, and is its usual end, with status 0. The status is 1 if it couldn't be
+started.
+
+    raceoffice serve cup
+    raceoffice serve cup fleet --http 8090
+    raceoffice serve cup --name office.club.org --certificate club.pem --key club.key
+"""
+from __future__ import annotations
+
+import argparse
+import os
+
+from raceoffice.commands.board import port
+from raceoffice.errors import Trouble
+from raceoffice.exit_status import status_of
+from raceoffice.files import PRIVATE
+from raceoffice.series import settings
+from raceoffice.terminal import question
+from raceoffice.web.serving import Asked, serve
+from raceoffice.wording import joined
+
+PORT = 8080
+
+
+def arguments(parser: argparse.ArgumentParser) -> None:
+    parser.add_argument("folder", nargs="*", help="the folder of a series; without one, the scorer's page makes a series")
+    parser.add_argument("--http", type=port, default=PORT, metavar="PORT", help=f"the port ({PORT})")
+    parser.add_argument("--name", default="", metavar="HOST",
+                        help="the name by which devices reach this computer")
+    parser.add_argument("--certificate", default="", metavar="FILE", help="a certificate: then it is HTTPS")
+    parser.add_argument("--key", default="", metavar="FILE", help="the certificate's private key")
+    parser.add_argument("--browser", action="store_true",
+                        help="open the scorer's page on this computer, by a new link; its devices stay")
+    parser.add_argument("--new", action="append", default=[], choices=["finish", "jury", "scorer"],
+                        help="a new link for a role; the old one and its devices are out")
+
+
+def is_going_on(name: str) -> bool:
+    """Whether a folder has a series whose results aren't final."""
+    if not os.path.isfile(os.path.join(name, settings.NAME)):
+        return False
+    try:
+        return settings.read(name).state == "provisional"
+    except Trouble:
+        return False
+
+
+def series_here() -> list[str]:
+    """The series of this folder whose results aren't final; the one that knows the devices comes first."""
+    found = [name for name in sorted(os.listdir()) if is_going_on(name)]
+    return sorted(found, key=lambda name: not os.path.exists(os.path.join(name, PRIVATE, "web.json")))
+
+
+def folders_of(asked: argparse.Namespace) -> list[str]:
+    """The folders that are named or, if none is, those of this one that somebody wants opened."""
+    if asked.folder or not (found := series_here()):
+        return list(asked.folder)
+    return found if question(f"Open {joined(found)}? The results aren't final yet.", yes=True) else []
+
+
+def run(asked: argparse.Namespace) -> int:
+    def served() -> int:
+        folders = tuple(folders_of(asked))
+        return serve(Asked(folders, asked.http, asked.name, asked.certificate, asked.key, tuple(asked.new),
+                           asked.browser))
+    return status_of(served, next(iter(asked.folder), ""))

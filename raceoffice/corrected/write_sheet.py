@@ -1,0 +1,164 @@
+"""A race's sheet of times as it is written while boats finish: one start for all, each finish as it comes, and
+codes. Columns that somebody has added stay as they are."""
+from __future__ import annotations
+
+import os
+import re
+from collections.abc import Sequence
+
+from raceoffice.corrected.sheets import DECIDED, FORMS, TIMES, entries_of, with_seconds
+from raceoffice.corrected.sheets import HEADS as COLUMNS
+from raceoffice.corrected.times import ROUNDINGS, RULES, SHEETS, SYSTEMS, sheet_name
+from raceoffice.errors import NotSent, NotThere, Trouble
+from raceoffice.files import replace_whole
+from raceoffice.series.entry_list import plain
+from raceoffice.series.folder import Folder
+from raceoffice.series.headings import SHEET, columns
+from raceoffice.series.read_list import as_csv, bytes_of, table_of, wrong_form
+from raceoffice.wording import joined
+
+# The headings of a new sheet, and that of each column that is added to another.
+HEADS = {"sail": "Sail", "start": "Start", "finish": "Finish", "code": "Code"}
+
+
+class SheetOfRace:
+    """The sheet of one race, in a series' folder; an empty one if there is none yet."""
+
+    def __init__(self, folder: Folder, race: int) -> None:
+        self.path, self.name = folder.file(sheet_name(race)), sheet_name(race)
+        self.heads, self.rows = list(HEADS.values()), list[list[str]]()
+        self.places = columns(self.heads, SHEET)
+        try:
+            self.read(bytes_of(self.path))
+        except NotThere:
+            pass
+
+    def read(self, data: bytes) -> None:
+        """Reads what there is; a Trouble if it isn't a sheet."""
+        wrong = wrong_form(data, self.name)
+        if faults := [wrong] if wrong else entries_of(data, self.name)[1]:
+            raise Trouble("\n".join(faults))
+        table = table_of(data)
+        self.heads = list(table.heads)
+        self.places = columns(self.heads, SHEET)
+        # In the new text only commas part the columns.
+        numbers = [self.places.get("distance")]
+        self.rows = [[table.number(row, at) if at in numbers else cell for at, cell in enumerate(row)]
+                     for _, row in table.rows]
+        for key, head in HEADS.items():
+            if key not in self.places:
+                self.places[key] = len(self.heads)
+                self.heads.append(head)
+
+    def write(self) -> None:
+        """Puts the sheet on the disk, whole."""
+        os.makedirs(os.path.dirname(self.path), exist_ok=True)
+        replace_whole(self.path, as_csv([self.heads, *self.rows]))
+
+    # Cells
+
+    def row(self, sail: str) -> list[str]:
+        """The row of a boat, which is added if she has none."""
+        found = next((row for row in self.rows if plain(row[self.places["sail"]]) == sail), None)
+        if found is None:
+            found = [""] * len(self.heads)
+            found[self.places["sail"]] = sail
+            self.rows.append(found)
+        return found
+
+    def cell(self, row: list[str], key: str) -> str:
+        at = self.places[key]
+        return row[at].strip() if at < len(row) else ""
+
+    def put(self, row: list[str], key: str, text: str) -> None:
+        row += [""] * (len(self.heads) - len(row))
+        row[self.places[key]] = text
+
+    def give(self, sail: str, key: str, text: str) -> None:
+        """Gives a boat her start, laps or distance. A column that the sheet lacks is added if it is needed."""
+        if key not in self.places:
+            if not text:
+                return
+            self.places[key] = len(self.heads)
+            self.heads.append(COLUMNS[key])
+        self.put(self.row(sail), key, with_seconds(key, text))
+
+    @property
+    def starts(self) -> list[str]:
+        """The starts that it has, each once."""
+        found = [with_seconds("start", self.cell(row, "start")) for row in self.rows]
+        return list(dict.fromkeys(filter(None, found)))
+
+    # What the finish writes
+
+    def start(self, text: str, sails: Sequence[str]) -> None:
+        """Gives all boats one start. NotSent if they have several, or if it isn't one."""
+        if not is_form("start", text):
+            raise NotSent(f"{text} isn't {FORMS['start'][1]}")
+        if len(self.starts) > 1:
+            raise NotSent(f"{self.name} has several starts: change them there")
+        for sail in sails:
+            self.row(sail)
+        for row in self.rows:
+            self.put(row, "start", with_seconds("start", text))
+
+    def finish(self, sail: str, text: str) -> None:
+        """Gives a boat her finish. NotSent if she has another one or a code."""
+        row = self.row(sail)
+        before = [self.cell(row, key) for key in ("finish", "code") if self.cell(row, key) not in ("", text)]
+        if before:
+            raise NotSent(f"{sail} has {before[0]} in {self.name} already: strike or clear her first")
+        if len(self.starts) == 1:
+            self.put(row, "start", self.starts[0])
+        self.put(row, "finish", text)
+
+    def take_finish(self, sail: str) -> bool:
+        """Takes a boat's finish away; whether she had one."""
+        row = self.row(sail)
+        had = bool(self.cell(row, "finish"))
+        self.put(row, "finish", "")
+        return had
+
+    def code(self, sail: str, code: str) -> bool:
+        """Gives a boat a code, or takes hers away if it is empty; whether that is another."""
+        row = self.row(sail)
+        before = self.cell(row, "code")
+        for key in TIMES:
+            # A code may stand where a time would.
+            if key in self.places and self.cell(row, key).isalpha():
+                before = before or self.cell(row, key)
+                self.put(row, key, "")
+        self.put(row, "code", code)
+        return before != code
+
+
+def rules_text(system: str, rounding: str) -> bytes:
+    """The rules of a new series; a Trouble if there are none such."""
+    if system not in SYSTEMS or rounding not in ROUNDINGS:
+        raise Trouble(f"the system of corrected times has to be {joined(list(SYSTEMS), 'or')}, and the rounding "
+                      f"{joined(list(ROUNDINGS), 'or')}")
+    return f"[times]\nsystem = {system}\nrounding = {rounding}\n".encode()
+
+
+def write_rules(folder: str, text: bytes) -> None:
+    """Makes times/rules.ini of a new series."""
+    path = os.path.join(folder, SHEETS, RULES)
+    os.makedirs(os.path.dirname(path), exist_ok=True)
+    replace_whole(path, text)
+
+
+def is_form(key: str, text: str) -> bool:
+    """Whether a text is one of a column."""
+    return re.fullmatch(FORMS[key][0], text) is not None
+
+
+def is_for_sheet(code: str) -> bool:
+    """Whether a sheet may have a code: what is decided elsewhere isn't in one."""
+    return code not in DECIDED
+
+
+def races_with_sheet(folder: Folder) -> list[int]:
+    """The races that have a sheet of times."""
+    if not os.path.isdir(folder.file(SHEETS)):
+        return []
+    return [race for race in range(1, 41) if os.path.exists(folder.file(sheet_name(race)))]

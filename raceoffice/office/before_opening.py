@@ -1,0 +1,87 @@
+"""What is looked at and asked before an office is opened; `say` and `ask` are those of a terminal or a page."""
+from __future__ import annotations
+
+import dataclasses
+import os
+from collections.abc import Callable
+
+from raceoffice.files import replace_whole
+from raceoffice.program.messages import moved
+from raceoffice.series import copies, entry_list
+from raceoffice.series.continuity import differences, note_now
+from raceoffice.series.copies import best_copy, places_with
+from raceoffice.series.folder import Folder
+from raceoffice.series.health import (changes_of_rules, faults, journal_fault, lost_journal, rules_before)
+from raceoffice.series.kept_places import Places
+from raceoffice.series.run_program import rules_of
+from raceoffice.series.second_folder import second_of
+from raceoffice.session.dialogue import Question
+from raceoffice.session.question_words import question
+
+Say = Callable[[str], object]
+Ask = Callable[[Question], bool]
+
+
+def is_right(folder: Folder, say: Say) -> bool:
+    """Whether a series can be opened."""
+    wrong = faults(folder)
+    for text in wrong:
+        say(text)
+    return not wrong
+
+
+def mend(folder: Folder, ask: Ask) -> None:
+    """Offers what puts a series without a journal right: its best copy."""
+    # Nothing may replace a file that an office has.
+    if journal_fault(folder) or folder.is_held() or folder.kept():
+        return
+    lost = lost_journal(folder)
+    if not lost:
+        return
+    with second_of(folder) as second:
+        copy, data = best_copy(folder, second)
+        places = places_with(folder, second, data)
+    if copy and ask(question("use-copy", str, lost=lost)):
+        Places(folder).put_back(places)
+        replace_whole(os.path.realpath(folder.journal), data)
+        copies.keep(folder, data)
+        folder.log("", "", "", "restored", note_now(folder, data))
+
+
+def is_meant(folder: Folder, say: Say, ask: Ask) -> bool:
+    """Whether nothing has changed since the last opening that has to be asked about, or somebody says yes."""
+    return is_continued(folder, say, ask) and is_agreed(folder, say, ask)
+
+
+def is_continued(folder: Folder, say: Say, ask: Ask) -> bool:
+    """Whether journal.txt and office/places go on from what the office had, or somebody opens it all the
+    same."""
+    text = differences(folder)
+    if not text:
+        return True
+    say(text)
+    return ask(question("not-continued", str, difference=text))
+
+
+def is_agreed(folder: Folder, say: Say, ask: Ask) -> bool:
+    """Whether the rules are those of the last opening, or somebody agrees to what they move."""
+    asked = question_of_rules(folder)
+    if asked is None:
+        return True
+    say(f"The rules were: {asked.values['before']}\nThey are now: {asked.values['now']}")
+    moves = asked.values["moves"]
+    for text in moves if isinstance(moves, tuple) else ():
+        say(f"   {text}")
+    return ask(asked)
+
+
+def question_of_rules(folder: Folder) -> Question | None:
+    """What is asked if the settings have other rules than the last opening; None if they have the same."""
+    before = rules_before(folder)
+    if not before:
+        return None
+    was = dataclasses.replace(folder.settings, **rules_of(before)).in_words()
+    names = entry_list.read_if_there(folder.entries)
+    moves = [moved(change, str(names.get(change.after.sail, change.after.sail)))
+             for change in changes_of_rules(folder, before)]
+    return question("new-rules", str, before=was, now=folder.settings.in_words(), moves=moves)

@@ -1,0 +1,130 @@
+"""What is declared of the results: provisional, final or amended, and what is still open then."""
+from __future__ import annotations
+
+import contextlib
+from collections.abc import Mapping, Sequence
+from dataclasses import dataclass
+
+from raceoffice.characters import utf8
+from raceoffice.errors import Trouble
+from raceoffice.files import edited_text, replace_whole
+from raceoffice.program.journal import Race, Series
+from raceoffice.program.link import Sheet
+from raceoffice.series import entry_list, settings
+from raceoffice.series.folder import Folder
+from raceoffice.series.kept_places import kept_now
+from raceoffice.series.last_change import mark_of
+from raceoffice.series.run_program import replayed
+from raceoffice.series.unknown_finishers import marks_by_race
+from raceoffice.session.dialogue import Question, Value
+from raceoffice.session.question_words import question
+from raceoffice.wording import count, joined, on_one_line
+
+# The longest reason that a page takes.
+LONGEST = 200
+Names = Mapping[str, entry_list.Boat]
+
+
+@dataclass(frozen=True)
+class Open:
+    """What is still open before results are final: its kind, which is a fixed word, what it is about, and its
+    English."""
+    kind: str
+    values: Mapping[str, Value]
+    text: str
+
+
+def sheet_now(folder: Folder) -> Sheet:
+    """Journal and table, from the open office or else from journal.txt."""
+    with contextlib.suppress(Trouble):
+        link = folder.link()
+        with contextlib.closing(link):
+            return link.sheet()
+    return replayed(folder, folder.settings.options())
+
+
+# What is open
+
+def open_points(folder: Folder, sheet: Sheet) -> list[Open]:
+    """Boats without a name, races that aren't scored, finishers without a sail."""
+    series, names = Series.read(list(sheet.journal)), entry_list.read_if_there(folder.entries)
+    unnamed = without_name(series.boats, names)
+    left = [race for _, race in sorted(series.races.items()) if race.is_recorded and not race.counts]
+    return [*([of_unnamed(folder, unnamed)] if unnamed else []), *(of_race(race, names) for race in left),
+            *of_places(folder)]
+
+
+def without_name(boats: Sequence[str], names: Names) -> list[str]:
+    """The boats whose helm and name the list lacks, if it has those of others."""
+    if not any(boat.helm or boat.name for boat in names.values()):
+        return []
+    known = {sail for sail, boat in names.items() if boat.helm or boat.name}
+    return [sail for sail in boats if sail not in known]
+
+
+def of_unnamed(folder: Folder, sails: Sequence[str]) -> Open:
+    return Open("boats-unnamed", {"sails": tuple(sails)}, f"Shown without a name: {joined(sails)}. Add the "
+                f"{'boat' if len(sails) == 1 else 'boats'} to {folder.settings.entries}.")
+
+
+def of_race(race: Race, names: Names) -> Open:
+    """A race of which something is recorded, and that doesn't count."""
+    held = tuple(" ".join([sail, *race.held(sail)]) for sail in race.holders())
+    return Open("race-unscored", {"race": race.number, "finished": sum(map(len, race.order)), "held": held},
+                f"Race {race.number} isn't scored. Recorded of it: {recorded_of(race, names)}.")
+
+
+def recorded_of(race: Race, names: Names) -> str:
+    """What is recorded of a race, in words."""
+    finished = sum(map(len, race.order))
+    held = [f"{names.get(sail, sail)} {joined(race.held(sail))}" for sail in race.holders()]
+    return joined(([count(finished, "finisher")] if finished else []) + held)
+
+
+def of_places(folder: Folder) -> list[Open]:
+    """The finishers without a sail; and what is wrong with their file, if something is."""
+    waiting, fault = kept_now(folder)
+    races = tuple(str(unread.race) for unread in waiting)
+    marks = tuple(unread.mark for unread in waiting)
+    kept = [Open("finishers-unknown", {"races": races, "marks": marks},
+                 f"Kept without a sail: {marks_by_race(waiting)}.")]
+    wrong = [Open("places-unread", {"fault": fault}, f"Beware: {fault}")]
+    return [*(kept if waiting else []), *(wrong if fault else [])]
+
+
+# Before and after
+
+def asked_of(state: str, points: Sequence[Open], mark: str = "") -> Question:
+    """What is asked before a state is announced. `mark` is that of the table which is announced: an answer
+    holds for it alone."""
+    def all_of(kind: str, name: str) -> tuple[str, ...]:
+        values = [point.values[name] for point in points if point.kind == kind]
+        return tuple(text for value in values for text in (value if isinstance(value, tuple) else [str(value)]))
+
+    return question("announce", str, state=state, table=mark, races=all_of("race-unscored", "race"),
+                    sails=all_of("boats-unnamed", "sails"),
+                    marks=all_of("finishers-unknown", "marks"), faults=all_of("places-unread", "fault"))
+
+
+def need_reason(state: str, reason: str) -> str:
+    """The reason on one line; a Trouble if amended results have none."""
+    reason = on_one_line(reason)
+    if state == "amended" and not reason:
+        raise Trouble("amended results need a reason. Nothing was announced")
+    return reason
+
+
+def announce(folder: Folder, state: str, reason: str, table: tuple[str, ...], by: str = "") -> None:
+    """Writes whether the results are final, and why; the board shows it within seconds. The log has what it was
+    said of."""
+    write(folder, {"state": state, "reason": reason})
+    folder.log(by, "", "", state, mark_of(table) if state != "provisional" else "")
+
+
+def write(folder: Folder, values: Mapping[str, str]) -> None:
+    """Writes what the notice says into series.ini."""
+    path = folder.file(settings.NAME)
+    text = edited_text(path)
+    for key, value in values.items():
+        text = settings.with_value(text, "notice", key, value)
+    replace_whole(path, utf8(text))

@@ -1,0 +1,101 @@
+"""An entry list that somebody gives from a spreadsheet, put right as far as that is safe, with all that was
+done to it."""
+from __future__ import annotations
+
+from dataclasses import dataclass, field
+
+from raceoffice.series.entry_list import Boat, boats_of, column_like, left_in_words, problems
+from raceoffice.series.headings import ENTRIES, column, rating_columns
+from raceoffice.series.read_list import (FIRST_ROWS, MARKS, SEPARATORS, Rows, Table, as_csv, decoded, heading_at,
+                                         rank_of, rows_of, table_of, wrong_form)
+from raceoffice.wording import count, on_one_line
+
+# What the list is called in what is wrong with it, and what parts its columns.
+NAME = "The list"
+PARTED_BY = {";": "semicolons", "\t": "tabs"}
+
+
+@dataclass(frozen=True)
+class Mended:
+    """A list as the program takes it, what was done to it, and what is still wrong. `heads` are its headings as
+    they were; `is_sail_known` says that one of them is a sail's, or was chosen."""
+    data: bytes = b""
+    heads: list[str] = field(default_factory=list)
+    done: list[str] = field(default_factory=list)
+    wrong: list[str] = field(default_factory=list)
+    is_sail_known: bool = False
+
+    @property
+    def boats(self) -> list[Boat]:
+        """Its boats; none if anything is wrong."""
+        return [] if self.wrong or not self.data else list(boats_of(table_of(self.data)).values())
+
+
+def mended(data: bytes, sails: int | None = None) -> Mended:
+    """A list put right. `sails` is the column of the sails, if no heading says so and somebody does."""
+    if wrong := wrong_form(data, NAME):
+        return Mended(wrong=[wrong])
+    table, above = whole_table(data)
+    done = [*encoding_done(data), *separator_done(table)]
+    if above:
+        done.append(f"{count(above, 'row')} above the headings left out.")
+    heads = [on_one_line(head) for head in table.heads]
+    named = list(heads)
+    if sails is None and column(heads, ENTRIES["sail"]) is None:
+        sails = column_like(heads)
+    if sails is not None and 0 <= sails < len(heads):
+        done.append(f"The column {heads[sails] or sails + 1} is taken for the sails.")
+        named[sails] = "Sail"
+    clean = as_csv([named, *rows_as_read(table)])
+    if left := left_in_words(clean):
+        done.append(left)
+    return Mended(clean, heads, done, problems(clean, NAME), column(named, ENTRIES["sail"]) is not None)
+
+
+def whole_table(data: bytes) -> tuple[Table, int]:
+    """A list from its headings on, and how many rows are above them. Without a heading of a sail's, the
+    fullest of the first rows has them."""
+    text = decoded(data)
+    parted = {separator: rows_of(text, separator) for separator in SEPARATORS}
+    separator = max(SEPARATORS, key=lambda mark: rank_of(parted[mark]))
+    if heading_at(parted[separator]) is None:
+        separator = max(SEPARATORS, key=lambda mark: fullness(parted[mark]))
+    rows = parted[separator]
+    at = heading_at(rows)
+    if at is None:
+        at = max(range(len(rows[:FIRST_ROWS])), key=lambda place: (filled(rows[place][1]), -place))
+    return Table(separator, 0, rows[at][0], rows[at][1], rows[at + 1:]), at
+
+
+def filled(row: list[str]) -> int:
+    """How many cells of a row have something in them."""
+    return sum(bool(cell.strip()) for cell in row)
+
+
+def fullness(rows: Rows) -> int:
+    """How many cells the fullest of the first rows has."""
+    return max((filled(row) for _, row in rows[:FIRST_ROWS]), default=0)
+
+
+def rows_as_read(table: Table) -> list[list[str]]:
+    """The rows below the headings, with a dot in each rating: a comma would part a number in two now."""
+    ratings = set(rating_columns(table.heads).values())
+    return [[table.number(row, at) if at in ratings else cell for at, cell in enumerate(row)]
+            for _, row in table.rows]
+
+
+def encoding_done(data: bytes) -> list[str]:
+    """What was done to the letters of a list, if anything was."""
+    mark = next((mark for mark in MARKS if data.startswith(mark)), b"")
+    if mark and MARKS[mark] != "utf-8":
+        return [f"It was {MARKS[mark].upper()}."]
+    try:
+        data.decode("utf-8")
+    except UnicodeDecodeError:
+        return ["Its letters were not UTF-8: look at names with accents."]
+    return []
+
+
+def separator_done(table: Table) -> list[str]:
+    """What was between its columns, if it wasn't a comma."""
+    return [f"Its columns were separated by {PARTED_BY[table.separator]}."] if table.separator in PARTED_BY else []

@@ -1,0 +1,49 @@
+"""A race that is abandoned: the lines that take it away, sent after one question."""
+from __future__ import annotations
+
+from raceoffice.errors import NotSent
+from raceoffice.program.journal import Plan, Race, plan_of_abandoning
+from raceoffice.session.answers import changes_said, plan_said
+from raceoffice.session.parse import MAY
+from raceoffice.session.seat import Done, Seat
+from raceoffice.session.sending import say_declared
+from raceoffice.wording import count, joined
+
+
+def abandon(seat: Seat, race: Race) -> bool:
+    """Takes a race away, after a question; whether all its lines were taken."""
+    plan, kept = plan_of_abandoning(race), seat.unread.marks(race.number)
+    needed = {line.split()[0] for line in plan.lines} | ({"STRIKE"} if kept else set())
+    if barred := sorted(needed - MAY[seat.role]):
+        raise NotSent(f"abandon {race.number} needs {joined(barred)}, which the "
+                      f"{seat.role.lower()} doesn't send: let the scorer type it")
+    if not needed:
+        seat.say_of("nothing-there", race=race.number)
+        return True
+    seat.tell_all(plan_said(seat.facts, race, plan, kept, seat.prefix))
+    if not seat.ask(seat.question("abandon", race=race.number, lines=plan.lines, marks=kept)):
+        return seat.not_sent()
+    before, length = seat.facts.standing, len(seat.facts.sheet.journal)
+    if not is_sent(seat, race, plan):
+        return False
+    seat.drop_safely(seat.unread.of(race.number), f"race {race.number} was taken away")
+    lines = count(len(plan.lines), "line")
+    seat.done = Done(why=f"race {race.number} was taken away by {lines}: type again what stays of it")
+    seat.say_of("taken-away", race=race.number, lines=len(plan.lines))
+    if before.races:
+        mixed = len(seat.facts.sheet.journal) != length + len(plan.lines)
+        seat.tell_all(changes_said(seat.facts, before, None, mixed))
+    say_declared(seat, before)
+    return True
+
+
+def is_sent(seat: Seat, race: Race, plan: Plan) -> bool:
+    """Sends the lines of a plan up to the first that is refused; whether all were taken."""
+    for line in plan.lines:
+        answer = seat.exchange(line)
+        if answer.startswith("NO"):
+            seat.look()
+            seat.say_of("stopped", line=line, answer=answer, race=race.number)
+            return False
+    seat.look()
+    return True

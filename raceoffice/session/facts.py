@@ -1,0 +1,61 @@
+"""What a session knows of its class: the journal and the table as the office last showed them, with
+names."""
+from __future__ import annotations
+
+from collections.abc import Iterable
+
+from raceoffice.errors import NotSent
+from raceoffice.program.journal import Race, Series
+from raceoffice.program.link import Sheet
+from raceoffice.program.standing import Standing
+from raceoffice.series import entry_list
+from raceoffice.series.folder import Folder
+from raceoffice.session.parse import race_number, short
+
+
+class Facts:
+    """The races and the standing of a class, and how its boats are called."""
+
+    def __init__(self, folder: Folder) -> None:
+        self.settings = folder.settings
+        self.names = entry_list.read_if_there(folder.entries)
+        self.read(Sheet((), ("TABLE 0 RACES",)))
+
+    def read(self, sheet: Sheet) -> None:
+        """Takes over what the office shows."""
+        self.sheet = sheet
+        self.series = Series.read(list(sheet.journal))
+        self.standing = Standing.read(list(sheet.table))
+
+    @property
+    def boats(self) -> list[str]:
+        """The sails of the boats that are entered."""
+        return self.series.boats
+
+    @property
+    def commands(self) -> list[str]:
+        """The journal's entries without seat, number and role."""
+        return [line.split(maxsplit=3)[3] for line in self.sheet.journal]
+
+    @property
+    def is_a53(self) -> bool:
+        """Whether RRS A5.3 applies."""
+        return self.settings.absent == "a53"
+
+    def race(self, text: str) -> Race:
+        """A race by its number, also one of which nothing is recorded."""
+        if not (number := race_number(text)):
+            raise NotSent(f"{short(text)} is no race: a number from 1 to 40")
+        return self.series.races.get(number) or Race(number)
+
+    def race_of(self, line: str) -> Race | None:
+        """The race that a line is about, if anything is recorded of it."""
+        number = line.split()[1:2]
+        return self.series.races.get(race_number(number[0])) if number else None
+
+    def called(self, sail: str) -> str:
+        """A boat by her sail and name."""
+        return str(self.names.get(sail, sail))
+
+    def all_called(self, sails: Iterable[str]) -> str:
+        return ", ".join(map(self.called, sails))

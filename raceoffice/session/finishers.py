@@ -1,0 +1,117 @@
+"""What is typed of finishers whose sails aren't known: their places are kept, until each is known."""
+from __future__ import annotations
+
+from raceoffice.errors import NotSent
+from raceoffice.program.journal import Race
+from raceoffice.series.entry_list import near
+from raceoffice.series.kept_places import Twin
+from raceoffice.series.unknown_finishers import MARK, Unread
+from raceoffice.session.parse import FIRST, MAY, boat_meant, boats_meant, short
+from raceoffice.session.seat import Done, Seat
+from raceoffice.session.sending import is_meant, send, transmit
+
+
+def keep_or_send(seat: Seat, mark: str, sail: list[str]) -> bool:
+    """Keeps her place (`?`, `101?`), or sends her sail (`?1 GBR 33`); whether it was taken."""
+    if "FINISH" not in MAY[seat.role]:
+        raise NotSent("the places of finishers are for the finish and the scorer")
+    if seat.folder.settings.handicap:
+        raise NotSent("in a series by corrected time the order of lines doesn't matter: send her "
+                      "TIME when she is known")
+    race, typed = race_of(seat, mark, sail), mark.removesuffix("?")
+    if mark == "?" and not sail:
+        return keep(seat, race)
+    if not sail and seat.reader.crossed(typed) and mark not in seat.unread.marks(race.number):
+        return keep(seat, race, typed)
+    if not sail:
+        raise NotSent(f"type {mark} and her sail, or {mark} none")
+    return send_known(seat, race, seat.unread.one(race.number, mark), sail)
+
+
+def race_of(seat: Seat, mark: str, sail: list[str]) -> Race:
+    """The race of a place: that of `at`, or the only one in which somebody is called so."""
+    races = {unread.race for unread in seat.unread.all if sail and mark in ("?", unread.mark)}
+    if not seat.at and len(races) != 1:
+        raise NotSent("first say which race: at 3")
+    return seat.facts.race(str(seat.at or min(races)))
+
+
+def keep(seat: Seat, race: Race, typed: str = "", why: str = "", twin: Twin = Twin()) -> bool:
+    """Keeps the place of a finisher at the end of the order as it is now. `twin` says in which other classes she
+    is kept."""
+    mark = seat.keep(race, typed, twin)
+    seat.say_of("place-kept", mark=mark, why=why)
+    return True
+
+
+def send_or_place(seat: Seat, line: str, is_bare: bool) -> bool:
+    """Sends a line, or puts its boat into a place that was kept for her; whether it was taken. `is_bare` says
+    that her sail was typed alone."""
+    if unread := kept_as(seat, line, is_bare):
+        _, number, sail = line.split()[:3]
+        return send_known(seat, seat.facts.race(number), unread, [sail.lower()])
+    return send(seat, line)
+
+
+def kept_as(seat: Seat, line: str, is_bare: bool) -> Unread | None:
+    """The finisher whose place was kept by a sail that may be that of a line, if it was typed alone, or for whom
+    a line of this boat was noted and perhaps never sent; if somebody says that it is."""
+    command, *rest = line.split()
+    if command not in ("FINISH", "BEFORE") or command not in MAY[seat.role] or len(rest) < 2:
+        return None
+    race, sail = seat.facts.race(rest[0]), rest[1]
+    if race.is_in_order(sail):
+        return None
+    for unread in seat.unread.of(race.number):
+        last = seat.history.open_line(unread)
+        is_meant_before = last is not None and last.sail == sail
+        is_like = is_bare and unread.typed and (boats_meant([unread.typed], [sail])
+                                                or near(unread.typed, [sail]))
+        if not (is_like or is_meant_before):
+            continue
+        if seat.is_yes(seat.question("place-is", race=unread.race, mark=unread.mark, sail=sail)):
+            return unread
+        if last and is_meant_before:
+            # Else the entry of this boat would be taken for that of the line.
+            seat.places.take_back(last, "another boat")
+    return None
+
+
+def send_known(seat: Seat, race: Race, meant: Unread, words: list[str]) -> bool:
+    """Sends the sail of a finisher who is known now, in the place that was kept."""
+    if words == ["none"]:
+        seat.drop([meant], "none")
+        seat.done = Done(unread=meant, what="dropped")
+        seat.say_of("place-dropped", mark=meant.mark)
+        return True
+    line = meant.line(sail_for(seat, meant, words), race)
+    seat.say(f"   {line}")
+    last = seat.history.open_line(meant)
+    if not (may_send(seat, line, last.line if last else line, meant) and is_meant(seat, line)):
+        return seat.not_sent()
+    seat.places.note_sent(meant, line, len(seat.facts.sheet.journal), last)
+    return transmit(seat, line, meant)
+
+
+def sail_for(seat: Seat, meant: Unread, words: list[str]) -> str:
+    """The boat that is meant for a place. What was typed of her sail may be left out: `101? ger`."""
+    text = "".join(words).upper() + meant.typed
+    return text if text in seat.facts.boats else boat_meant(words, seat.facts.boats, seat.facts.called)
+
+
+def may_send(seat: Seat, line: str, last: str, meant: Unread) -> bool:
+    """Whether a line may be sent for a place although another was, to which no answer came."""
+    return last.split()[2] == line.split()[2] or seat.ask(seat.question(
+        "place-unanswered", race=meant.race, mark=meant.mark, last=last, line=line))
+
+
+def marked(words: list[str]) -> tuple[str, list[str]] | None:
+    """The mark of a finisher whose sail isn't known, and the words after it; None if there is none:
+    `?`, `?1 irl 5`, `101?`, `gbr 101? none`."""
+    at = next((at for at, word in enumerate(words) if "?" in word), None)
+    if at is None or words[0].upper() in FIRST:
+        return None
+    mark = "".join(words[:at + 1]).upper()
+    if not MARK.fullmatch(mark):
+        raise NotSent(f"{short(mark)} is no place: type ?, ?1 or 101?")
+    return mark, words[at + 1:]

@@ -1,0 +1,206 @@
+"""The kinds of questions, and the English words of each, which are made of its values alone."""
+from __future__ import annotations
+
+from collections.abc import Callable, Iterable
+
+from raceoffice.session.dialogue import Question, Value
+from raceoffice.wording import count, joined
+
+
+class Words:
+    """The words of one question. `called` says how a boat is called."""
+
+    def __init__(self, called: Callable[[str], str], values: dict[str, Value]) -> None:
+        self.called, self.values = called, values
+
+    def text(self, name: str) -> str:
+        return str(self.values[name])
+
+    def boat(self, name: str = "sail") -> str:
+        """A boat by her sail and name."""
+        return self.called(self.text(name))
+
+    def all(self, name: str) -> list[str]:
+        value = self.values[name]
+        return list(value) if isinstance(value, tuple) else [str(value)]
+
+    def boats(self, name: str) -> list[str]:
+        return [self.called(sail) for sail in self.all(name)]
+
+    @property
+    def corrected(self) -> str:
+        """What comes first if the race counts."""
+        return f"RACE {self.text('race')} COUNTS ALREADY. " if self.values["counts"] else ""
+
+
+def of_line(words: Words) -> str:
+    """A line that was typed in words that may mean several."""
+    return f"This may be {joined(words.all('lines'), 'or')}. Is {words.text('line')} meant?"
+
+
+def of_number(words: Words) -> str:
+    return f"{words.text('number')} may be a race or a boat. Is {words.text('line')} meant?"
+
+
+def of_digits(words: Words) -> str:
+    meant = f"{words.text('typed')} may be {joined(words.boats('sails'), 'or')}"
+    return f"{meant}. Is {words.text('line')} meant?"
+
+
+def entered(words: Words, known: str) -> str:
+    return f"{known} Enter {words.text('sail')}? Only raceoffice remove takes her out again."
+
+
+def of_listed(words: Words) -> str:
+    return entered(words, f"{words.boat()} is on the entry list.")
+
+
+def of_near(words: Words) -> str:
+    return entered(words, f"{words.text('sail')} isn't on the entry list, but looks like "
+                   f"{joined(words.boats('near'))}.")
+
+
+def of_unlisted(words: Words) -> str:
+    return entered(words, f"{words.text('sail')} isn't on the entry list.")
+
+
+def of_unknown(words: Words) -> str:
+    """Finishers without a sail, each with who has kept her place."""
+    kept = [f"{mark} (kept by {since})" for mark, since in zip(words.all("marks"), words.all("since"))]
+    who = "a finisher" if len(kept) == 1 else "finishers"
+    return f"{joined(kept)}: {who} without a sail would be left out. Score it all the same?"
+
+
+def of_codes(words: Words) -> str:
+    return "Only boats with a code are in the finishing order. Score it all the same?"
+
+
+def of_penalties(words: Words) -> str:
+    come = ", and under RRS A5.3 as not having come" if words.values["a53"] else ""
+    return (f"{', '.join(words.boats('sails'))}: a penalty, but no place and no code. Scored DNC{come}. "
+            "Is that right?")
+
+
+def of_missing(words: Words) -> str:
+    return f"Score race {words.text('race')} with {count(len(words.all('sails')), 'boat')} as DNC?"
+
+
+def of_unscore(words: Words) -> str:
+    return f"Race {words.text('race')} counts. Take it out of the results?"
+
+
+def of_correction(words: Words) -> str:
+    return f"RACE {words.text('race')} COUNTS ALREADY. Is this a correction?"
+
+
+def of_clear(words: Words) -> str:
+    """All that a boat holds: her code, her penalties and her redress."""
+    redress = [f"redress {how}" for how in words.all("redress")]
+    held = [*words.all("code"), *words.all("penalties"), *redress]
+    every = "both" if len(held) == 2 else "all"
+    return f"{words.corrected}{joined(held)} {every} go; type again what stays. Clear her?"
+
+
+def of_redress(words: Words) -> str:
+    come = (" Under RRS A5.3 she doesn't count as having come: the scorer marks her first, as DNF or "
+            "DNS." if words.values["a53"] else "")
+    return (f"{words.corrected}{words.boat()} has no place and no code in race {words.text('race')}.{come} "
+            "Give her redress as she is?")
+
+
+def of_abandoning(words: Words) -> str:
+    return "Send them?" if words.all("lines") else "Drop the places?"
+
+
+def of_place(words: Words) -> str:
+    return f"{words.text('mark')} keeps a place. Is she {words.boat()}?"
+
+
+def of_unanswered(words: Words) -> str:
+    return (f"{words.text('last')} was sent for {words.text('mark')}, and no answer came. It isn't in the "
+            "journal. Send this?")
+
+
+def of_finished_after(words: Words) -> str:
+    mark = words.text("mark")
+    return f"{words.boat()} was ahead of {mark} until she was struck. Has she finished after {mark} now?"
+
+
+def of_undo(words: Words) -> str:
+    return f"{words.text('line')} is taken back by {words.text('by')}. Send it?"
+
+
+def of_dropping(words: Words) -> str:
+    return f"Drop {words.text('mark')} in race {words.text('race')}?"
+
+
+def of_keeping(words: Words) -> str:
+    return f"Keep {words.text('mark')} in race {words.text('race')} again?"
+
+
+def of_same_line(words: Words) -> str:
+    return (f"Somebody else has sent {words.text('line')} since, as entry {words.text('entry')}. Send it once "
+            "more?")
+
+
+def of_others(words: Words) -> str:
+    """Others were recorded after a finisher was seen, and before she was."""
+    others, sail = words.boats("others"), words.boat()
+    were = f"Meanwhile {joined(others)} {'was' if len(others) == 1 else 'were'} recorded." if others \
+        else "The order has been changed meanwhile."
+    if ahead := words.text("ahead"):
+        return f"{were} By the clock {sail} is just ahead of {words.called(ahead)}."
+    return f"{were} By the clock {sail} is after them, too."
+
+
+def of_copy(words: Words) -> str:
+    return f"{words.text('lost')} Use it?"
+
+
+def of_difference(words: Words) -> str:
+    return "Open the office all the same?"
+
+
+def of_rules(words: Words) -> str:
+    return "Go on with the new rules?"
+
+
+def of_taking_over(words: Words) -> str:
+    since = f" since {words.text('since')}" if words.text("since") else ""
+    return f"The office is open{since}, but its window has gone. Take it over?"
+
+
+def of_announcing(words: Words) -> str:
+    """Before results are provisional, final or amended; what is open is said before."""
+    state, races = words.text("state"), words.all("races")
+    if words.all("marks") or words.all("faults"):
+        return f"Are the results {state} all the same?"
+    without = f" without {'that race' if len(races) == 1 else 'those races'}" if races else ""
+    return f"Are the results {state}{without}?"
+
+
+WORDS: dict[str, Callable[[Words], str]] = {
+    "line-of-several": of_line, "race-or-boat": of_number, "boat-of-several": of_digits,
+    "enter-listed": of_listed, "enter-near": of_near, "enter-unlisted": of_unlisted,
+    "score-unknown": of_unknown, "score-only-codes": of_codes, "score-penalised": of_penalties,
+    "score-missing": of_missing, "unscore": of_unscore, "correction": of_correction,
+    "clear-several": of_clear, "redress-unplaced": of_redress, "abandon": of_abandoning,
+    "place-is": of_place, "place-unanswered": of_unanswered, "finished-after": of_finished_after,
+    "undo": of_undo,
+    "drop-place": of_dropping, "keep-place-again": of_keeping,
+    # Only pages ask these.
+    "sent-already": of_same_line, "others-recorded": of_others,
+    # Before an office is opened.
+    "use-copy": of_copy, "not-continued": of_difference, "new-rules": of_rules,
+    "take-over": of_taking_over,
+    # Before results are declared.
+    "announce": of_announcing,
+}
+
+
+def question(kind: str, called: Callable[[str], str],
+             **values: str | int | Iterable[str]) -> Question:
+    """A question of a kind about these values, with its words."""
+    held: dict[str, Value] = {name: value if isinstance(value, (str, int)) else tuple(value)
+                              for name, value in values.items()}
+    return Question(kind, held, WORDS[kind](Words(called, held)))

@@ -1,0 +1,132 @@
+"""How what was done last is taken back: by the one line that reverses it, or at the place that was kept."""
+from __future__ import annotations
+
+from raceoffice.errors import NotSent
+from raceoffice.program.journal import Race, Series
+from raceoffice.program.messages import ROLES
+from raceoffice.series.lost_lines import as_kept
+from raceoffice.series.unknown_finishers import Unread
+from raceoffice.session.dialogue import NOTE
+from raceoffice.session.facts import Facts
+from raceoffice.session.parse import FINISHING
+from raceoffice.session.said_words import said
+from raceoffice.session.seat import Done, Seat
+from raceoffice.session.sending import is_meant, transmit
+from raceoffice.wording import joined
+
+
+def undo(seat: Seat) -> bool:
+    """Takes back what was done last at a seat, after a question; whether that was done."""
+    done = seat.done
+    if not done:
+        raise NotSent("nothing has been typed here yet that changes anything")
+    if done.why:
+        raise NotSent(done.why)
+    if done.unread and done.what:
+        return undo_place(seat, done.unread, done.what)
+    kept = as_kept(done.line)
+    if seat.facts.commands[done.number - 1:done.number] != [kept]:
+        raise NotSent(f"{done.line} isn't in the journal any more")
+    line = reversal(seat.facts, done.number)
+    if not seat.is_yes(seat.question("undo", line=kept, by=line)) or not is_meant(seat, line):
+        return seat.not_sent()
+    if not done.unread:
+        return transmit(seat, line)
+    # The place is kept again as soon as the boat has left it, whoever looks next.
+    leaving = seat.places.note_leaving(done.unread, line, len(seat.facts.sheet.journal))
+    is_taken = transmit(seat, line)
+    if not is_taken:
+        # Somebody else may have struck her just before.
+        seat.look()
+        if leaving.key in seat.history.ended:
+            seat.places.take_back(leaving, "refused")
+    seat.done = Done(why=f"type {done.unread.mark} and her sail")
+    return is_taken
+
+
+def undo_place(seat: Seat, unread: Unread, what: str) -> bool:
+    """Drops a place that was kept last, or keeps one again that was dropped last."""
+    if (what == "kept") != (unread.mark in seat.unread.marks(unread.race)):
+        raise NotSent(f"somebody has typed for {unread.mark} in race {unread.race} since")
+    kind = "drop-place" if what == "kept" else "keep-place-again"
+    if not seat.is_yes(seat.question(kind, race=unread.race, mark=unread.mark)):
+        return seat.not_sent()
+    if what == "kept":
+        seat.drop([unread], "undone")
+    else:
+        seat.keep_again(unread)
+    seat.done = Done(unread=unread, what="dropped" if what == "kept" else "kept")
+    is_dropped = what == "kept"
+    seat.tell(said("place-dropped" if is_dropped else "place-kept-again", NOTE, str, "", mark=unread.mark))
+    return True
+
+
+def reversal(facts: Facts, number: int) -> str:
+    """The line that takes back an entry of the journal; NotSent says why none does."""
+    line = facts.commands[number - 1]
+    command, *rest = line.split()
+    if command == "ENTER":
+        raise NotSent(f"{rest[0]} stays while the office is open. When it is closed, raceoffice remove "
+                      "takes her out")
+    if later := later_entry(facts, number):
+        raise NotSent(f"something has been typed about the same since: {later}")
+    if command in ("SCORE", "UNSCORE"):
+        return f"{'UNSCORE' if command == 'SCORE' else 'SCORE'} {rest[0]}"
+    race, sail = int(rest[0]), rest[1]
+    before = Series.read(list(facts.sheet.journal[:number - 1])).race(race)
+    if command == "STRIKE":
+        return back_in_order(before, facts.race(rest[0]), sail)
+    if command in FINISHING:
+        return f"STRIKE {race} {sail}"
+    return as_before(command, before, facts.race(rest[0]), sail)
+
+
+def later_entry(facts: Facts, number: int) -> str:
+    """The first entry after another that is about the same boat and race, in words; empty if there is
+    none. SCORE and UNSCORE are about their race alone."""
+    about = what_about(facts.commands[number - 1])
+    for at, entry in enumerate(facts.sheet.journal[number:], number + 1):
+        _, _, role, line = entry.split(maxsplit=3)
+        if what_about(line) == about:
+            return f"entry {at}, {line}, by {ROLES[role]}"
+    return ""
+
+
+def what_about(line: str) -> list[str]:
+    """The race and the boat of a line, and whether it is about her place."""
+    command, *rest = line.split()
+    return [*rest[:2], str(command in FINISHING)] if command not in ("SCORE", "UNSCORE") else rest
+
+
+def back_in_order(before: Race, now: Race, sail: str) -> str:
+    """The line that gives a boat the place that she had before she was struck."""
+    if sail in before.times:
+        return f"TIME {now.number} {sail} {before.times[sail]}"
+    at = next(at for at, group in enumerate(before.order) if sail in group)
+    ahead = {other for group in before.order[:at] for other in group}
+    level = [other for other in before.order[at] if now.is_in_order(other)]
+    if level:
+        return f"TIE {now.number} {sail} {level[0]}"
+    return Unread("", now.number, ahead).line(sail, now)
+
+
+def as_before(command: str, before: Race, now: Race, sail: str) -> str:
+    """The line after which a boat holds what she held before a MARK, PENALTY, REDRESS or CLEAR."""
+    if command == "MARK" and sail in before.codes:
+        return f"MARK {now.number} {sail} {before.codes[sail]}"
+    if command == "REDRESS" and sail in before.redress:
+        return f"REDRESS {now.number} {sail} {before.redress[sail]}"
+    held = lines_held(before, sail)
+    if not held:
+        return f"CLEAR {now.number} {sail}"
+    if command == "CLEAR" and len(held) == 1:
+        return held[0]
+    lines = held if command == "CLEAR" else [f"CLEAR {now.number} {sail}", *held]
+    raise NotSent(f"no one line does it. Type {joined(lines)}")
+
+
+def lines_held(race: Race, sail: str) -> list[str]:
+    """The lines by which a boat gets all that she holds in a race."""
+    code = [f"MARK {race.number} {sail} {race.codes[sail]}"] if sail in race.codes else []
+    redress = [f"REDRESS {race.number} {sail} {race.redress[sail]}"] if sail in race.redress else []
+    return code + [f"PENALTY {race.number} {sail} {kind}" for kind in race.penalties.get(sail, [])] + redress

@@ -1,0 +1,96 @@
+"""The names of a boat that was entered late, put into the entry list."""
+from __future__ import annotations
+
+import os
+import re
+from collections.abc import Mapping
+from typing import Any
+
+from raceoffice.corrected.times import RULES, SHEETS, Rules
+from raceoffice.errors import NotSent, Trouble
+from raceoffice.files import replace_whole
+from raceoffice.results.spreadsheet import harmless
+from raceoffice.series.entry_list import RAISED, plain, problems
+from raceoffice.series.folder import Folder
+from raceoffice.series.headings import ENTRIES, columns, rating_columns
+from raceoffice.series.read_list import bytes_of, name_of, table_of
+from raceoffice.series.write_list import with_boat
+from raceoffice.session.facts import Facts
+from raceoffice.web.states import Values
+from raceoffice.wording import on_one_line
+
+# What a page asks of a boat beside her sail, and how many letters each may have.
+KEYS, LONGEST = ("name", "helm", "club", "rating"), 80
+RATING = re.compile(r"[0-9]{1,5}(\.[0-9]{1,4})?")
+
+
+def list_shown(folder: Folder) -> Values:
+    """Which of the names of a boat the entry list has columns for."""
+    found = places_of(folder, list_of(folder))
+    return {"columns": [key for key in KEYS if key in found]}
+
+
+def list_of(folder: Folder) -> bytes:
+    """The entry list; NotSent if it can't be read."""
+    try:
+        data = bytes_of(folder.entries)
+    except Trouble as trouble:
+        raise NotSent(str(trouble)) from None
+    if wrong := problems(data, folder.entries):
+        raise NotSent("\n".join(wrong))
+    return data
+
+
+def places_of(folder: Folder, data: bytes) -> dict[str, list[int]]:
+    """The columns of the list for each name. A rating goes into all columns of the class's system: each holds
+    from another race on."""
+    heads = table_of(data).heads
+    found = {key: [at] for key, at in columns(heads, ENTRIES).items() if key in KEYS}
+    if ratings := list(rating_columns(heads, system_of(folder)).values()) if folder.settings.handicap else []:
+        found["rating"] = ratings
+    return found
+
+
+def system_of(folder: Folder) -> str:
+    """The rating system of a class by corrected time; empty if its rules aren't there."""
+    return Rules.read(folder).system if os.path.exists(folder.file(SHEETS, RULES)) else ""
+
+
+def name_boat(folder: Folder, facts: Facts, values: Mapping[str, Any], by: str) -> bool:
+    """Adds or completes the row of a boat that is entered; whether the list is another then. `by` is who does."""
+    sail = text_given(values, "sail").translate(RAISED)
+    if plain(sail) not in facts.boats:
+        raise NotSent(f"{sail[:20] or 'a boat without a sail'} isn't entered")
+    given = {key: text for key in KEYS if (text := text_given(values, key))}
+    try:
+        data = list_of(folder)
+        changed = with_boat(data, name_of(folder.entries), sail, cells_of(places_of(folder, data), given))
+        if changed == data:
+            return False
+        replace_whole(folder.entries, changed)
+        folder.log(by, "", "", "named", "; ".join([plain(sail), *(f"{key} = {text}" for key, text in given.items())]))
+    except Trouble as trouble:
+        raise NotSent(str(trouble)) from None
+    return True
+
+
+def text_given(values: Mapping[str, Any], key: str) -> str:
+    """A text of a page on one line, without signs that aren't seen."""
+    text = values.get(key, "")
+    if not isinstance(text, str):
+        raise NotSent(f"her {key} isn't a text")
+    text = on_one_line(text)
+    if len(text) > LONGEST:
+        raise NotSent(f"her {key} has more than {LONGEST} letters")
+    return text
+
+
+def cells_of(places: Mapping[str, list[int]], given: Mapping[str, str]) -> dict[int, str]:
+    """The cells of a row, by the numbers of their columns. None is a formula."""
+    for key, text in given.items():
+        if key not in places:
+            raise NotSent(f"the entry list has no column for her {key}")
+        if key == "rating" and not RATING.fullmatch(text.replace(",", ".")):
+            raise NotSent(f"her rating is {text}. It has to be a number, as 1050 or 0.953")
+    return {at: text.replace(",", ".") if key == "rating" else harmless(text)
+            for key, text in given.items() for at in places[key]}

@@ -1,0 +1,218 @@
+"""Who may write: a secret for each role, the devices that came with it, and what a request has to have.
+
+The secrets are 128 bits long. Only their hashes are kept, in a file of this account alone: whoever reads it
+can't come in by it. The program doesn't know of any of this: the web layer sends lines, or doesn't.
+"""
+from __future__ import annotations
+
+import contextlib
+import hashlib
+import hmac
+import json
+import os
+import secrets
+import socket
+import threading
+import time
+from collections.abc import Callable, Iterable
+from dataclasses import asdict, dataclass
+from typing import Any
+
+from raceoffice.errors import NotThere, Trouble
+from raceoffice.files import read_whole, replace_whole
+from raceoffice.results.http_answers import addresses
+from raceoffice.web.rates import Rate
+from raceoffice.web.requests import Request, Wrong
+
+ROLES = ("FINISH", "JURY", "SCORER")
+# Seconds that a device stays known, and between two writings of when it was heard.
+LONG, OFTEN = 14 * 86400, 60.0
+# The most devices of a role, the longest name of one, and how many letters name one to the scorer.
+DEVICES, NAME, MARK = 40, 30, 16
+# The most bytes of the file.
+LARGEST = 1 << 20
+
+
+def hashed(text: str) -> str:
+    return hashlib.sha256(text.encode("utf-8", "replace")).hexdigest()
+
+
+def same(one: str, other: str) -> bool:
+    """Whether two texts are the same, in a time that doesn't tell where they differ."""
+    return hmac.compare_digest(one.encode("utf-8", "replace"), other.encode("utf-8", "replace"))
+
+
+@dataclass
+class Device:
+    """A browser that came by a link; `mark` is the hash of its cookie."""
+    mark: str
+    role: str
+    name: str
+    since: float
+    heard: float
+    unsent: int = 0
+    address: str = ""
+
+
+def plain_name(name: str) -> str:
+    """The name of a device, on one line, and without signs that would turn a line of the log."""
+    return " ".join("".join(filter(str.isprintable, name)).split())[:NAME]
+
+
+class Gate:
+    """The secrets and devices of an office, kept in a file; none if there is no series yet."""
+
+    def __init__(self, path: str, hosts: Iterable[str] = (), is_secure: bool = False) -> None:
+        self.path, self.is_secure, self.lock = path, is_secure, threading.RLock()
+        own = socket.gethostname().lower()
+        self.hosts = {*(host.lower() for host in hosts), *addresses(), "localhost", "127.0.0.1", "::1", own,
+                      f"{own}.local"}
+        self.keys: dict[str, str] = {}
+        self.devices: dict[str, Device] = {}
+        self.written, self.is_heard = time.monotonic(), False
+        # Tries at a secret by address; lines and questions by device.
+        self.entering, self.writing, self.asking = Rate(10, 0.2), Rate(60, 12), Rate(400, 60)
+        # Called when devices have been put out.
+        self.told_out: Callable[[], None] = lambda: None
+        if path:
+            self.read()
+
+    # The file
+
+    def read(self) -> None:
+        """Reads the file. One that can't be read lets nobody in: there are new links then."""
+        try:
+            held: dict[str, Any] = json.loads(read_whole(self.path, LARGEST))
+            self.keys = {role: str(held["keys"][role]) for role in ROLES if role in held["keys"]}
+            self.devices = {mark: Device(**values) for mark, values in held["devices"].items()}
+        except NotThere:
+            return
+        except (ValueError, LookupError, TypeError, AttributeError):
+            self.keys, self.devices = {}, {}
+
+    def write(self) -> None:
+        """Replaces the file, which only this account may read."""
+        self.written = time.monotonic()
+        if not self.path:
+            return
+        held = {"keys": self.keys, "devices": {mark: asdict(device) for mark, device in self.devices.items()}}
+        replace_whole(self.path, json.dumps(held).encode())
+        os.chmod(self.path, 0o600)
+
+    def move(self, path: str) -> None:
+        """Keeps everything in another file from now on: that of the series that was just made."""
+        with self.lock:
+            self.path = path
+            self.write()
+
+    # Secrets and devices
+
+    def new_key(self, role: str, are_devices_out: bool = True) -> str:
+        """A new secret for a role, which is shown once. The old one isn't valid any more, and its devices are
+        put out, or stay."""
+        with self.lock:
+            secret = secrets.token_urlsafe(16)
+            self.keys[role] = hashed(secret)
+            if are_devices_out:
+                self.devices = {mark: device for mark, device in self.devices.items() if device.role != role}
+            self.told_out()
+            self.write()
+            return secret
+
+    def revoke(self, mark: str) -> None:
+        """Puts one device out; `mark` is the beginning of its own."""
+        if len(mark) < MARK:
+            return
+        with self.lock:
+            self.devices = {key: device for key, device in self.devices.items() if not key.startswith(mark)}
+            self.told_out()
+            self.write()
+
+    def enter(self, request: Request, role: str, secret: str, name: str) -> str:
+        """The cookie of a device that shows the secret of a role."""
+        self.entering.take(request.address)
+        held = self.keys.get(role, "")
+        if not held or not same(held, hashed(secret)):
+            raise Wrong(403, "this link isn't valid any more: ask for a new one", "link-ended")
+        cookie, now = secrets.token_urlsafe(32), time.time()
+        with self.lock:
+            of_role = sorted((device for device in self.devices.values() if device.role == role),
+                             key=lambda device: device.heard)
+            for device in of_role[:max(0, len(of_role) - DEVICES + 1)]:
+                self.devices.pop(device.mark)
+            self.told_out()
+            device = Device(hashed(cookie), role, plain_name(name) or role.lower(), now, now, 0,
+                            request.address)
+            self.devices[device.mark] = device
+            self.write()
+        secure = "; Secure" if self.is_secure else ""
+        return (f"{cookie_name(role)}={cookie}; Path=/office/{role.lower()}; Max-Age={LONG}; HttpOnly; "
+                f"SameSite=Strict{secure}")
+
+    def known(self, request: Request, role: str) -> Device | None:
+        """The device of a role that a request comes from, if it is one."""
+        cookie = request.cookie(cookie_name(role))
+        device = self.devices.get(hashed(cookie)) if cookie else None
+        return device if device and device.role == role and self.lets_in(device.mark) else None
+
+    def lets_in(self, mark: str) -> bool:
+        """Whether a device is known, and hasn't been for too long."""
+        device = self.devices.get(mark)
+        return device is not None and time.time() - device.since <= LONG
+
+    def device(self, request: Request, role: str) -> Device:
+        """The device that a request comes from; 401 if it isn't one of this role."""
+        device = self.known(request, role)
+        if device is None:
+            raise Wrong(401, "this device isn't known here: open the link of your role again")
+        device.heard, device.address = time.time(), request.address
+        unsent = request.fields.get("x-unsent", "")
+        if unsent.isascii() and unsent.isdecimal():
+            device.unsent = min(int(unsent[:6]), 9999)
+        self.is_heard = True
+        return device
+
+    def note_heard(self) -> None:
+        """Writes down when devices were heard, now and then. On a full disk that isn't known, and nothing
+        else."""
+        if self.is_heard and time.monotonic() - self.written > OFTEN:
+            self.is_heard = False
+            with self.lock, contextlib.suppress(Trouble):
+                self.write()
+
+    def token(self, request: Request, role: str) -> str:
+        """What each writing request of a device has to carry: only its own pages can read it."""
+        cookie = request.cookie(cookie_name(role))
+        return hmac.new(cookie.encode("utf-8", "replace"), b"token", "sha256").hexdigest()[:32]
+
+    # What a request has to have
+
+    def check_host(self, request: Request) -> None:
+        """A name that isn't this office's was made to lead here by somebody else (DNS rebinding)."""
+        host = request.fields.get("host", "").lower()
+        name, colon, port = host.rpartition(":")
+        if not colon or not port.isdecimal():
+            name = host
+        if name.strip("[]") not in self.hosts:
+            raise Wrong(421, "this office isn't called so: --name adds a name")
+
+    def check_origin(self, request: Request) -> None:
+        """Only this server's own pages may write."""
+        scheme = "https" if self.is_secure else "http"
+        own = f"{scheme}://{request.fields.get('host', '')}"
+        is_own = request.fields.get("origin", "") == own
+        if not is_own or request.fields.get("sec-fetch-site", "same-origin") != "same-origin":
+            raise Wrong(403, "this request doesn't come from a page of the office")
+
+    def check_write(self, request: Request, role: str) -> Device:
+        """The device of a writing request that has all that it needs."""
+        device = self.device(request, role)
+        self.check_origin(request)
+        if not same(request.fields.get("x-token", ""), self.token(request, role)):
+            raise Wrong(403, "the page is out of date: load it again", "page-out-of-date")
+        self.writing.take(device.mark)
+        return device
+
+
+def cookie_name(role: str) -> str:
+    return f"office-{role.lower()}"

@@ -1,0 +1,264 @@
+"""Connections: requests are answered one after another, and news is sent to those who wait for it.
+
+One thread has all connections (asyncio): three hundred phones that wait cost three hundred sockets and no
+thread. What may take time, as a line to an office, runs in other threads.
+"""
+from __future__ import annotations
+
+import asyncio
+import collections
+import contextlib
+import itertools
+import socket
+import ssl
+import traceback
+from collections.abc import Awaitable, Callable
+from dataclasses import dataclass
+
+from raceoffice import system
+from raceoffice.results.server import door_at
+from raceoffice.web.rates import Rate
+from raceoffice.web.requests import (HEAD, SAFE, Reply, Request, Wrong, bytes_of, head_of, packed, with_body,
+                                     within)
+
+# Seconds for an answer to be taken, for a handshake of TLS, and between two signs of life to those who wait
+# for news.
+SLOW, HANDSHAKE, BEAT = 20.0, 10.0, 5.0
+# The most bytes that somebody who waits for news may not have taken yet.
+BEHIND = 64 << 10
+# How many connections this process may have, if its system allows that, and how many files are left to the
+# rest of it. One address may have so many, and leaves at least some to the others.
+ROOM, SPARE, CROWD, OTHERS = 8192, 64, 2000, 256
+# How many requests of one address are answered at once, and each second from then on: three hundred phones may
+# have one address.
+AT_ONCE, EACH_SECOND = 2000, 800
+# How many may wait to be let in, and how many are let in at once.
+WAITING, TOGETHER = 1024, 16
+# Seconds for a connection to end in order.
+MOMENT = 1.0
+
+
+class Hub:
+    """Those who wait for the same news (server-sent events): the newest text whenever it is another, and a sign
+    of life in between. Of several pieces of news within `pause` seconds they learn at once. `is_known` says of the
+    name of one who waits whether it is still let in."""
+
+    def __init__(self, text: Callable[[], str], pause: float,
+                 is_known: Callable[[str], bool] = lambda name: True) -> None:
+        self.text, self.pause, self.is_known = text, pause, is_known
+        # Those who wait, with their names.
+        self.waiting: dict[asyncio.StreamWriter, str] = {}
+        self.sent = ""
+        self.is_due = False
+        self.loop: asyncio.AbstractEventLoop | None = None
+
+    def start(self) -> None:
+        """Begins to send, in the thread of all connections. Who waits already may have missed something."""
+        self.loop = asyncio.get_running_loop()
+        self.take_news()
+        self.loop.call_later(BEAT, self.beat)
+
+    def wake(self) -> None:
+        """There is news; from any thread."""
+        if self.loop:
+            # At the very end nobody waits any more.
+            with contextlib.suppress(RuntimeError):
+                self.loop.call_soon_threadsafe(self.take_news)
+
+    def put_out(self) -> None:
+        """Ends what those get who aren't let in any more; from any thread."""
+        if self.loop:
+            with contextlib.suppress(RuntimeError):
+                self.loop.call_soon_threadsafe(self.end_unknown)
+
+    def end_unknown(self) -> None:
+        for writer, name in list(self.waiting.items()):
+            if not self.is_known(name):
+                writer.close()
+
+    def take_news(self) -> None:
+        if self.loop and not self.is_due:
+            self.is_due = True
+            self.loop.call_later(self.pause, self.send_due)
+
+    def send_due(self) -> None:
+        self.is_due = False
+        self.send_news()
+
+    def send_news(self) -> None:
+        if (text := self.text()) != self.sent:
+            self.sent = text
+            self.send(f"data: {text}\n\n")
+
+    def beat(self) -> None:
+        self.end_unknown()
+        self.send("event: beat\ndata: \n\n")
+        if self.loop:
+            self.loop.call_later(BEAT, self.beat)
+
+    def send(self, text: str) -> None:
+        """Sends a text to all, and cuts off those who don't take what comes."""
+        data = text.encode()
+        for writer in list(self.waiting):
+            if writer.transport.get_write_buffer_size() > BEHIND:
+                writer.transport.abort()
+            elif not writer.transport.is_closing():
+                writer.write(data)
+
+    async def serve(self, reader: asyncio.StreamReader, writer: asyncio.StreamWriter, name: str) -> None:
+        """Sends news to one more until the connection ends, or until who has this name isn't let in any more."""
+        fields = {**SAFE, "Content-Type": "text/event-stream", "Cache-Control": "no-store",
+                  "Connection": "close", "X-Accel-Buffering": "no"}
+        head = "".join(f"{name}: {value}\r\n" for name, value in fields.items())
+        # All have the same: those who wait already get it now, too.
+        self.send_news()
+        writer.write(f"HTTP/1.1 200 OK\r\n{head}\r\nretry: 1500\n\ndata: {self.sent}\n\n".encode())
+        self.waiting[writer] = name
+        try:
+            # Nothing is expected: this waits for the end.
+            while await reader.read(HEAD):
+                pass
+        finally:
+            self.waiting.pop(writer, None)
+
+
+@dataclass(frozen=True)
+class Waiting:
+    """The news for one who waits, by its name."""
+    hub: Hub
+    name: str = ""
+
+
+class Host:
+    """Answers at an address. `answer` says what is sent for a request, `room` how many bytes its body may
+    have; what goes wrong in that is noted."""
+
+    def __init__(self, answer: Callable[[Request], Awaitable[Reply | Waiting]], room: Callable[[Request], int],
+                 note: Callable[[str], None]) -> None:
+        self.answer, self.room, self.note = answer, room, note
+        self.most = max(8, system.room_for_files(ROOM) - SPARE)
+        self.most_of_one = max(4, min(CROWD, self.most - OTHERS))
+        self.open = 0
+        self.by_address: collections.Counter[str] = collections.Counter()
+        self.turns = Rate(AT_ONCE, EACH_SECOND)
+        self.letting_in: asyncio.Task[None] | None = None
+        self.visits: set[asyncio.Task[None]] = set()
+
+    async def start(self, address: str, port: int, secure: ssl.SSLContext | None) -> None:
+        """Lets in whoever there is room for, until `close`."""
+        door = door_at(address, port)
+        door.listen(WAITING)
+        door.setblocking(False)
+        self.letting_in = asyncio.get_running_loop().create_task(self.let_in(door, secure))
+
+    def close(self) -> None:
+        """Lets nobody in any more."""
+        if self.letting_in:
+            self.letting_in.cancel()
+
+    async def let_in(self, door: socket.socket, secure: ssl.SSLContext | None) -> None:
+        """Takes one connection after another. Each is counted before the next is taken, so that however many come
+        at once, files are left to the rest of this process."""
+        with door:
+            for number in itertools.count(1):
+                try:
+                    link, peer = await asyncio.get_running_loop().sock_accept(door)
+                except ConnectionError:
+                    continue
+                except OSError as cause:
+                    self.note("".join(traceback.format_exception(cause)))
+                    await asyncio.sleep(MOMENT)
+                    continue
+                address = str(peer[0])
+                if self.open < self.most and self.by_address[address] < self.most_of_one:
+                    self.count(address, 1)
+                    visit = asyncio.get_running_loop().create_task(self.visit(link, address, secure))
+                    self.visits.add(visit)
+                    visit.add_done_callback(self.visits.discard)
+                else:
+                    link.close()
+                if number % TOGETHER == 0:
+                    # Those who are in have their turn, too.
+                    await asyncio.sleep(0)
+
+    def count(self, address: str, more: int) -> None:
+        """Counts one more connection of an address, or one less."""
+        self.open += more
+        self.by_address[address] += more
+        if not self.by_address[address]:
+            del self.by_address[address]
+
+    async def visit(self, link: socket.socket, address: str, secure: ssl.SSLContext | None) -> None:
+        """One connection, from its first request to its end."""
+        try:
+            reader, writer = await streams_of(link, secure)
+            try:
+                while await self.is_going_on(reader, writer, address):
+                    pass
+            finally:
+                await end(writer)
+        except (OSError, EOFError, asyncio.TimeoutError):
+            # A phone that goes away is no fault of the office's.
+            pass
+        except Exception as cause:
+            self.note("".join(traceback.format_exception(cause)))
+        finally:
+            link.close()
+            self.count(address, -1)
+
+    async def is_going_on(self, reader: asyncio.StreamReader, writer: asyncio.StreamWriter,
+                          address: str) -> bool:
+        """Answers one request; whether another may follow."""
+        try:
+            request = await head_of(reader, writer, address)
+            if request is None:
+                return False
+            request = await with_body(reader, request, self.room(request))
+        except Wrong as wrong:
+            await send(writer, bytes_of(wrong.reply(), True, False))
+            return False
+        # However many requests have come already, those of others have their turn in between.
+        await asyncio.sleep(self.turns.pause(address))
+        try:
+            reply = await self.answer(request)
+        except Wrong as wrong:
+            reply = wrong.reply()
+        if isinstance(reply, Waiting):
+            await reply.hub.serve(reader, writer, reply.name)
+            return False
+        is_last = request.fields.get("connection", "").lower() == "close"
+        await send(writer, bytes_of(packed(request, reply), is_last, request.method == "HEAD"))
+        return not is_last
+
+
+async def streams_of(link: socket.socket,
+                     secure: ssl.SSLContext | None) -> tuple[asyncio.StreamReader, asyncio.StreamWriter]:
+    """What comes by a connection, and what is sent by it, once its handshake is over if it has one."""
+    loop, reader = asyncio.get_running_loop(), asyncio.StreamReader(HEAD)
+    protocol = asyncio.StreamReaderProtocol(reader)
+    transport, _ = await loop.connect_accepted_socket(
+        lambda: protocol, link, ssl=secure, ssl_handshake_timeout=HANDSHAKE if secure else None)
+    return reader, asyncio.StreamWriter(transport, protocol, reader, loop)
+
+
+async def send(writer: asyncio.StreamWriter, data: bytes) -> None:
+    writer.write(data)
+    if writer.transport.get_write_buffer_size():
+        with within(writer, SLOW):
+            await writer.drain()
+
+
+async def end(writer: asyncio.StreamWriter) -> None:
+    """Ends a connection. What hasn't been taken a moment later won't be."""
+    writer.close()
+    with contextlib.suppress(Exception):
+        await asyncio.wait_for(writer.wait_closed(), MOMENT)
+    writer.transport.abort()
+
+
+def secure_with(certificate: str, key: str) -> ssl.SSLContext:
+    """What HTTPS needs, from a certificate and its private key."""
+    secure = ssl.SSLContext(ssl.PROTOCOL_TLS_SERVER)
+    secure.minimum_version = ssl.TLSVersion.TLSv1_2
+    secure.load_cert_chain(certificate, key or None)
+    return secure

@@ -1,0 +1,199 @@
+"""The office of one class as the web has it: opened and kept by this process, or joined if a window has it."""
+from __future__ import annotations
+
+import collections
+import contextlib
+import threading
+import time
+from collections.abc import Callable
+
+from raceoffice import system
+from raceoffice.errors import Fault, NotSent, Trouble
+from raceoffice.office.before_opening import Ask, is_meant, is_right, mend, question_of_rules
+from raceoffice.office.keeping import Keeping
+from raceoffice.series import settings
+from raceoffice.series.folder import Folder, clock
+from raceoffice.series.health import disk_fault, faults, notes, summary
+from raceoffice.session.dialogue import Question
+from raceoffice.terminal import sentence
+from raceoffice.traces import guarded
+from raceoffice.web.tap_session import Asked
+
+# Seconds between two looks at an office, and how often one that has gone is opened again by itself within how
+# many seconds.
+LOOK, TIMES, LONG = 0.2, 3, 600.0
+# How many of an office's words are kept for the scorer's page.
+SAID = 60
+
+
+class KeptOffice:
+    """The office of one class. `tell` hears what its window would say."""
+
+    def __init__(self, folder: Folder, tell: Callable[[str], None]) -> None:
+        self.folder, self.tell = folder, tell
+        self.said: collections.deque[str] = collections.deque(maxlen=SAID)
+        self.lock = threading.Lock()
+        self.keeping: Keeping | None = None
+        self.opened: list[float] = []
+        self.is_asked_to_close, self.is_hurried, self.is_ended = False, False, threading.Event()
+        self.is_ended.set()
+
+    def say(self, text: str) -> None:
+        for line in text.splitlines():
+            self.said.append(line)
+        self.tell(text)
+
+    def is_there(self) -> bool:
+        """Whether the office lets clients in."""
+        with contextlib.suppress(Trouble):
+            return True in system.sockets_at(self.folder.socket)
+        return False
+
+    def second_trouble(self) -> str:
+        """Why an office that this process keeps has no second copy; empty if it has one."""
+        keeping = self.keeping
+        return keeping.backups.trouble if keeping else ""
+
+    # Opening
+
+    def open(self, ask: Ask) -> bool:
+        """Opens the office, joins one that a window has, or takes over one whose window has gone; whether one
+        is open then."""
+        with self.lock:
+            if self.is_asked_to_close:
+                # Its last copy may still be being made.
+                self.is_ended.wait()
+            if self.keeping:
+                return True
+            try:
+                with guarded(self.folder.path, Asked):
+                    return self.is_opened(ask)
+            except Trouble as trouble:
+                self.say(sentence(trouble))
+                return False
+
+    def is_opened(self, ask: Ask) -> bool:
+        # They may have been changed since.
+        self.folder.settings = settings.read(self.folder.path)
+        self.folder.make_private()
+        if fault := disk_fault(self.folder):
+            self.say(fault)
+            return False
+        keeping = Keeping(self.folder, self.say, lambda: self.is_hurried)
+        try:
+            is_open = self.is_begun(keeping, ask)
+        except BaseException:
+            keeping.service.undo_start()
+            leave(keeping)
+            raise
+        if is_open:
+            self.keep(keeping)
+        else:
+            leave(keeping)
+        return is_open or self.is_there()
+
+    def is_begun(self, keeping: Keeping, ask: Ask) -> bool:
+        """Whether this process keeps the office now."""
+        if keeping.service.lock.is_taken():
+            try:
+                keeping.service.take_over(is_yes)
+            except Trouble as trouble:
+                self.say(f"{sentence(trouble)} It is joined.")
+                return False
+            self.folder.set_closing(False)
+            self.folder.set_beware("")
+        else:
+            mend(self.folder, ask)
+            if not (is_right(self.folder, self.say) and is_meant(self.folder, self.say, ask)):
+                self.say("Nothing was opened.")
+                return False
+            keeping.start()
+        keeping.begin()
+        for text in notes(self.folder):
+            self.say(text)
+        keeping.note_opened()
+        self.say(f"{summary(self.folder)}\n{self.folder.settings.in_words()}\n{clock()} The office is open.")
+        return True
+
+    def keep(self, keeping: Keeping) -> None:
+        """Keeps an office from now on, in a thread of its own."""
+        self.keeping = keeping
+        self.opened.append(time.monotonic())
+        self.is_asked_to_close = False
+        self.is_ended.clear()
+        threading.Thread(target=self.stay, args=(keeping,), daemon=True).start()
+
+    # While it is open
+
+    def stay(self, keeping: Keeping) -> None:
+        """Keeps an office until it is closed or has gone by itself."""
+        is_gone = False
+        while not self.is_asked_to_close and not is_gone:
+            time.sleep(LOOK)
+            is_gone = keeping.looks.has_come() and not self.goes_on(keeping)
+        try:
+            with guarded(self.folder.path):
+                if is_gone:
+                    keeping.crashed()
+                else:
+                    keeping.close()
+        except Trouble as trouble:
+            self.say(sentence(trouble))
+        finally:
+            # Whoever closes the office waits for that.
+            leave(keeping)
+            self.keeping = None
+            self.is_ended.set()
+        if is_gone:
+            self.open_again()
+
+    def goes_on(self, keeping: Keeping) -> bool:
+        """Looks at the office; whether its program is still there. A fault in saying what is wrong leaves a trace,
+        and ends nothing."""
+        with contextlib.suppress(Fault), guarded(self.folder.path):
+            return keeping.goes_on()
+        return True
+
+    def open_again(self) -> None:
+        """Opens an office that has gone by itself, a few times. What has to be asked waits for the scorer."""
+        recent = [at for at in self.opened if at > time.monotonic() - LONG]
+        if not self.is_asked_to_close and len(recent) <= TIMES:
+            self.open(lambda _: False)
+
+    # Closing
+
+    def close(self) -> bool:
+        """Closes the office, which lets everybody leave first; whether it was this process that kept it. One
+        that a window keeps stays open."""
+        if not self.keeping:
+            return False
+        self.is_asked_to_close = True
+        self.is_ended.wait()
+        return True
+
+
+    def open_again_with_settings(self, ask: Ask) -> bool:
+        """Closes the office and opens it with the settings as they are now; whether it is open then. What they
+        would change is asked while it is still open. NotSent if it can't be, and nothing is closed then."""
+        if not self.keeping and self.is_there():
+            raise NotSent("another window keeps this office: close it there, and open it again")
+        fresh = Folder(self.folder.path)
+        if wrong := faults(fresh):
+            raise NotSent("\n".join(wrong))
+        if asked := question_of_rules(fresh):
+            ask(asked)
+        self.close()
+        return self.open(ask)
+
+
+def is_yes(_: Question) -> bool:
+    """A program whose window has gone is always taken over."""
+    return True
+
+
+def leave(keeping: Keeping) -> None:
+    """Leaves what a window holds of an office: the lock, the second folder, and that it is open."""
+    keeping.backups.second.close()
+    keeping.service.lock.leave()
+    if keeping.service.presence:
+        keeping.service.presence.close()

@@ -1,0 +1,157 @@
+"""What lines or a decision would do, with nothing sent: whom they move, and which lines a decision takes.
+
+`preview` and `decide` are the only functions that work this out: no other module of the web asks how points
+of decisions are computed.
+"""
+from __future__ import annotations
+
+import re
+from collections.abc import Sequence
+from dataclasses import dataclass
+
+from raceoffice.characters import utf8
+from raceoffice.decisions import decision_lines
+from raceoffice.decisions.points import Verdict, decided, taken_out
+from raceoffice.errors import NotSent, Trouble
+from raceoffice.files import replace_whole
+from raceoffice.program.replay import Line, scored
+from raceoffice.program.standing import Standing
+from raceoffice.series.folder import Folder
+from raceoffice.series.run_program import opened_rules, replayed
+from raceoffice.series.settings import Settings
+from raceoffice.series.settings import rows_of as lines_of
+from raceoffice.session.facts import Facts
+from raceoffice.web.states import Values, moves_of, rows_of
+
+# The line of decisions.txt that something is wrong with, and the most letters of a note.
+LINE = re.compile(r"^decisions\.txt, line (\d+): ")
+NOTE = 200
+
+
+@dataclass(frozen=True)
+class Ruled:
+    """What a decision comes to: the text of decisions.txt with it, what it is called, its points and what the
+    journal holds, the lines that it takes, and why it can't be given."""
+    text: str
+    name: str
+    verdict: Values
+    lines: tuple[Line, ...]
+    why: tuple[str, ...]
+
+
+def opened_settings(folder: Folder) -> Settings:
+    """The settings with the rules of the open office: series.ini may have been changed since."""
+    return Settings(**{**vars(folder.settings), **opened_rules(folder)})
+
+
+def options_of(folder: Folder) -> list[str]:
+    """The rules of the open office."""
+    return opened_settings(folder).options()
+
+
+def preview(folder: Folder, facts: Facts, lines: Sequence[Line]) -> Values:
+    """Whom these lines would move; or why the program refuses them."""
+    entries = len(facts.sheet.journal)
+    try:
+        after = scored(folder.program, options_of(folder), facts.sheet.journal, lines)
+    except Trouble as trouble:
+        return {"refused": str(trouble).removeprefix("the program "), "entries": entries}
+    standing = Standing.read(list(after.table))
+    return {"entries": entries, "lines": [f"{line.role} {line}" for line in lines],
+            "moves": moves_of(facts.standing, standing, facts), "rows": rows_of(standing),
+            "counts": any(race in facts.standing.races for race in map(race_of, lines))}
+
+
+def effect_of_rules(folder: Folder, facts: Facts, options: list[str]) -> Values:
+    """Whom other rules would move, by a replay of the journal that is on the disk, and which decisions would be
+    out of date; or why the program refuses them."""
+    try:
+        before, after = replayed(folder, options_of(folder)), replayed(folder, options)
+    except Trouble as trouble:
+        return {"refused": str(trouble).removeprefix("the program says "), "moves": [], "stale": []}
+    text = decision_lines.read(folder.path)
+    found = decided(folder.program, options, after.journal, text).stale if text.strip() else []
+    moves = moves_of(Standing.read(list(before.table)), Standing.read(list(after.table)), facts)
+    return {"moves": moves, "stale": found}
+
+
+def race_of(line: Line) -> int:
+    """The race that a line is about; 0 if there is none."""
+    number = line.text.split()[1:2]
+    return int(number[0]) if number and number[0].isdecimal() else 0
+
+
+def decide(folder: Folder, facts: Facts, ruling: str, note: str = "", is_out: bool = False) -> Ruled:
+    """What a decision comes to, and which lines it takes; NotSent if it isn't one. `note` is written after it.
+    If it `is_out`, `ruling` is the row of decisions.txt that is taken out."""
+    if is_out:
+        return without_row(folder, facts, ruling)
+    text, name = with_ruling(folder, facts, ruling, note)
+    found = decided(folder.program, options_of(folder), facts.sheet.journal, text)
+    mine = [verdict for verdict in found.verdicts if str(verdict.ruling) == name]
+    why = [*found.wrong, *(verdict.why for verdict in mine if verdict.why)]
+    values = verdict_shown(mine[0], note) if mine else {}
+    return Ruled(text, name, values, tuple(found.lines), tuple(why))
+
+
+def without_row(folder: Folder, facts: Facts, row: str) -> Ruled:
+    """What it takes to take a row out of decisions.txt. One that can't be read has no lines in the journal."""
+    rows = [line.strip() for line in lines_of(decision_lines.read(folder.path))]
+    if not row or row not in rows:
+        raise NotSent("decisions.txt doesn't have this any more: look again")
+    at = rows.index(row)
+    text = "\n".join([*rows[:at], *rows[at + 1:], ""])
+    ruling = next(iter(decision_lines.rulings_of(row)[0]), None)
+    lines = taken_out(ruling, facts.sheet.journal) if ruling else []
+    return Ruled(text, row, {}, tuple(lines), ())
+
+
+def note_of(text: str) -> str:
+    """A note as it is kept: one line of signs that are seen."""
+    return " ".join("".join(filter(str.isprintable, text)).split())[:NOTE]
+
+
+def with_ruling(folder: Folder, facts: Facts, added: str, note: str) -> tuple[str, str]:
+    """The text of decisions.txt with one more decision and its note, in place of an earlier one for the same
+    boat, and what it is called."""
+    found, wrong = decision_lines.rulings_of(added)
+    if wrong or len(found) != 1:
+        raise NotSent(LINE.sub("", wrong[0]) if wrong else "a decision is needed")
+    text, new = decision_lines.read(folder.path), found[0]
+    if new.sail not in facts.boats:
+        raise NotSent(f"{new.sail} isn't entered")
+    old = [ruling.line for ruling in decision_lines.rulings_of(text)[0] if ruling.key == new.key]
+    row = f"{added}  # {note}" if note else added
+    lines = [row if at in old else line for at, line in enumerate(lines_of(text), 1)]
+    return "\n".join([*lines, *([] if old else [row]), ""]), str(new)
+
+
+def keep_decisions(folder: Folder, text: str) -> None:
+    replace_whole(folder.file(decision_lines.NAME), utf8(text))
+
+
+def decisions_shown(folder: Folder, facts: Facts) -> list[Values]:
+    """The decisions of the class, and what each comes to now."""
+    text = decision_lines.read(folder.path)
+    if not text.strip():
+        return []
+    found, rows = decided(folder.program, options_of(folder), facts.sheet.journal, text), lines_of(text)
+    shown = []
+    for verdict in found.verdicts:
+        row = rows[verdict.ruling.line - 1].strip()
+        shown.append(verdict_shown(verdict, row.partition("#")[2].strip()) | {"row": row})
+    return shown + [{"words": wrong, "kept": False, "row": row_of(wrong, rows)} for wrong in found.wrong]
+
+
+def verdict_shown(verdict: Verdict, note: str) -> Values:
+    """A decision with what it comes to."""
+    ruling = verdict.ruling
+    return {"words": str(verdict), "kept": verdict.is_kept, "race": ruling.race, "sail": ruling.sail,
+            "kind": ruling.kind, "how": ruling.how, "points": verdict.points, "held": verdict.held,
+            "why": verdict.why, "note": note}
+
+
+def row_of(wrong: str, rows: Sequence[str]) -> str:
+    """The row that something is wrong with; empty if it is about none."""
+    found = LINE.match(wrong)
+    return rows[int(found[1]) - 1].strip() if found else ""

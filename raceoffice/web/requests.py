@@ -1,0 +1,212 @@
+"""HTTP requests and what is sent for them: read within limits, answered whole."""
+from __future__ import annotations
+
+import asyncio
+import contextlib
+import functools
+import gzip
+import hashlib
+import json
+import urllib.parse
+from collections.abc import Iterator, Mapping
+from dataclasses import dataclass, field
+from email.utils import formatdate
+from typing import Any
+
+# Seconds for a request's head to come, for its body, and for a connection without a request.
+HEAD_TIME, BODY_TIME, IDLE = 10.0, 30.0, 70.0
+# The most bytes of a request's head.
+HEAD = 16 << 10
+REASONS = {200: "OK", 204: "No Content", 301: "Moved Permanently", 304: "Not Modified",
+           400: "Bad Request", 401: "Unauthorized", 403: "Forbidden", 404: "Not Found",
+           405: "Method Not Allowed", 408: "Request Timeout", 409: "Conflict", 413: "Content Too Large",
+           421: "Misdirected Request", 422: "Unprocessable Content", 429: "Too Many Requests",
+           431: "Request Header Fields Too Large", 500: "Internal Server Error",
+           503: "Service Unavailable"}
+# A page runs the scripts of this server and no other, asks nobody else, and is in nobody's frame.
+POLICY = ("default-src 'none'; script-src 'self'; style-src 'self'; connect-src 'self'; img-src 'self'; "
+          "manifest-src 'self'; worker-src 'self'; base-uri 'none'; form-action 'none'; "
+          "frame-ancestors 'none'")
+SAFE = {"Content-Security-Policy": POLICY, "X-Content-Type-Options": "nosniff",
+        "X-Frame-Options": "DENY", "Referrer-Policy": "no-referrer",
+        "Cross-Origin-Resource-Policy": "same-origin", "Cross-Origin-Opener-Policy": "same-origin"}
+# A phone at the finish loads some twenty parts of a page over a weak line: their heads are short.
+SAFE_PART = {"X-Content-Type-Options": "nosniff", "Cross-Origin-Resource-Policy": "same-origin"}
+# How hard a reply is packed: a state, which is made for each change, and a part of a page
+QUICK, SMALLEST = 4, 9
+JSON = "application/json"
+# Replies with fewer bytes aren't packed.
+LEAST_PACKED = 1000
+# How many of the last replies stay packed.
+PACKED = 128
+
+
+# Why a request isn't done, as a fixed word that pages translate, if nothing more is known.
+WHY = {401: "unknown-device", 403: "not-from-a-page", 404: "not-there", 408: "too-slow", 413: "too-long",
+       421: "other-name", 422: "not-sent", 429: "too-many", 431: "too-long", 503: "office-away"}
+
+
+class Wrong(Exception):
+    """Why a request isn't done: the number of a status, words, and a fixed word for pages in other
+    languages."""
+
+    def __init__(self, status: int, words: str = "", kind: str = "") -> None:
+        super().__init__(words or REASONS[status])
+        self.status, self.kind = status, kind or WHY.get(status, "no-request")
+
+    def reply(self) -> Reply:
+        return reply_of({"words": str(self), "kind": self.kind}, self.status)
+
+
+@dataclass(frozen=True)
+class Request:
+    """A request. Its body is read once its head is known."""
+    method: str
+    path: str
+    fields: Mapping[str, str]
+    address: str
+    body: bytes = b""
+
+    def values(self) -> dict[str, Any]:
+        """The body's values."""
+        if self.fields.get("content-type", "").partition(";")[0].strip() != JSON:
+            raise Wrong(400, "the body has to be JSON")
+        try:
+            found = json.loads(self.body)
+            # Half of a surrogate pair is no text.
+            json.dumps(found, ensure_ascii=False).encode()
+        except (ValueError, RecursionError):
+            raise Wrong(400, "the body can't be read") from None
+        if not isinstance(found, dict):
+            raise Wrong(400, "the body can't be read")
+        return found
+
+    def cookie(self, name: str) -> str:
+        pairs = (part.strip().partition("=") for part in self.fields.get("cookie", "").split(";"))
+        return next((value for key, _, value in pairs if key == name), "")
+
+    @property
+    def parts(self) -> list[str]:
+        """The parts of its path, decoded; none for `/`."""
+        return [urllib.parse.unquote(part) for part in self.path.strip("/").split("/") if part]
+
+
+@dataclass(frozen=True)
+class Reply:
+    """What is sent for a request. `is_ready` says that nothing is to be packed, and that its own policy
+    holds."""
+    status: int = 200
+    kind: str = JSON
+    data: bytes = b""
+    fields: Mapping[str, str] = field(default_factory=dict)
+    is_ready: bool = False
+    # Part of a page, as a script or a style: what is said of pages holds for the page that loads it.
+    is_part: bool = False
+
+
+def reply_of(values: object, status: int = 200, fields: Mapping[str, str] | None = None) -> Reply:
+    """A reply with these values."""
+    data = json.dumps(values, ensure_ascii=False, separators=(",", ":")).encode("utf-8", "replace")
+    return Reply(status, JSON, data, fields or {})
+
+
+def tagged(request: Request, kind: str, data: bytes, is_part: bool = False) -> Reply:
+    """A text that a browser keeps, and asks about by its tag."""
+    tag = f'"{hashlib.sha256(data).hexdigest()[:20]}"'
+    fields = {"ETag": tag, "Cache-Control": "no-cache"}
+    if tag in request.fields.get("if-none-match", ""):
+        return Reply(304, kind, b"", fields, is_part=is_part)
+    return Reply(200, kind, data, fields, is_part=is_part)
+
+
+def packed(request: Request, reply: Reply) -> Reply:
+    """The same with fewer bytes, for those who can unpack it. No secret is in the same text as what a request
+    may choose: only states and files are this long."""
+    offered = request.fields.get("accept-encoding", "").replace(" ", "").split(",")
+    if len(reply.data) < LEAST_PACKED or "gzip" not in offered or reply.is_ready:
+        return reply
+    fields = {**reply.fields, "Content-Encoding": "gzip", "Vary": "Accept-Encoding"}
+    level = SMALLEST if reply.is_part else QUICK
+    return Reply(reply.status, reply.kind, zipped(reply.data, level), fields, is_part=reply.is_part)
+
+
+@functools.lru_cache(PACKED)
+def zipped(data: bytes, level: int) -> bytes:
+    """These bytes, packed once for all who ask for them."""
+    return gzip.compress(data, level, mtime=0)
+
+
+def bytes_of(reply: Reply, is_last: bool, is_head: bool) -> bytes:
+    """A whole answer."""
+    safe = SAFE_PART if reply.is_part else SAFE
+    fields = {"Date": formatdate(usegmt=True), **safe, "Cache-Control": "no-store", **reply.fields,
+              **({"Connection": "close"} if is_last else {})}
+    if reply.status not in (204, 304):
+        is_text = reply.kind.startswith("text/") and "charset" not in reply.kind
+        kind = reply.kind + ("; charset=utf-8" if is_text else "")
+        fields |= {"Content-Type": kind, "Content-Length": str(len(reply.data))}
+    lines = [f"HTTP/1.1 {reply.status} {REASONS[reply.status]}",
+             *(f"{name}: {value}" for name, value in fields.items()), "", ""]
+    return "\r\n".join(lines).encode("latin-1") + (b"" if is_head else reply.data)
+
+
+# Reading
+
+@contextlib.contextmanager
+def within(writer: asyncio.StreamWriter, seconds: float) -> Iterator[None]:
+    """Cuts a connection off if what is done here takes longer. It costs less than a task with a timeout,
+    which counts when hundreds of phones ask at once."""
+    alarm = asyncio.get_running_loop().call_later(seconds, writer.transport.abort)
+    try:
+        yield
+    finally:
+        alarm.cancel()
+
+
+async def head_of(reader: asyncio.StreamReader, writer: asyncio.StreamWriter, address: str) -> Request | None:
+    """The next request without its body; None if the client leaves without one."""
+    try:
+        with within(writer, IDLE):
+            first = await reader.read(1)
+        if not first:
+            return None
+        with within(writer, HEAD_TIME):
+            rest = await reader.readuntil(b"\r\n\r\n")
+    except asyncio.LimitOverrunError:
+        raise Wrong(431) from None
+    return request_of(first + rest, address)
+
+
+def request_of(head: bytes, address: str) -> Request:
+    """A head as a request; Wrong if it isn't one."""
+    line, *lines = head.decode("latin-1").split("\r\n")
+    words = line.split(" ")
+    if len(words) != 3 or not words[2].startswith("HTTP/1.") or not words[1].startswith("/"):
+        raise Wrong(400)
+    fields: dict[str, str] = {}
+    for text in filter(None, lines):
+        name, colon, value = text.partition(":")
+        key = name.lower()
+        # Two readers would take two hosts or lengths for different ones.
+        if not colon or not name or name != name.strip() or key in fields and key in ("host", "content-length"):
+            raise Wrong(400)
+        fields[key] = value.strip()
+    if "transfer-encoding" in fields:
+        raise Wrong(400, "the body needs its length")
+    return Request(words[0], words[1].partition("?")[0], fields, address)
+
+
+async def with_body(reader: asyncio.StreamReader, request: Request, most: int) -> Request:
+    """A request with its body, which may have so many bytes."""
+    size = request.fields.get("content-length", "0")
+    if not (size.isascii() and size.isdecimal()):
+        raise Wrong(400)
+    if len(size) > 9 or int(size) > most:
+        raise Wrong(413)
+    if not int(size):
+        return request
+    try:
+        body = await asyncio.wait_for(reader.readexactly(int(size)), BODY_TIME)
+    except asyncio.TimeoutError:
+        raise Wrong(408) from None
+    return Request(request.method, request.path, request.fields, request.address, body)

@@ -1,0 +1,371 @@
+"""One class as the web has it: its sessions, what is shown of it, and each tap done once."""
+from __future__ import annotations
+
+import contextlib
+import copy
+import os
+import threading
+import time
+from collections.abc import Callable
+
+from raceoffice import system
+from raceoffice.errors import NoSeat, NotSent, Trouble
+from raceoffice.files import PRIVATE, PRIVATE_MODE
+from raceoffice.program.link import Link, Sheet
+from raceoffice.series.folder import Folder
+from raceoffice.series.kept_places import History, Places
+from raceoffice.series.lost_lines import as_kept
+from raceoffice.session.dialogue import Said
+from raceoffice.session.facts import Facts
+from raceoffice.session.question_words import question
+from raceoffice.traces import guarded
+from raceoffice.web.finish_order import line_in_order
+from raceoffice.web.states import (Values, boats_of, moves_of, races_of, rules_of, said_of, standing_of, unlisted)
+from raceoffice.web.tap_session import DROPPED, TapSession
+from raceoffice.web.taps import PLACED, Register, Sent, Tap
+from raceoffice.web.timed_taps import TimedTap, is_timed_tap, sheets_shown, timed_undo
+
+# Seconds between two looks at whether the journal has grown, and between two tries at an office that isn't
+# open, or has no seat: each of those uses up one of its sessions.
+LOOK, AGAIN, LATER = 0.1, 1.0, 5.0
+# Seconds that a tap waits for another of its class.
+PATIENCE = 8.0
+# Entries of the journal that are shown.
+SHOWN = 60
+
+
+class Room:
+    """A class with its office. `changed` is called when something that is shown is another."""
+
+    def __init__(self, folder: Folder, changed: Callable[[], None]) -> None:
+        self.folder, self.changed = folder, changed
+        # One tap at a time, and one look at a time; who needs both takes them in this order.
+        self.lock, self.looking = threading.RLock(), threading.RLock()
+        folder.make_private()
+        self.held = held_alone(folder)
+        self.register = Register(folder.file(PRIVATE, "web.taps"))
+        self.sessions: dict[str, TapSession] = {}
+        self.reader: Link | None = None
+        # Links with a line that the office may still take.
+        self.late: list[Link] = []
+        self.facts, self.names = Facts(folder), self.names_now()
+        self.places, self.history = Places(folder), History()
+        self.places_seen: object = None
+        self.trouble, self.version = "the office isn't open yet", int(time.time() * 1000)
+        self.last: Values = {}
+        # How often an office was found open: it may have other rules each time.
+        self.openings, self.size = 0, -1
+        self.is_ending = threading.Event()
+
+    def close(self) -> None:
+        """Leaves the class to another web."""
+        self.is_ending.set()
+        self.leave()
+        with self.lock:
+            self.register.close()
+            os.close(self.held)
+
+    # What is shown
+
+    def see(self, link: Link) -> Facts:
+        """What the office shows now. It is asked only if the journal's file or the entry list is another: the
+        file has each entry before that is answered."""
+        with self.looking:
+            size = self.size_now()
+            if size != self.size or self.trouble or self.names != self.names_now():
+                sheet = link.sheet()
+                self.take(sheet)
+                self.size = size
+            return self.facts
+
+    def take(self, sheet: Sheet) -> None:
+        """Takes over what an office shows; those who wait learn of it if it is new."""
+        before, was_open = self.facts, not self.trouble
+        self.openings += not was_open
+        if self.names != (names := self.names_now()) or not was_open:
+            # An office that has come may have other settings, too.
+            self.names, fresh = names, Facts(self.folder)
+        elif before.sheet == sheet and was_open:
+            return
+        else:
+            fresh = copy.copy(before)
+        fresh.read(sheet)
+        self.facts, self.trouble = fresh, ""
+        moves = moves_of(before.standing, fresh.standing, fresh) if was_open else []
+        if moves:
+            _, _, role, line = sheet.journal[-1].split(maxsplit=3)
+            self.last = {"at": int(time.time() * 1000), "moves": moves, "line": line, "role": role}
+        self.look_at_places()
+        self.news()
+
+    def names_now(self) -> object:
+        """What is another whenever the entry list is."""
+        with contextlib.suppress(OSError):
+            found = os.stat(self.folder.entries)
+            return found.st_mtime_ns, found.st_size
+        return None
+
+    def look_at_places(self) -> bool:
+        """Reads the places that are kept; whether they are others. If that can't be, those stay that were
+        known."""
+        self.places_seen, before = self.places.state(), self.history.waiting
+        with contextlib.suppress(Trouble):
+            self.history = self.places.read(self.facts.commands)
+        return self.history.waiting != before
+
+    def news(self) -> None:
+        with self.looking:
+            self.version += 1
+        self.changed()
+
+    def state(self, is_whole: bool) -> Values:
+        """All that a page shows of the class; the finish doesn't need the whole."""
+        facts, settings = self.facts, self.folder.settings
+        found: Values = {
+            "class": self.folder.name, "title": settings.title, "group": settings.group,
+            "version": self.version, "entries": len(facts.sheet.journal), "trouble": self.trouble,
+            "handicap": settings.handicap, "rules": settings.in_words(), "settings": rules_of(settings),
+            "boats": boats_of(facts), "races": self.races(facts)}
+        if is_whole:
+            found |= {"standing": standing_of(facts.standing), "last": self.last,
+                      "unlisted": unlisted(facts), "journal": facts.sheet.journal[-SHOWN:]}
+        return found
+
+    def races(self, facts: Facts) -> Values:
+        """The races of which anything is recorded, with their sheets of times if the class has some."""
+        moments = self.register.moments(facts.sheet.journal)
+        sheets = sheets_shown(self.folder)
+        return {number: values | ({"sheet": sheets[int(number)]} if int(number) in sheets else {})
+                for number, values in races_of(facts, self.history.waiting, moments, sheets).items()}
+
+    # The office
+
+    def session(self, role: str) -> TapSession:
+        """The session of a role, linked to the office; a Trouble if the office isn't open."""
+        if self.folder.is_closing():
+            raise Trouble("the office is being closed")
+        if role not in self.sessions:
+            self.sessions[role] = TapSession(self.folder, role, self.register, self.see)
+        session = self.sessions[role]
+        if session.link is None:
+            session.connect()
+        return session
+
+    def leave(self, why: str = "the office is closed") -> None:
+        """Leaves the office, which is closing or has gone."""
+        with self.lock, self.looking:
+            for session in self.sessions.values():
+                if session.link:
+                    with contextlib.suppress(Trouble):
+                        session.link.ask("QUIT")
+                session.disconnect()
+            if self.reader:
+                self.reader.close()
+                self.log("left")
+            self.reader = None
+            if self.trouble != why:
+                self.trouble = why
+                self.news()
+
+    def log(self, what: str) -> None:
+        """Notes in office.log that the web comes or leaves, as a window does."""
+        with contextlib.suppress(Trouble):
+            self.folder.log("web", "", "", what, "")
+
+    def watch(self) -> None:
+        """Looks again and again whether something was typed elsewhere: one SHOW, however many wait."""
+        pause = LOOK
+        while not self.is_ending.wait(pause):
+            try:
+                with guarded(self.folder.path):
+                    self.look()
+                pause = LOOK
+            except Trouble as trouble:
+                self.leave(str(trouble))
+                pause = LATER if isinstance(trouble, NoSeat) else AGAIN
+
+    def look(self) -> None:
+        """Reads the journal if its file has grown, and the places that windows keep."""
+        if self.folder.is_closing():
+            raise Trouble("the office is being closed")
+        if self.reader is None:
+            self.reader = self.folder.link()
+            self.log("came")
+        elif heard(self.reader) is not None:
+            raise Trouble("the office has gone")
+        self.see(self.reader)
+        if self.places.state() != self.places_seen:
+            with self.looking:
+                if self.look_at_places():
+                    self.news()
+
+    def size_now(self) -> int:
+        """How long the journal's file is; it grows before a line is answered."""
+        with contextlib.suppress(OSError):
+            return os.path.getsize(self.folder.journal)
+        return -1
+
+    # A tap
+
+    def do(self, role: str, name: str, tap: Tap) -> Values:
+        """Does a tap once; what came of it. The same tap again gets the same answer."""
+        if not self.lock.acquire(timeout=PATIENCE):
+            raise Trouble("another line is being sent: wait")
+        try:
+            if done := self.done(tap):
+                return done
+            self.wait_for_late_answers()
+            session = self.session(role)
+            session.begin(tap, name)
+            try:
+                session.look()
+                # What the journal has is known by now.
+                return self.done(tap) or self.done_now(session, tap)
+            except Trouble as trouble:
+                self.give_up(session, trouble)
+                raise
+        finally:
+            self.lock.release()
+
+    def wait_for_late_answers(self) -> None:
+        """A Trouble while the office may still take a line whose answer nobody waits for any more. A link
+        with its answer or its end is done with: then the journal says what came of the line."""
+        for link in list(self.late):
+            if heard(link) is not None:
+                link.close()
+                self.late.remove(link)
+        if self.late:
+            raise Trouble("the office hasn't answered a line yet")
+
+    def give_up(self, session: TapSession, trouble: Trouble) -> None:
+        """Leaves an office that doesn't answer, or has gone."""
+        if session.unanswered and session.link and heard(session.link) is None:
+            self.late.append(session.link)
+            session.link = None
+        session.unanswered = ""
+        session.disconnect()
+        self.leave(str(trouble))
+
+    def done(self, tap: Tap) -> Values | None:
+        """What came of a tap that was done before; None if it has yet to be."""
+        sent = self.register.sent.get(tap.id)
+        if sent is None:
+            return None
+        if not sent.answer:
+            answer, mark = self.answer_found(sent)
+            if not answer:
+                return None
+            self.register.end(sent.id, answer, mark)
+        return outcome_of(sent, True)
+
+    def answer_found(self, sent: Sent) -> tuple[str, str]:
+        """The answer to something that was begun and never ended, by the journal or by the places that are
+        kept; and the place that it is about. Empty if nothing came of it."""
+        first, *rest = sent.line.split()
+        if "?" not in first:
+            entry = self.register.found(sent, self.facts.sheet.journal)
+            return (f"OK {entry}" if entry else "", "")
+        race = self.facts.race(rest[0]).number
+        history = self.places.read(self.facts.commands)
+        if rest[1:]:
+            ended = history.ended.get((race, first))
+            is_dropped = ended is not None and ended.what == "dropped"
+            return ("NOTED", first) if is_dropped == (rest[1:] == [DROPPED]) else ("", "")
+        claimed = self.register.marks_of(race, sent.window)
+        kept = [note.place for note in history.kept.values()
+                if (note.race, note.window) == (race, sent.window) and note.place not in claimed]
+        return ("NOTED", kept[-1]) if kept else ("", "")
+
+    def done_now(self, session: TapSession, tap: Tap) -> Values:
+        """Does a tap; what came of it."""
+        line = self.line_of(session, tap)
+        is_timed = is_timed_tap(self.folder, line)
+        is_taken = TimedTap(session, line).is_taken() if is_timed else session.is_tap_taken(line)
+        sent = self.register.sent.get(tap.id)
+        if sent is None:
+            # No line was needed, as for a race of which nothing is recorded.
+            session.note_begin(tap.id, tap.line)
+            sent = self.register.sent[tap.id]
+        said = [[one.text, one.kind, one.what, one.values] for one in session.said]
+        answer = sent.answer or (session.answer if is_timed else "") or ("NOTED" if is_taken else "NO")
+        self.register.end(sent.id, answer, session.mark, said)
+        with self.looking:
+            self.look_at_places()
+        self.news()
+        return outcome_of(sent, False)
+
+    def line_of(self, session: TapSession, tap: Tap) -> str:
+        """The line of a tap, of which it is clear that it is meant, and where a finisher belongs."""
+        first, *rest = tap.line.split() or [""]
+        if first == "UNDO" and self.folder.settings.handicap:
+            return timed_undo(self.register.sent.get(tap.undoes)) or tap.line
+        if first == "START":
+            if not self.folder.settings.handicap or not 1 <= len(rest) <= 2:
+                raise NotSent("a race of a series by corrected time has a start: START race 14:05:00")
+            return tap.line
+        if first == "TIMES":
+            if not self.folder.settings.handicap or len(rest) != 1:
+                raise NotSent("a race of a series by corrected time has a sheet: TIMES race")
+            return tap.line
+        if "?" in first or first in ("UNDO", "ABANDON"):
+            return tap.line
+        if tap.undoes and not self.is_undoable(tap):
+            raise NotSent("there is nothing to undo: that tap changed nothing")
+        line = session.line(tap.line)
+        if is_timed_tap(self.folder, line):
+            return line
+        if line.startswith("FINISH "):
+            moments = self.register.moments(self.facts.sheet.journal)
+            line = line_in_order(session.facts, moments, tap, line)
+        self.ask_again(session, tap, line)
+        return line
+
+    def is_undoable(self, tap: Tap) -> bool:
+        """Whether a tap that is to be undone has put an entry into the journal, or kept a place."""
+        sent = self.register.sent.get(tap.undoes)
+        return sent is not None and sent.answer.startswith(("OK ", "NOTED"))
+
+    def ask_again(self, session: TapSession, tap: Tap, line: str) -> None:
+        """Asks if the journal has this very line since the tap: somebody else may have sent it."""
+        race, words = session.facts.race_of(line), line.split()
+        if tap.undoes or not tap.seen:
+            return
+        if words[0] in PLACED and race and race.is_in_order(words[2]):
+            # The office refuses it (8).
+            return
+        commands, wanted = session.facts.commands, as_kept(line)
+        later = [at for at, text in enumerate(commands[tap.seen:], tap.seen + 1) if text == wanted]
+        if later:
+            session.is_agreed(question("sent-already", session.facts.called, line=line, entry=later[-1]))
+
+
+def held_alone(folder: Folder) -> int:
+    """The file that says that a web serves this class. Two would not know of each other's taps."""
+    file = os.open(folder.file(PRIVATE, "web.lock"), os.O_RDWR | os.O_CREAT | system.NO_LINK, PRIVATE_MODE)
+    if not system.take_lock(file):
+        os.close(file)
+        raise Trouble(f"{folder.path} is served to browsers already, by another raceoffice serve")
+    return file
+
+
+def heard(link: Link) -> bytes | None:
+    """What comes from an office just now; nothing at the end of the link, None if the office says nothing."""
+    try:
+        link.socket.setblocking(False)
+        return link.socket.recv(65536)
+    except BlockingIOError:
+        return None
+    except OSError:
+        return b""
+    finally:
+        with contextlib.suppress(OSError):
+            link.socket.settimeout(link.patience)
+
+
+def outcome_of(sent: Sent, is_again: bool) -> Values:
+    """What came of a tap, as its device is told."""
+    first = sent.answer.split()[0]
+    outcome = {"NO": "refused", "NOTED": "noted"}.get(first, "taken")
+    said = [Said(*one) for one in sent.said]
+    return {"outcome": outcome, "answer": sent.answer, "line": sent.line, "entry": sent.entry,
+            "mark": sent.mark, "said": said_of(said), "again": is_again}

@@ -1,0 +1,535 @@
+"""What each address of the office does, for which role."""
+from __future__ import annotations
+
+import asyncio
+import concurrent.futures
+import json
+import os
+import time
+from collections.abc import Callable, Sequence
+from typing import Any
+
+from raceoffice.errors import NotSent, Trouble
+from raceoffice.program.replay import Line
+from raceoffice.results.http_answers import Text, address_of
+from raceoffice.series.folder import Folder
+from raceoffice.session.confirm import questions
+from raceoffice.session.dialogue import Question
+from raceoffice.session.parse import COMMANDS, MAY
+from raceoffice.terminal import sentence
+from raceoffice.traces import guarded
+from raceoffice.web import boat_names, new_series, preview, qr, series_beside, series_settings, sticks, times_sheet
+from raceoffice.web.declarations import Unasked
+from raceoffice.web.downloads import download
+from raceoffice.web.finish_order import Elsewhere
+from raceoffice.web.gate import MARK, ROLES, Device, plain_name
+from raceoffice.web.hosting import Waiting
+from raceoffice.web.requests import JSON, Reply, Request, Wrong, reply_of, tagged
+from raceoffice.web.room import Room
+from raceoffice.web.states import Values, question_of, said_of
+from raceoffice.web.tap_session import Asked
+from raceoffice.web.taps import NoTap, Tap, agreed_in
+from raceoffice.web.web_office import Class, WebOffice
+
+STATIC = os.path.join(os.path.dirname(os.path.abspath(__file__)), "static")
+KINDS = {".html": "text/html", ".js": "text/javascript", ".css": "text/css", ".svg": "image/svg+xml",
+         ".json": JSON, ".webmanifest": "application/manifest+json", ".png": "image/png"}
+PAGES = {role.lower(): f"{role.lower()}.html" for role in ROLES}
+# The most bytes of a body: of somebody whom nobody knows, of a device, and of one that sends a list.
+FOR_ALL, FOR_DEVICES, FOR_LISTS = 4 << 10, 256 << 10, 5 << 20
+WORKERS = 24
+# What a line of each role may begin with beside the lines that it sends.
+OWN = {"UNDO", "ABANDON"}
+
+
+class Routes:
+    """Answers requests. What is under /office/ROLE/ needs a device of that role."""
+
+    def __init__(self, office: WebOffice) -> None:
+        self.office, self.gate = office, office.gate
+        self.pool = concurrent.futures.ThreadPoolExecutor(WORKERS)
+        self.files = static_files()
+        self.states: dict[tuple[str, bool], tuple[int, bytes]] = {}
+
+    def room_for(self, request: Request) -> int:
+        """How many bytes a request's body may have."""
+        parts = request.parts
+        role = parts[1].upper() if parts[:1] == ["office"] and len(parts) > 2 else ""
+        if role not in ROLES or self.gate.known(request, role) is None:
+            return FOR_ALL
+        return FOR_LISTS if parts[2] in ("list", "new") and role == "SCORER" else FOR_DEVICES
+
+    async def answer(self, request: Request) -> Reply | Waiting:
+        self.gate.check_host(request)
+        parts = request.parts
+        if parts[:1] != ["office"]:
+            return self.shown(request)
+        if request.method not in ("GET", "HEAD", "POST"):
+            raise Wrong(405)
+        is_reading = request.method != "POST"
+        match parts[1:]:
+            case [] | ["in"] if is_reading:
+                return tagged(request, *self.file("enter.html"))
+            case ["in"]:
+                return await self.in_thread(self.enter, request)
+            case ["static", *names] if is_reading:
+                return self.part("/".join(names), request)
+            case [role, *rest] if role in PAGES and is_reading:
+                return await self.read(request, role.upper(), rest)
+            case [role, *rest] if role in PAGES:
+                device = self.gate.check_write(request, role.upper())
+                return await self.in_thread(self.write, request, role.upper(), device, rest)
+        raise Wrong(404)
+
+    def file(self, name: str) -> tuple[str, bytes]:
+        if name not in self.files:
+            raise Wrong(404)
+        return self.files[name]
+
+    def part(self, name: str, request: Request) -> Reply:
+        """A file of the pages. A document and a worker have the policy of a page, parts of a page that of the page."""
+        return tagged(request, *self.file(name), is_part=not name.endswith((".html", "worker.js")))
+
+    def shown(self, request: Request) -> Reply | Waiting:
+        """What is open to all: the board, which is looked up in one dictionary, and news of it."""
+        if request.method not in ("GET", "HEAD"):
+            raise Wrong(405)
+        if request.path == "/live":
+            return Waiting(self.office.board_news)
+        if request.path == "/" and not self.office.classes:
+            return Reply(301, "text/plain", b"", {"Location": "/office/"})
+        address, texts = address_of(request.path), self.office.board.texts
+        if address in texts:
+            return of_text(request, texts[address])
+        if f"{address}/" in texts:
+            return Reply(301, "text/plain", b"", {"Location": f"{address}/"})
+        raise Wrong(404, "there is no such page here")
+
+    def enter(self, request: Request) -> Reply:
+        """A device shows the secret of its link, and gets a cookie."""
+        self.gate.check_origin(request)
+        values = request.values()
+        role, name = str(values.get("role", "")).upper(), plain_name(str(values.get("name", "")))
+        cookie = self.gate.enter(request, role, str(values.get("key", "")), name)
+        self.office.tell(f"{role.lower()}: {name or 'a device'} came from {request.address}")
+        return reply_of({"next": f"/office/{role.lower()}/"}, 200, {"Set-Cookie": cookie})
+
+    async def in_thread(self, work: Callable[..., Reply], *values: object) -> Reply:
+        """Does what may take time, and says in words what keeps it from being done."""
+        try:
+            return await asyncio.get_running_loop().run_in_executor(self.pool, self.guarded, work, *values)
+        except NotSent as why:
+            raise Wrong(422, sentence(why)) from None
+        except Asked as asked:
+            return reply_of({"outcome": "asked", "question": question_of(asked.question),
+                             "said": said_of(asked.said)}, 409)
+        except Elsewhere as where:
+            return reply_of({"outcome": "elsewhere", "question": question_of(where.question),
+                             "clock": where.clock}, 409)
+        except Trouble as trouble:
+            raise Wrong(503, sentence(trouble)) from None
+
+    def guarded(self, work: Callable[..., Reply], *values: object) -> Reply:
+        folder = next((one.room.folder.path for one in self.office.classes.values()), "")
+        with guarded(folder, NotSent, Asked, Elsewhere, Wrong):
+            return work(*values)
+
+    # What is read
+
+    async def read(self, request: Request, role: str, rest: list[str]) -> Reply | Waiting:
+        if not rest:
+            # A page has no secret: what it shows comes later, to devices of the role.
+            return tagged(request, *self.file(PAGES[role.lower()]))
+        if rest == ["worker.js"]:
+            return tagged(request, *self.file("worker.js"))
+        device = self.gate.device(request, role)
+        self.gate.asking.take(device.mark)
+        match rest:
+            case ["me"]:
+                return reply_of(self.me(request, role, device))
+            case ["live"]:
+                return Waiting(self.office.news, device.mark)
+            case ["state", name]:
+                return await self.in_thread(self.state, request, role, self.room(name))
+            case ["rulings", name] if role == "JURY":
+                return await self.in_thread(self.rulings, self.room(name))
+            case ["devices"] if role == "SCORER":
+                return await self.in_thread(self.devices, device)
+            case ["listed", name] if role == "SCORER":
+                return await self.in_thread(self.list_shown, self.room(name))
+            case ["rules", name] if role == "SCORER":
+                return await self.in_thread(self.rules, self.room(name))
+            case ["results", name] if role == "SCORER":
+                return await self.in_thread(self.results, self.one(name))
+            case ["export", form, *names] if role == "SCORER" and len(names) < 2:
+                return await self.in_thread(self.export, form, [*map(self.one, names)])
+            case ["sheet", name, race] if role == "SCORER":
+                return await self.in_thread(self.sheet, self.room(name), race)
+        raise Wrong(404)
+
+    def me(self, request: Request, role: str, device: Device) -> Values:
+        classes = [{"class": name, "title": one.room.folder.settings.title,
+                    "group": one.room.folder.settings.group or name,
+                    "handicap": one.room.folder.settings.handicap}
+                   for name, one in self.office.classes.items()]
+        return {"role": role, "name": device.name, "token": self.gate.token(request, role), "now": now(),
+                "may": sorted(MAY[role]), "classes": classes}
+
+    def one(self, name: str) -> Class:
+        if name not in self.office.classes:
+            raise Wrong(404, "there is no such class")
+        return self.office.classes[name]
+
+    def room(self, name: str) -> Room:
+        return self.one(name).room
+
+    def state(self, request: Request, role: str, room: Room) -> Reply:
+        """The state of a class, made once for all who ask."""
+        key, version = (room.folder.name, role != "FINISH"), room.version
+        held = self.states.get(key)
+        if held is None or held[0] != version:
+            data = json.dumps(room.state(key[1]), ensure_ascii=False, separators=(",", ":"))
+            held = (version, data.encode("utf-8", "replace"))
+            self.states[key] = held
+        return tagged(request, JSON, held[1])
+
+    def rulings(self, room: Room) -> Reply:
+        return reply_of(preview.decisions_shown(room.folder, room.facts))
+
+    def devices(self, mine: Device) -> Reply:
+        """The devices that came, and what the offices said."""
+        at = time.time()
+        shown = [{"mark": device.mark[:MARK], "role": device.role, "name": device.name,
+                  "heard": int(at - device.heard), "unsent": device.unsent, "mine": device is mine}
+                 for device in sorted(self.gate.devices.values(), key=lambda device: -device.heard)]
+        offices = [{"class": name, "said": list(one.office.said), "open": one.office.is_there(),
+                    "is_kept_here": one.office.keeping is not None}
+                   for name, one in self.office.classes.items()]
+        return reply_of({"devices": shown, "keys": sorted(self.gate.keys), "board": self.office.address,
+                         "offices": offices, "beside": series_beside.series_beside(self.office.parent, self.office.classes)})
+
+    def results(self, one: Class) -> Reply:
+        """How the results stand, what is open, and the journal with its copies."""
+        return reply_of(one.results.shown())
+
+    def export(self, form: str, some: list[Class]) -> Reply:
+        """The results of a class as a file, or of all; what keeps a part from being shown is said."""
+        if not (found := some or list(self.office.classes.values())):
+            raise Wrong(404, "there is no such class")
+        return download(form, [one.room.folder for one in found], self.office.tell)
+
+    # What is written
+
+    def write(self, request: Request, role: str, device: Device, rest: list[str]) -> Reply:
+        match rest:
+            case ["line", name]:
+                return self.line(request, role, device, self.room(name))
+            case ["preview", name]:
+                return self.preview(request, role, self.room(name))
+            case ["ruling", name] if role == "JURY":
+                return self.ruling(request, self.room(name))
+            case ["decide", name] if role == "JURY":
+                return self.decide(request, device, self.room(name))
+            case ["leave"]:
+                self.gate.revoke(device.mark)
+                return reply_of({})
+            case ["key"] if role == "SCORER":
+                return self.new_key(request)
+            case ["revoke"] if role == "SCORER":
+                self.gate.revoke(str(request.values().get("mark", "")))
+                return reply_of({})
+            case ["open", name] if role == "SCORER":
+                return self.open(request, self.room(name))
+            case ["close", name] if role == "SCORER":
+                return self.close(request, self.room(name))
+            case ["declare", name] if role == "SCORER":
+                return self.declare(request, device, self.one(name))
+            case ["list"] if role == "SCORER":
+                return reply_of(new_series.list_shown(request.values()))
+            case ["reopen", name] if role == "SCORER":
+                return self.reopen(request, self.room(name))
+            case ["listed", name] if role == "SCORER":
+                return self.name_boat(request, device, self.room(name))
+            case ["rules", name] if role == "SCORER":
+                return self.rules_effect(request, self.room(name))
+            case ["sheet", name] if role == "SCORER":
+                return self.save_sheet(request, self.room(name))
+            case ["second", name] if role == "SCORER":
+                return self.choose_second(request, device, self.one(name))
+            case ["save", name] if role == "SCORER":
+                return self.save(request, device, self.room(name))
+            case ["settings"] if role == "SCORER":
+                return reply_of(new_series.settings_shown(request.values()))
+            case ["new"] if role == "SCORER":
+                return self.make(request)
+            case ["serve"] if role == "SCORER":
+                return self.serve(series_beside.path_of(self.office.parent, self.office.classes, request.values()))
+        raise Wrong(404)
+
+    def line(self, request: Request, role: str, device: Device, room: Room) -> Reply:
+        tap = tap_of(request.values())
+        check_command(tap.line, role)
+        done = room.do(role, device.name, tap)
+        return reply_of(done | {"version": room.version, "now": now()})
+
+    def preview(self, request: Request, role: str, room: Room) -> Reply:
+        """What a line would do, and what would be asked."""
+        typed = one_line(request, "line").upper()
+        check_command(typed, role)
+        with room.lock:
+            session = room.session(role)
+            session.begin(Tap("", "", agreed=agreed_of(request)), "")
+            session.look()
+            line = session.line(typed)
+            unread = session.unread.of(race.number) if (race := session.facts.race_of(line)) else []
+            asked = questions(session.facts, role, line, unread)
+        found = preview.preview(room.folder, session.facts, [Line(role, line)])
+        values: Values = {"line": line, "asked": list(map(question_of, asked))}
+        return reply_of(values | found)
+
+    def ruling(self, request: Request, room: Room) -> Reply:
+        """What a decision comes to, or taking one out, and whom it moves."""
+        found = ruled(request, room)
+        values: Values = {"text": found.text, "line": found.name, "verdict": found.verdict, "why": found.why,
+                          "asked": []}
+        moved = preview.preview(room.folder, room.facts, found.lines)
+        # What takes no lines changes no score, in whichever race.
+        return reply_of(values | moved | ({} if found.lines else {"counts": True}))
+
+    def decide(self, request: Request, device: Device, room: Room) -> Reply:
+        """Keeps a decision in decisions.txt, or takes it out, and sends the lines that it takes, if they are as
+        they were shown. The same again gets the same answer."""
+        values = request.values()
+        tap = tap_of({**values, "line": ""})
+        with room.lock:
+            room.session("JURY").look()
+            done = self.decided_before(room, tap)
+            if not done:
+                found = ruled(request, room)
+                if found.why:
+                    raise NotSent(found.why[0])
+                if [f"{line.role} {line}" for line in found.lines] != values.get("lines"):
+                    raise NotSent("somebody else has typed meanwhile, and it comes to something else: look again")
+                preview.keep_decisions(room.folder, found.text)
+                done = self.sent_one_by_one(room, device, tap, found.lines)
+        return reply_of({"outcome": "taken", "done": done, "version": room.version})
+
+    @staticmethod
+    def decided_before(room: Room, tap: Tap) -> list[Values]:
+        """What came of the lines of a decision that was sent before; none if it wasn't."""
+        found: list[Values] = []
+        while (done := room.done(part_of(tap, len(found)))) is not None:
+            found.append(done)
+        return found
+
+    @staticmethod
+    def sent_one_by_one(room: Room, device: Device, tap: Tap, lines: Sequence[Line]) -> list[Values]:
+        """Sends the lines of a decision up to the first that isn't taken; what came of each."""
+        found: list[Values] = []
+        for at, line in enumerate(lines):
+            found.append(room.do(line.role, device.name, part_of(tap, at, line.text)))
+            if found[-1]["outcome"] != "taken":
+                break
+        return found
+
+    # What the scorer may do beside lines
+
+    def new_key(self, request: Request) -> Reply:
+        """A new link of a role. The scorer who asks stays; a link that was lost is replaced with all its
+        devices."""
+        values = request.values()
+        role = str(values.get("role", "")).upper()
+        if role not in ROLES:
+            raise Wrong(400)
+        link = self.link(role, values.get("stay") is not True)
+        return reply_of({"link": link, "code": qr.code(link)})
+
+    def link(self, role: str, are_devices_out: bool = True) -> str:
+        """A new link of a role, which is shown once."""
+        secret = self.gate.new_key(role, are_devices_out)
+        return f"{self.office.address}office/in#{role.lower()}.{secret}"
+
+    def open(self, request: Request, room: Room) -> Reply:
+        """Opens an office. What is asked before is answered by yes beforehand, or comes back."""
+        office = self.office.classes[room.folder.name].office
+        is_open = office.open(asked_of(request))
+        return reply_of({"open": is_open, "said": list(office.said)})
+
+    def close(self, request: Request, room: Room) -> Reply:
+        request.values()
+        office = self.office.classes[room.folder.name].office
+        is_ours = office.close()
+        return reply_of({"said": list(office.said), "open": not is_ours and office.is_there()})
+
+    def reopen(self, request: Request, room: Room) -> Reply:
+        """Closes an office and opens it with the settings as they are now. What is asked before is answered by
+        yes beforehand, or comes back."""
+        office = self.office.classes[room.folder.name].office
+        is_open = office.open_again_with_settings(asked_of(request))
+        return reply_of({"open": is_open, "said": list(office.said)})
+
+    def rules(self, room: Room) -> Reply:
+        """The settings of a class, and whether its office goes by them."""
+        return reply_of(series_settings.settings_kept(room.folder, self.office.classes[room.folder.name].office))
+
+    @staticmethod
+    def list_shown(room: Room) -> Reply:
+        """Which of the names of a boat the entry list has columns for."""
+        return reply_of(boat_names.list_shown(room.folder))
+
+    @staticmethod
+    def name_boat(request: Request, device: Device, room: Room) -> Reply:
+        """Puts the names of a boat that is entered into the entry list."""
+        with room.lock:
+            session = room.session("SCORER")
+            session.look()
+            is_another = boat_names.name_boat(room.folder, room.facts, request.values(), device.name)
+            session.look()
+        return reply_of({"changed": is_another, "version": room.version})
+
+    @staticmethod
+    def sheet(room: Room, race: str) -> Reply:
+        """The sheet of times of a race."""
+        return reply_of(times_sheet.sheet_shown(room.folder, room.facts, race))
+
+    @staticmethod
+    def save_sheet(request: Request, room: Room) -> Reply:
+        """Changes the sheet of times of a race. The tap TIMES sends the lines that follow from it."""
+        with room.lock:
+            found = times_sheet.save_sheet(room.folder, room.facts, request.values())
+        room.news()
+        return reply_of(found)
+
+    @staticmethod
+    def rules_effect(request: Request, room: Room) -> Reply:
+        """What other settings would do."""
+        return reply_of(series_settings.effect(room.folder, room.facts, request.values()))
+
+    def save(self, request: Request, device: Device, room: Room) -> Reply:
+        """Saves settings, if they are still as they were shown."""
+        with room.lock:
+            series_settings.save(room.folder, room.facts, request.values(), device.name)
+        room.news()
+        return self.rules(room)
+
+    @staticmethod
+    def choose_second(request: Request, device: Device, one: Class) -> Reply:
+        """Makes a stick the second folder of a class, or none."""
+        with one.room.lock:
+            sticks.choose(one.room.folder, one.office, request.values(), device.name)
+        one.results.copies.look_again()
+        return reply_of(one.results.shown())
+
+    def declare(self, request: Request, device: Device, one: Class) -> Reply:
+        """Declares the results provisional, final or amended, or says what is asked before."""
+        try:
+            return reply_of(one.results.declare(device.name, request.values()))
+        except Unasked as asked:
+            return reply_of(asked.values, 409)
+
+    def make(self, request: Request) -> Reply:
+        """Makes a series from a list and settings, and opens its office."""
+        return self.serve(new_series.folder_made(self.office.parent, request.values()))
+
+    def serve(self, path: str) -> Reply:
+        """Serves one more class, and opens its office. What would be asked before waits for the scorer."""
+        office = self.office.add(Folder(path)).office
+        is_open = office.open(lambda _: False)
+        return reply_of({"class": os.path.basename(path), "open": is_open, "said": list(office.said)})
+
+
+def static_files() -> dict[str, tuple[str, bytes]]:
+    """The pages, styles, scripts and texts, with their kinds. No part of a request reaches the file system."""
+    found = {}
+    for folder, _, names in os.walk(STATIC):
+        for name in names:
+            path = os.path.join(folder, name)
+            if kind := KINDS.get(os.path.splitext(name)[1]):
+                with open(path, "rb") as file:
+                    data = file.read()
+                found[os.path.relpath(path, STATIC).replace(os.sep, "/")] = kind, shorter(kind, data)
+    return found
+
+
+def shorter(kind: str, data: bytes) -> bytes:
+    """A script without its comments, and scripts, styles and texts without the space before their lines: phones
+    load them over weak lines."""
+    if kind not in (KINDS[".js"], KINDS[".css"], JSON):
+        return data
+    lines = [line.strip() for line in data.splitlines()]
+    return b"\n".join(line for line in lines if not line.startswith(b"//")) + b"\n"
+
+
+def of_text(request: Request, text: Text) -> Reply:
+    """A text of the board, packed already, with its own policy."""
+    is_packed = "gzip" in request.fields.get("accept-encoding", "").replace(" ", "").split(",")
+    tag = f'"{text.tag}{"-z" if is_packed else ""}"'
+    fields = {"ETag": tag, "Cache-Control": "no-cache", "Vary": "Accept-Encoding",
+              "Content-Security-Policy": text.policy, "X-News": "/live"}
+    if tag in request.fields.get("if-none-match", ""):
+        return Reply(304, text.kind, b"", fields, True)
+    if is_packed:
+        fields["Content-Encoding"] = "gzip"
+    return Reply(200, text.kind, text.packed if is_packed else text.plain, fields, True)
+
+
+def tap_of(values: dict[str, Any]) -> Tap:
+    try:
+        return Tap.read(values)
+    except NoTap:
+        raise Wrong(400, "this isn't a tap") from None
+
+
+def part_of(tap: Tap, at: int, line: str = "") -> Tap:
+    """The tap of one line of a decision."""
+    return Tap(f"{tap.id[:-3]}{at:03x}", line, tap.at, agreed=tap.agreed)
+
+
+def agreed_of(request: Request) -> tuple[Question, ...]:
+    """The questions that were answered by yes."""
+    try:
+        return agreed_in(request.values())
+    except NoTap:
+        raise Wrong(400, "agreed isn't a list of questions") from None
+
+
+def asked_of(request: Request) -> Callable[[Question], bool]:
+    """What asks: a question that was answered by yes is one, and any other comes back."""
+    agreed = agreed_of(request)
+
+    def ask(question: Question) -> bool:
+        if question not in agreed:
+            raise Asked(question, [])
+        return True
+
+    return ask
+
+
+def check_command(line: str, role: str) -> None:
+    """Only lines of the role's own kinds reach a session: no ROLE, SHOW or QUIT."""
+    first, *rest = line.split() or [""]
+    command = COMMANDS.get(first, first)
+    if rest and rest[-1] in COMMANDS and command not in MAY[role]:
+        command = COMMANDS[rest[-1]]
+    own = OWN | ({"START", "TIMES"} if "FINISH" in MAY[role] else set())
+    if command not in MAY[role] | own and "?" not in command:
+        raise Wrong(422, f"{first or 'an empty line'} isn't a line of this role")
+
+
+def ruled(request: Request, room: Room) -> preview.Ruled:
+    """The decision that a request gives, with its note, or the row of one that it takes out."""
+    values = request.values()
+    if values.get("out") is True:
+        return preview.decide(room.folder, room.facts, str(values.get("line", "")).strip(), is_out=True)
+    note = preview.note_of(str(values.get("note", "")))
+    return preview.decide(room.folder, room.facts, one_line(request, "line"), note)
+
+
+def one_line(request: Request, name: str) -> str:
+    """A text of a request, as one line without notes."""
+    return " ".join(str(request.values().get(name, "")).partition("#")[0].split())[:120]
+
+
+def now() -> int:
+    """Milliseconds since 1970."""
+    return int(time.time() * 1000)

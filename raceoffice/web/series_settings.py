@@ -1,0 +1,154 @@
+"""The settings of a class that there is already: what they are, what others would do, and how they are saved.
+
+Its names are shown at once. Its rules and its time zone are those with which its office was opened until it is
+opened again.
+"""
+from __future__ import annotations
+
+import dataclasses
+import hashlib
+import os
+from collections.abc import Mapping
+from typing import Any
+
+from raceoffice.characters import utf8
+from raceoffice.corrected.times import RULES, SHEETS, Rules
+from raceoffice.corrected.write_sheet import rules_text, write_rules
+from raceoffice.errors import NotSent, NotThere, Trouble
+from raceoffice.files import edited_text, replace_whole
+from raceoffice.series import settings
+from raceoffice.series.folder import Folder
+from raceoffice.session.facts import Facts
+from raceoffice.web import preview
+from raceoffice.web.kept_office import KeptOffice
+from raceoffice.web.new_series import GIVEN, wrong_settings
+from raceoffice.web.states import Values, rules_of
+
+# What pages show as soon as it is saved.
+AT_ONCE = ("title", "class", "club")
+SECTIONS = {key: section for section, keys in settings.KEYS.items() for key in keys}
+
+
+def text_now(folder: Folder) -> str:
+    """The text of series.ini as it is now."""
+    try:
+        return edited_text(folder.file(settings.NAME))
+    except NotThere:
+        raise NotSent(f"{settings.NAME} is gone") from None
+
+
+def tag_of(text: str) -> str:
+    """What is another whenever the text is."""
+    return hashlib.sha256(utf8(text)).hexdigest()[:20]
+
+
+def settings_kept(folder: Folder, office: KeptOffice) -> Values:
+    """The settings that series.ini has, and whether the office goes by them."""
+    text = text_now(folder)
+    if wrong := settings.problems(text):
+        return {"wrong": wrong, "tag": tag_of(text)}
+    values, is_open = settings.values_of(text), office.is_there()
+    kept, opened = settings.settings_of(values), preview.opened_settings(folder)
+    return {"wrong": [], "tag": tag_of(text), "is_open": is_open, "is_kept_here": office.keeping is not None,
+            "settings": {key: (settings.DEFAULTS | values)[key] for key in GIVEN}, "system": system_of(folder),
+            "opened": rules_of(opened),
+            "waiting": waiting(folder, kept, opened) if is_open else []}
+
+
+def waiting(folder: Folder, kept: settings.Settings, opened: settings.Settings) -> list[str]:
+    """The settings of which the open office has others."""
+    found = [key for key, value in rules_of(kept).items() if value != rules_of(opened)[key]]
+    return found + (["zone"] if kept.zone != folder.settings.zone else [])
+
+
+def system_of(folder: Folder) -> str:
+    """The rating system of a class by corrected time; empty if it has none yet, or if its rules can't be
+    read."""
+    if not os.path.exists(folder.file(SHEETS, RULES)):
+        return ""
+    try:
+        return Rules.read(folder).system
+    except Trouble:
+        return ""
+
+
+# What others would do
+
+def given_of(values: Mapping[str, Any]) -> dict[str, str]:
+    """The settings that a page gives. What isn't among them stays as it is."""
+    given = values.get("settings")
+    if not isinstance(given, dict):
+        raise NotSent("the settings are missing")
+    found = {key: " ".join(str(given[key]).split()) for key in GIVEN if key in given}
+    # A rule that is left empty is as if the sailing instructions said nothing of it.
+    return {key: text or settings.DEFAULTS[key] for key, text in found.items()}
+
+
+def effect(folder: Folder, facts: Facts, values: Mapping[str, Any]) -> Values:
+    """What settings mean, and whom they would move; or what is wrong with them."""
+    text, given = text_now(folder), given_of(values)
+    before = settings.DEFAULTS | settings.values_of(text)
+    if wrong := wrong_settings(before | given):
+        return wrong
+    wanted, opened = settings.settings_of(before | given), preview.opened_settings(folder)
+    found: Values = {"wrong": [], "keys": [], "rules": wanted.in_words(), "settings": rules_of(wanted),
+                     "at_once": [key for key in AT_ONCE if given.get(key, before[key]) != before[key]],
+                     "at_opening": waiting(folder, wanted, opened)}
+    return found | preview.effect_of_rules(folder, facts, wanted.options())
+
+
+# How they are saved
+
+def save(folder: Folder, facts: Facts, values: Mapping[str, Any], name: str) -> None:
+    """Puts settings into series.ini, whole, if it is still as it was shown, and if the program takes them.
+    `name` is who does."""
+    text = text_shown(folder, values)
+    found = effect(folder, facts, values)
+    if found["wrong"]:
+        raise NotSent("\n".join(map(str, found["wrong"] if isinstance(found["wrong"], list) else [])))
+    if found.get("refused"):
+        raise NotSent(f"the program refuses these rules: {found['refused']}")
+    given, rules = given_of(values), rules_to_write(folder, values)
+    changed = text_with(text, given)
+    # The program has taken its time.
+    text_shown(folder, values)
+    if rules:
+        write_rules(folder.path, rules)
+    if changed != text:
+        replace_whole(folder.file(settings.NAME), utf8(changed))
+        before = settings.DEFAULTS | settings.values_of(text)
+        said = [f"{key} = {value}" for key, value in given.items() if value != before[key]]
+        folder.log(name, "", "", "settings", "; ".join(said))
+    kept = settings.settings_of(settings.values_of(changed))
+    folder.settings = dataclasses.replace(folder.settings, title=kept.title, group=kept.group, club=kept.club)
+
+
+def text_shown(folder: Folder, values: Mapping[str, Any]) -> str:
+    """The text of series.ini, if it is still the one that was shown; else NotSent."""
+    text = text_now(folder)
+    if values.get("tag") != tag_of(text):
+        raise NotSent(f"somebody else has changed {settings.NAME} meanwhile: look again")
+    return text
+
+
+def text_with(text: str, given: Mapping[str, str]) -> str:
+    """series.ini with these values; all else in it stays as it is."""
+    before = settings.DEFAULTS | settings.values_of(text)
+    try:
+        for key in GIVEN:
+            if given.get(key, before[key]) != before[key]:
+                text = settings.with_value(text, SECTIONS[key], key, given[key])
+    except Trouble as trouble:
+        raise NotSent(str(trouble)) from None
+    return text
+
+
+def rules_to_write(folder: Folder, values: Mapping[str, Any]) -> bytes:
+    """times/rules.ini of a class that comes to be one by corrected time; nothing if it has that file."""
+    is_needed = given_of(values).get("handicap") == "yes" and values.get("system")
+    if not is_needed or os.path.exists(folder.file(SHEETS, RULES)):
+        return b""
+    try:
+        return rules_text(str(values["system"]), str(values.get("rounding") or "half-up"))
+    except Trouble as trouble:
+        raise NotSent(str(trouble)) from None

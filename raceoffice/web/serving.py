@@ -1,0 +1,174 @@
+"""The office in browsers, from its beginning to its end."""
+from __future__ import annotations
+
+import asyncio
+import functools
+import os
+import re
+import signal
+import ssl
+import sys
+import threading
+import time
+import webbrowser
+from dataclasses import dataclass
+
+from raceoffice import system
+from raceoffice.errors import Trouble
+from raceoffice.results.http_answers import addresses
+from raceoffice.series.folder import Folder, clock
+from raceoffice.session.dialogue import Question
+from raceoffice.terminal import question, say, say_if_heard
+from raceoffice.traces import WRITTEN, written
+from raceoffice.web import qr
+from raceoffice.web.gate import ROLES
+from raceoffice.web.hosting import Host, secure_with
+from raceoffice.web.routes import Routes
+from raceoffice.web.web_office import WebOffice, gate_of
+
+# Seconds until the board's first pages are there, and between two looks for them.
+FIRST, TICK = 10.0, 0.05
+# Seconds within which a second Ctrl-C closes an office to which devices may still write.
+SURE = 10.0
+# What an office says with the time already: `cup: 12:44:24 Closed.`
+HAS_TIME = re.compile(r"[^:]+: [0-9]{2}:[0-9]{2}:[0-9]{2} ")
+READY = "Ctrl-C closes the office."
+
+
+@dataclass(frozen=True)
+class Asked:
+    """What a command line asks for. `new` are the roles that get a new link; `is_shown_here` opens the
+    scorer's page in a browser of this computer."""
+    folders: tuple[str, ...]
+    port: int
+    name: str
+    certificate: str
+    key: str
+    new: tuple[str, ...]
+    is_shown_here: bool = False
+
+
+class Web:
+    """The web of some series. What happens is said with the time, once it is open."""
+
+    def __init__(self, asked: Asked) -> None:
+        self.asked, self.is_ready, self.sure_until = asked, False, 0.0
+        folders = list(map(Folder, asked.folders))
+        parent = os.path.dirname(os.path.abspath(folders[0].path)) if folders else os.getcwd()
+        scheme = "https" if asked.certificate else "http"
+        gate = gate_of(folders, asked.name, bool(asked.certificate))
+        address = f"{scheme}://{asked.name or addresses()[0]}:{asked.port}/"
+        self.office = WebOffice(gate, parent, address, self.tell)
+        self.folders = folders
+        self.routes = Routes(self.office)
+
+    def tell(self, text: str) -> None:
+        """Says what happens: also at a terminal that has gone."""
+        for line in text.splitlines():
+            say_if_heard(f"{clock()} {line}" if self.is_ready and not HAS_TIME.match(line) else line)
+
+    def note(self, trace: str) -> None:
+        """Notes what went wrong in answering somebody, and says so, once for each trace."""
+        if trace not in WRITTEN:
+            path = written(self.folders[0].path if self.folders else "", trace)
+            self.tell(f"Beware: a page wasn't answered, by a fault of raceoffice. Its trace is in {path}.")
+
+    # Its beginning
+
+    def open_all(self) -> None:
+        """Opens the office of each class, one after another: what is asked is asked here."""
+        for folder in self.folders:
+            self.office.add(folder).office.open(ask_here)
+
+    def links(self) -> dict[str, str]:
+        """New links: of the roles that have none yet, and of those that were asked for."""
+        wanted = [role for role in ROLES if role not in self.office.gate.keys
+                  or role.lower() in self.asked.new]
+        return {role: self.routes.link(role) for role in wanted}
+
+    def say_links(self) -> None:
+        say(f"Board, for all:   {self.office.address}")
+        made = self.links()
+        for role, link in made.items():
+            say(f"{role.capitalize():<7}   {link}")
+            if sys.stdout.isatty():
+                print(qr.for_terminal(link))
+        if made:
+            say("Who has such a link can write. It is shown this once. --new ROLE makes another; the old one "
+                "and its devices are out then.")
+        if not self.asked.certificate:
+            say("Plain HTTP: whoever is in this network and listens can read what devices send, also what lets "
+                "them write. Use a Wi-Fi of your own with a password, or --certificate.")
+
+    def secure(self) -> ssl.SSLContext | None:
+        """What HTTPS needs, if it was asked for."""
+        if not self.asked.certificate:
+            return None
+        try:
+            return secure_with(self.asked.certificate, self.asked.key)
+        except (OSError, ssl.SSLError) as cause:
+            why = getattr(cause, "strerror", "") or cause
+            raise Trouble(f"the certificate or its key can't be used: {why}") from None
+
+    # Its life
+
+    async def serve(self) -> None:
+        secure = self.secure()
+        loop, end = asyncio.get_running_loop(), asyncio.Event()
+        loop.set_exception_handler(lambda _, context: None)
+        host = Host(self.routes.answer, self.routes.room_for, self.note)
+        await host.start("0.0.0.0", self.asked.port, secure)
+        await loop.run_in_executor(None, self.open_all)
+        for number in system.STOPS:
+            loop.add_signal_handler(number, functools.partial(self.stop, end, number))
+        self.office.news.start()
+        self.office.board_news.start()
+        threading.Thread(target=self.office.keep_board, daemon=True).start()
+        await self.wait_for_board()
+        self.say_links()
+        if self.asked.is_shown_here:
+            webbrowser.open(self.routes.link("SCORER", False))
+        say(READY)
+        self.is_ready = True
+        await end.wait()
+        say_if_heard("\nClosing the office. Once more Ctrl-C doesn't wait for room on a full disk.")
+        await loop.run_in_executor(None, self.office.close)
+        host.close()
+
+    def stop(self, end: asyncio.Event, number: int) -> None:
+        """Ends the web, in order; a second signal hurries that. Ctrl-C is wanted twice while devices may write."""
+        if end.is_set():
+            self.office.hurry()
+        elif number == signal.SIGINT and not self.is_sure():
+            return
+        end.set()
+
+    def is_sure(self) -> bool:
+        """Whether Ctrl-C closes the office; if not, who may still write is said, and a second one closes it."""
+        writers = self.office.writers()
+        if not writers or time.monotonic() < self.sure_until:
+            return True
+        self.sure_until = time.monotonic() + SURE
+        self.tell(f"These may still write: {', '.join(writers)}. Ctrl-C again within {SURE:.0f} seconds closes the office.")
+        return False
+
+    async def wait_for_board(self) -> None:
+        """Waits until the board has its first pages, for a while."""
+        last = time.monotonic() + FIRST
+        while self.folders and not self.office.board.texts and time.monotonic() < last:
+            await asyncio.sleep(TICK)
+
+    def run(self) -> int:
+        asyncio.run(self.serve())
+        return 0
+
+
+def ask_here(asked: Question) -> bool:
+    """Whether somebody at the terminal says yes. Enter alone is no."""
+    return question(asked.text)
+
+
+def serve(asked: Asked) -> int:
+    """Serves the office in browsers until somebody stops it; the status."""
+    system.only_linux("an office")
+    return Web(asked).run()

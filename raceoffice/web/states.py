@@ -1,0 +1,84 @@
+"""What a page shows of a class, as values."""
+from __future__ import annotations
+
+from collections.abc import Iterable, Sequence
+
+from raceoffice.program.journal import Race
+from raceoffice.program.messages import moved
+from raceoffice.program.standing import Standing, changes
+from raceoffice.series.settings import Settings
+from raceoffice.series.unknown_finishers import Waiting
+from raceoffice.session.dialogue import Question, Said
+from raceoffice.session.facts import Facts
+from raceoffice.web.finish_order import Moments
+
+Values = dict[str, object]
+
+
+def races_of(facts: Facts, waiting: Waiting, moments: Moments, others: Iterable[int] = ()) -> dict[str, Values]:
+    """The races of which anything is recorded, or a place is kept, and others, by their numbers."""
+    numbers = {number for number, race in facts.series.races.items() if race.is_recorded or race.counts}
+    numbers |= set(others)
+    numbers |= {unread.race for unread in waiting.all}
+    return {str(number): race_of(facts.race(str(number)), waiting, moments) for number in sorted(numbers)}
+
+
+def race_of(race: Race, waiting: Waiting, moments: Moments) -> Values:
+    places = waiting.places(race)
+    here = {sail: moments[race.number, sail] for group in race.order for sail in group
+            if (race.number, sail) in moments}
+    return {"counts": race.counts, "order": race.order, "codes": race.codes, "penalties": race.penalties,
+            "redress": race.redress, "times": race.times,
+            "at": {sail: at for sail, (at, _) in here.items()},
+            "by": {sail: by for sail, (_, by) in here.items()},
+            "unread": [{"mark": unread.mark, "place": places[unread.mark], "after": unread.place(race)}
+                       for unread in waiting.of(race.number)]}
+
+
+def boats_of(facts: Facts) -> list[list[str]]:
+    """Each boat's sail, name and helm."""
+    found = []
+    for sail in facts.boats:
+        boat = facts.names.get(sail)
+        found.append([sail, boat.name if boat else "", boat.helm if boat else ""])
+    return found
+
+
+def unlisted(facts: Facts) -> list[str]:
+    """The sails of boats that are entered, and aren't in the entry list; none if that can't be read."""
+    return [sail for sail in facts.boats if sail not in facts.names] if facts.names else []
+
+
+def rules_of(settings: Settings) -> Values:
+    """The rules as series.ini has them."""
+    return {"exclude": settings.exclude, "absent": settings.absent, "scp": settings.scp,
+            "handicap": settings.handicap}
+
+
+def rows_of(standing: Standing) -> list[Values]:
+    return [{"rank": row.rank, "shared": row.shared, "sail": row.sail, "net": row.net,
+             "scores": [[score.points, score.code, score.excluded] for score in row.scores]}
+            for row in standing.rows]
+
+
+def standing_of(standing: Standing) -> Values:
+    return {"races": standing.races, "rows": rows_of(standing)}
+
+
+def moves_of(before: Standing, after: Standing, facts: Facts) -> list[Values]:
+    """Whose scores moved from one table to another, in the words of the typing window."""
+    if not before.races and not after.races:
+        return []
+    return [{"sail": change.after.sail, "was": change.before.rank, "rank": change.after.rank,
+             "net_before": change.before.net, "net": change.after.net,
+             "words": moved(change, facts.called(change.after.sail))} for change in changes(before, after)]
+
+
+def question_of(asked: Question) -> Values:
+    """A question as a page gets it."""
+    return {"kind": asked.kind, "values": asked.values, "text": asked.text}
+
+
+def said_of(said: Sequence[Said]) -> list[Values]:
+    return [{"text": one.text.strip(), "kind": one.kind, "what": one.what, "values": one.values}
+            for one in said if one.text.strip()]

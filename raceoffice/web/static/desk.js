@@ -1,0 +1,94 @@
+'use strict';
+// What the scorer's and the jury's page share: their classes, what the office shows of each, and lines.
+import {byId, element, fill} from "./elements.js";
+import {languageField, loadTexts, text} from "./texts.js";
+import {comeIn, followNews, me} from "./office.js";
+import {stateFollower} from "./states.js";
+import {sendLine} from "./sending.js";
+import {spaced} from "./sails.js";
+
+const states = {};
+// The class that is shown
+export let here = "";
+let drawing = () => {}, link = "away";
+
+export const state = () => states[here];
+export const boatOf = sail => state()?.boats.find(boat => boat[0] === sail);
+export const path = what => `${what}/${encodeURIComponent(here)}`;
+export const send = (line, more) => sendLine(here, line, state().entries, more);
+
+// A boat by her sail and name
+export function called(sail) {
+  const boat = boatOf(sail);
+  return [spaced(sail), boat?.[1] || boat?.[2]].filter(Boolean).join(" ");
+}
+
+export function emptyRace() {
+  return {counts: false, order: [], codes: {}, penalties: {}, redress: {}, at: {}, by: {}, unread: [], times: {}};
+}
+
+export const raceNumbered = number => ({...emptyRace(), ...state()?.races[number]});
+
+// What a boat holds in a race: her code, penalties and redress
+export function heldIn(race, sail) {
+  return [race.codes[sail], ...(race.penalties[sail] ?? []), race.redress[sail] !== undefined ? "RDG" : ""].filter(Boolean);
+}
+
+export const isIn = (race, sail) => race.order.some(group => group.includes(sail));
+
+// The boats of which a race has neither a place nor a code
+export function missingFrom(race) {
+  return state().boats.map(boat => boat[0]).filter(sail => !isIn(race, sail) && !race.codes[sail]);
+}
+
+function chooseClass(name) {
+  here = name;
+  sessionStorage.setItem("class", name);
+  drawing();
+}
+
+export function drawClasses() {
+  const classes = me && me.classes.length > 1 ? me.classes : [];
+  fill(byId("classes"), classes.map(one => element("button", {type: "button", "data-key": one.class,
+    "aria-current": one.class === here ? "true" : null, onclick: () => chooseClass(one.class)}, one.group)));
+}
+
+function drawLink() {
+  const isAway = link !== "live" || state()?.trouble;
+  byId("link").className = `link ${link === "out" ? "bad" : isAway ? "away" : ""}`;
+  byId("link").dataset.state = link === "out" ? "out" : isAway ? "away" : "live";
+  byId("link").textContent = linkWords();
+}
+
+function linkWords() {
+  if (link === "out") return text("common.linkEnded");
+  if (link !== "live") return text("common.offline");
+  return state()?.trouble ? text("common.officeAway") : text("common.live");
+}
+
+const follow = stateFollower((name, version) => states[name]?.version !== version, (name, found) => { states[name] = found; },
+  () => { drawLink(); drawing(); });
+
+async function takeNews(versions) {
+  if (Object.keys(versions).length !== me?.classes.length) {
+    await comeIn();
+    here ||= me?.classes[0]?.class ?? "";
+  }
+  follow(versions);
+}
+
+// Comes with this device's cookie, and keeps what is shown up to date.
+export async function beginDesk(draw) {
+  await loadTexts();
+  drawing = draw;
+  fill(byId("languages"), languageField());
+  byId("classes").setAttribute("aria-label", text("desk.classes"));
+  if (await comeIn() === 401) {
+    location.replace("/office/in");
+    return;
+  }
+  const kept = sessionStorage.getItem("class");
+  here = me?.classes.find(one => one.class === kept)?.class ?? me?.classes[0]?.class ?? "";
+  draw();
+  followNews(takeNews, told => { link = told; drawLink(); });
+}

@@ -1,0 +1,128 @@
+'use strict';
+// The finishers so far, the newest at the end: each with her place, her time, and how far her tap has come.
+import {byId, element, fill} from "./elements.js";
+import {ordinal, text, timeOfDay} from "./texts.js";
+import {me} from "./office.js";
+import {choose} from "./dialogs.js";
+import {kindOf, spaced} from "./sails.js";
+import {refusalOf} from "./questions.js";
+import {duration, finishers, heldBy} from "./race-view.js";
+import {askedItem, boatNamed, page, queue, raceNow} from "./finish-state.js";
+import {answer} from "./finish-answers.js";
+import {askFinisher, askStrike, askUnread, buzz} from "./finish-taps.js";
+
+// Milliseconds of a long press, and pixels of a swipe to the left
+const LONG = 700, SWIPE = 70, STILL = 12;
+const NEAR_END = 40;
+let rowsBefore = 0;
+
+export function drawList() {
+  const list = byId("list"), wasAtEnd = list.scrollTop + list.clientHeight > list.scrollHeight - NEAR_END;
+  const lists = page.classes.map((one, place) => page.races[one.class] ? rowsOf(one, place) : []);
+  const rows = merged(lists), refused = queue.items.filter(item => item.state === "refused");
+  fill(list, rows.map(row => row.node), refused.map(refusedRow));
+  if (wasAtEnd || rows.length !== rowsBefore) list.scrollTop = list.scrollHeight;
+  rowsBefore = rows.length;
+}
+
+// The rows of a class in its order, each with the latest time up to it.
+function rowsOf(one, place) {
+  const race = raceNow(one.class);
+  let latest = 0;
+  return finishers(race).map(row => {
+    latest = Math.max(latest, row.at ?? 0);
+    return {node: row.gap ? unreadRow(one.class, row) : boatRow(one, place, race, row), at: latest};
+  });
+}
+
+// The rows of several classes by the clock; those of one class stay in their order.
+function merged(lists) {
+  const all = [];
+  for (;;) {
+    const left = lists.filter(rows => rows.length);
+    if (!left.length) return all;
+    all.push(left.reduce((one, other) => one[0].at <= other[0].at ? one : other).shift());
+  }
+}
+
+function boatRow(one, place, race, row) {
+  const {sail} = row, boat = boatNamed(one.class, sail), state = race.unsent[sail];
+  const isLate = state === "unsent" || state === "asked", item = askedItem(sail);
+  const names = [page.classes.length > 1 ? one.group : "", boat.name || boat.helm].filter(Boolean).join(" · ");
+  const codes = heldBy(race, sail).map(code => [" ", element("span", {class: `code ${kindOf(code)}`}, code)]);
+  const open = () => item ? answer(item) : askFinisher(one.class, sail);
+  return element("li", {class: `class${place} ${isLate ? "unsent" : ""} ${page.mode.sail === sail ? "target" : ""}`,
+    "data-key": `${one.class} ${sail}`, "data-sail": sail, ...gestures(() => askStrike(one.class, sail))},
+    element("button", {type: "button", class: "finisher", onclick: () => takeClick(open)},
+      element("span", {class: "place", "aria-label": row.place ? ordinal(row.place) : text("finish.noPlace")},
+        row.place || "–", row.isTied && row.place ? element("sup", {}, "=") : null),
+      element("span", {class: "sail"}, spaced(sail)), element("span", {class: "name"}, names, codes),
+      element("span", {class: "end"}, element("b", {}, timeWords(race, row)), progress(state, race.by[sail]))));
+}
+
+// Her elapsed time where that is known, or else the time of day
+function timeWords(race, row) {
+  const seconds = race.elapsed?.[row.sail];
+  return typeof seconds === "number" ? duration(seconds) : timeOfDay(row.at);
+}
+
+// How far a tap has come
+function progress(state, by) {
+  if (state === "asked") return element("i", {}, text("finish.answerHere"));
+  if (state === "unsent") return element("i", {}, text("finish.unsent"));
+  if (state === "way") return element("i", {}, "…");
+  if (by && by !== me?.name) return element("i", {}, by);
+  return element("i", {}, element("span", {role: "img", "aria-label": text("finish.recorded")}, "✓"));
+}
+
+function unreadRow(name, row) {
+  const {gap} = row, isUnsent = gap.state === "unsent", isOnWay = gap.state === "way";
+  const words = isUnsent ? text("finish.unsent") : isOnWay ? "…" : text("finish.kept");
+  return element("li", {class: `unread ${isUnsent ? "unsent" : ""}`, "data-key": `${name} ${gap.mark} ${gap.at ?? ""}`},
+    element("button", {type: "button", class: "finisher", onclick: () => gap.mark !== "?" && askUnread(name, gap.mark)},
+      element("span", {class: "place", "aria-label": ordinal(row.place)}, row.place), element("span", {class: "sail"}, gap.mark),
+      element("span", {class: "name"}, text("finish.notRead")),
+      element("span", {class: "end"}, element("b", {}, timeOfDay(gap.at)), element("i", {}, words))));
+}
+
+function refusedRow(item) {
+  const sail = item.line.split(" ")[2];
+  return element("li", {class: "refused", "data-key": item.id},
+    element("button", {type: "button", class: "finisher", onclick: () => showRefused(item)},
+      element("span", {class: "place", "aria-hidden": "true"}, "✕"), element("span", {class: "sail"}, sail ? spaced(sail) : item.line),
+      element("span", {class: "name"}, refusalOf(item.answer, item.words)),
+      element("span", {class: "end"}, element("b", {}, timeOfDay(item.at)), element("i", {}, text("finish.refused")))));
+}
+
+async function showRefused(item) {
+  const words = [refusalOf(item.answer, item.words) ?? "", element("p", {class: "mono"}, item.line)];
+  const done = await choose(text("finish.officeRefused"), words,
+    [{value: "", label: text("finish.keepItHere")}, {value: "ok", label: text("finish.understood"), look: "main"}]);
+  if (done === "ok") queue.drop(item);
+}
+
+// The finger that is down on a row: it moves to the left, rests, or just taps. There is one at a time.
+const finger = {x: 0, timer: 0, isGesture: false};
+
+function gestures(done) {
+  const gesture = () => { finger.isGesture = true; buzz(30); done(); };
+  return {
+    onpointerdown: event => {
+      finger.x = event.clientX;
+      finger.isGesture = false;
+      clearTimeout(finger.timer);
+      finger.timer = setTimeout(gesture, LONG);
+    },
+    onpointermove: event => { if (Math.abs(event.clientX - finger.x) > STILL) clearTimeout(finger.timer); },
+    onpointerup: event => {
+      clearTimeout(finger.timer);
+      if (!finger.isGesture && finger.x - event.clientX > SWIPE) gesture();
+    },
+    onpointercancel: () => clearTimeout(finger.timer)};
+}
+
+// A click that ends a swipe or a long press is none.
+function takeClick(done) {
+  if (finger.isGesture) finger.isGesture = false;
+  else done();
+}

@@ -1,0 +1,107 @@
+'use strict';
+// What the finish page knows: its classes, which race of each it records, and what somebody is about to tap.
+import {now} from "./office.js";
+import {text} from "./texts.js";
+import {atTheLine, isIn, lineThatUndoes, withTaps} from "./race-view.js";
+import {Queue} from "./queue.js";
+
+// Milliseconds: a tap that is on its way for longer is shown as unsent; what was answered so long ago isn't shown
+// from this device any more.
+export const LATE = 1200;
+const STALE = 3600e3;
+// How many taps can be undone
+const UNDOABLE = 12;
+
+export function kept(key, usual) {
+  try { return JSON.parse(localStorage.getItem(key)) ?? usual; } catch { return usual; }
+}
+
+export function keep(key, value) {
+  try { localStorage.setItem(key, JSON.stringify(value)); } catch { /* no room: it is asked for again */ }
+}
+
+// `mode` is what the next tap on a boat means: {kind: finish, level, before, known, code or round}.
+export const page = {
+  classes: [], states: {}, races: kept("races", {}), rounded: kept("rounded", {}), undoable: kept("undoable", []),
+  mode: {kind: "finish"}, digits: "", link: "away", redraw: () => {}};
+
+export const queue = new Queue(item => { forgetIfShown(item); page.redraw(); });
+
+export const isWaiting = item => item.state === "unsent" || item.state === "sending";
+
+// An item's state as it is shown: done, refused, asked, unsent, or on its way.
+export function stateOf(item) {
+  if (!isWaiting(item)) return item.state;
+  return page.link !== "live" || now() - item.at > LATE ? "unsent" : "way";
+}
+
+// A tap that was answered goes once the race that the office shows has it.
+export function forgetIfShown(item) {
+  if (item.state !== "done") return;
+  const state = page.states[item.class];
+  const isShown = state && (item.entry ? state.entries >= item.entry : state.version >= item.version);
+  if (!isShown && now() - item.at < STALE) return;
+  item.state = "gone";
+  queue.drop(item);
+}
+
+// The race of a class that is being recorded, with the taps of this device
+export function raceNow(name) {
+  const number = page.races[name];
+  const items = queue.of(name).filter(item => !["refused", "gone"].includes(item.state)
+    && Number(item.line.split(" ")[1]) === number);
+  const race = page.states[name]?.races?.[number];
+  return withTaps(isTimed(name) ? atTheLine(race) : race, items, stateOf);
+}
+
+// Whether a class is scored by corrected time: each tap has its time, and level or ahead are nothing there.
+export function isTimed(name) {
+  return page.states[name]?.handicap === true;
+}
+
+// The classes of which a race is being recorded
+export const sailing = () => page.classes.filter(one => page.races[one.class]);
+
+export function boatNamed(name, sail) {
+  const found = page.states[name]?.boats.find(boat => boat[0] === sail) ?? [sail, "", ""];
+  return {sail, name: found[1], helm: found[2]};
+}
+
+// How many boats of a race neither have finished nor have a code
+export function toComeCount(name) {
+  const race = raceNow(name), boats = page.states[name]?.boats ?? [];
+  return boats.filter(([sail]) => !isIn(race, sail) && !race.codes[sail]).length;
+}
+
+// Adds a tap: `line` has # in place of the race's number.
+export function addTap(name, line, more = {}) {
+  const race = raceNow(name), number = page.races[name];
+  const item = queue.add({class: name, line: line.replace("#", number), seen: page.states[name]?.entries ?? 0, ...more});
+  if (!more.undoes && !line.startsWith("START")) {
+    const undoable = {id: item.id, class: name, line: item.line, back: lineThatUndoes(item.line, race)};
+    page.undoable = [...page.undoable, undoable].slice(-UNDOABLE);
+    keep("undoable", page.undoable);
+  }
+  page.redraw();
+}
+
+export function setMode(mode) {
+  page.mode = mode;
+  page.redraw();
+}
+
+export function setDigits(digits) {
+  page.digits = digits.slice(0, 6);
+  page.redraw();
+}
+
+// The item that the office asks about: the first, or that of a boat
+export function askedItem(sail = "") {
+  return queue.items.find(item => item.state === "asked" && (!sail || item.line.split(" ")[2] === sail));
+}
+
+// What is wrong, in a word or two for the sign at the top
+export function trouble() {
+  if (queue.isFull) return text("finish.deviceFull");
+  return Object.values(page.states).some(state => state.trouble) ? text("common.officeAway") : "";
+}

@@ -1,0 +1,149 @@
+'use strict';
+// What a tap does: a finisher, a place kept for a sail that wasn't read, a code, a strike, undo.
+import {element} from "./elements.js";
+import {text} from "./texts.js";
+import {choose, dialogOf, say} from "./dialogs.js";
+import {CODES, PENALTIES, spaced} from "./sails.js";
+import {heldBy, isIn, lastBoat} from "./race-view.js";
+import {addTap, isTimed, keep, page, queue, raceNow, sailing, setMode} from "./finish-state.js";
+
+// Milliseconds: how long a finger may bounce on one boat
+const BOUNCE = 400;
+const last = {at: -Infinity, what: ""};
+
+// Android shakes the device for a tap; iPhones don't let a page do that.
+export const buzz = pattern => navigator.vibrate?.(pattern);
+
+// When somebody last tapped, by performance.now()
+export const lastTapAt = () => last.at;
+
+// Whether a tap is none: the second of a bouncing finger.
+function isBounce(what) {
+  const now = performance.now();
+  if (what === last.what && now - last.at < BOUNCE) return true;
+  last.at = now;
+  last.what = what;
+  return false;
+}
+
+// A tap on a boat of the grid
+export function tapBoat(name, sail) {
+  if (isBounce(`${name} ${sail}`)) return;
+  if (page.mode.kind === "code") askCode(name, sail);
+  else if (page.mode.kind === "round") flipRounded(name, sail);
+  else if (isIn(raceNow(name), sail)) refuseSecond(sail);
+  else finish(name, sail);
+}
+
+function refuseSecond(sail) {
+  buzz([20, 60, 20]);
+  say(text("finish.hasFinished", {sail: spaced(sail)}));
+}
+
+function finish(name, sail) {
+  buzz(35);
+  const mode = page.mode.class === name ? page.mode : {kind: "finish"}, race = raceNow(name);
+  page.mode = {kind: "finish"};
+  page.digits = "";
+  if (mode.kind === "level") addTap(name, `TIE # ${sail} ${mode.sail}`);
+  else if (mode.kind === "before") addTap(name, `BEFORE # ${sail} ${mode.sail}`);
+  else if (mode.kind === "known") addTap(name, `${mode.mark} # ${sail}`);
+  else addTap(name, `FINISH # ${sail}`, {behind: lastBoat(race)});
+}
+
+// The order in which boats rounded the last mark; it stays on this device.
+function flipRounded(name, sail) {
+  const order = page.rounded[name] ?? [];
+  page.rounded[name] = order.includes(sail) ? order.filter(other => other !== sail) : [...order, sail];
+  keep("rounded", page.rounded);
+  buzz(20);
+  page.redraw();
+}
+
+// A finisher whose sail wasn't read: her place is kept.
+export function tapUnread() {
+  const open = sailing(), name = open.length === 1 ? open[0].class : page.mode.class;
+  if (!name) {
+    say(text(open.length ? "finish.whichClass" : "finish.chooseRace"));
+    return;
+  }
+  if (isTimed(name)) {
+    say(text("finish.correctedTime"), true);
+    return;
+  }
+  if (isBounce("?")) return;
+  buzz([35, 50, 35]);
+  addTap(name, "? #", {behind: lastBoat(raceNow(name))});
+}
+
+// Takes back the last tap of this device.
+export function undo() {
+  const tap = page.undoable.at(-1);
+  if (!tap) return;
+  const item = queue.find(tap.id), isUnsent = item && ["unsent", "asked", "refused"].includes(item.state);
+  page.undoable = page.undoable.slice(0, -1);
+  keep("undoable", page.undoable);
+  buzz(60);
+  if (isUnsent) queue.drop(item);
+  else addTap(tap.class, tap.back || "UNDO", {undoes: tap.id});
+}
+
+// A code or a penalty for a boat
+export async function askCode(name, sail) {
+  const held = heldBy(raceNow(name), sail);
+  setMode({kind: "finish"});
+  page.digits = "";
+  page.redraw();
+  const box = element("div", {class: "codes"}, [...CODES.filter(code => code !== "DNC"), ...PENALTIES].map(code => codeButton(code, text(`code.${code}`))),
+    held.length ? codeButton("CLEAR", held.join(" "), text("finish.clear")) : null);
+  const code = await choose(text("finish.whichCode", {sail: spaced(sail)}), box, [{value: "", label: text("common.cancel")}]);
+  if (!code) return;
+  buzz(35);
+  if (code === "CLEAR") addTap(name, `CLEAR # ${sail}`);
+  else addTap(name, `${PENALTIES.includes(code) ? "PENALTY" : "MARK"} # ${sail} ${code}`);
+}
+
+function codeButton(code, words, label = code) {
+  return element("button", {type: "button", "data-value": code, class: code === "CLEAR" ? "bad" : "",
+    onclick: event => dialogOf(event.target).end(code)}, label, element("small", {}, words));
+}
+
+// What can be done about a finisher of the list
+export async function askFinisher(name, sail) {
+  const places = [{value: "before", label: text("finish.insertAhead")}, {value: "level", label: text("finish.insertLevel")}];
+  const done = await choose(spaced(sail), [], [...(isTimed(name) ? [] : places), {value: "code", label: text("finish.codeOrPenalty")}, {value: "strike", label: text("finish.strikeHer"), look: "bad"},
+    {value: "", label: text("common.cancel")}], "stack");
+  if (done === "strike") strike(name, sail);
+  else if (done === "code") askCode(name, sail);
+  else if (done) setMode({kind: done, class: name, sail});
+}
+
+function strike(name, sail) {
+  buzz(60);
+  addTap(name, `STRIKE # ${sail}`);
+}
+
+// After a swipe or a long press
+export async function askStrike(name, sail) {
+  const done = await choose(text("finish.strikeQuestion", {sail: spaced(sail)}), text("finish.strikeMeans"),
+    [{value: "", label: text("common.no")}, {value: "yes", label: text("finish.strike"), look: "bad"}]);
+  if (done === "yes") strike(name, sail);
+}
+
+// What can be done about a place that is kept
+export async function askUnread(name, mark) {
+  const done = await choose(text("finish.whoWas", {mark}), text("finish.placeIsKept"), [
+    {value: "known", label: text("finish.tapHerNext"), look: "main"}, {value: "drop", label: text("finish.nobody"), look: "bad"},
+    {value: "", label: text("finish.notYet")}], "stack");
+  if (done === "known") setMode({kind: "known", class: name, mark});
+  if (done === "drop") addTap(name, `${mark} # NONE`);
+}
+
+// The start of a race by corrected time: now, or a time of the clock.
+export async function askStart(name) {
+  const field = element("input", {type: "time", step: "1", "aria-label": text("finish.startTime"), value: raceNow(name).start});
+  const done = await choose(text("finish.startOf", {number: page.races[name]}), element("label", {class: "field"}, text("finish.startTime"), field), [
+    {value: "", label: text("common.cancel")}, {value: "at", label: text("finish.startAt")}, {value: "now", label: text("finish.startNow"), look: "main"}]);
+  if (done === "now") addTap(name, "START #");
+  else if (done === "at" && field.value) addTap(name, `START # ${field.value}`);
+}

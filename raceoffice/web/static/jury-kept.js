@@ -1,0 +1,28 @@
+'use strict';
+// The decisions that are kept without a line of their own: what each comes to, its note, and what can be done about it.
+import {element} from "./elements.js";
+import {points, text} from "./texts.js";
+import {spaced} from "./sails.js";
+
+// What a decision comes to, and whether the scores have it
+export function verdictWords({race, sail, kind, how, points: wanted, held, kept, why}) {
+  const line = `${text("common.race")} ${race}, ${spaced(sail)}: ${[kind, how].filter(Boolean).join(" ")}`;
+  if (why) return `${line}. ${text("jury.notInScores", {why})}`;
+  if (kept) return `${line}. ${wanted ? text("jury.comesTo", {points: points(wanted)}) : text("jury.isDone")}`;
+  const due = wanted ? text("jury.comesTo", {points: points(wanted)}) : text("jury.toBeSent");
+  return `${line}. ${due} ${held ? text("jury.scoresHave", {points: points(held)}) : text("jury.scoresHaveNone")}`;
+}
+
+function rowOf(one, actions) {
+  const button = (key, look, press) => element("button", {type: "button", class: `quiet ${look}`, onclick: press,
+    "aria-label": `${text(key)}: ${one.row}`}, text(key));
+  return element("li", {class: one.kept ? "" : "wrong", "data-key": one.row}, one.kind ? verdictWords(one) : one.words,
+    one.note ? element("span", {class: "soft note"}, one.note) : null,
+    element("span", {class: "acts"}, one.kind ? button("jury.amend", "", () => actions.amend(one)) : null,
+      one.row ? button("jury.takeOut", "bad", () => actions.takeOut(one)) : null));
+}
+
+export function keptPart(decisions, actions) {
+  if (!decisions.length) return null;
+  return [element("h3", {}, text("jury.file")), element("ul", {class: "kept"}, decisions.map(one => rowOf(one, actions)))];
+}

@@ -1,0 +1,194 @@
+'use strict';
+// The jury's page: a decision, whom it would move before it is sent, and what was decided.
+import {byId, element, fill} from "./elements.js";
+import {text} from "./texts.js";
+import {ask, newId} from "./office.js";
+import {say} from "./dialogs.js";
+import {kindOf, spaced} from "./sails.js";
+import {saidWords} from "./said-words.js";
+import {agrees} from "./sending.js";
+import {agreedOf, troubleOf} from "./questions.js";
+import {beginDesk, called, drawClasses, path, send, state} from "./desk.js";
+import {findBoat} from "./boat-finder.js";
+import {lastChange, standingTable} from "./standing.js";
+import {LINES, OTHERS, headOf, heldDecisions, isOther, lineOf, takesOf, usualOf, whatOf} from "./jury-decisions.js";
+import {keptPart, verdictWords} from "./jury-kept.js";
+import {previewBox} from "./jury-preview.js";
+
+// Milliseconds: until a preview is asked for after a choice and after a letter, and for its answer
+const SOON = 250, TYPED = 400, LONG = 30000;
+// The most letters of a note
+const NOTE = 200;
+
+// `out` is the row of a decision that is to be taken out
+const form = {race: 0, sail: "", what: "", takes: "", note: "", out: ""};
+let shown = null, decisions = [], asked = 0, timer = 0;
+
+function askSoon(milliseconds) {
+  shown = null;
+  clearTimeout(timer);
+  timer = setTimeout(preview, milliseconds);
+}
+
+function change(values) {
+  Object.assign(form, {out: ""}, values);
+  askSoon(SOON);
+  draw();
+}
+
+const nothing = () => change({what: "", takes: "", note: ""});
+const isKept = () => form.out !== "" || isOther(form.what);
+// What is to be decided, as it is shown: the row that is taken out, or a line
+const wanted = () => form.out || lineOf(form);
+const given = () => ({line: wanted(), out: form.out !== "", note: form.note});
+
+// Whom the decision would move. The program scores the journal with the line, and keeps nothing of it.
+async function preview() {
+  const line = wanted(), mine = ++asked;
+  if (!line) return;
+  const found = await ask(path(isKept() ? "ruling" : "preview"), isKept() ? given() : {line}, LONG);
+  if (mine !== asked) return;
+  shown = found.status === 200 ? {...found, line} : {refused: troubleOf(found), line};
+  draw();
+}
+
+async function sendDecision() {
+  const line = wanted();
+  if (shown?.line !== line) return;
+  if (shown.entries !== state().entries) {
+    say(text("jury.lookAgain"));
+    preview();
+    return;
+  }
+  for (const question of shown.asked ?? []) if (await agrees(question) !== "yes") return;
+  const agreed = (shown.asked ?? []).map(agreedOf);
+  const done = isKept() ? await decide(agreed) : await send(line, {agreed});
+  if (!done || done.outcome === "refused") return;
+  say(saidWords(done.said).slice(0, 3).join("\n") || text("jury.kept"));
+  nothing();
+  lookAtDecisions();
+}
+
+// A decision without a line of its own: it is kept if it still comes to what was shown. What the office asks is
+// asked here. Gives what was said of its lines, or null if it wasn't sent.
+async function decide(agreed) {
+  const id = newId(), kept = given();
+  for (;;) {
+    const done = await ask(path("decide"), {...kept, id, lines: shown.lines, agreed}, LONG);
+    if (done.status === 200) return {outcome: done.done.at(-1)?.outcome, said: done.done.flatMap(one => one.said)};
+    if (done.status !== 409) {
+      say(troubleOf(done), true);
+      return null;
+    }
+    if (await agrees(done.question, done.said) !== "yes") return null;
+    agreed.push(agreedOf(done.question));
+  }
+}
+
+async function chooseBoat() {
+  const sail = await findBoat(text("jury.whichBoat"), state().boats.map(boat => boat[0]));
+  if (sail) change({sail});
+}
+
+function decisionButton(what) {
+  const head = headOf(what);
+  return element("button", {type: "button", id: `what-${what}`, "aria-pressed": String(form.what === what),
+    onclick: () => change({what, takes: usualOf(what)})}, head.code ?? text(head.key), element("small", {}, text(`jury.what.${what}`)));
+}
+
+function takesField() {
+  const takes = takesOf(form.what);
+  if (!takes) return null;
+  const typed = event => { form.takes = event.target.value.trim(); askSoon(TYPED); };
+  return element("label", {class: "field", "data-key": form.what}, text(`jury.takes.${takes}`),
+    element("input", {id: "takes", value: form.takes, autocomplete: "off", oninput: typed}));
+}
+
+// The note of a hearing, which stands beside the decision in decisions.txt
+function noteField() {
+  if (!isOther(form.what)) return null;
+  return element("label", {class: "field", "data-key": "note-field"}, text("jury.note"),
+    element("input", {id: "note", value: form.note, maxlength: NOTE, autocomplete: "off", oninput: event => { form.note = event.target.value; }}));
+}
+
+function raceField(numbers) {
+  const options = numbers.map(number => element("option", {value: number, selected: number === form.race},
+    state().races[number].counts ? number : text("jury.openRace", {number})));
+  return element("label", {class: "field"}, text("common.race"),
+    element("select", {id: "race", onchange: event => change({race: Number(event.target.value)})}, options));
+}
+
+function decisionForm(numbers) {
+  return element("form", {onsubmit: event => { event.preventDefault(); preview(); }},
+    element("div", {class: "pair"}, raceField(numbers), element("div", {class: "field"}, element("span", {id: "boat-label"}, text("common.boat")),
+      element("button", {type: "button", id: "boat", "aria-labelledby": "boat-label boat", onclick: chooseBoat}, form.sail ? called(form.sail) : text("new.choose")))),
+    element("div", {class: "cards", role: "group", "aria-label": text("jury.decision")}, Object.keys(LINES).map(decisionButton)),
+    element("details", {open: isOther(form.what)}, element("summary", {}, text("jury.others")),
+      element("div", {class: "cards", role: "group", "aria-label": text("jury.others")}, Object.keys(OTHERS).map(decisionButton))),
+    takesField(), noteField());
+}
+
+const amend = one => {
+  change({race: one.race, sail: one.sail, what: whatOf(one.kind), takes: one.how, note: one.note});
+  byId("takes")?.focus();
+};
+const takeOut = one => change({race: one.race ?? form.race, sail: one.sail ?? form.sail, what: "", takes: "", note: "", out: one.row});
+
+// What was given is taken back: of a decision that is kept its points and its row, of another all that she holds.
+function reopen({number, sail, code}) {
+  const kept = decisions.find(one => code === "RDG" && one.race === Number(number) && one.sail === sail);
+  if (kept) takeOut(kept);
+  else change({race: Number(number), sail, what: "CLEAR", takes: ""});
+}
+
+function heldRow(one) {
+  const {number, sail, code, how} = one;
+  return element("tr", {}, element("td", {}, `${text("common.race")} ${number}`), element("th", {scope: "row"}, spaced(sail)),
+    element("td", {}, element("span", {class: `code ${kindOf(code)}`}, code), how ? ` ${how}` : ""),
+    element("td", {}, element("button", {type: "button", class: "quiet", "aria-label": text("jury.reopenWhat", {sail: spaced(sail), number}),
+      onclick: () => reopen(one)}, text("jury.reopen"))));
+}
+
+function heldPart() {
+  const held = heldDecisions(state().races);
+  const rows = held.length ? held.map(heldRow) : element("tr", {}, element("td", {class: "soft"}, text("jury.nothingYet")));
+  return [element("h3", {}, text("jury.heldSoFar")), element("table", {class: "held", "aria-label": text("jury.heldSoFar")}, element("tbody", {}, rows)), keptPart(decisions, {amend, takeOut})];
+}
+
+function standingPart() {
+  const isPreview = Boolean(shown?.moves), rows = shown?.rows ?? state().standing.rows;
+  return [element("header", {}, element("h2", {}, `${text(isPreview ? "jury.standingWith" : "desk.standing")} `, element("small", {}, text(isPreview ? "jury.aPreview" : "jury.now")))),
+    shown ? null : lastChange(), standingTable(rows, state().standing.races, shown?.moves ?? state().last?.moves)];
+}
+
+function draw() {
+  document.title = text("role.JURY");
+  drawClasses();
+  if (!state()) {
+    byId("title").textContent = text("role.JURY");
+    fill(byId("page"), element("main", {class: "card"}, element("p", {}, text("desk.notOpenYet"))));
+    return;
+  }
+  byId("title").textContent = `${text("role.JURY")} · ${state().title}`;
+  const numbers = Object.keys(state().races).map(Number);
+  form.race ||= Math.max(0, ...numbers);
+  fill(byId("page"), element("main", {class: "desk"},
+    element("section", {class: "pane", "aria-labelledby": "decision-title"}, element("h2", {id: "decision-title"}, text("jury.decision")), decisionForm(numbers), heldPart()),
+    element("section", {class: "pane", "aria-label": text("desk.standing")}, previewBox(wanted(), shown && {...shown, verdict: verdictOf(shown)}, form.sail, {send: sendDecision, drop: nothing}), standingPart())));
+  openOthers();
+}
+
+const verdictOf = ({verdict}) => form.out ? text("jury.isTakenOut") : verdict?.kind ? verdictWords(verdict) : "";
+
+// The other decisions are open while one of them is chosen.
+function openOthers() {
+  if (isOther(form.what)) document.querySelector("details").open = true;
+}
+
+async function lookAtDecisions() {
+  const found = await ask(path("rulings"), undefined, LONG);
+  decisions = found.list ?? [];
+  draw();
+}
+
+beginDesk(draw).then(lookAtDecisions);

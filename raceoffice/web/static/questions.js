@@ -1,0 +1,52 @@
+'use strict';
+// The office's questions and refusals in the words of this page. The office sends a question as its kind and its
+// values, with English words for a kind that this page doesn't know.
+import {hasText, list, text} from "./texts.js";
+import {spaced} from "./sails.js";
+
+// What somebody agrees to: the words may change.
+export const agreedOf = question => ({kind: question.kind, values: question.values});
+
+// The kinds of which some values change the words; each gives the rest of the key.
+const VARIANTS = {
+  "score-penalised": values => values.a53 ? ".a53" : "",
+  "redress-unplaced": values => values.a53 ? ".a53" : "",
+  "announce": values => values.state === "final" ? "" : `.${values.state}`,
+  "take-over": values => values.since ? ".since" : "",
+  "abandon": values => values.lines.length ? "" : ".places",
+  "others-recorded": values => (values.others.length ? "" : ".changed") + (values.ahead ? ".ahead" : ""),
+};
+// Values that are sails, and those whose number chooses between one and several
+const SAILS = ["sail", "sails", "near", "others", "ahead"];
+const COUNTED = ["marks", "sails", "others"];
+
+const spacedAll = value => Array.isArray(value) ? value.map(spaced) : spaced(value);
+
+export function shownValues(values) {
+  const shown = {};
+  for (const [name, value] of Object.entries(values)) shown[name] = SAILS.includes(name) ? spacedAll(value) : value;
+  const counted = COUNTED.find(name => Array.isArray(values[name]));
+  if (counted) shown.n = values[counted].length;
+  if ("code" in values) shown.held = list([...values.code, ...values.penalties, ...values.redress.map(how => `RDG ${how}`)]);
+  return shown;
+}
+
+// A question in words; what is said beside it comes first.
+export function wordsOf(question) {
+  const {kind, values} = question, key = `ask.${kind}${VARIANTS[kind]?.(values) ?? ""}`;
+  if (!hasText(key)) return question.text;
+  const first = values.counts ? `${text("ask.counts", values)} ` : "";
+  return first + text(key, shownValues(values));
+}
+
+// Why a line was refused, by the number that the program gave: "NO 8"
+export function refusalOf(answer, words) {
+  const number = /^NO (\d+)/.exec(answer ?? "")?.[1];
+  return number && hasText(`refused.${number}`) ? text(`refused.${number}`) : words;
+}
+
+// What is wrong with an answer that isn't a result
+export function troubleOf(answer) {
+  const key = `trouble.${answer.status}`;
+  return hasText(key) ? text(key) : answer.words ?? text("common.notSent");
+}

@@ -1,0 +1,121 @@
+'use strict';
+// The scorer's corrections by pointing: what can be done about a boat of a race.
+import {element} from "./elements.js";
+import {text} from "./texts.js";
+import {choose, say} from "./dialogs.js";
+import {CODES, PENALTIES, spaced} from "./sails.js";
+import {called, heldIn, isIn, missingFrom, raceNumbered, send, state} from "./desk.js";
+import {saidWords} from "./said-words.js";
+import {findBoat} from "./boat-finder.js";
+import {linesOfLevel, linesOfMove, linesOfOtherRace, linesOfSwap} from "./corrections.js";
+
+const RACES = 40;
+const cancel = () => ({value: "", label: text("common.cancel")});
+
+// Sends a line, and says what the office said of it.
+export async function line(words, more) {
+  const done = await send(words, more);
+  if (done && done.outcome !== "refused") say(saidWords(done.said).slice(0, 2).join("\n"));
+  return done;
+}
+
+// Sends the lines of one correction one after another. What was agreed to for one holds for all. Whether all
+// were taken; if one isn't, it is said which are left.
+export async function lines(several) {
+  const agreed = [];
+  let seen = state().entries;
+  for (const [at, words] of several.entries()) {
+    const done = await send(words, {agreed, seen});
+    if (!done || done.outcome === "refused") {
+      if (at > 0) await choose(text("scorer.stopped"), [text("scorer.notSent"), element("p", {class: "mono"}, several.slice(at).join("\n"))],
+        [{value: "ok", label: text("finish.understood"), look: "main"}]);
+      return false;
+    }
+    seen = Math.max(seen, done.entry ?? 0);
+  }
+  say(text("scorer.linesSent", {n: several.length}));
+  return true;
+}
+
+function choicesOf(race, sail, held) {
+  const there = [["ahead", "finish.insertAhead"], ["level", "finish.insertLevel"], ["move", "scorer.moveHer"], ["swap", "scorer.swapHer"],
+    ["strike", "scorer.strikeHer", "bad"]];
+  const away = [["last", "scorer.finishedLast"], ["into", "scorer.finishedAhead"]];
+  return [...(isIn(race, sail) ? there : away), ["code", "finish.codeOrPenalty"], ...(held.length ? [["clear", "scorer.clearHer", "bad"]] : [])]
+    .map(([value, key, look]) => ({value, label: text(key), look}));
+}
+
+// Asks what is to be done about a boat, and does it.
+export async function correct(number, sail) {
+  const race = raceNumbered(number), held = heldIn(race, sail);
+  const done = await choose(text("scorer.boatInRace", {boat: called(sail), number}), held.length ? text("scorer.sheHolds", {held}) : "",
+    [...choicesOf(race, sail, held), cancel()], "stack");
+  const single = {strike: `STRIKE ${number} ${sail}`, clear: `CLEAR ${number} ${sail}`, last: `FINISH ${number} ${sail}`}[done];
+  if (single) line(single);
+  else if (done === "code") askCode(number, sail);
+  else if (done === "ahead" || done === "level") insertAt(race, number, sail, done);
+  else if (done === "into") putInto(race, number, sail);
+  else if (done === "move") moveTo(race, number, sail);
+  else if (done === "swap") swapWith(race, number, sail);
+}
+
+async function askCode(number, sail) {
+  const done = await choose(text("finish.whichCode", {sail: called(sail)}), [],
+    [...[...CODES, ...PENALTIES].map(code => ({value: code, label: element("span", {}, code, element("small", {}, ` ${text(`code.${code}`)}`))})), cancel()]);
+  if (done) line(`${PENALTIES.includes(done) ? "PENALTY" : "MARK"} ${number} ${sail} ${done}`);
+}
+
+async function insertAt(race, number, sail, how) {
+  const title = text(how === "ahead" ? "scorer.justAheadOf" : "scorer.levelWith", {sail: spaced(sail)});
+  const other = await findBoat(title, missingFrom(race));
+  if (other) line(`${how === "ahead" ? "BEFORE" : "TIE"} ${number} ${other} ${sail}`);
+}
+
+const finishersBut = (race, sail) => race.order.flat().filter(other => other !== sail);
+
+async function putInto(race, number, sail) {
+  const other = await findBoat(text("scorer.aheadOfWhom", {sail: spaced(sail)}), finishersBut(race, sail));
+  if (other) line(`BEFORE ${number} ${sail} ${other}`);
+}
+
+async function moveTo(race, number, sail) {
+  const how = await choose(text("scorer.whereTo", {sail: spaced(sail)}), [], [{value: "ahead", label: text("scorer.aheadOfAnother")},
+    {value: "level", label: text("scorer.levelWithAnother")}, {value: "last", label: text("scorer.afterAll")}, cancel()], "stack");
+  if (!how) return;
+  const other = how === "last" ? "" : await findBoat(text(how === "ahead" ? "scorer.aheadOfWhom" : "scorer.levelWithWhom", {sail: spaced(sail)}),
+    finishersBut(race, sail));
+  if (how === "last") lines(linesOfMove(number, sail, ""));
+  else if (other) lines(how === "ahead" ? linesOfMove(number, sail, other) : linesOfLevel(number, sail, other));
+}
+
+async function swapWith(race, number, sail) {
+  const other = await findBoat(text("scorer.swapWith", {sail: spaced(sail)}), finishersBut(race, sail));
+  if (!other) return;
+  const needed = linesOfSwap(race, number, sail, other);
+  if (needed.length) lines(needed);
+  else say(text("scorer.areLevel", {one: spaced(sail), other: spaced(other)}));
+}
+
+// A boat that finished after all others
+export async function addFinisher(number) {
+  const sail = await findBoat(text("scorer.whoFinishedLast"), missingFrom(raceNumbered(number)), text("scorer.elsewhereHint"));
+  if (sail) line(`FINISH ${number} ${sail}`);
+}
+
+// A place that was kept: whose was it?
+export async function resolve(number, mark) {
+  const sail = await findBoat(text("finish.whoWas", {mark}), missingFrom(raceNumbered(number)), text("scorer.nobodyHint", {line: `${mark} ${number} none`}));
+  if (sail) line(`${mark} ${number} ${sail}`);
+}
+
+// Finishers that were recorded in the wrong race
+export async function toOtherRace(number) {
+  const race = raceNumbered(number), field = element("select", {"aria-label": text("common.race")},
+    Array.from({length: RACES}, (_, at) => at + 1).filter(one => one !== number).map(one => element("option", {value: one}, one)));
+  const from = element("select", {"aria-label": text("scorer.fromBoat")}, race.order.flat().map(sail => element("option", {value: sail}, called(sail))));
+  const done = await choose(text("scorer.otherRace"), [element("label", {class: "field"}, text("scorer.fromBoat"), from),
+    element("label", {class: "field"}, text("scorer.belongTo"), field)], [cancel(), {value: "yes", label: text("scorer.putThem"), look: "main"}]);
+  if (done !== "yes") return;
+  const sails = race.order.flat(), chosen = sails.slice(sails.indexOf(from.value));
+  lines(linesOfOtherRace(race, number, Number(field.value), chosen));
+}

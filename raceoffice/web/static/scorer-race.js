@@ -1,0 +1,106 @@
+'use strict';
+// The race beside the paper: its order, what is missing, and whether it counts.
+import {byId, element} from "./elements.js";
+import {ordinal, text, timeOfDay} from "./texts.js";
+import {kindOf, spaced} from "./sails.js";
+import {boatOf, called, heldIn, missingFrom, raceNumbered} from "./desk.js";
+import {finishers} from "./race-view.js";
+import {addFinisher, correct, line, resolve, toOtherRace} from "./scorer-corrections.js";
+import {enterLate, unlistedPart} from "./scorer-late.js";
+
+// What was compared with the paper on this page: "RACE SAIL"
+const ticked = new Set();
+let drawAgain = () => {};
+
+const codeTag = code => element("span", {class: `code ${kindOf(code)}`}, code);
+const placed = race => race.order.flat().filter(sail => !race.codes[sail]);
+
+function rowsOf(race, number) {
+  const rows = finishers(race).filter(row => row.gap || row.place)
+    .map(row => row.gap ? unreadRow(number, row) : boatRow(race, number, row.sail, `${row.place}${row.isTied ? "=" : ""}`, ordinal(row.place)));
+  return [...rows, ...Object.entries(race.codes).map(([sail, code]) => boatRow(race, number, sail, codeTag(code), code))];
+}
+
+function boatRow(race, number, sail, place, placeWords) {
+  const key = `${number} ${sail}`, boat = boatOf(sail), isTicked = ticked.has(key);
+  const held = heldIn(race, sail).filter(code => code !== race.codes[sail]);
+  const flip = () => { if (!ticked.delete(key)) ticked.add(key); drawAgain(); };
+  return element("tr", {class: isTicked ? "ticked" : "", "data-key": key, "data-sail": sail},
+    element("td", {class: "tick"}, element("button", {type: "button", "aria-pressed": String(isTicked),
+      "aria-label": text("scorer.asOnPaper", {boat: spaced(sail)}), onclick: flip}, "✓")),
+    element("td", {class: "place", "aria-label": placeWords}, place),
+    element("th", {class: "sail", scope: "row"}, element("button", {type: "button", class: "quiet", onclick: () => correct(number, sail)}, spaced(sail))),
+    element("td", {class: "name"}, [boat?.[1], boat?.[2]].filter(Boolean).join(" · ")), element("td", {}, held.map(codeTag)),
+    element("td", {class: "time", title: race.by[sail]}, timeOfDay(race.at[sail])));
+}
+
+function unreadRow(number, {gap, place}) {
+  return element("tr", {class: "unread", "data-key": `${number} ${gap.mark}`}, element("td", {}), element("td", {class: "place", "aria-label": ordinal(place)}, place),
+    element("th", {class: "sail", scope: "row"}, element("button", {type: "button", class: "quiet", onclick: () => resolve(number, gap.mark)}, gap.mark)),
+    element("td", {class: "name"}, text("finish.sailNotRead")), element("td", {}), element("td", {}, text("scorer.who")));
+}
+
+function orderTable(rows) {
+  if (!rows.length) return element("p", {class: "soft"}, text("scorer.nothingYet"));
+  const heads = [text("scorer.paper"), text("scorer.place"), text("common.sail"), text("common.name"), text("scorer.holds"), text("scorer.time")];
+  return element("table", {class: "order", "aria-labelledby": "race-title"},
+    element("thead", {}, element("tr", {}, heads.map((head, at) => element("th", {scope: "col"}, at < 2 ? element("span", {class: "unseen"}, head) : head)))),
+    element("tbody", {}, rows));
+}
+
+function comparedLine(race, number) {
+  const boats = placed(race), count = boats.filter(sail => ticked.has(`${number} ${sail}`)).length, isAll = count > 0 && count === boats.length;
+  const words = text("scorer.compared", {n: count, of: boats.length});
+  return element("p", {class: `paper ${isAll ? "all" : ""}`},
+    element("progress", {max: boats.length || 1, value: count, "aria-label": words}), element("span", {}, words));
+}
+
+// What is still to be done before a race counts
+function missingParts(race, away) {
+  const unread = race.unread.map(gap => gap.mark), onlyPenalty = away.filter(sail => race.penalties[sail]?.length);
+  return [unread.length ? text("scorer.stillUnread", {n: unread.length, marks: unread}) : "",
+    onlyPenalty.length ? text("scorer.penaltyWithoutPlace", {n: onlyPenalty.length, sails: onlyPenalty.map(spaced)}) : ""].filter(Boolean)
+    .map(words => element("p", {class: "waits"}, words));
+}
+
+function awayPart(race, number, away) {
+  const title = away.length ? text(race.counts ? "scorer.scoredDnc" : "scorer.notRecordedYet") : text("scorer.allRecorded");
+  const buttons = away.map(sail => element("button", {type: "button", "data-key": sail, "data-sail": sail, onclick: () => correct(number, sail)},
+    called(sail), (race.penalties[sail] ?? []).map(code => [" ", codeTag(code)])));
+  return [element("h3", {}, title), element("div", {class: "missing"}, buttons)];
+}
+
+function typedForm() {
+  const send = async event => {
+    event.preventDefault();
+    const words = byId("typed").value.trim();
+    if (words && await line(words)) byId("typed").value = "";
+  };
+  return element("form", {class: "typed", onsubmit: send},
+    element("input", {id: "typed", "aria-label": text("scorer.typeLine"), placeholder: text("scorer.typeLineAs", {line: "before 3 33 9"}), autocomplete: "off", spellcheck: "false"}),
+    element("button", {}, text("common.send")), element("button", {type: "button", onclick: enterLate}, text("scorer.lateEntry")));
+}
+
+function actions(race, number, isEmpty) {
+  const count = race.counts
+    ? element("button", {type: "button", id: "unscore", onclick: () => line(`UNSCORE ${number}`)}, text("scorer.unscore"))
+    : element("button", {type: "button", class: "main", id: "score", disabled: isEmpty, onclick: () => line(`SCORE ${number}`)}, text("scorer.score", {number}));
+  return element("div", {class: "acts"}, count,
+    element("button", {type: "button", id: "add", onclick: () => addFinisher(number)}, text("scorer.addFinisher")),
+    element("button", {type: "button", id: "other-race", disabled: !race.order.length, onclick: () => toOtherRace(number)}, text("scorer.otherRaceShort")),
+    element("span", {class: "grow"}),
+    element("button", {type: "button", class: "quiet bad", id: "abandon", disabled: isEmpty, onclick: () => line(`ABANDON ${number}`)}, text("scorer.abandon")));
+}
+
+export function racePane(number, draw) {
+  drawAgain = draw;
+  const race = raceNumbered(number), away = missingFrom(race), rows = rowsOf(race, number);
+  const counts = [text("scorer.finishedCount", {n: placed(race).length}), text("scorer.codedCount", {n: Object.keys(race.codes).length}),
+    text(race.counts ? "scorer.dncCount" : "scorer.missingCount", {n: away.length})].join(" · ");
+  return element("section", {class: "pane", "aria-labelledby": "race-title"},
+    element("header", {}, element("h2", {id: "race-title"}, `${text("common.race")} ${number} `),
+      element("span", {class: `chip ${race.counts ? "good" : "wait"}`}, text(race.counts ? "scorer.counts" : "scorer.doesntCount")),
+      element("span", {class: "soft"}, counts)),
+    actions(race, number, !rows.length), rows.length ? comparedLine(race, number) : null, missingParts(race, away),
+    orderTable(rows), awayPart(race, number, away), unlistedPart(), typedForm());
+}

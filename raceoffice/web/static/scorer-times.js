@@ -1,0 +1,106 @@
+'use strict';
+// A race's sheet of times: each boat's start, and her laps or distance; and what came of it.
+import {element} from "./elements.js";
+import {text} from "./texts.js";
+import {ask} from "./office.js";
+import {say} from "./dialogs.js";
+import {troubleOf} from "./questions.js";
+import {saidWords} from "./said-words.js";
+import {sendLine} from "./sending.js";
+import {spaced} from "./sails.js";
+import {state} from "./desk.js";
+
+const RACES = 40;
+const HOUR = 3600, MINUTE = 60;
+// The race that is shown
+let number = 0;
+
+const at = (name, more = "") => `sheet/${encodeURIComponent(name)}${more}`;
+
+function duration(seconds) {
+  if (seconds === undefined || seconds === null) return "";
+  const two = value => String(value).padStart(2, "0");
+  return `${Math.floor(seconds / HOUR)}:${two(Math.floor(seconds % HOUR / MINUTE))}:${two(seconds % MINUTE)}`;
+}
+
+// The sheet of one race in a form
+class Sheet {
+  constructor(name, found, again) {
+    Object.assign(this, {name, found, again, columns: found.columns});
+    this.fields = new Map(found.rows.map(row => [row.sail, this.fieldsOf(row)]));
+    this.all = Object.fromEntries(this.columns.map(key => [key, this.field(key, "", text("times.forTicked"))]));
+    this.node = element("form", {class: "step", onsubmit: event => { event.preventDefault(); this.save(); }},
+      element("h2", {}, text("times.sheetOf", {number: found.race})), element("p", {class: "soft"}, text("times.whatFor")),
+      element("div", {class: "wide", tabindex: "0", role: "region", "aria-label": text("times.sheetOf", {number: found.race})}, this.table()),
+      element("fieldset", {class: "options"}, element("legend", {}, text("times.forTicked")),
+        element("div", {class: "numbers"}, this.columns.map(key => element("label", {class: "number"}, text(`times.${key}`), this.all[key]))),
+        element("div", {class: "acts"}, element("button", {type: "button", id: "put-in", onclick: () => this.putIn()}, text("times.putIn")))),
+      element("div", {class: "acts"}, element("button", {class: "main", id: "send-times"}, text("times.save"))));
+  }
+
+  field(key, value, label) {
+    return element("input", {name: key, value, autocomplete: "off", class: "cell", "aria-label": `${label}: ${text(`times.${key}`)}`});
+  }
+
+  fieldsOf(row) {
+    return {tick: element("input", {type: "checkbox", "aria-label": text("times.tick", {sail: spaced(row.sail)})}),
+      ...Object.fromEntries(this.columns.map(key => [key, this.field(key, row[key], spaced(row.sail))]))};
+  }
+
+  table() {
+    const heads = [...this.columns, "finish", "corrected"].map(key => element("th", {scope: "col"}, text(`times.${key}`)));
+    return element("table", {id: "times-table", "aria-label": text("times.sheetOf", {number: this.found.race})}, element("thead", {}, element("tr", {}, element("td", {}), element("th", {scope: "col"}, text("common.sail")), heads)),
+      element("tbody", {}, this.found.rows.map(row => this.row(row))));
+  }
+
+  row(row) {
+    const fields = this.fields.get(row.sail), times = state()?.races[this.found.race]?.times ?? {};
+    return element("tr", {"data-sail": row.sail}, element("td", {}, fields.tick), element("th", {scope: "row"}, spaced(row.sail)),
+      this.columns.map(key => element("td", {}, fields[key])), element("td", {}, row.code || row.finish || row.elapsed),
+      element("td", {}, duration(times[row.sail])));
+  }
+
+  // Puts the fields for all into the rows that are ticked.
+  putIn() {
+    for (const fields of this.fields.values()) {
+      if (fields.tick.checked) for (const key of this.columns) if (this.all[key].value.trim()) fields[key].value = this.all[key].value.trim();
+    }
+  }
+
+  // Saves the sheet, and sends the times that follow from it.
+  async save() {
+    const rows = {};
+    for (const {sail, ...row} of this.found.rows) {
+      const fields = this.fields.get(sail), given = this.columns.filter(key => fields[key].value.trim() !== row[key]);
+      if (given.length) rows[sail] = Object.fromEntries(given.map(key => [key, fields[key].value.trim()]));
+    }
+    const saved = await ask(at(this.name), {race: this.found.race, rows, tag: this.found.tag});
+    if (saved.status !== 200) {
+      say(troubleOf(saved), true);
+      return;
+    }
+    const done = await sendLine(this.name, `TIMES ${this.found.race}`, state()?.entries ?? 0);
+    if (done && done.outcome !== "refused") say(saidWords(done.said).slice(0, 3).join("\n") || text("times.saved"));
+    this.again();
+  }
+}
+
+function raceField(again) {
+  const options = Array.from({length: RACES}, (_, place) => element("option", {value: place + 1, selected: place + 1 === number}, place + 1));
+  return element("label", {class: "field"}, text("common.race"),
+    element("select", {id: "times-race", onchange: event => { number = Number(event.target.value); again(); }}, options));
+}
+
+async function show(page, name) {
+  const found = await ask(at(name, `/${number}`)), again = () => show(page, name);
+  const wrong = found.status !== 200 ? troubleOf(found) : found.wrong.join("\n");
+  page.replaceChildren(raceField(again), wrong ? element("p", {class: "step wrong"}, wrong) : new Sheet(name, found, again).node);
+}
+
+// The page of a class by corrected time; it has a life of its own.
+export function timesPage(name) {
+  const races = Object.keys(state()?.races ?? {}).map(Number), page = element("main", {class: "steps"}, element("p", {class: "soft"}, text("times.reading")));
+  number ||= Math.max(1, ...races);
+  show(page, name);
+  return page;
+}

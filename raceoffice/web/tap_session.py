@@ -1,0 +1,148 @@
+"""The session of one role whose answers come with each tap, and whose lines go through the register."""
+from __future__ import annotations
+
+import os
+from collections.abc import Callable, Sequence
+
+from raceoffice.errors import NotSent, Trouble
+from raceoffice.program.journal import Race
+from raceoffice.program.link import Link
+from raceoffice.series.folder import Folder
+from raceoffice.series.kept_places import Places, Twin
+from raceoffice.series.lost_lines import as_kept
+from raceoffice.series.unknown_finishers import Unread
+from raceoffice.session.abandon import abandon
+from raceoffice.session.dialogue import Question, Said
+from raceoffice.session.facts import Facts
+from raceoffice.session.finishers import keep_or_send, send_or_place
+from raceoffice.session.seat import Done
+from raceoffice.session.session import Session
+from raceoffice.session.undo import undo
+from raceoffice.web.taps import Register, Sent, Tap
+
+# How the register has a place that was dropped, or kept again.
+DROPPED, KEPT_AGAIN = "NONE", "AGAIN"
+# What isn't asked of somebody who taps Undo.
+MEANT_BY_UNDO = ("undo", "drop-place", "keep-place-again")
+
+
+class Asked(Exception):
+    """A question that nobody has answered yet, and what was said before it."""
+
+    def __init__(self, question: Question, said: Sequence[Said]) -> None:
+        super().__init__(question.text)
+        self.question, self.said = question, list(said)
+
+
+class TapSession(Session):
+    """A session whose window is a page: what is asked is answered beforehand, or comes back. `see` gives what
+    the office at a link shows now."""
+
+    def __init__(self, folder: Folder, role: str, register: Register, see: Callable[[Link], Facts]) -> None:
+        self.register, self.see = register, see
+        self.said: list[Said] = []
+        self.tap, self.lines, self.mark, self.answer = Tap("", ""), 0, "", ""
+        # Whether a tap may take several lines, each of which has a note of its own.
+        self.is_of_several = False
+        super().__init__(folder, role, "", self.said.append, self.is_agreed)
+
+    def connect(self) -> None:
+        """Links to the office, in the role of this session."""
+        self.link, self.number = self.folder.link(), ""
+        try:
+            self.link.ask(f"ROLE {self.role}")
+        except Trouble:
+            self.disconnect()
+            raise
+
+    def look_at_journal(self) -> None:
+        self.facts = self.see(self.office())
+
+    def is_agreed(self, asked: Question) -> bool:
+        """Whether just this was agreed to."""
+        if asked.kind == "place-is":
+            # Who taps a boat doesn't mean a place: that has taps of its own.
+            return False
+        if asked in self.tap.agreed or self.tap.line == "UNDO" and asked.kind in MEANT_BY_UNDO:
+            return True
+        raise Asked(asked, self.said)
+
+    # A tap
+
+    def begin(self, tap: Tap, name: str) -> None:
+        """Begins with a tap of a device."""
+        self.tap, self.name, self.lines, self.mark, self.answer, self.at = tap, name, 0, "", "", None
+        self.is_of_several = tap.line.startswith("ABANDON ")
+        self.places = Places(self.folder, name)
+        self.said.clear()
+
+    def is_tap_taken(self, line: str) -> bool:
+        """Does what a tap asks for, in a line as it may be typed; whether it was taken."""
+        first, *rest = line.split() or [""]
+        if first == "UNDO":
+            return self.undo_tap()
+        if first == "ABANDON" and len(rest) == 1:
+            return abandon(self, self.facts.race(rest[0]))
+        if "?" in first:
+            return self.is_place_taken(first, rest)
+        return send_or_place(self, line, False)
+
+    def is_place_taken(self, mark: str, rest: Sequence[str]) -> bool:
+        """`? 3` keeps a place in race 3; `?1 3 GBR7` or `?1 3 NONE` resolves it."""
+        if not rest:
+            raise NotSent("the race is missing")
+        self.at = self.facts.race(rest[0]).number
+        return keep_or_send(self, mark, [word.lower() for word in rest[1:]])
+
+    def undo_tap(self) -> bool:
+        """Takes back what another tap has done."""
+        self.done = self.done_by(self.register.sent.get(self.tap.undoes))
+        return undo(self)
+
+    def done_by(self, sent: Sent | None) -> Done:
+        """What a tap has done; NotSent if nothing stands of it."""
+        first, *rest = sent.line.split() if sent else [""]
+        if sent is None or not sent.answer.startswith(("OK ", "NOTED")) or first == "ABANDON":
+            raise NotSent("there is nothing to undo: that tap changed nothing")
+        unread = Unread(sent.mark, self.facts.race(rest[0]).number, frozenset()) if sent.mark else None
+        if not sent.entry:
+            return Done(unread=unread, what="dropped" if rest[1:] == [DROPPED] else "kept")
+        now = self.facts.commands[sent.entry - 1:sent.entry]
+        if now != [as_kept(sent.line)]:
+            raise NotSent(f"{sent.line} isn't in the journal any more")
+        return Done(now[0], sent.entry, unread)
+
+    # What is noted in the register before it is done
+
+    def note_begin(self, id: str, line: str) -> None:
+        """Notes, on the disk, that a line is about to be sent, or something else to be done."""
+        self.register.begin(Sent(id, self.role, line, self.tap.at, self.name, len(self.facts.sheet.journal),
+                                 os.getpid()))
+
+    def exchange(self, line: str, unread: Unread | None = None) -> str:
+        """The office's answer to a line, which is noted before it is sent."""
+        self.lines += 1
+        self.mark = unread.mark if unread else self.mark
+        id = f"{self.tap.id}/{self.lines}" if self.is_of_several else self.tap.id
+        self.note_begin(id, line)
+        self.answer = super().exchange(line, unread)
+        self.register.end(id, self.answer, self.mark)
+        return self.answer
+
+    def keep(self, race: Race, typed: str, twin: Twin = Twin()) -> str:
+        self.note_begin(self.tap.id, f"{typed}? {race.number}")
+        self.mark = super().keep(race, typed, twin)
+        return self.mark
+
+    def drop(self, waiting: list[Unread], why: str) -> None:
+        if len(waiting) == 1 and not self.tap.line.startswith("ABANDON "):
+            self.mark = waiting[0].mark
+            self.note_begin(self.tap.id, f"{self.mark} {waiting[0].race} {DROPPED}")
+        super().drop(waiting, why)
+
+    def keep_again(self, unread: Unread) -> None:
+        if self.done and self.done.what == "dropped":
+            # Otherwise a line follows, which has a note of its own.
+            self.mark = unread.mark
+            self.note_begin(self.tap.id, f"{unread.mark} {unread.race} {KEPT_AGAIN}")
+        super().keep_again(unread)

@@ -1,0 +1,135 @@
+"""All that the web has: the classes with their offices, who may write, the board, and those who wait for news."""
+from __future__ import annotations
+
+import contextlib
+import json
+import threading
+import time
+from collections.abc import Callable
+from dataclasses import dataclass, field
+
+from raceoffice.errors import Fault, Trouble
+from raceoffice.files import PRIVATE
+from raceoffice.results.http_answers import Board
+from raceoffice.results.source import need_own_names
+from raceoffice.series.folder import Folder
+from raceoffice.traces import guarded
+from raceoffice.web.declarations import Declarations
+from raceoffice.web.gate import Gate
+from raceoffice.web.hosting import Hub
+from raceoffice.web.kept_office import KeptOffice
+from raceoffice.web.live_board import TICK, LiveBoard
+from raceoffice.web.room import Room
+
+# Seconds within which pages learn of several pieces of news together, and phones that look at the board.
+AT_ONCE, SOON = 0.02, 0.4
+# Seconds after which a device that hasn't been heard isn't expected to write.
+RECENT = 3600
+
+
+@dataclass
+class Class:
+    """One class: its room, its office, and what is declared of its results."""
+    room: Room
+    office: KeptOffice
+    results: Declarations
+
+
+@dataclass
+class WebOffice:
+    """The classes by the names of their folders. `address` is what devices open, `parent` the folder in which
+    a new series is made, `tell` hears what happens."""
+    gate: Gate
+    parent: str
+    address: str
+    tell: Callable[[str], None]
+    classes: dict[str, Class] = field(default_factory=dict)
+    board: Board = field(default_factory=Board)
+    live_board: LiveBoard | None = None
+    is_ending: threading.Event = field(default_factory=threading.Event)
+
+    def __post_init__(self) -> None:
+        self.news, self.board_news = Hub(self.versions, AT_ONCE, self.gate.lets_in), Hub(self.board_versions, SOON)
+        self.gate.told_out = self.news.put_out
+        self.lock = threading.Lock()
+
+    def versions(self) -> str:
+        """The version of each class, for the pages of the office."""
+        return json.dumps({name: one.room.version for name, one in self.classes.items()})
+
+    def board_versions(self) -> str:
+        """What is another whenever a page of the board is, by its address."""
+        return json.dumps({address: text.tag for address, text in self.board.texts.items()
+                           if address.endswith("/")})
+
+    def add(self, folder: Folder) -> Class:
+        """One more class. The first one's folder keeps who may write."""
+        with self.lock:
+            need_own_names([*self.classes, folder.name])
+            room = Room(folder, self.news.wake)
+            office = KeptOffice(folder, lambda text: self.tell_of(folder.name, text))
+            found = Class(room, office, Declarations(room, office))
+            if not self.classes and not self.gate.path:
+                self.gate.move(folder.file(PRIVATE, "web.json"))
+            self.classes = {**self.classes, folder.name: found}
+            rooms = [one.room for one in self.classes.values()]
+            old, self.live_board = self.live_board, LiveBoard(rooms, self.board, self.board_news.wake, self.tell)
+            if old:
+                old.leave()
+        threading.Thread(target=room.watch, daemon=True).start()
+        self.news.wake()
+        return found
+
+    def tell_of(self, name: str, text: str) -> None:
+        """What an office says, with the class before each line."""
+        self.tell("\n".join(f"{name}: {line}" for line in text.splitlines()))
+
+    def keep_board(self) -> None:
+        """Keeps the board up to date until the end, and notes when devices were heard."""
+        while not self.is_ending.wait(TICK):
+            folder = next((one.room.folder.path for one in self.classes.values()), "")
+            # A fault leaves a trace, and the next round comes all the same.
+            with contextlib.suppress(Fault), guarded(folder):
+                if self.live_board:
+                    self.live_board.round()
+                self.gate.note_heard()
+
+    def writers(self) -> list[str]:
+        """The devices that may still write to an office that this process keeps, with their roles."""
+        if not any(one.office.keeping for one in self.classes.values()):
+            return []
+        return [f"{device.name} ({device.role.lower()})" for device in self.gate.devices.values()
+                if device.heard > time.time() - RECENT]
+
+    def close(self) -> None:
+        """Closes the offices that this process keeps, side by side, and leaves the others."""
+        self.is_ending.set()
+        closing = [threading.Thread(target=self.close_one, args=(one,)) for one in self.classes.values()]
+        for thread in closing:
+            thread.start()
+        for thread in closing:
+            thread.join()
+        if self.live_board:
+            self.live_board.leave()
+
+    def close_one(self, one: Class) -> None:
+        if not one.office.close() and one.office.is_there():
+            self.tell(f"{one.room.folder.name}: The office stays open, as it was before.")
+        one.results.close()
+        one.room.close()
+
+    def hurry(self) -> None:
+        """From now on nobody waits for room on a full disk."""
+        for one in self.classes.values():
+            one.office.is_hurried = True
+
+
+def gate_of(folders: list[Folder], name: str, is_secure: bool) -> Gate:
+    """Who may write, as the first folder's file has it."""
+    for folder in folders:
+        folder.make_private()
+    try:
+        path = folders[0].file(PRIVATE, "web.json") if folders else ""
+        return Gate(path, [name] if name else [], is_secure)
+    except OSError as cause:
+        raise Trouble(f"office/web.json can't be used: {cause.strerror}") from None

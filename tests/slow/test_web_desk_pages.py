@@ -1,0 +1,233 @@
+"""The scorer's and the jury's page in Chromium over the real program, and the links of a new device."""
+from __future__ import annotations
+
+import os
+import unittest
+
+from devices import Device
+from web_office import BOATS, SAILS, WebTrial, finishes
+
+# Two races: the boats in the order in which they finish.
+FIRST = list(range(22))
+SECOND = [2, 0, 5, 1, 7, 3, 12, 4, 6, 9, 8, 15, 10, 11, 14, 13, 18, 17, 16, 22, 19, 20]
+ROW = ".order tr[data-sail='{}']"
+
+
+class Desks(WebTrial):
+    """A scorer with a laptop, a jury, and a phone at the finish."""
+
+    def sail(self, ann: Device, race: int, order: list[int], code: str) -> None:
+        """Records a race on a phone: its finishers, and a code for the last boat."""
+        ann.until("!!document.querySelector('.race b')")
+        if ann.text(".race b") != str(race):
+            ann.click(".race")
+            ann.click(f"dialog [data-race='{race}']")
+            ann.until(f"document.querySelector('.race b').textContent === '{race}'")
+        for at in order:
+            ann.tap(SAILS[at])
+        ann.click("#code")
+        ann.tap(SAILS[23])
+        ann.choose(code)
+        self.settle(ann)
+
+    def show(self, desk: Device, race: int, rows: int) -> None:
+        """Shows a race on the scorer's page, and waits until it has so many rows."""
+        desk.click(f".races [data-key='{race}']")
+        desk.until(f"document.querySelector('#race-title').textContent.trim() === 'Race {race}'"
+                   f" && document.querySelectorAll('.order tbody tr').length === {rows}")
+
+    def scored(self, ann: Device, scorer: Device) -> None:
+        """Two races that count: the second with another order."""
+        for race, order, code in ((1, FIRST, "OCS"), (2, SECOND, "RET")):
+            self.sail(ann, race, order, code)
+            self.show(scorer, race, 23)
+            scorer.click("#score")
+            scorer.until("!!document.querySelector('dialog[open]')")
+            # The one who was never seen
+            self.assertIn(f"Score race {race} with 1 boat as DNC?", scorer.text("dialog"))
+            scorer.choose("yes")
+            scorer.until("!!document.querySelector('#unscore')")
+
+    def test_an_afternoon(self) -> None:
+        """Races are compared and scored; a correction shows who moved; a late entry is asked about; the jury sees
+        who would move, and nothing is sent until it sends it."""
+        ann, scorer = self.phone(width=820, height=1180), self.device("scorer", "Bea’s laptop")
+        self.scored(ann, scorer)
+        self.assertEqual(self.journal(), [
+            *finishes(*(SAILS[at] for at in FIRST)), "FINISH MARK 1 GBR41 OCS", "SCORER SCORE 1",
+            *finishes(*(SAILS[at] for at in SECOND), race=2), "FINISH MARK 2 GBR41 RET", "SCORER SCORE 2"])
+        scorer.click(".tick button")
+        scorer.until("document.querySelector('.paper').textContent.startsWith('1 of 22')")
+        # FRA 9 was 4th and 6th: 10 points and with 20% of 25, rounded, 15.
+        scorer.click(f"{ROW.format('FRA9')} th button")
+        scorer.choose("code")
+        scorer.choose("ZFP")
+        scorer.until("document.querySelector('dialog[open] h2')?.textContent === 'Is that right?'")
+        self.assertIn("Race 2 counts already. Is this a correction?", scorer.text("dialog"))
+        scorer.choose("yes")
+        scorer.until("document.querySelector('#changed')?.textContent.includes('PENALTY 2 FRA9 ZFP')")
+        self.assertIn("FRA 9 Plover: 5th to 7th, net 10.0 to 15.0", scorer.text("#changed"))
+        scorer.type("#typed", "enter usa 4")
+        scorer.run("document.querySelector('form.typed').requestSubmit()")
+        scorer.until("!!document.querySelector('dialog[open]')")
+        self.assertIn("USA4 isn’t on the entry list.", scorer.text("dialog").replace("USA 4", "USA4"))
+        scorer.choose("yes")
+        scorer.until("document.querySelector('.missing').textContent.includes('USA 4')")
+        self.assertEqual(self.journal()[-1], "SCORER PENALTY 2 FRA9 ZFP")
+        self.judge()
+        self.need_no_faults()
+
+    def judge(self) -> None:
+        """The jury disqualifies one boat, gives another redress and a third a penalty without a line of its own."""
+        jury = self.device("jury", "Protest room")
+        jury.until("!!document.querySelector('#race option')")
+        jury.type("#race", "2")
+        held = len(self.journal())
+        self.decide(jury, "NED12", "DSQ", held)
+        self.assertEqual(self.journal()[-1], "JURY MARK 2 NED12 DSQ")
+        self.decide(jury, "GBR7", "ALL", held + 1)
+        self.assertEqual(self.journal()[-1], "JURY REDRESS 2 GBR7 ALL")
+        jury.until("[...document.querySelectorAll('.held tr')].some(row => row.textContent.includes('GBR 7'))")
+        self.decide(jury, "GBR101", "PRP", held + 2)
+        self.assertRegex(self.journal()[-1], r"^JURY REDRESS 2 GBR101 \d+\.\d$")
+        self.assertEqual(self.text("cup", "decisions.txt").strip(), "race 2 GBR101 PRP 30%")
+        jury.until("document.querySelector('.pane').textContent.includes('PRP 30%')")
+        # Reopened: what she holds goes. Of the DSQ the page has a preview again.
+        jury.run("[...document.querySelectorAll('.held tr')].find(row => row.textContent.includes('NED 12'))"
+                 ".querySelector('button').click()")
+        jury.click("#send")
+        jury.until("document.querySelector('dialog[open]') !== null")
+        jury.choose("yes")
+        jury.until("!document.querySelector('#preview')")
+        self.assertEqual(self.journal()[-1], "JURY CLEAR 2 NED12")
+
+    def decide(self, jury: Device, sail: str, what: str, held: int) -> None:
+        """Chooses a boat and a decision, sees who would move with nothing sent, and sends it."""
+        jury.click("#boat")
+        jury.click(f"dialog [data-sail={sail}]")
+        jury.click(f"#what-{what}")
+        jury.until("!!document.querySelector('#preview .lead')")
+        self.assertEqual(len(self.journal()), held)
+        jury.click("#send")
+        jury.until("document.querySelector('dialog[open]') !== null || !document.querySelector('#preview')")
+        if jury.count("dialog[open]"):
+            jury.choose("yes")
+        jury.until("!document.querySelector('#preview')")
+
+    def test_corrections(self) -> None:
+        """By pointing a boat is moved, swapped, put level and struck, and finishers go to another race."""
+        ann, scorer = self.phone(), self.device("scorer", "Bea’s laptop")
+        for at in range(6):
+            ann.tap(SAILS[at])
+        self.settle(ann)
+        self.show(scorer, 1, 6)
+        order = ".order tbody th"
+        # GBR 101, GBR 7, NED 12, FRA 9, GBR 33, IRL 5
+        self.point(scorer, "IRL5", "move", "ahead", "GBR7")
+        self.becomes(scorer, order, "GBR 101", "IRL 5", "GBR 7", "NED 12", "FRA 9", "GBR 33")
+        self.point(scorer, "GBR101", "swap", "", "FRA9")
+        self.becomes(scorer, order, "FRA 9", "IRL 5", "GBR 7", "NED 12", "GBR 101", "GBR 33")
+        self.point(scorer, "NED12", "move", "level", "GBR33")
+        self.becomes(scorer, order, "FRA 9", "IRL 5", "GBR 7", "GBR 101", "GBR 33", "NED 12")
+        self.assertEqual(scorer.texts(".order td.place"), ["1", "2", "3", "4", "5=", "5="])
+        scorer.click(f"{ROW.format('GBR7')} th button")
+        scorer.choose("strike")
+        self.becomes(scorer, order, "FRA 9", "IRL 5", "GBR 101", "GBR 33", "NED 12")
+        # From GBR 101 on they belong to race 3.
+        scorer.click("#other-race")
+        scorer.until("document.querySelectorAll('dialog[open] select').length === 2")
+        for at, value in enumerate(("GBR101", "3")):
+            scorer.run(f"document.querySelectorAll('dialog[open] select')[{at}].value = '{value}'")
+        scorer.choose("yes")
+        self.becomes(scorer, order, "FRA 9", "IRL 5")
+        self.show(scorer, 3, 3)
+        self.becomes(scorer, order, "GBR 101", "GBR 33", "NED 12")
+        self.assertEqual(scorer.texts(".order td.place"), ["1", "2=", "2="])
+        self.assertEqual(self.journal()[-6:], [
+            "SCORER FINISH 3 GBR101", "SCORER FINISH 3 GBR33", "SCORER TIE 3 NED12 GBR33",
+            "SCORER STRIKE 1 GBR101", "SCORER STRIKE 1 GBR33", "SCORER STRIKE 1 NED12"])
+        self.need_no_faults()
+
+    def point(self, scorer: Device, sail: str, what: str, how: str, other: str) -> None:
+        """Points at a boat, says what is to be done with her, and where."""
+        scorer.click(f"{ROW.format(sail)} th button")
+        scorer.choose(what)
+        if how:
+            scorer.until("document.querySelectorAll('dialog[open] .stack button').length === 4")
+            scorer.choose(how)
+        scorer.click(f"dialog[open] [data-sail={other}]")
+
+    def becomes(self, scorer: Device, what: str, *wanted: str) -> None:
+        """Waits until just these are shown, in this order."""
+        scorer.until(f"[...document.querySelectorAll({what!r})].map(one => one.textContent.trim()).join()"
+                     f" === {','.join(wanted)!r}")
+
+    def test_a_race_is_abandoned(self) -> None:
+        """The lines that take a race away are shown first; a No sends none of them."""
+        ann, scorer = self.phone(), self.device("scorer", "Bea’s laptop")
+        for at in range(2):
+            ann.tap(SAILS[at])
+        self.settle(ann)
+        self.show(scorer, 1, 2)
+        scorer.click("#abandon")
+        scorer.until("!!document.querySelector('dialog[open]')")
+        self.assertEqual(scorer.text("dialog .mono").split("\n"), ["STRIKE 1 GBR101", "STRIKE 1 GBR7"])
+        scorer.choose("")
+        self.assertEqual(self.journal(), finishes("GBR101", "GBR7"))
+        scorer.click("#abandon")
+        scorer.choose("yes")
+        scorer.until("document.querySelectorAll('.order tbody tr').length === 0")
+        self.assertEqual(self.journal()[2:], ["SCORER STRIKE 1 GBR101", "SCORER STRIKE 1 GBR7"])
+
+    def test_links(self) -> None:
+        """A new link lets a device in by the language of its own, and one that is put out keeps its taps."""
+        ann, scorer = self.phone(), self.device("scorer", "Bea’s laptop")
+        scorer.click("#tab-links")
+        scorer.until("[...document.querySelectorAll('.devices th')].some(one => one.textContent === 'Ann’s phone')")
+        scorer.click("[data-role=JURY]")
+        scorer.until("!!document.querySelector('.qr path')")
+        link = scorer.text(".linktext")
+        jury = Device(self.chromium, 820, 1180, language="de")
+        jury.come(self.address(link[link.index("/office/in"):]), "Schiedsgericht")
+        self.assertEqual(jury.run("document.documentElement.lang"), "de")
+        jury.until("document.title === 'Jury'")
+        # The language of this device is another from now on.
+        jury.type("#language", "fr")
+        jury.until("document.documentElement.lang === 'fr' && document.querySelector('#link')?.dataset.state === 'live'")
+        scorer.until("document.querySelectorAll('.devices tbody tr').length === 3")
+        scorer.run("[...document.querySelectorAll('.devices tr')].find(row => row.textContent.includes('Ann’s phone'))"
+                   ".querySelector('button').click()")
+        scorer.choose("yes")
+        scorer.until("document.querySelectorAll('.devices tbody tr').length === 2")
+        ann.tap(SAILS[0])
+        ann.until("document.querySelector('#link').dataset.state === 'out'"
+                  " && document.querySelectorAll('#list li.unsent').length === 1")
+        self.assertEqual(self.journal(), [])
+
+    def test_the_board(self) -> None:
+        """The board is open to all, and shows a race within moments of its score."""
+        ann, scorer = self.phone(), self.device("scorer", "Bea’s laptop")
+        board = Device(self.chromium, 390, 844, 2, touch=True)
+        board.open(self.address("/"))
+        for sail in SAILS:
+            ann.tap(sail)
+        self.settle(ann)
+        self.show(scorer, 1, len(BOATS))
+        scorer.click("#score")
+        scorer.until("!!document.querySelector('#unscore')")
+        board.until("document.body.innerText.includes('GBR 101')")
+
+    def test_an_office_is_closed(self) -> None:
+        """Closed for the day, which keeps a copy of the journal, and opened again from the page."""
+        scorer = self.device("scorer", "Bea’s laptop")
+        scorer.click("#tab-office")
+        scorer.press("Close the office for today")
+        scorer.choose("yes")
+        scorer.press("Open the office")
+        scorer.until("[...document.querySelectorAll('.chip')].some(one => one.textContent === 'open')")
+        kept = [self.text("cup", "kept", name) for name in os.listdir(os.path.join(self.here, "cup", "kept"))]
+        self.assertIn(self.text("cup", "journal.txt"), kept)
+
+
+if __name__ == "__main__":
+    unittest.main()

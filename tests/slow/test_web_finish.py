@@ -1,0 +1,316 @@
+"""The finish page in Chromium over the real program: a tap is a finish, and it is never lost or doubled."""
+from __future__ import annotations
+
+import json
+import os
+import time
+import unittest
+
+import helpers
+from devices import PATIENCE
+from stub_office import StubOffice
+from web_office import BOATS, FOLKBOATS, WebTrial, entries_of, finishes
+
+ROWS = "#list li .sail"
+# What is by sail, and may be empty
+ANY = {"at", "by", "codes", "penalties", "redress", "times", "last", "asked"}
+UNSENT = "document.querySelectorAll('#list li.unsent').length === {}"
+
+
+class Finish(WebTrial):
+    """The finish page of one class."""
+
+    def test_taps_are_the_journal(self) -> None:
+        """Finishes, undo, level, a place kept and known, a code, a boat put ahead: the journal line by line."""
+        ann = self.phone()
+        for sail in ("GBR101", "GBR7", "NED12"):
+            ann.tap(sail)
+        self.settle(ann)
+        ann.click("#undo")
+        ann.until("document.querySelectorAll('#list li').length === 2")
+        self.settle(ann)
+        self.assertEqual(self.journal(), [*finishes("GBR101", "GBR7", "NED12"), "FINISH STRIKE 1 NED12"])
+        ann.tap("FRA9")
+        ann.click("#level")
+        ann.tap("NED12")
+        ann.click("#unread")
+        ann.tap("IRL5")
+        self.settle(ann)
+        ann.click("#code")
+        ann.tap("GBR33")
+        ann.choose("OCS")
+        self.settle(ann)
+        self.assertEqual(ann.texts(ROWS), ["GBR 101", "GBR 7", "FRA 9", "NED 12", "?1", "IRL 5"])
+        ann.click("#list li.unread button")
+        ann.choose("known")
+        ann.tap("DEN61")
+        self.settle(ann)
+        ann.click("#list li[data-sail=GBR7] button")
+        ann.choose("before")
+        ann.tap("GER412")
+        self.settle(ann)
+        self.assertEqual(self.journal()[4:], [
+            "FINISH FINISH 1 FRA9", "FINISH TIE 1 NED12 FRA9", "FINISH FINISH 1 IRL5", "FINISH MARK 1 GBR33 OCS",
+            "FINISH BEFORE 1 DEN61 IRL5", "FINISH BEFORE 1 GER412 GBR7"])
+        self.assertEqual(ann.texts("#list li .place"), ["1", "2", "3", "4=", "4=", "6", "7"])
+        self.need_no_faults()
+
+    def test_digits_and_places(self) -> None:
+        """Digits show the whole number first; boats keep their places until nobody taps any more."""
+        ann = self.phone()
+        ann.until("document.querySelectorAll('#grid .boat').length === 24")
+        before = ann.texts("#grid .boat b")
+        self.assertEqual(before[:6], ["5", "7", "8", "9", "12", "14"])
+        ann.tap("GBR7")
+        ann.tap("POR8")
+        self.assertEqual(ann.texts("#grid .boat b"), before)
+        self.assertEqual(ann.texts("#grid .boat.done i"), ["1st", "2nd"])
+        ann.until("document.querySelectorAll('#grid .boat').length === 22")
+        ann.digit("12")
+        self.assertEqual(ann.texts("#grid .boat b"), ["12", "312", "412"])
+        ann.click("#back")
+        ann.click("#back")
+        self.assertEqual(len(ann.texts("#grid .boat")), 22)
+        self.settle(ann)
+        self.assertEqual(self.journal(), finishes("GBR7", "POR8"))
+        self.need_no_faults()
+
+    def test_a_bouncing_finger(self) -> None:
+        """The second click of one touch is none, neither for her nor for whoever comes to her place."""
+        ann = self.phone()
+        ann.digit("7")
+        ann.until("document.querySelector('#grid .boat').dataset.sail === 'GBR7'"
+                  " && !('moving' in document.querySelector('#grid').dataset)")
+        # The digits go with the tap, so that another boat is under the finger at once.
+        ann.run("(() => { const box = document.querySelector('#grid .boat').getBoundingClientRect();"
+                " for (let time = 0; time < 2; time += 1)"
+                " document.elementFromPoint(box.left + box.width / 2, box.top + box.height / 2)"
+                ".closest('button')?.click(); })()")
+        self.settle(ann)
+        self.assertEqual(self.journal(), finishes("GBR7"))
+
+    def test_a_connection_that_drops(self) -> None:
+        """Cut off in mid-finish: taps are kept, survive a reload without a connection, and are sent once and in
+        order; meanwhile nothing of them is in the journal."""
+        line = self.line()
+        ann = self.phone(port=line.own)
+        for sail in ("GBR101", "GBR7"):
+            ann.tap(sail)
+        self.settle(ann)
+        ann.until("navigator.serviceWorker.ready.then(() => !!navigator.serviceWorker.controller)")
+        line.cut()
+        for sail in ("NED12", "FRA9", "GBR33", "IRL5"):
+            ann.tap(sail)
+        ann.until("document.querySelector('#link').textContent === '4 unsent · offline'")
+        self.assertEqual(self.journal(), finishes("GBR101", "GBR7"))
+        # The page comes from its worker's memory: the computer itself counts as secure.
+        ann.reload()
+        ann.until("document.querySelectorAll('#list li').length === 6")
+        ann.until(UNSENT.format(4))
+        ann.tap("DEN61")
+        # What is undone before it was sent never is.
+        ann.tap("GBR118")
+        ann.click("#undo")
+        line.mend()
+        self.settle(ann)
+        self.assertEqual(self.journal(), finishes("GBR101", "GBR7", "NED12", "FRA9", "GBR33", "IRL5", "DEN61"))
+        self.assertEqual(ann.texts("#list li .place"), [str(place) for place in range(1, 8)])
+
+    def test_an_answer_that_is_lost(self) -> None:
+        """The office has taken a finish, and the answer never arrives: the tap is sent again, and done once. If
+        the scorer has struck her meanwhile, she isn't put back."""
+        line = self.line()
+        ann, scorer = self.phone(port=line.own), self.device("scorer", "Bea’s laptop")
+        ann.tap("GBR101")
+        self.settle(ann)
+        line.loses_answer = True
+        ann.tap("GBR7")
+        ann.until("document.querySelector('#link').dataset.state === 'away'")
+        self.assertEqual(self.journal(), finishes("GBR101", "GBR7"))
+        scorer.until("!!document.querySelector(\".order tr[data-sail='GBR7']\")")
+        scorer.type("#typed", "strike 1 7")
+        scorer.run("document.querySelector('form.typed').requestSubmit()")
+        scorer.until("!document.querySelector(\".order tr[data-sail='GBR7']\")")
+        line.mend()
+        self.settle(ann)
+        self.assertEqual(self.journal(), [*finishes("GBR101", "GBR7"), "SCORER STRIKE 1 GBR7"])
+
+    def test_a_web_that_dies(self) -> None:
+        """The web is killed while a device has unsent taps, and another comes: the office, the devices and their
+        taps are still there, and so is the place that was kept."""
+        ann = self.phone()
+        ann.tap("GBR101")
+        ann.click("#unread")
+        self.settle(ann)
+        self.kill_web()
+        ann.tap("GBR7")
+        ann.tap("NED12")
+        ann.until("document.querySelector('#link').textContent === '2 unsent · offline'")
+        self.start()
+        self.settle(ann)
+        self.assertEqual(self.journal(), finishes("GBR101", "GBR7", "NED12"))
+        self.assertEqual(ann.texts(ROWS), ["GBR 101", "?1", "GBR 7", "NED 12"])
+
+    def test_an_office_that_dies(self) -> None:
+        """The program is killed: the web opens it again, and what was tapped meanwhile is sent."""
+        ann = self.phone()
+        ann.tap("GBR101")
+        self.settle(ann)
+        self.kill_program()
+        ann.tap("GBR7")
+        ann.tap("NED12")
+        self.settle(ann)
+        self.assertEqual(self.journal(), finishes("GBR101", "GBR7", "NED12"))
+
+    def test_two_devices(self) -> None:
+        """Two at one line, one cut off: each boat is in the order once; where the clock says that she was ahead of
+        others, somebody is asked."""
+        line = self.line()
+        ann, ben = self.phone(port=line.own), self.phone("Ben’s tablet", 820, 1180)
+        ann.tap("GBR101")
+        self.settle(ann)
+        ben.until("document.querySelectorAll('#list li').length === 1")
+        line.cut()
+        ann.until("document.querySelector('#link').dataset.state === 'away'")
+        ben.tap("GBR33")
+        self.settle(ben)
+        ann.tap("GBR7")
+        ann.tap("NED12")
+        ben.tap("FRA9")
+        # Both saw her.
+        ben.tap("NED12")
+        self.settle(ben)
+        line.mend()
+        ann.until("!!document.querySelector('dialog[open]')")
+        self.assertIn("Where did GBR 7 finish?", ann.text("dialog"))
+        self.assertIn("By the clock GBR 7 is just ahead of FRA 9.", ann.text("dialog"))
+        ann.choose("clock")
+        ann.until("document.querySelectorAll('#list li.refused').length === 1")
+        self.assertIn("She is in the finishing order of this race already.", ann.text("#list li.refused"))
+        self.assertEqual(self.journal(), ["FINISH FINISH 1 GBR101", "FINISH FINISH 1 GBR33", "FINISH FINISH 1 FRA9",
+                                          "FINISH FINISH 1 NED12", "FINISH BEFORE 1 GBR7 FRA9"])
+        ben.until("document.querySelectorAll('#list li').length === 5")
+        self.assertEqual(ben.texts(ROWS), ["GBR 101", "GBR 33", "GBR 7", "FRA 9", "NED 12"])
+
+
+    def test_a_first_visit(self) -> None:
+        """A phone with an empty cache loads the finish page, in the language with the longest words, in 40 KB."""
+        ann = self.phone(language="de")
+        ann.ask("Network.setBypassServiceWorker", bypass=True)
+        ann.ask("Network.setCacheDisabled", cacheDisabled=True)
+        self.chromium.loaded.clear()
+        ann.open(self.address("/office/finish/"))
+        ann.until("document.querySelectorAll('#grid .boat').length === 24"
+                  " && document.querySelector('#link').dataset.state === 'live'")
+        end = time.monotonic() + PATIENCE
+        while not any("/state/" in address for address in self.chromium.loaded):
+            self.assertLess(time.monotonic(), end, self.chromium.loaded)
+            ann.run("1")
+        loaded = sum(self.chromium.loaded.values())
+        self.assertLess(loaded, 40_000, self.chromium.loaded)
+        self.assertGreater(loaded, 20_000)
+        print(f"the finish page: {loaded} bytes")
+
+    def test_what_is_shown(self) -> None:
+        """The office shows just what the pages are looked at over (stub_office.py)."""
+        self.make("old", title="Spring Cup", state="final")
+        scorer, stub = self.device("scorer", "Bea’s laptop"), StubOffice()
+        self.addCleanup(stub.close)
+        ann = self.phone()
+        ann.tap("GBR101")
+        ann.click("#unread")
+        self.settle(ann)
+        for what in ("me", "state/cup", "devices"):
+            said = scorer.run(f"fetch('/office/scorer/{what}').then(answer => answer.json())")
+            canned = stub.answer("scorer", what, {})[1]
+            self.assertEqual(keys_of(said), keys_of(canned), what)
+        line = json.dumps({"line": "SCORE 1"})
+        token = scorer.run("fetch('/office/scorer/me').then(answer => answer.json())")["token"]
+        preview = scorer.run(f"fetch('/office/scorer/preview/cup', {{method: 'POST', body: {json.dumps(line)}, headers:"
+                             f" {{'Content-Type': 'application/json', 'X-Token': '{token}'}}}}).then(answer => answer.json())")
+        self.assertEqual(keys_of(preview), keys_of(stub.preview))
+
+
+def keys_of(values: object) -> object:
+    """The names of all values, whatever they are; of a list and of what is by number or sail, the fullest."""
+    if isinstance(values, list):
+        return [keys_of(values[0])] if values and isinstance(values[0], dict) else []
+    if not isinstance(values, dict):
+        return ""
+    if all(name.isupper() or name.isdecimal() for name in values):
+        return {"each": max(map(keys_of, values.values()), key=lambda one: len(str(one)))} if values else {}
+    return {name: keys_of(value) for name, value in sorted(values.items()) if name not in ANY}
+
+
+class Two(WebTrial):
+    """Two classes at one line."""
+    classes = {"cup": entries_of(BOATS[:14]), "fleet": entries_of(FOLKBOATS)}
+
+    def test_one_page_for_both(self) -> None:
+        ann = self.phone()
+        for at in (0, 1):
+            ann.until("document.querySelectorAll('.race').length === 2")
+            ann.run(f"document.querySelectorAll('.race')[{at}].click()")
+            ann.click("dialog [data-race='1']")
+            ann.until("!document.querySelector('dialog')")
+        ann.tap("GBR101")
+        ann.tap("NED80")
+        ann.tap("GBR33", "fleet")
+        ann.tap("GBR33", "cup")
+        self.settle(ann)
+        self.assertEqual(self.journal("cup"), finishes("GBR101", "GBR33"))
+        self.assertEqual(self.journal("fleet"), finishes("NED80", "GBR33"))
+        # They are listed as they came.
+        self.assertEqual(ann.texts(ROWS), ["GBR 101", "NED 80", "GBR 33", "GBR 33"])
+        self.need_no_faults()
+
+
+@helpers.needs_times
+class Timed(WebTrial):
+    """A class by corrected time."""
+    classes = {"cup": "Sail,Boat,TCF\nGBR 101,Kestrel,1.000\nGBR 7,Sea Pink,0.900\nNED 12,Windhover,1.250\n"}
+    settings = {"handicap": "yes"}
+
+    def start(self) -> None:
+        os.makedirs(os.path.join(self.here, "cup", "times"), exist_ok=True)
+        self.write(f"[times]\nsystem = tcf\nprogram = {helpers.TIMES}\n", "cup", "times", "rules.ini")
+        super().start()
+
+    def test_times_are_taken(self) -> None:
+        """A start and three taps: the page shows elapsed times, the journal has them by the ratings, and a code
+        takes a time away."""
+        ann = self.phone()
+        ann.click("#start")
+        ann.type("dialog input", "00:00:00")
+        ann.choose("at")
+        ann.until("document.querySelector('#start').textContent === '00:00:00'")
+        for sail in ("GBR101", "GBR7", "NED12"):
+            ann.tap(sail)
+        self.settle(ann)
+        sheet = [row.split(",") for row in self.text("cup", "times", "race-1.csv").splitlines()[1:]]
+        elapsed = {row[0]: seconds_of(row[2]) for row in sheet}
+        self.assertEqual({row[1] for row in sheet}, {"00:00:00"})
+        # In thousandths, rounded half up
+        ratings = {"GBR101": 1000, "GBR7": 900, "NED12": 1250}
+        times = {sail: (elapsed[sail] * rating * 2 + 1000) // 2000 for sail, rating in ratings.items()}
+        self.assertEqual(sorted(self.journal()), sorted(f"FINISH TIME 1 {sail} {times[sail]}" for sail in ratings))
+        ann.until("document.querySelectorAll('#list li').length === 3")
+        seconds = elapsed["GBR101"]
+        self.assertEqual(ann.texts("#list li .end b")[0],
+                         f"{seconds // 3600}:{seconds // 60 % 60:02}:{seconds % 60:02}")
+        ann.click("#code")
+        ann.tap("GBR7")
+        ann.choose("RET")
+        self.settle(ann)
+        self.assertEqual(sorted(self.journal()[3:]), ["FINISH MARK 1 GBR7 RET", "FINISH STRIKE 1 GBR7"])
+        self.assertEqual(ann.count("#level"), 0)
+        self.need_no_faults()
+
+
+def seconds_of(clock: str) -> int:
+    hours, minutes, seconds = map(int, clock.split(":"))
+    return hours * 3600 + minutes * 60 + seconds
+
+
+if __name__ == "__main__":
+    unittest.main()

@@ -1,0 +1,78 @@
+"""The scorer changes a series' settings on the page, over the real program."""
+from __future__ import annotations
+
+import os
+import unittest
+
+import helpers
+from web_office import SAILS, WebTrial
+
+
+class SettingsPage(WebTrial):
+    def test_settings(self) -> None:
+        """What would change is shown before it can be saved; what is saved holds once the office is opened again."""
+        ann, scorer = self.phone(), self.device("scorer", "Bea’s laptop")
+        for sail in SAILS[:2]:
+            ann.tap(sail)
+        ann.click("#code")
+        ann.tap(SAILS[2])
+        ann.choose("RET")
+        self.settle(ann)
+        scorer.until("document.querySelectorAll('.order tbody tr').length === 3")
+        scorer.click("#score")
+        scorer.choose("yes")
+        scorer.until("!!document.querySelector('#unscore')")
+        scorer.click("#tab-settings")
+        scorer.until("!!document.querySelector('#save') && !document.querySelector('#save').disabled")
+        self.assertIn("No score would change", scorer.text("#effect"))
+        self.assertTrue(scorer.run("document.querySelector('#absent-a52').checked"))
+        scorer.click("#absent-a53")
+        # Until its effect is there it can't be saved.
+        self.assertTrue(scorer.run("document.querySelector('#save').disabled"))
+        scorer.until("!document.querySelector('#save').disabled")
+        self.assertIn("A5.2 or A5.3", scorer.text("#effect .waits"))
+        # She retired: 25 points for 24 boats (RRS A5.2), or 4 for the three that came (RRS A5.3).
+        self.assertIn("NED 12 Windhover: 3rd, net 25.0 to 4.0", scorer.text("#effect"))
+        self.assertIn("absent = a52\n", self.text("cup", "series.ini"))
+        scorer.type("#set-title", "Spring Cup")
+        scorer.until("!document.querySelector('#save').disabled")
+        scorer.click("#save")
+        scorer.until("!!document.querySelector('#waiting') && document.querySelector('#title').textContent === 'Spring Cup'")
+        self.assertIn("absent = a53\n", self.text("cup", "series.ini"))
+        self.assertTrue(scorer.run("document.querySelector('#absent-a53').checked"))
+        scorer.click("#reopen")
+        scorer.choose("yes")
+        scorer.until("document.querySelector('dialog[open] h2')?.textContent === 'Is that right?'")
+        scorer.choose("yes")
+        scorer.until("!document.querySelector('#waiting') && !!document.querySelector('#save')")
+        scorer.click("#tab-races")
+        scorer.until("[...document.querySelectorAll('.standing td.net')].some(one => one.textContent === '4.0')")
+        self.need_no_faults()
+
+
+@helpers.needs_times
+class TimesPage(WebTrial):
+    classes = {"cup": "Sail,Boat,TCF\nGBR 101,Kestrel,1.000\nGBR 7,Sea Pink,0.900\n"}
+    settings = {"handicap": "yes", "zone": "UTC"}
+
+    def test_starts(self) -> None:
+        """A second start is put in for a boat that is ticked; the times follow: 3,600 s x 1.000, 3,300 s x 0.900."""
+        os.makedirs(os.path.join(self.here, "cup", "times"), exist_ok=True)
+        self.write(f"[times]\nsystem = tcf\nprogram = {helpers.TIMES}\n", "cup", "times", "rules.ini")
+        self.write("Sail,Start,Finish\nGBR 101,14:00:00,15:00:00\nGBR 7,14:00:00,15:05:00\n", "cup", "times", "race-1.csv")
+        scorer = self.device("scorer", "Bea’s laptop")
+        scorer.until("!!document.querySelector('#tab-times')")
+        scorer.click("#tab-times")
+        scorer.until("document.querySelectorAll('#times-table tbody tr').length === 2")
+        scorer.click("tr[data-sail=GBR7] input[type=checkbox]")
+        scorer.type(".options input[name=start]", "14:10")
+        scorer.click("#put-in")
+        scorer.click("#send-times")
+        scorer.until("document.querySelector('tr[data-sail=GBR7] td:last-child').textContent === '0:49:30'")
+        self.assertEqual(self.journal(), ["SCORER TIME 1 GBR101 3600", "SCORER TIME 1 GBR7 2970"])
+        self.assertIn(",14:10:00,15:05:00", self.text("cup", "times", "race-1.csv"))
+        self.need_no_faults()
+
+
+if __name__ == "__main__":
+    unittest.main()

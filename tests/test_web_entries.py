@@ -1,0 +1,279 @@
+"""What the scorer's page changes beside the journal: the names of late boats in the entry list, the stick that has
+the second folder, and which series are served."""
+from __future__ import annotations
+
+import codecs
+import os
+import pwd
+import sys
+import unittest
+from typing import Any
+from unittest import mock
+
+import helpers
+from raceoffice.errors import NotSent
+from raceoffice.series import settings
+from raceoffice.series.read_list import table_of
+from raceoffice.series.write_list import with_boat
+from web_devices import BOATS, Device, Web, list_of
+
+LISTED = "/office/scorer/listed/cup"
+LIST = list_of(BOATS)
+UTF16 = codecs.BOM_UTF16_LE
+# Lists, what a boat has by the numbers of their columns, and what they are then: no other byte is another.
+FORMS: list[tuple[bytes, str, dict[int, str], bytes]] = [
+    (b"\xef\xbb\xbfClub;Segelnummer;Steuermann\r\nYC;GER 1;J\xc3\xb6rg\r\n", "GER 2", {2: "Möller"},
+     b"\xef\xbb\xbfClub;Segelnummer;Steuermann\r\nYC;GER 1;J\xc3\xb6rg\r\n;GER 2;M\xc3\xb6ller\r\n"),
+    (b"Sail,Boat\nGER 1,M\xf6we", "USA 4", {1: "Café"}, b"Sail,Boat\nGER 1,M\xf6we\nUSA 4,Caf\xe9\n"),
+    (UTF16 + "Sail\tBoat\r\nGER 1\tŁódź\r\n".encode("utf-16-le"), "POL 2", {1: "Żagiel"},
+     UTF16 + "Sail\tBoat\r\nGER 1\tŁódź\r\nPOL 2\tŻagiel\r\n".encode("utf-16-le")),
+    (b"Sail,Boat\rGBR 1,A\r", "GBR 2", {}, b"Sail,Boat\rGBR 1,A\rGBR 2,\r"),
+    (b'\nSail,Boat,Helm\n"GBR 1",A,B\n\n', "GBR 2", {2: "B, C"}, b'\nSail,Boat,Helm\n"GBR 1",A,B\n\nGBR 2,,"B, C"\n'),
+    # A row that is there is completed, whichever form its sail has there.
+    (b'Sail,Boat,Note,Helm\ngbr 7,,"two\nlines"\n\n"GBR 8","H",x,y\n', "GBR 7", {1: "Sea Pink", 3: "J. Hale"},
+     b'Sail,Boat,Note,Helm\ngbr 7,Sea Pink,"two\nlines",J. Hale\n\n"GBR 8","H",x,y\n'),
+    (b"Sail;Boat;Helm\nGBR 1;A;B\nGBR 7;Sea Pink", "GBR7", {1: "Sea Pink", 2: "J; H"},
+     b'Sail;Boat;Helm\nGBR 1;A;B\nGBR 7;Sea Pink;"J; H"\n'),
+    (b"Sail,Boat\nGBR 1,A\n", "GBR1", {1: "A"}, b"Sail,Boat\nGBR 1,A\n")]
+# Lists that can't be changed so, and what is said of them.
+REFUSED: list[tuple[bytes, dict[int, str], str]] = [
+    (b"Sail,Boat\nGBR 1,A\n", {1: "B"}, "has A as her Boat already"),
+    (b"Sail,Boat\nGER 2,M\xf6we\n", {1: "Łódź"}, "CP1252, which hasn't the sign 'Ł'"),
+    (b"Sail,Boat\nGER 2,M\x81\xf6we\n", {1: "A"}, "bytes that are no letters"),
+    (b'Sail,Boat\nGER 2,"open\n', {1: "A"}, "add her there with an editor"),
+    (b"Boat\nA\n", {0: "A"}, "No column of entries.csv has the heading Sail")]
+# What is typed as the name of a boat, and the cell that it becomes
+TYPED = [("USA4", '=1+1,"B"\r\nGBR 999,Ghost', "'=1+1,\"B\" GBR 999,Ghost"), ("ESP55", "A;-B", "A;'-B"),
+         ("POR666", "\x1b[2J@A\u202e\u2028B\x00", "[2J@A B"), ("SWE7777", "+A", "'+A"), ("NOR88888", " - ", "'-")]
+
+# What is no name, or no boat
+ODD: list[dict[str, object]] = [
+    {"name": 7}, {"name": ["A"]}, {"helm": None}, {"name": "A" * 81}, {"club": "YC"}, {"rating": "1"}, {"sail": ""},
+    {"sail": "USA4\nUSA5"}, {"sail": {"a": "USA4"}}, {"sail": "=USA4"}, {"sail": "U" * 300}]
+
+
+class Lists(unittest.TestCase):
+    def test_forms(self) -> None:
+        """A row is added, or completed, in the list's own form, and all else stays byte for byte."""
+        for data, sail, cells, wanted in FORMS:
+            changed = with_boat(data, "entries.csv", sail, cells)
+            self.assertEqual(changed, wanted)
+            self.assertEqual(with_boat(changed, "entries.csv", sail, cells), wanted)
+
+    def test_refused(self) -> None:
+        """What can't be changed in its own form isn't, nor what somebody has written there."""
+        for data, cells, words in REFUSED:
+            with self.assertRaises(NotSent) as caught:
+                with_boat(data, "entries.csv", "GBR 1", cells)
+            self.assertIn(words, str(caught.exception))
+
+
+class Late(Web):
+    def setUp(self) -> None:
+        super().setUp()
+        self.scorer = self.device("scorer", "Bea")
+
+    def enter(self, sail: str = "USA4") -> None:
+        kind = {"kind": "enter-unlisted", "values": {"sail": sail}}
+        self.assertEqual(self.scorer.tap(f"ENTER {sail}", agreed=[kind])[1]["outcome"], "taken")
+
+    def name(self, **values: object) -> tuple[int, Any]:
+        given: dict[str, object] = {"sail": "usa 4", **values}
+        return self.scorer.again().ask("POST", LISTED, given)
+
+    def list(self) -> str:
+        return self.text("cup", "entries.csv")
+
+    def boat(self, sail: str = "USA4") -> Any:
+        return next(boat for boat in self.scorer.state()["boats"] if boat[0] == sail)
+
+    def board(self) -> str:
+        return str(Device(self.port, "finish").ask("GET", "/cup/")[1])
+
+    def test_late(self) -> None:
+        """A boat that came late gets her row once she is entered, and only once; all pages show it."""
+        self.assertEqual(self.scorer.ask("GET", LISTED), (200, {"columns": ["name", "helm"]}))
+        self.assertEqual(self.name(name="Petrel")[0], 422)
+        self.assertEqual(self.list(), LIST)
+        self.enter()
+        self.scorer.tap("FINISH 1 USA4")
+        self.scorer.tap("SCORE 1", agreed=[{"kind": "score-missing", "values": {
+            "race": 1, "sails": [boat[0].replace(" ", "") for boat in BOATS]}}])
+        self.assertEqual((self.scorer.state()["unlisted"], self.boat()), (["USA4"], ["USA4", "", ""]))
+        status, done = self.name(name="Petrel")
+        self.assertEqual((status, done["changed"], self.list()), (200, True, f"{LIST}USA 4,Petrel,\n"))
+        state = self.scorer.state()
+        self.assertEqual((state["unlisted"], state["version"] >= done["version"], self.boat()), ([], True, ["USA4", "Petrel", ""]))
+        helpers.until("her name on the board", lambda: "Petrel" in self.board())
+        status, done = self.name(name="Petrel", helm="K. Dow")
+        self.assertEqual((done["changed"], self.list()), (True, f"{LIST}USA 4,Petrel,K. Dow\n"))
+        self.assertEqual((self.name(name="Petrel", helm="K. Dow")[1]["changed"], self.name(helm="L. Dow")[0]), (False, 422))
+        self.assertEqual(self.list(), f"{LIST}USA 4,Petrel,K. Dow\n")
+        logged = [line.split("\t")[2:] for line in self.text("cup", "office.log").splitlines() if "\tnamed\t" in line]
+        self.assertEqual(logged, [["Bea", "", "", "named", "USA4; name = Petrel"],
+                                  ["Bea", "", "", "named", "USA4; name = Petrel; helm = K. Dow"]])
+        # Somebody's change with an editor is seen as well.
+        self.write(self.list().replace("Petrel", "Storm Petrel"), "cup", "entries.csv")
+        helpers.until("the other name", lambda: self.boat()[1] == "Storm Petrel")
+
+    def test_attacks(self) -> None:
+        """What is typed is one cell, and no formula; what is no text, or too long, changes nothing."""
+        self.enter()
+        for odd in ODD:
+            self.assertEqual(self.name(**odd)[0], 422, odd)
+        for size, wanted in ((250 << 10, 422), (300 << 10, 413)):
+            self.assertEqual(self.name(name="A" * size)[0], wanted)
+        self.assertEqual(self.list(), LIST)
+        for sail, typed, held in TYPED:
+            if sail != "USA4":
+                self.enter(sail)
+            self.assertEqual(self.name(sail=sail, name=typed, helm="@H")[0], 200, typed)
+            self.assertEqual(table_of(self.list().encode()).rows[-1][1], [sail, held, "'@H"])
+        self.assertEqual(len(table_of(self.list().encode()).rows), len(BOATS) + len(TYPED))
+        self.assertTrue(self.list().startswith(LIST))
+
+    def test_closed(self) -> None:
+        """A list that can't be read or written is said to be so, and stays; without an office nobody is named."""
+        self.enter()
+        self.write("Boat\nA\n", "cup", "entries.csv")
+        self.assertEqual((self.scorer.ask("GET", LISTED)[0], self.name(name="A")[0]), (422, 422))
+        self.assertEqual((self.list(), self.scorer.state()["unlisted"]), ("Boat\nA\n", []))
+        os.remove(os.path.join(self.here, "cup", "entries.csv"))
+        self.assertEqual(self.name(name="A")[0], 422)
+        self.write(LIST, "cup", "entries.csv")
+        self.scorer.ask("POST", "/office/scorer/close/cup", {})
+        self.assertEqual((self.name(name="A")[0], self.list()), (503, LIST))
+
+
+class Rated(Web):
+    def prepare(self) -> None:
+        self.write("Sail;TCF;TCF from 5;Club\nGBR 101;1,000;;YC\n", "cup", "entries.csv")
+        self.write(settings.filled_in({"title": "Autumn Cup", "program": helpers.PROGRAM, "handicap": "yes"}), "cup", "series.ini")
+        os.mkdir(os.path.join(self.here, "cup", "times"))
+        self.write("[times]\nsystem = tcf\n", "cup", "times", "rules.ini")
+
+    def test_rating(self) -> None:
+        """A boat of a class by corrected time gets her rating, for the later races, too."""
+        scorer = self.device("scorer")
+        scorer.tap("ENTER USA4", agreed=[{"kind": "enter-unlisted", "values": {"sail": "USA4"}}])
+        self.assertEqual(scorer.ask("GET", LISTED)[1], {"columns": ["club", "rating"]})
+        for rating, wanted in (("fast", 422), ("1.", 422), ("-1", 422), ("0,953", 200)):
+            self.assertEqual(scorer.ask("POST", LISTED, {"sail": "USA 4", "rating": rating, "club": "SC"})[0], wanted, rating)
+        self.assertEqual(self.text("cup", "entries.csv").splitlines()[-1], "USA 4;0.953;0.953;SC")
+
+
+class Sticks(Web):
+    """A web to which a file says what is mounted, with the folders of two accounts."""
+
+    def prepare(self) -> None:
+        self.account = os.path.join(self.here, "media", pwd.getpwuid(os.geteuid()).pw_name)
+        self.stick, self.other = os.path.join(self.account, "STICK"), os.path.join(self.account, "A B")
+        for path in (self.stick, self.other):
+            os.makedirs(path)
+        device = os.stat(self.here).st_dev
+        disk = f"{os.major(device)}:{os.minor(device)}"
+        rows = [("8:17", self.stick, "rw,nosuid"), (disk, f"{self.account}/A\\040B", "rw"), ("8:18", f"{self.account}/READ", "ro"),
+                ("8:19", f"{self.here}/media/eve/STICK", "rw"), ("8:20", f"{self.account}/A\\012B", "rw"),
+                ("8:1", "/", "rw"), ("8:21", f"{self.account}/STICK/deeper", "rw")]
+        self.write("".join(f"36 25 {device} / {path} {how} shared:1 - vfat /dev/sdb rw\n" for device, path, how in rows), "mounts")
+        begin = ("import sys, raceoffice.system as system\n"
+                 f"system.MOUNTS, system.STICKS = {self.here + '/mounts'!r}, ({self.here + '/media'!r},)\n"
+                 "from raceoffice.cli import main\nsys.exit(main(sys.argv[1:]))")
+        patch = mock.patch.object(helpers, "COMMAND", [sys.executable, "-c", begin])
+        patch.start()
+        self.addCleanup(patch.stop)
+
+    def setUp(self) -> None:
+        super().setUp()
+        self.scorer = self.device("scorer", "Bea")
+
+    def choose(self, path: object) -> tuple[int, Any]:
+        return self.scorer.again().ask("POST", "/office/scorer/second/cup", {"path": path})
+
+    def copies(self) -> Any:
+        return self.scorer.again().ask("GET", "/office/scorer/results/cup")[1]["copies"]
+
+    def copied(self, stick: str) -> str:
+        """The copy of the journal on a stick."""
+        path = os.path.join(stick, "cup-journal.txt")
+        return self.text(path) if os.path.exists(path) else ""
+
+    def test_choose(self) -> None:
+        """A stick that is chosen has the journal without the office being opened again; the next one takes its place;
+        and no other folder can be chosen."""
+        ini = self.text("cup", "series.ini")
+        found = self.copies()
+        self.assertEqual((found["second"], found["chosen"], found["sticks"]), (None, "", [
+            {"path": self.other, "is_same_disk": True}, {"path": self.stick, "is_same_disk": False}]))
+        for odd in (self.here, "/etc", "/", f"{self.stick}/", f"{self.stick}/..", f"{self.account}/READ", f"{self.account}/A\nB",
+                    f"{self.here}/media/eve/STICK", f"{self.stick}/deeper", None, 7, [self.stick], {"a": 1}):
+            self.assertEqual(self.choose(odd)[0], 422, odd)
+        self.assertEqual(self.text("cup", "series.ini"), ini)
+        status, found = self.choose(self.stick)
+        self.assertEqual((status, found["copies"]["chosen"], found["copies"]["is_waiting"]), (200, self.stick, False))
+        self.assertEqual(self.text("cup", "series.ini"), ini.replace("\ncopy = \n", f"\ncopy = {self.stick}\n"))
+        self.scorer.tap("FINISH 1 GBR7")
+        self.scorer.tap("? 1")
+        helpers.until("the copy", lambda: self.copied(self.stick) == self.text("cup", "journal.txt"))
+        helpers.until("the places", lambda: os.path.exists(os.path.join(self.stick, "cup-places")))
+        helpers.until("what is shown", lambda: self.copies()["second"]["entries"] == len(BOATS) + 1)
+        self.assertEqual((self.copies()["second"]["path"], self.copies()["second"]["is_same_disk"]), (self.stick, True))
+        held = self.copied(self.stick)
+        self.assertEqual(self.choose(self.other)[0], 200)
+        self.scorer.tap("FINISH 1 GBR33")
+        helpers.until("the other copy", lambda: self.copied(self.other) == self.text("cup", "journal.txt"))
+        self.assertEqual(self.copied(self.stick), held)
+        self.assertEqual((self.choose("")[0], self.copies()["second"], self.copies()["chosen"]), (200, None, ""))
+        self.assertEqual((self.text("cup", "series.ini"), self.said().count("No second copy")), (ini, 0))
+        self.check_other_window()
+
+    def check_other_window(self) -> None:
+        """An office that a window keeps takes it up when that opens it again."""
+        self.close()
+        window = self.open()
+        self.serve()
+        self.scorer = self.scorer.again()
+        status, found = self.choose(self.stick)
+        self.assertEqual((status, found["copies"]["is_waiting"], found["copies"]["second"]), (200, True, None))
+        self.assertIn(f"copy = {self.stick}\n", self.text("cup", "series.ini"))
+        self.close()
+        window.press()
+        # The place that was kept is asked about.
+        window.read(r"\[y/N\] $")
+        window.type("y")
+        self.assertEqual(window.rest()[1], 0)
+
+
+class Beside(Web):
+    def prepare(self) -> None:
+        for name, state in (("spring", "final"), ("summer", "amended"), ("winter", "lost")):
+            self.make(name)
+            self.write(list_of(BOATS[:3]), name, "entries.csv")
+            self.write(settings.filled_in({"title": f"The {name} cup", "program": helpers.PROGRAM, "state": state}),
+                       name, "series.ini")
+        self.write("no series", "notes.txt")
+        os.mkdir(os.path.join(self.here, "empty"))
+
+    def test_final(self) -> None:
+        """A series that is final is opened from the page, as it is; no other folder is."""
+        scorer = self.device("scorer", "Bea")
+
+        def serve(name: object) -> tuple[int, Any]:
+            return scorer.again().ask("POST", "/office/scorer/serve", {"name": name})
+
+        def beside() -> list[str]:
+            return [one["name"] for one in scorer.again().ask("GET", "/office/scorer/devices")[1]["beside"]]
+
+        for odd in ("cup", "winter", "empty", "notes.txt", "", ".", "..", "../spring", "spring/", f"{self.here}/spring", None, 7,
+                    ["spring"]):
+            self.assertEqual(serve(odd)[0], 422, odd)
+        self.assertEqual((beside(), [one["class"] for one in scorer.ask("GET", "/office/scorer/me")[1]["classes"]]),
+                         (["spring", "summer"], ["cup"]))
+        status, done = serve("spring")
+        self.assertEqual((status, done["class"], done["open"], beside()), (200, "spring", True, ["summer"]), done)
+        self.assertEqual((serve("spring")[0], scorer.tap("FINISH 1 GBR7", name="spring")[0]), (422, 200))
+        self.assertIn("state = final\n", self.text("spring", "series.ini"))
+
+
+if __name__ == "__main__":
+    unittest.main()

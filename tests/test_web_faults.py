@@ -1,0 +1,170 @@
+"""What goes wrong in the office in browsers ends none of its loops, and leaves files to the rest of it."""
+from __future__ import annotations
+
+import asyncio
+import os
+import socket
+import threading
+import unittest
+from collections.abc import Callable
+from typing import Any
+from unittest import mock
+
+import helpers
+from raceoffice.errors import Trouble
+from raceoffice.office.keeping import Keeping
+from raceoffice.program.link import Link
+from raceoffice.series.folder import Folder
+from raceoffice.web.gate import Gate
+from raceoffice.web.hosting import Host
+from raceoffice.web.kept_office import KeptOffice
+from raceoffice.web.requests import Reply, Request
+from raceoffice.web.room import Room
+from raceoffice.web.web_office import WebOffice
+
+CROWD, ROOM = 200, 8
+
+
+def once_wrong(call: Callable[..., Any], wrong: BaseException) -> tuple[Callable[..., Any], threading.Event]:
+    """A call that fails the first time, and an event that is set when it is made again."""
+    made: list[object] = []
+    again = threading.Event()
+
+    def asked(*words: object) -> Any:
+        made.append(words)
+        if len(made) == 1:
+            raise wrong
+        again.set()
+        return call(*words)
+    return asked, again
+
+
+class Faults(helpers.Series):
+    """A fault that nobody has thought of, once, in each loop."""
+
+    def setUp(self) -> None:
+        super().setUp()
+        self.folder = Folder(os.path.join(self.here, "cup"))
+
+    def opened(self) -> KeptOffice:
+        office = KeptOffice(self.folder, lambda text: None)
+        self.addCleanup(helpers.kill_office, self.folder.path)
+        self.assertTrue(office.open(lambda _: True), list(office.said))
+        return office
+
+    def closed(self, office: KeptOffice) -> None:
+        """Closes an office, which has an end."""
+        closing = threading.Thread(target=office.close, daemon=True)
+        closing.start()
+        closing.join(helpers.PATIENCE)
+        self.assertFalse(closing.is_alive(), "the office never closes")
+
+    def test_keeping(self) -> None:
+        """An office is kept on, and closed in order, after a fault in saying what is wrong."""
+        asked, again = once_wrong(Keeping.goes_on, IndexError("nothing to say"))
+        with mock.patch.object(Keeping, "goes_on", lambda keeping: asked(keeping)):
+            office = self.opened()
+            self.assertTrue(again.wait(helpers.PATIENCE), "nobody keeps the office")
+            self.closed(office)
+        self.assertIn("IndexError", self.text("cup", "office", "faults.txt"))
+        self.assertIn("Closed.", "\n".join(office.said))
+
+    def test_closing(self) -> None:
+        """Who closes an office isn't held up for ever if nothing can be said at its end."""
+        office = self.opened()
+        with mock.patch.object(Keeping, "close", side_effect=IndexError("no")), \
+                mock.patch.object(KeptOffice, "say", side_effect=IndexError("nothing to say")), \
+                mock.patch("threading.excepthook"):
+            self.closed(office)
+
+    def test_opened_while_it_closes(self) -> None:
+        """An office that is to be opened while it is being closed is opened after that."""
+        office, is_closed, may_end = self.opened(), threading.Event(), threading.Event()
+        close = Keeping.close
+
+        def closed_slowly(keeping: Keeping) -> None:
+            close(keeping)
+            is_closed.set()
+            may_end.wait(helpers.PATIENCE)
+
+        with mock.patch.object(Keeping, "close", closed_slowly):
+            closing = threading.Thread(target=office.close, daemon=True)
+            closing.start()
+            self.assertTrue(is_closed.wait(helpers.PATIENCE))
+            opening = threading.Thread(target=office.open, args=(lambda _: True,), daemon=True)
+            opening.start()
+            opening.join(0.2)
+            may_end.set()
+            for thread in (closing, opening):
+                thread.join(helpers.PATIENCE)
+        self.assertTrue(office.is_there())
+        self.closed(office)
+
+    def test_watching(self) -> None:
+        """A class is watched on."""
+        asked, again = once_wrong(Room.look, OSError(24, "Too many open files"))
+        room = Room(self.folder, lambda: None)
+        self.addCleanup(room.close)
+        with mock.patch.object(Room, "look", lambda own: asked(own)), mock.patch("threading.excepthook"):
+            threading.Thread(target=room.watch, daemon=True).start()
+            self.assertTrue(again.wait(helpers.PATIENCE), "nobody watches the class")
+            room.is_ending.set()
+
+    def test_board(self) -> None:
+        """The board is kept up to date on."""
+        office = WebOffice(Gate(""), self.here, "", lambda text: None)
+        self.addCleanup(office.is_ending.set)
+        asked, again = once_wrong(Gate.note_heard, OSError(2, "No such file"))
+        with mock.patch.object(Gate, "note_heard", lambda gate: asked(gate)), \
+                mock.patch("threading.excepthook"):
+            threading.Thread(target=office.keep_board, daemon=True).start()
+            self.assertTrue(again.wait(helpers.PATIENCE), "nobody keeps the board")
+            office.is_ending.set()
+
+    def test_no_socket(self) -> None:
+        """If this process may have no more files, an office can't be reached, in words."""
+        with mock.patch("raceoffice.system.socket_of_office", side_effect=OSError(24, "Too many open files")), \
+                self.assertRaisesRegex(Trouble, "can't be reached: Too many open files"):
+            Link(self.folder.socket)
+
+
+class Crowds(unittest.IsolatedAsyncioTestCase):
+    """More connections at once than there is room for."""
+
+    async def answer(self, _: Request) -> Reply:
+        return Reply(200, "text/plain", b"here")
+
+    async def test_files(self) -> None:
+        """Never more of them have a file than there is room for, and one that may be turned away."""
+        host, port, taken, most = Host(self.answer, lambda _: 0, print), helpers.free_port(self), [], 0
+        host.most = host.most_of_one = ROOM
+        asyncio.get_running_loop().slow_callback_duration = helpers.PATIENCE
+        accept = socket.socket.accept
+
+        def counted(door: socket.socket) -> tuple[socket.socket, Any]:
+            nonlocal most
+            link, peer = accept(door)
+            taken.append(link)
+            most = max(most, sum(link.fileno() >= 0 for link in taken))
+            return link, peer
+
+        with mock.patch.object(socket.socket, "accept", counted):
+            await host.start("127.0.0.1", port, None)
+            crowd = [socket.create_connection(("127.0.0.1", port)) for _ in range(CROWD)]
+            while len(taken) < CROWD:
+                await asyncio.sleep(0.01)
+            self.assertLessEqual(most, ROOM + 1)
+            for link in crowd:
+                link.close()
+            # Who comes when they have gone is let in.
+            said = b""
+            while b"here" not in said:
+                reader, writer = await asyncio.open_connection("127.0.0.1", port)
+                writer.write(b"GET / HTTP/1.1\r\nHost: 127.0.0.1\r\nConnection: close\r\n\r\n")
+                said = await reader.read()
+                writer.close()
+        host.close()
+
+
+if __name__ == "__main__":
+    unittest.main()

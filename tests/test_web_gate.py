@@ -1,0 +1,496 @@
+"""Who may write: each danger that docs/BROWSER.md names, tried by an attack."""
+from __future__ import annotations
+
+import asyncio
+import http.client
+import json
+import os
+import socket
+import ssl
+import subprocess
+import time
+import unittest
+from contextlib import closing, suppress
+
+import helpers
+from raceoffice.web.gate import Gate
+from raceoffice.web.hosting import Host
+from raceoffice.web.rates import Rate
+from raceoffice.web.requests import Reply, Request, Wrong
+from web_devices import BOATS, Device, Web, list_of, new_id
+
+LINE = "/office/finish/line/cup"
+# What writes beside lines, by the role that may.
+WRITING = {"jury": ("ruling/cup", "decide/cup"),
+           "scorer": ("key", "revoke", "open/cup", "close/cup", "list", "settings", "new", "rules/cup", "save/cup", "reopen/cup",
+                      "sheet/cup", "listed/cup", "second/cup", "serve")}
+RACES, SOURCES = iter(range(1, 41)), iter(range(2, 200))
+
+
+class Attacks(unittest.TestCase):
+    """One office for all attacks. Each has a race and an address of its own."""
+    web: Web
+
+    @classmethod
+    def setUpClass(cls) -> None:
+        cls.web = Web()
+        cls.web.setUp()
+
+    @classmethod
+    def tearDownClass(cls) -> None:
+        cls.web.doCleanups()
+
+    def setUp(self) -> None:
+        self.port, self.race, self.source = self.web.port, next(RACES), f"127.0.1.{next(SOURCES)}"
+        self.finish, self.scorer = self.device("finish"), self.device("scorer")
+        self.line = f"FINISH {self.race} GBR7"
+        self.tap: dict[str, object] = {"id": new_id(), "line": self.line, "at": 1, "seen": 0}
+
+    def device(self, role: str, name: str = "Ann") -> Device:
+        return self.web.device(role, name, self.source)
+
+    def stranger(self, role: str) -> Device:
+        """A device that hasn't come yet."""
+        return Device(self.port, role, source=self.source)
+
+    def journal(self) -> list[str]:
+        """What the journal has of this attack's race."""
+        return [line for line in self.web.journal() if line.split()[2] == str(self.race)]
+
+    def status(self, device: Device, path: str = LINE, body: object = None, method: str = "POST",
+               **more: str) -> int:
+        """The status of the answer to a tap, or to something else."""
+        given = self.tap if body is None and method == "POST" else body
+        return device.again().ask(method, path, given, **more)[0]
+
+    def entered(self, role: str, key: str) -> int:
+        return self.status(self.stranger(role), "/office/in", {"role": role, "key": key, "name": "Eve"})
+
+    # Requests
+
+    def test_request(self) -> None:
+        """A tap needs the cookie of its role, the page's token and origin, JSON, and the name of this
+        computer."""
+        for wanted, fields in [(403, {"Origin": "http://evil.example"}), (403, {"Origin": ""}),
+                               (403, {"Origin": f"https://127.0.0.1:{self.port}"}), (403, {"Origin": "null"}),
+                               (403, {"Sec_Fetch_Site": "cross-site"}), (403, {"X_Token": "0" * 32}),
+                               (403, {"X_Token": ""}), (403, {"X_Token": self.scorer.token}),
+                               (401, {"Cookie": ""}), (401, {"Cookie": "office-finish=" + "A" * 43}),
+                               (401, {"Cookie": self.scorer.cookie}),
+                               (401, {"Cookie": self.scorer.cookie.replace("scorer", "finish")}),
+                               (421, {"Host": "evil.example"}), (421, {"Host": f"evil.example:{self.port}"}),
+                               (400, {"Content_Type": "text/plain"}), (400, {"Content_Type": ""}),
+                               (400, {"Content_Type": "application/x-www-form-urlencoded"})]:
+            self.assertEqual(self.status(self.finish, **fields), wanted, fields)
+        self.assertEqual(self.journal(), [])
+        self.assertEqual(self.status(self.finish), 200)
+
+    def test_roles(self) -> None:
+        """A role sends its own lines alone, at its own addresses."""
+        for path in ("/office/scorer/line/cup", "/office/jury/line/cup", "/office/scorer/key"):
+            self.assertEqual(self.status(self.finish, path), 401, path)
+        for path in ("/office/finish/key", "/office/finish/revoke", "/office/finish/close/cup",
+                     "/office/finish/open/cup", "/office/finish/decide/cup", "/office/finish/new"):
+            self.assertEqual(self.status(self.finish, path, {"role": "SCORER"}), 404, path)
+        self.assertEqual(self.status(self.finish, "/office/finish/devices", method="GET"), 404)
+        for line in ("SCORE 1", "ROLE JURY", "SHOW", "QUIT", "REDRESS 1 GBR7 ALL", "", "ENTER USA4", "UNSCORE 1"):
+            self.assertEqual(self.finish.tap(line)[0], 422, line)
+        for line in ("FINISH 1 GBR7\nSCORE 1", "FINISH 1 GBR7\r\nROLE SCORER", "FINISH 1 \u00e4", "F" * 81):
+            self.assertEqual(self.finish.tap(line)[0], 400, line)
+        # DSQ is a kind of MARK: the program itself refuses it (4).
+        self.assertEqual(self.finish.tap(f"MARK {self.race} GBR7 DSQ")[1]["answer"], "NO 4")
+        self.assertEqual(self.journal(), [])
+        self.assertEqual(self.status(self.finish, method="GET"), 404)
+        self.assertEqual(self.status(self.finish, method="PUT", body=self.tap), 405)
+        self.assertEqual(self.status(self.finish, "/", self.tap), 405)
+
+    def test_each_address(self) -> None:
+        """Each address that writes, or shows what only one role sees, is one role's, and needs what a tap needs."""
+        devices = {"finish": self.finish, "scorer": self.scorer, "jury": self.device("jury")}
+        for role, name in [(role, name) for role, names in WRITING.items() for name in names]:
+            device, path = devices[role], f"/office/{role}/{name}"
+            for wanted, fields in [(403, {"Origin": "http://evil.example"}), (403, {"X_Token": ""}), (401, {"Cookie": ""}),
+                                   (421, {"Host": "evil.example"})]:
+                self.assertEqual(self.status(device, path, {}, **fields), wanted, (path, fields))
+            for other in set(devices) - {role}:
+                self.assertEqual(self.status(devices[other], path, {}), 401, (path, other))
+                if name not in WRITING.get(other, ()):
+                    own = f"/office/{other}/{name}"
+                    self.assertEqual(self.status(devices[other], own, {}), 404, own)
+                    self.assertEqual(self.status(devices[other], own, method="GET"), 404, own)
+        self.assertEqual(self.journal(), [])
+
+    def test_odd_taps(self) -> None:
+        """What is no tap is answered so, and nothing of it is sent."""
+        odd_ones: list[dict[str, object]] = [
+            {"id": "x"}, {"id": 7}, {"line": None}, {"line": ["FINISH 1 GBR7"]}, {"at": "now"}, {"at": -1},
+            {"at": 1e400}, {"seen": {}}, {"behind": 7}, {"behind": "a b"}, {"agreed": "yes"},
+            {"agreed": ["yes"]}, {"agreed": [{"kind": "x"}]}, {"agreed": [{"kind": "x", "values": {"a": {}}}]},
+            {"agreed": [{"kind": "x", "values": {}}] * 99}, {"undoes": "x"}]
+        for odd in odd_ones:
+            self.assertEqual(self.status(self.finish, body=self.tap | odd), 400, odd)
+        for body in ([], 7, None, "[" * 5000):
+            self.assertEqual(self.raw(json.dumps(body).encode() if body != "[" * 5000 else b"[" * 5000), 400)
+        half = {"settings": {"title": "Cup"}, "text": "Sail\nGBR1\n\ud800"}
+        self.assertEqual(self.status(self.scorer, "/office/scorer/settings", half), 400)
+        self.assertEqual(self.journal(), [])
+
+    def raw(self, body: bytes) -> int:
+        """The status of the answer to a body that may be no JSON."""
+        link = http.client.HTTPConnection("127.0.0.1", self.port, timeout=60)
+        host = f"127.0.0.1:{self.port}"
+        link.request("POST", LINE, body, {"Origin": f"http://{host}", "Content-Type": "application/json",
+                                          "Cookie": self.finish.cookie, "X-Token": self.finish.token})
+        with closing(link):
+            return link.getresponse().status
+
+    def test_paths(self) -> None:
+        """No address leads to a file that isn't served, or to another folder."""
+        for path in ("/office/static/../routes.py", "/office/static/..%2froutes.py", "/office/static/",
+                     "/office/static/%2e%2e/routes.py", "/office/finish/state/..%2fcup", "/office/finish/state/",
+                     "/office/static//etc/passwd", "/cup/office/web.json", "/cup/../cup/entries.csv",
+                     "/cup/journal.txt", "/office/FINISH/", "/office/web.json", "/office/finish/state/none"):
+            self.assertEqual(self.status(self.finish, path, method="GET"), 404, path)
+
+    # Secrets
+
+    def test_files(self) -> None:
+        """Neither a link nor a cookie can be read from a file, and only this account may read the files."""
+        held = self.web.text("cup", "office", "web.json")
+        for link in self.web.links.values():
+            self.assertNotIn(link.partition(".")[2], held)
+        self.assertNotIn(self.finish.cookie.partition("=")[2], held)
+        self.finish.tap(self.line)
+        for name, mode in (("web.json", 0o600), ("web.taps", 0o600), ("web.lock", 0o600), ("", 0o700)):
+            self.assertEqual(os.stat(os.path.join(self.web.here, "cup", "office", name)).st_mode & 0o777, mode, name)
+        self.assertNotIn(self.finish.token, self.web.text("cup", "office", "web.taps"))
+
+    def test_cookie(self) -> None:
+        """A cookie is for its role's addresses alone, scripts don't see it, and other sites don't send it."""
+        device = self.device("jury")
+        self.assertTrue(device.cookie.startswith("office-jury="))
+        self.assertGreaterEqual(len(device.cookie.partition("=")[2]), 43)
+        device = self.stranger("jury")
+        key = self.web.links["jury"].partition(".")[2]
+        device.ask("POST", "/office/in", {"role": "jury", "key": key, "name": "Eve"})
+        words = [word.strip() for word in device.fields["set-cookie"].split(";")[1:]]
+        self.assertEqual(words, ["Path=/office/jury", f"Max-Age={14 * 86400}", "HttpOnly", "SameSite=Strict"])
+
+    def test_guessed(self) -> None:
+        """Ten tries at a link, then one each five seconds: the right one isn't taken either then."""
+        role, key = self.web.links["finish"].partition("#")[2].split(".")
+        self.assertGreaterEqual(len(key), 22)
+        # Three devices have come by now.
+        began = time.monotonic()
+        tried: list[int] = []
+        while 429 not in tried and len(tried) < 40:
+            tried.append(self.entered("finish", "A" * 22))
+        self.assertEqual((tried[0], tried[-1]), (403, 429))
+        self.assertLessEqual(len(tried), 11 + (time.monotonic() - began) / 5)
+        self.assertEqual(self.entered(role, key), 429)
+        for wrong in ("", "SCORER", "x"):
+            self.assertIn(self.entered(wrong, key), (403, 429), wrong)
+
+    def test_who_typed(self) -> None:
+        """The log has the device's name beside each line, on one line whatever the name."""
+        eve = self.device("finish", "Eve\n2026\tForged\u202e   line")
+        eve.tap(self.line)
+        logged = [line.split("\t") for line in self.web.text("cup", "office.log").splitlines()]
+        mine = [line for line in logged if line[5:6] == [self.line]]
+        self.assertEqual([line[2] for line in mine], ["Eve2026Forged line"])
+        self.assertEqual({len(line) for line in logged}, {7})
+
+    # What a page may do
+
+    def test_policy(self) -> None:
+        """A page runs the scripts of this server alone, is in no frame, and tells nobody where it was."""
+        for path in ("/office/scorer/", "/office/finish/", "/office/", "/office/scorer/me", "/office/none"):
+            self.scorer.again()
+            self.scorer.ask("GET", path)
+            policy = {part.split()[0]: " ".join(part.split()[1:])
+                      for part in self.scorer.fields["content-security-policy"].split(";")}
+            self.assertEqual((policy["default-src"], policy["script-src"], policy["frame-ancestors"],
+                              policy["base-uri"], policy["form-action"]),
+                             ("'none'", "'self'", "'none'", "'none'", "'none'"), path)
+            self.assertNotIn("unsafe", self.scorer.fields["content-security-policy"])
+            for name, value in (("x-frame-options", "DENY"), ("referrer-policy", "no-referrer"),
+                                ("x-content-type-options", "nosniff")):
+                self.assertEqual(self.scorer.fields[name], value, path)
+        self.scorer.ask("GET", "/cup/")
+        self.assertIn("script-src 'sha256-", self.scorer.fields["content-security-policy"])
+        self.assertEqual(self.scorer.fields["x-frame-options"], "DENY")
+
+    # Floods
+
+    def test_sizes(self) -> None:
+        """A long head or body is refused before it is read; a large body only a device may send."""
+        for wanted, text in [(431, f"GET / HTTP/1.1\r\nHost: 127.0.0.1\r\nX: {'x' * 20_000}\r\n\r\n"),
+                             (413, self.head("/office/in", 5000)), (413, self.head("/office/in", 10 ** 30)),
+                             (413, self.head(LINE, 300_000, self.finish.cookie)), (413, self.head(LINE, 5000)),
+                             (413, self.head("/office/finish/list", 300_000, self.finish.cookie)),
+                             (400, self.head("/office/in", -5)), (400, "GET  / HTTP/1.1\r\n\r\n"),
+                             (400, "GET / HTTP/1.1\r\nHost: a\r\nHost: b\r\n\r\n"),
+                             (400, "GET / HTTP/1.1\r\nHost : a\r\n\r\n"),
+                             (421, "GET / HTTP/1.1\r\n\r\n"), (400, "GET / SPDY/3\r\n\r\n"),
+                             (400, "POST / HTTP/1.1\r\nHost: 127.0.0.1\r\nTransfer-Encoding: chunked\r\n\r\n"),
+                             (400, "GET http://127.0.0.1/ HTTP/1.1\r\nHost: 127.0.0.1\r\n\r\n")]:
+            self.assertEqual(self.sent(text), wanted, text[:60])
+
+    def head(self, path: str, size: int, cookie: str = "") -> str:
+        return (f"POST {path} HTTP/1.1\r\nHost: 127.0.0.1:{self.port}\r\nCookie: {cookie}\r\n"
+                f"Content-Length: {size}\r\n\r\n")
+
+    def sent(self, text: str) -> int:
+        """The status of the answer to the head of a request."""
+        with closing(socket.create_connection(("127.0.0.1", self.port), timeout=60)) as link:
+            with suppress(OSError):
+                link.sendall(text.encode("latin-1"))
+            return int(link.recv(4096).split()[1])
+
+    def test_one_address(self) -> None:
+        """Connections that never finish keep nobody out, even if one address has very many of them."""
+        links = []
+        with suppress(OSError):
+            for _ in range(900):
+                link = socket.socket()
+                link.bind(("127.0.0.2", 0))
+                link.connect(("127.0.0.1", self.port))
+                link.sendall(b"GET /office/ HTT")
+                links.append(link)
+        self.assertGreater(len(links), 500)
+        self.assertEqual(self.finish.again().tap(self.line)[0], 200)
+        for link in links:
+            link.close()
+
+    def test_deaf(self) -> None:
+        """Somebody who asks for news and doesn't take it holds up nobody, and costs little."""
+        with closing(socket.socket()) as link:
+            link.setsockopt(socket.SOL_SOCKET, socket.SO_RCVBUF, 1)
+            link.connect(("127.0.0.1", self.port))
+            link.sendall(b"GET /live HTTP/1.1\r\nHost: 127.0.0.1\r\n\r\n")
+            for sail in ("GBR7", "GBR33", "NED12"):
+                self.assertEqual(self.finish.tap(f"FINISH {self.race} {sail}")[0], 200)
+
+
+class Turns(unittest.IsolatedAsyncioTestCase):
+    async def asyncSetUp(self) -> None:
+        # Connections that are open at the end are cut off, which is no fault.
+        asyncio.get_running_loop().set_exception_handler(lambda *_: None)
+
+    async def test_turns(self) -> None:
+        """Somebody who sends very many requests at once isn't answered in one go: others come in between."""
+        seen: list[str] = []
+        late = socket.socket()
+        self.addCleanup(late.close)
+
+        async def answer(request: Request) -> Reply:
+            if not seen:
+                # She comes while the first of the many is answered.
+                late.connect(door)
+                late.sendall(b"GET /late HTTP/1.1\r\n\r\n")
+            seen.append(request.path)
+            return Reply()
+
+        door = ("127.0.0.1", helpers.free_port(self))
+        await Host(answer, lambda _: 0, self.fail).start(*door, None)
+        reader, writer = await asyncio.open_connection(*door)
+        self.addCleanup(writer.close)
+        writer.write(b"GET /many HTTP/1.1\r\n\r\n" * 500)
+        await writer.drain()
+        while not {"/many", "/late"} <= set(seen):
+            self.assertTrue(await reader.read(4096))
+        self.assertLess(seen.index("/late"), 100)
+
+    async def test_greedy(self) -> None:
+        """An address that asks very often waits for its turn; others don't wait."""
+        seen: list[str] = []
+
+        async def answer(request: Request) -> Reply:
+            seen.append(request.path)
+            return Reply()
+
+        door = ("127.0.0.1", helpers.free_port(self))
+        host = Host(answer, lambda _: 0, self.fail)
+        host.turns = Rate(5, 1e-6)
+        await host.start(*door, None)
+        _, greedy = await asyncio.open_connection(*door)
+        self.addCleanup(greedy.close)
+        greedy.write(b"GET /greedy HTTP/1.1\r\n\r\n" * 9)
+        while len(seen) < 5:
+            await asyncio.sleep(0.01)
+        for _ in range(4):
+            reader, writer = await asyncio.open_connection(*door, local_addr=("127.0.0.2", 0))
+            writer.write(b"GET /other HTTP/1.1\r\nConnection: close\r\n\r\n")
+            self.assertTrue((await reader.read()).startswith(b"HTTP/1.1 200"))
+            writer.close()
+        self.assertEqual(seen, ["/greedy"] * 5 + ["/other"] * 4)
+
+
+class Again(Web):
+    """What outlives the web."""
+
+    def test_names(self) -> None:
+        """The names by which this office may be reached; --name adds one."""
+        device = self.device("finish")
+        for host, wanted in [("localhost", 200), (f"127.0.0.1:{self.port}", 200), ("[::1]:80", 200),
+                             (socket.gethostname(), 200), ("club.example", 421), ("127.0.0.1.evil.example", 421),
+                             ("127.0.0.1@evil.example", 421), ("x.localhost", 421)]:
+            self.assertEqual(device.again().ask("GET", "/office/finish/me", Host=host)[0], wanted, host)
+        self.kill()
+        self.serve("--name", "Club.Example")
+        self.assertEqual(device.again().ask("GET", "/office/finish/me", Host="club.example:8080")[0], 200)
+
+    def test_known_again(self) -> None:
+        """Devices and links outlive the web; --new ends those of a role."""
+        finish, jury, before = self.device("finish"), self.device("jury"), dict(self.links)
+        self.kill()
+        self.serve()
+        self.assertEqual((finish.again().ask("GET", "/office/finish/me")[0], self.links), (200, before))
+        self.kill()
+        self.serve("--new", "finish")
+        self.assertEqual(finish.again().ask("GET", "/office/finish/me")[0], 401)
+        key = before["finish"].partition(".")[2]
+        status, _ = Device(self.port, "finish").ask("POST", "/office/in", {"role": "finish", "key": key, "name": ""})
+        self.assertEqual(status, 403)
+        self.assertNotEqual(self.links["finish"], before["finish"])
+        self.assertEqual((self.links["jury"], jury.again().ask("GET", "/office/jury/me")[0]), (before["jury"], 200))
+
+    def test_new_link(self) -> None:
+        """A new link ends the old one. Its devices are put out, or stay; each can be put out alone."""
+        finish, scorer, old = self.device("finish"), self.device("scorer"), self.links["finish"]
+        said = scorer.ask("POST", "/office/scorer/key", {"role": "finish", "stay": True})[1]
+        self.assertTrue(is_known(finish))
+        status, _ = Device(self.port, "finish").ask("POST", "/office/in", {
+            "role": "finish", "key": old.partition(".")[2], "name": ""})
+        self.assertEqual(status, 403)
+        # The code is a square with corners of 7 dark places.
+        self.assertEqual({len(row) for row in said["code"]}, {len(said["code"])})
+        self.assertEqual(said["code"][0][:8], [1] * 7 + [0])
+        ben = Device(self.port, "finish").come(said["link"], "Ben")
+        shown = scorer.ask("GET", "/office/scorer/devices")[1]["devices"]
+        mark = next(device["mark"] for device in shown if device["name"] == "Ben")
+        for wrong in (mark[:4], ""):
+            scorer.ask("POST", "/office/scorer/revoke", {"mark": wrong})
+        self.assertTrue(is_known(ben))
+        scorer.ask("POST", "/office/scorer/revoke", {"mark": mark})
+        self.assertEqual((is_known(ben), is_known(finish)), (False, True))
+        scorer.ask("POST", "/office/scorer/key", {"role": "finish"})
+        self.assertEqual((is_known(finish), is_known(scorer)), (False, True))
+        scorer.ask("POST", "/office/scorer/leave", {})
+        self.assertFalse(is_known(scorer))
+
+    def test_news_ends(self) -> None:
+        """Who is put out gets no more news: the stream ends at once. That of others goes on."""
+        finish, jury, scorer = self.device("finish"), self.device("jury"), self.device("scorer")
+        finish.wait("/office/finish/live")
+        jury.wait("/office/jury/live")
+        for device in (finish, jury):
+            helpers.until("news", lambda: device.news.readline().startswith(b"data: "))
+        shown = scorer.ask("GET", "/office/scorer/devices")[1]["devices"]
+        mark = next(device["mark"] for device in shown if device["role"] == "FINISH")
+        scorer.ask("POST", "/office/scorer/revoke", {"mark": mark})
+        helpers.until("the end of the news", lambda: finish.news.readline() == b"")
+        self.assertEqual(finish.ask("GET", "/office/finish/live")[0], 401)
+        scorer.tap("FINISH 1 GBR7")
+        helpers.until("news of the jury", lambda: jury.news.readline().startswith(b'data: {'))
+
+    def test_one_web(self) -> None:
+        """A second web doesn't serve the class."""
+        said, status = helpers.run("serve", "cup", "--http", str(helpers.free_port(self)), cwd=self.here)
+        self.assertIn("is served to browsers already", said)
+        self.assertEqual(status, 1)
+
+
+def is_known(device: Device) -> bool:
+    """Whether a device is let in."""
+    status, _ = device.again().ask("GET", f"/office/{device.role}/me")
+    assert status in (200, 401), status
+    return status == 200
+
+
+class Rates(unittest.TestCase):
+    def test_lines(self) -> None:
+        """A device that sends 60 lines at once has to wait, and then has twelve a second; others don't wait."""
+        gate, clock = Gate(""), [100.0]
+        gate.writing.now = gate.entering.now = lambda: clock[0]
+        key = gate.new_key("FINISH")
+        cookies = [gate.enter(Request("POST", "/", {}, "127.0.0.1"), "FINISH", key, name).partition(";")[0]
+                   for name in ("Ann", "Ben")]
+
+        def is_let_in(cookie: str) -> bool:
+            """Whether a line of a device is let in."""
+            fields = {"cookie": cookie, "host": "a", "origin": "http://a"}
+            fields["x-token"] = gate.token(Request("POST", "/", fields, ""), "FINISH")
+            try:
+                gate.check_write(Request("POST", "/", fields, "127.0.0.1"), "FINISH")
+            except Wrong as wrong:
+                self.assertEqual(wrong.status, 429)
+                return False
+            return True
+
+        self.assertEqual([is_let_in(cookies[0]) for _ in range(70)], [True] * 60 + [False] * 10)
+        self.assertTrue(is_let_in(cookies[1]))
+        clock[0] += 1
+        self.assertEqual([is_let_in(cookies[0]) for _ in range(14)], [True] * 12 + [False] * 2)
+
+    def test_names(self) -> None:
+        """Somebody who tries under many names doesn't make the one that is at its limit forgotten."""
+        clock = [0.0]
+        rate = Rate(2, 0.01, lambda: clock[0])
+        rate.take("Eve")
+        rate.take("Eve")
+        for number in range(20_000):
+            with suppress(Wrong):
+                rate.take(str(number))
+        self.assertRaises(Wrong, rate.take, "Eve")
+        self.assertLess(len(rate.left), 6000)
+
+
+    def test_turns(self) -> None:
+        """Who comes too often waits for as long as it takes all that came before."""
+        clock = [0.0]
+        rate = Rate(2, 4, lambda: clock[0])
+        self.assertEqual([rate.pause("Eve") for _ in range(4)], [0, 0, 0.25, 0.5])
+        self.assertEqual(rate.pause("Ann"), 0)
+        clock[0] = 0.5
+        self.assertEqual([rate.pause("Eve") for _ in range(2)], [0.25, 0.5])
+        clock[0] = 100
+        self.assertEqual([rate.pause("Eve") for _ in range(3)], [0, 0, 0.25])
+
+
+class Secure(helpers.Series):
+    """HTTPS with a certificate of one's own."""
+
+    def test_certificate(self) -> None:
+        """Cookies are for HTTPS alone then, and plain HTTP isn't answered."""
+        made = subprocess.run(["openssl", "req", "-x509", "-newkey", "rsa:2048", "-nodes", "-days", "2", "-subj",
+                               "/CN=localhost", "-keyout", "club.key", "-out", "club.pem"], cwd=self.here,
+                              capture_output=True)
+        self.assertEqual(made.returncode, 0, made.stderr)
+        self.write(list_of(BOATS), "cup", "entries.csv")
+        port = helpers.free_port(self)
+        window = self.window("serve", "cup", "--http", str(port), "--certificate", "club.pem", "--key", "club.key")
+        self.addCleanup(self.stop, "cup")
+        said = window.read("Ctrl-C closes the office")
+        self.assertNotIn("Plain HTTP", said)
+        key = said.partition("#jury.")[2].split()[0]
+        trust = ssl.create_default_context(cafile=os.path.join(self.here, "club.pem"))
+        link = http.client.HTTPSConnection("localhost", port, timeout=60, context=trust)
+        link.request("POST", "/office/in", json.dumps({"role": "jury", "key": key, "name": "Eve"}),
+                     {"Origin": f"https://localhost:{port}", "Content-Type": "application/json"})
+        answer = link.getresponse()
+        self.assertEqual(answer.status, 200)
+        self.assertTrue((answer.getheader("Set-Cookie") or "").endswith("; Secure"))
+        answer.read()
+        self.assertIn((link.sock.version() if isinstance(link.sock, ssl.SSLSocket) else ""), ("TLSv1.2", "TLSv1.3"))
+        plain = http.client.HTTPConnection("localhost", port, timeout=60)
+        plain.request("GET", "/office/")
+        self.assertRaises((OSError, http.client.HTTPException), plain.getresponse)
+
+    def test_wrong_certificate(self) -> None:
+        said, status = helpers.run("serve", "cup", "--certificate", "none.pem", cwd=self.here)
+        self.assertEqual((said, status), ("the certificate or its key can't be used: No such file or directory.\n", 1))
+
+
+if __name__ == "__main__":
+    unittest.main()

@@ -1,0 +1,151 @@
+"""A series made from a page: any spreadsheet's list, settings in the words of sailing instructions."""
+from __future__ import annotations
+
+import base64
+import os
+import unittest
+from typing import Any
+
+import helpers
+from raceoffice.errors import NotSent
+from raceoffice.series.entry_list import Boat
+from raceoffice.series.mend_list import mended
+from raceoffice.web.new_series import settings_shown
+from web_devices import Device, Web
+
+GERMAN = ("Herbstpokal 2026;;;;\nStand: 1. Oktober;;;;\nBoot;Segelnummer;Steuermann;Crew;Yardstick\n"
+          "Möwe;GER 412;H. Jansen;2;101,5\nKiebitz;GER 23;U. Brandt;1;99\nTärna;SWE 86;K. Lind;2;104,25\n")
+ENGLISH = b"Sail,Boat,Helm\nGBR 7,Sea Pink,J. Hale\nGBR 33,Turnstone,R. Shaw\n"
+
+
+class Lists(unittest.TestCase):
+    def test_german(self) -> None:
+        """Semicolons, Latin-1, two rows above the headings, decimal commas: the boats and their ratings are
+        those of the list, and each column that nothing reads is named."""
+        found = mended(GERMAN.encode("latin-1"))
+        self.assertEqual(found.wrong, [])
+        self.assertEqual(found.boats, [Boat("GER 412", "H. Jansen", "Möwe"), Boat("GER 23", "U. Brandt", "Kiebitz"),
+                                       Boat("SWE 86", "K. Lind", "Tärna")])
+        self.assertEqual(found.done, ["Its letters were not UTF-8: look at names with accents.",
+                                      "Its columns were separated by semicolons.",
+                                      "2 rows above the headings left out.", "Not read: Crew."])
+        self.assertEqual(found.data.decode().splitlines()[:2],
+                         ["Boot,Segelnummer,Steuermann,Crew,Yardstick", "Möwe,GER 412,H. Jansen,2,101.5"])
+
+    def test_forms(self) -> None:
+        """The same list in other encodings, separators and ends of lines gives the same boats."""
+        plain = mended(ENGLISH)
+        self.assertEqual((plain.done, plain.wrong, plain.is_sail_known), ([], [], True))
+        text = ENGLISH.decode()
+        for data, said in [(b"\xef\xbb\xbf" + ENGLISH, []), (text.encode("utf-16"), ["It was UTF-16."]),
+                           (text.encode("utf-32"), ["It was UTF-32."]), (ENGLISH.replace(b"\n", b"\r\n"), []),
+                           (text.replace(",", "\t").encode(), ["Its columns were separated by tabs."]),
+                           (text.replace(",", "\t").encode("utf-16"), [
+                               "It was UTF-16.", "Its columns were separated by tabs."]),
+                           (ENGLISH.replace(b"Sail", b"Zeilnummer"), []), (ENGLISH.replace(b"Sail", b"VELA"), [])]:
+            found = mended(data)
+            self.assertEqual((found.boats, found.done, found.wrong), (plain.boats, said, []), data[:20])
+
+    def test_column(self) -> None:
+        """A list whose headings name no sail: the one that looks like it is taken, or one that somebody
+        chooses. Nothing is guessed silently."""
+        found = mended(ENGLISH.replace(b"Sail,", b"Sail no. (big),"))
+        self.assertEqual((found.done, len(found.boats)), (["The column Sail no. (big) is taken for the sails."], 2))
+        other = ENGLISH.replace(b"Sail,", b"Number,")
+        found = mended(other)
+        self.assertEqual((found.is_sail_known, found.boats, found.heads), (False, [], ["Number", "Boat", "Helm"]))
+        self.assertEqual(found.wrong, ["No column of The list has the heading Sail, SailNo or SailNumber."])
+        chosen = mended(other, 0)
+        self.assertEqual((chosen.is_sail_known, len(chosen.boats), chosen.done),
+                         (True, 2, ["The column Number is taken for the sails."]))
+        titled = mended(b"Autumn Cup 2026\n" + other.replace(b",", b";"), 0)
+        self.assertEqual((len(titled.boats), titled.heads), (2, ["Number", "Boat", "Helm"]))
+        # Names with a dot are no sails.
+        self.assertIn('"J. Hale" has a dot', mended(other, 2).wrong[0])
+        for none in (-1, 3, 99):
+            self.assertFalse(mended(other, none).is_sail_known)
+
+    def test_wrong(self) -> None:
+        """What keeps a list from being used is said with its row."""
+        for data, wanted in [(b"", "The list is empty."), (b"PK\x03\x04", "is a spreadsheet, not CSV"),
+                             ("Sail\nA\n".encode("utf-16-le"), "UTF-16 without its mark"),
+                             (b"Sail,Boat\nGBR 7,A\ngbr7,B\n", "The list, row 3: gbr7 is in row 2, too."),
+                             (b"Sail,Boat\nGBR_7,A\n", 'the sail "GBR_7" has an underscore'),
+                             (b"Sail,Boat\n", "The list has headings, but no boats.")]:
+            found = mended(data)
+            self.assertIn(wanted, "\n".join(found.wrong), data)
+            self.assertEqual(found.boats, [])
+
+
+class Rules(unittest.TestCase):
+    def test_words(self) -> None:
+        """What settings mean is said before a series is made of them."""
+        for given, words in [
+                ({}, "Scores excluded: one from 2 races. RRS A5.2. Scoring Penalty 20%. By order of finishing."),
+                ({"exclude": "4,8", "absent": "a53", "scp": "3", "handicap": "yes"},
+                 "Scores excluded: one from 4 races and two from 8 races. RRS A5.3. Scoring Penalty 3 "
+                 "points. By corrected time."),
+                ({"exclude": "none"}, "No score excluded. RRS A5.2. Scoring Penalty 20%. By order of finishing.")]:
+            shown = settings_shown({"settings": given})
+            self.assertEqual((shown["rules"], shown["wrong"]), (words, []))
+        shown = settings_shown({"settings": {"exclude": "8,4", "scp": "0"}})
+        wrong = shown["wrong"]
+        assert isinstance(wrong, list)
+        self.assertEqual((shown["rules"], len(wrong)), ("", 2))
+        self.assertIn("exclude is '8,4'", wrong[0])
+        self.assertRaises(NotSent, settings_shown, {"settings": "all"})
+        rated = settings_shown({"settings": {"handicap": "yes"}, "text": ENGLISH.decode()})
+        self.assertIn("has the heading Rating", str(rated["note"]))
+
+
+class First(Web):
+    """A first run without a series."""
+    words: tuple[str, ...] = ()
+
+    def prepare(self) -> None:
+        os.rename(os.path.join(self.here, "cup"), os.path.join(self.here, "old"))
+        os.symlink(helpers.PROGRAM, os.path.join(self.here, "regatta"))
+
+    def test_made(self) -> None:
+        """The scorer makes a series from a list and settings. Its office opens, its board is there, and the
+        devices stay known; so do the links, when the web comes again with the series."""
+        scorer = self.device("scorer")
+        self.assertEqual(scorer.ask("GET", "/office/scorer/me")[1]["classes"], [])
+        self.assertEqual(scorer.ask("GET", "/")[0], 301)
+        data = base64.b64encode(GERMAN.encode("latin-1")).decode()
+        found = scorer.ask("POST", "/office/scorer/list", {"data": data})[1]
+        self.assertEqual(found["boats"][0], ["GER 412", "Möwe", "H. Jansen", ""])
+        given = {"title": "Herbstpokal", "exclude": "4", "absent": "a53", "zone": "UTC"}
+        made = scorer.ask("POST", "/office/scorer/new", {"name": "herbst", "text": found["text"],
+                                                          "settings": given})[1]
+        self.assertEqual((made["class"], made["open"]), ("herbst", True), made)
+        self.assertIn("exclude = 4\n", self.text("herbst", "series.ini"))
+        finish = self.device("finish")
+        self.assertEqual(finish.tap("FINISH 1 GER412", name="herbst")[1]["outcome"], "taken")
+        helpers.until("the board", lambda: "Herbstpokal" in str(scorer.ask("GET", "/")[1]))
+        for name, text, settings in [("herbst", found["text"], given), ("../x", found["text"], given),
+                                     ("next", "Sail\n?\n", given),
+                                     ("next", found["text"], {**given, "exclude": "1"}),
+                                     ("next", found["text"], {}), ("next", found["text"], "none"),
+                                     ("old", found["text"], given), ("A b", found["text"], given)]:
+            status, said = scorer.ask("POST", "/office/scorer/new", {"name": name, "text": text,
+                                                                      "settings": settings})
+            self.assertEqual(status, 422, (name, said))
+        self.assertEqual(sorted(os.listdir(self.here)), ["herbst", "old", "printed.txt", "regatta"])
+        second = scorer.ask("POST", "/office/scorer/new", {
+            "name": "next", "text": ENGLISH.decode(), "settings": {"title": "Next", "zone": "UTC"}})[1]
+        self.assertEqual(second["open"], True, second)
+        self.assertEqual([one["class"] for one in scorer.ask("GET", "/office/scorer/me")[1]["classes"]],
+                         ["herbst", "next"])
+        self.kill()
+        self.words = ("herbst", "next")
+        self.serve()
+        self.assertEqual(self.known(scorer, finish), [200, 200])
+
+    @staticmethod
+    def known(*devices: Device) -> list[Any]:
+        return [device.again().ask("GET", f"/office/{device.role}/me")[0] for device in devices]
+
+
+if __name__ == "__main__":
+    unittest.main()

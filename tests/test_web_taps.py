@@ -1,0 +1,297 @@
+"""Each tap is done once: sent again and again, after crashes of the web and of the program, by two devices."""
+from __future__ import annotations
+
+import concurrent.futures
+import http.client
+import json
+import os
+import random
+import threading
+import time
+import unittest
+from collections.abc import Callable
+from typing import Any
+
+import helpers
+from web_devices import SAILS, Device, Web, new_id
+
+# The register of taps.
+TAPS = ("cup", "office", "web.taps")
+
+
+class Once(Web):
+    def test_at_once(self) -> None:
+        """One PENALTY eight times at once, over eight connections: one entry, eight equal answers."""
+        finish, id = self.device("finish"), new_id()
+        with concurrent.futures.ThreadPoolExecutor(8) as pool:
+            answers = [answer for _, answer in pool.map(tapped, [(finish, id)] * 8)]
+        self.assertEqual({answer["answer"] for answer in answers}, {answers[0]["answer"]})
+        self.assertEqual([answer["outcome"] for answer in answers], ["taken"] * 8)
+        self.assertEqual(sum(not answer["again"] for answer in answers), 1)
+        self.assertEqual(self.journal(), ["FINISH PENALTY 1 GBR7 ZFP"])
+
+    def test_struck(self) -> None:
+        """A finish that was struck isn't put back by the tap that made it. Another tap of a boat in the order
+        is refused (8)."""
+        finish, scorer, first = self.device("finish"), self.device("scorer"), new_id()
+        finish.tap("FINISH 1 GBR101", first)
+        self.assertEqual(scorer.tap("finish 1 101")[1]["answer"], "NO 8")
+        self.assertEqual(scorer.tap("strike 1 101")[1]["outcome"], "taken")
+        again = finish.tap("FINISH 1 GBR101", first)[1]
+        self.assertEqual((again["outcome"], again["again"], again["entry"]), ("taken", True, len(SAILS) + 1))
+        self.assertEqual(self.journal(), ["FINISH FINISH 1 GBR101", "SCORER STRIKE 1 GBR101"])
+
+    def test_sent_by_others(self) -> None:
+        """The same line by another tap is asked about if it came after what that one's device showed."""
+        finish, scorer = self.device("finish"), self.device("scorer")
+        helpers.until("the journal is shown", lambda: finish.state()["entries"])
+        seen = finish.state()["entries"]
+        finish.tap("PENALTY 1 GBR7 ZFP", seen=seen)
+        status, said = scorer.tap("penalty 1 gbr7 zfp", seen=seen)
+        self.assertEqual((status, said["outcome"], said["question"]["kind"]), (409, "asked", "sent-already"))
+        self.assertEqual(said["question"]["values"], {"line": "PENALTY 1 GBR7 ZFP", "entry": seen + 1})
+        self.assertEqual(len(self.journal()), 1)
+        agreed = [{"kind": said["question"]["kind"], "values": said["question"]["values"]}]
+        self.assertEqual(scorer.tap("penalty 1 gbr7 zfp", seen=seen, agreed=agreed)[1]["outcome"], "taken")
+        self.assertEqual(scorer.tap("penalty 1 gbr7 zfp", seen=seen + 2)[1]["outcome"], "taken")
+
+    def test_questions(self) -> None:
+        """What the typing window asks comes back as a kind with values, and a yes to just that is a yes. Words
+        don't matter; another value is another question."""
+        finish, scorer = self.device("finish"), self.device("scorer")
+        for sail in SAILS[:10]:
+            finish.tap(f"FINISH 1 {sail}")
+        id = new_id()
+        status, said = scorer.tap("SCORE 1", id)
+        asked = said["question"]
+        self.assertEqual((status, asked["kind"]), (409, "score-missing"))
+        self.assertEqual(asked["values"], {"race": 1, "sails": SAILS[10:]})
+        self.assertEqual(asked["text"], "Score race 1 with 2 boats as DNC?")
+        finish.tap(f"FINISH 1 {SAILS[10]}")
+        self.assertEqual(scorer.tap("SCORE 1", id, agreed=[asked])[1]["question"]["values"]["sails"], SAILS[11:])
+        yes = {"kind": "score-missing", "values": {"race": 1, "sails": SAILS[11:]}, "text": "Ja?"}
+        done = scorer.tap("SCORE 1", id, agreed=[asked, yes])[1]
+        self.assertEqual((done["outcome"], self.journal()[-1]), ("taken", "SCORER SCORE 1"))
+        self.assertEqual(finish.tap("STRIKE 1 GBR7")[1]["question"], {
+            "kind": "correction", "values": {"race": 1}, "text": "RACE 1 COUNTS ALREADY. Is this a correction?"})
+
+    def test_taken_away(self) -> None:
+        """A race that is taken away: agreed to are the lines that were shown. Others are asked about again."""
+        finish, scorer = self.device("finish"), self.device("scorer")
+        for line in ("FINISH 1 GBR7", "FINISH 1 GBR33", "PENALTY 1 GBR101 ZFP"):
+            finish.tap(line)
+        first = scorer.tap("ABANDON 1")[1]["question"]
+        self.assertEqual(first["values"], {"race": 1, "lines": ["STRIKE 1 GBR7", "STRIKE 1 GBR33"], "marks": []})
+        finish.tap("FINISH 1 NED12")
+        status, said = scorer.tap("ABANDON 1", agreed=[first])
+        self.assertEqual(status, 409)
+        id = new_id()
+        for again in (False, True):
+            status, done = scorer.tap("ABANDON 1", id, agreed=[said["question"]])
+            self.assertEqual((status, done["outcome"], done["again"]), (200, "noted", again))
+        self.assertEqual(self.journal()[4:], [f"SCORER STRIKE 1 {sail}" for sail in ("GBR7", "GBR33", "NED12")])
+
+    def test_undo(self) -> None:
+        """Undo takes back what another tap did, by the line of the typing window, and not what others have
+        changed since."""
+        finish, scorer = self.device("finish"), self.device("scorer")
+        taps = {line: new_id() for line in ("FINISH 1 GBR101", "FINISH 1 GBR7", "FINISH 1 NED12", "STRIKE 1 GBR7",
+                                            "MARK 1 GBR33 OCS")}
+        for line, id in taps.items():
+            finish.tap(line, id)
+        undo = new_id()
+        for again in (False, True):
+            done = finish.tap("UNDO", undo, undoes=taps["STRIKE 1 GBR7"])[1]
+            self.assertEqual((done["line"], done["again"]), ("BEFORE 1 GBR7 NED12", again))
+        self.assertEqual(finish.tap("UNDO", undoes=taps["MARK 1 GBR33 OCS"])[1]["line"], "CLEAR 1 GBR33")
+        self.assertEqual(self.journal()[5:], ["FINISH BEFORE 1 GBR7 NED12", "FINISH CLEAR 1 GBR33"])
+        scorer.tap("STRIKE 1 NED12")
+        self.assertEqual(finish.tap("UNDO", undoes=taps["FINISH 1 NED12"])[0], 422)
+        self.assertEqual(finish.tap("UNDO", undoes=new_id())[0], 422)
+        self.assertEqual(len(self.journal()), 8)
+
+    def test_places(self) -> None:
+        """A place is kept once, in the file of all windows. It is resolved by a sail, or dropped."""
+        finish, scorer, id = self.device("finish"), self.device("scorer"), new_id()
+        finish.tap("FINISH 2 GBR101")
+        for again in (False, True):
+            done = finish.tap("? 2", id)[1]
+            self.assertEqual((done["outcome"], done["mark"], done["again"]), ("noted", "?1", again))
+        finish.tap("FINISH 2 GBR7")
+        self.assertEqual(finish.tap("? 2")[1]["mark"], "?2")
+        self.assertEqual(scorer.state()["races"]["2"]["unread"],
+                         [{"mark": "?1", "place": "2nd", "after": 1}, {"mark": "?2", "place": "4th", "after": 2}])
+        self.assertEqual(self.text("cup", "office", "places").count('"what": "kept"'), 2)
+        known = new_id()
+        for _ in range(2):
+            self.assertEqual(scorer.tap("?1 2 IRL5", known)[1]["line"], "BEFORE 2 IRL5 GBR7")
+        dropped = new_id()
+        for _ in range(2):
+            self.assertEqual(finish.tap("?2 2 NONE", dropped)[1]["outcome"], "noted")
+        self.assertEqual(scorer.state()["races"]["2"]["unread"], [])
+        self.assertEqual(finish.tap("UNDO", undoes=dropped)[1]["outcome"], "noted")
+        self.assertEqual(scorer.tap("UNDO", undoes=known)[1]["line"], "STRIKE 2 IRL5")
+        self.assertEqual([one["mark"] for one in scorer.state()["races"]["2"]["unread"]], ["?1", "?2"])
+
+    def test_window_beside(self) -> None:
+        """What is typed in a window beside is shown on pages, and places are kept for both."""
+        finish, window = self.device("finish"), self.typist("finish")
+        self.play(window, """
+> finish 1 101
+OK 13
+> at 1
+> ?
+?1 keeps her place
+""")
+        helpers.until("the finisher", lambda: "1" in finish.state()["races"]
+                      and finish.state()["races"]["1"]["unread"])
+        self.assertEqual(finish.state()["races"]["1"]["order"], [["GBR101"]])
+        self.assertEqual(finish.tap("?1 1 GBR7")[1]["line"], "FINISH 1 GBR7")
+
+
+class Elsewhere(Web):
+    """Two devices record one race."""
+
+    def test_by_the_clock(self) -> None:
+        """Others were recorded since a boat was tapped: she goes last if the clock says so, too, and else it
+        is asked."""
+        ann, ben, now = self.device("finish"), self.device("finish", "Ben"), int(time.time() * 1000)
+        ann.tap("FINISH 1 GBR101", at=now, behind="")
+        ben.tap("FINISH 1 GBR33", at=now + 10_000, behind="GBR101")
+        self.assertEqual(ann.tap("FINISH 1 GBR7", at=now + 20_000, behind="GBR101")[1]["outcome"], "taken")
+        status, said = ann.tap("FINISH 1 NED12", at=now + 15_000, behind="GBR33")
+        self.assertEqual((status, said["outcome"], said["clock"]), (409, "elsewhere", "BEFORE 1 NED12 GBR7"))
+        self.assertEqual(said["question"]["values"],
+                         {"race": 1, "sail": "NED12", "others": ["GBR7"], "ahead": "GBR7"})
+        self.assertEqual(said["question"]["text"], "Meanwhile GBR 7 Sea Pink was recorded. By the clock "
+                         "NED 12 Windhover is just ahead of GBR 7 Sea Pink.")
+        ann.tap("FINISH 1 NED12", at=now + 15_000, behind="GBR33", by_clock=True)
+        # Within a second the clocks of two devices don't say who was first.
+        self.assertEqual(ann.tap("FINISH 1 FRA9", at=now + 20_500, behind="NED12")[0], 409)
+        self.assertEqual(ann.tap("FINISH 1 FRA9", at=now + 20_500, behind=None)[1]["line"], "FINISH 1 FRA9")
+        self.assertEqual(self.journal(), ["FINISH FINISH 1 GBR101", "FINISH FINISH 1 GBR33", "FINISH FINISH 1 GBR7",
+                                          "FINISH BEFORE 1 NED12 GBR7", "FINISH FINISH 1 FRA9"])
+
+
+class Crashes(Web):
+    def lines(self) -> list[Any]:
+        """The lines of the register that aren't torn."""
+        return [json.loads(line) for line in self.text(*TAPS).splitlines() if line.endswith("}")]
+
+    def test_between_line_and_answer(self) -> None:
+        """The web dies when the office has taken a line, and the register doesn't know; and just before a line
+        is sent. Numbers may be written otherwise in the journal."""
+        finish, scorer = self.device("finish"), self.device("jury")
+        done, points, lost, torn = (new_id() for _ in range(4))
+        finish.tap("PENALTY 01 GBR7 ZFP", done)
+        scorer.tap("REDRESS 1 GBR7 3", points, agreed=[{"kind": "redress-unplaced", "values": {
+            "race": 1, "sail": "GBR7", "counts": False, "a53": False}}])
+        self.assertEqual(len(self.journal()), 2)
+        self.kill()
+        kept = [line for line in self.lines() if "line" in line]
+        kept.append({**kept[0], "id": lost, "line": "PENALTY 1 GBR33 ZFP", "entries": kept[0]["entries"] + 2})
+        self.write("".join(json.dumps(line) + "\n" for line in kept) + f'{{"id": "{torn}', *TAPS)
+        self.serve()
+        for id, device, line, answer in [
+                (done, finish, "PENALTY 01 GBR7 ZFP", "OK 13"), (points, scorer, "REDRESS 1 GBR7 3", "OK 14"),
+                (lost, finish, "PENALTY 1 GBR33 ZFP", "OK 15"), (torn, finish, "PENALTY 1 GBR101 ZFP", "OK 16"),
+                (done, finish, "PENALTY 01 GBR7 ZFP", "OK 13"), (lost, finish, "PENALTY 1 GBR33 ZFP", "OK 15")]:
+            said = device.again().tap(line, id)[1]
+            self.assertEqual(" ".join(said["answer"].split()[:2]), answer, line)
+        self.assertEqual(self.journal(), ["FINISH PENALTY 1 GBR7 ZFP", "JURY REDRESS 1 GBR7 3.0",
+                                          "FINISH PENALTY 1 GBR33 ZFP", "FINISH PENALTY 1 GBR101 ZFP"])
+        # Nothing was swallowed by the torn line. What was never sent is noted once more.
+        self.assertEqual([line["id"] for line in self.lines() if "line" in line],
+                         [done, points, lost, lost, torn])
+
+    def test_between_place_and_answer(self) -> None:
+        """The web dies when a place was kept or dropped, and the register doesn't know."""
+        finish, first, second, dropped = self.device("finish"), new_id(), new_id(), new_id()
+        finish.tap("? 1", first)
+        finish.tap("? 1", second)
+        finish.tap("?1 1 NONE", dropped)
+        self.kill()
+        kept = [line for line in self.lines() if "line" in line or line["id"] == first]
+        self.write("".join(json.dumps(line) + "\n" for line in kept), *TAPS)
+        self.serve()
+        finish = finish.again()
+        self.assertEqual(finish.tap("? 1", second)[1]["mark"], "?2")
+        self.assertEqual(finish.tap("? 1", first)[1]["mark"], "?1")
+        self.assertEqual(finish.tap("?1 1 NONE", dropped)[1]["outcome"], "noted")
+        self.assertEqual([one["mark"] for one in finish.state()["races"]["1"]["unread"]], ["?2"])
+        self.assertEqual(finish.tap("? 1")[1]["mark"], "?3")
+
+    def test_program(self) -> None:
+        """The program is killed: the web opens the office again, and the tap that waited is sent."""
+        finish = self.device("finish")
+        finish.tap("FINISH 1 GBR101")
+        self.kill_program()
+        id = new_id()
+        helpers.until("the next finisher", lambda: finish.tap("FINISH 1 GBR7", id)[0] == 200)
+        self.assertEqual(self.journal(), ["FINISH FINISH 1 GBR101", "FINISH FINISH 1 GBR7"])
+
+    def test_bad_afternoon(self) -> None:
+        """Two devices send finishes and penalties, each up to three times, while web and program are killed at
+        random moments: the journal has each once, and those of a device in its order."""
+        seed = int(os.environ.get("SEED", "") or random.randrange(1 << 32))
+        chance = random.Random(seed)
+        owners, done = [self.device("finish", name) for name in ("Ann", "Ben")], [0, 0]
+        plans = [[(line, new_id(), chance.randint(1, 3)) for sail in SAILS[at::2]
+                  for line in (f"FINISH 1 {sail}", f"PENALTY 1 {sail} ZFP")] for at in (0, 1)]
+        wrong: list[object] = []
+
+        def send(at: int) -> None:
+            for line, id, times in plans[at]:
+                while times and not wrong:
+                    status, said = tried(owners[at], line, id)
+                    times -= status == 200
+                    if status == 200 and said["outcome"] != "taken":
+                        wrong.append((line, said))
+                    if status != 200:
+                        time.sleep(0.1)
+                done[at] += 1
+
+        threads = [threading.Thread(target=send, args=(at,)) for at in (0, 1)]
+        for thread in threads:
+            thread.start()
+        self.kill_at_random(chance, sum(map(len, plans)), lambda: sum(done), wrong)
+        for thread in threads:
+            thread.join(helpers.PATIENCE)
+        self.assertEqual(wrong, [], f"SEED={seed}")
+        journal = self.journal()
+        self.assertEqual(sorted(journal), sorted(f"FINISH {line}" for plan in plans for line, _, _ in plan),
+                         f"SEED={seed}")
+        for plan in plans:
+            mine = [f"FINISH {line}" for line, _, _ in plan]
+            self.assertEqual([line for line in journal if line in mine], mine, f"SEED={seed}")
+
+
+    def kill_at_random(self, chance: random.Random, whole: int, done: Callable[[], int],
+                       wrong: list[object]) -> None:
+        """Kills the web and the program twice each, after some of all taps."""
+        for goal, what in sorted((chance.randrange(2, whole - 2), what) for what in ("web", "program") * 2):
+            helpers.until(f"{goal} taps", lambda: done() >= goal or wrong)
+            time.sleep(chance.random() / 20)
+            if what == "web":
+                self.kill()
+                self.serve()
+            else:
+                self.kill_program()
+
+
+def tapped(tap: tuple[Device, str]) -> tuple[int, Any]:
+    """The answer to a penalty, over a connection of its own."""
+    device, id = tap
+    return device.again().tap("PENALTY 1 GBR7 ZFP", id)
+
+
+def tried(device: Device, line: str, id: str) -> tuple[int, Any]:
+    """The answer to a tap; status 0 if none came."""
+    try:
+        return device.again().tap(line, id)
+    except (OSError, http.client.HTTPException):
+        return 0, {}
+
+
+if __name__ == "__main__":
+    unittest.main()

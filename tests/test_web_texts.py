@@ -1,0 +1,267 @@
+"""The words of the office's pages: each key in each language, each with the same values, none without a use."""
+from __future__ import annotations
+
+import json
+import os
+import re
+import unittest
+
+import helpers
+from raceoffice.program.codes import CODES, OF_COMMITTEE, OF_JURY
+from raceoffice.program.messages import NUMBERS
+from raceoffice.series.settings import STATES
+from raceoffice.session.dialogue import Value
+from raceoffice.session.question_words import WORDS
+from raceoffice.session.said_words import WORDS as SAID, SaidWords
+
+STATIC = os.path.join(helpers.TOP, "raceoffice", "web", "static")
+LANGUAGES = ["de", "en", "es", "fr", "it", "nl"]
+# What Unicode calls the plural forms that these languages have below a million, and English ordinals besides.
+PLURALS, ORDINALS = {"one", "other"}, {"one", "two", "few", "other"}
+VALUE = re.compile(r"\{(\w+)\}")
+# Keys that scripts make of a value: what comes before it, and what may follow.
+MADE = {
+    "role.": ["FINISH", "JURY", "SCORER"], "enter.before.": ["finish", "jury", "scorer"],
+    "enter.as.": ["finish", "jury", "scorer"], "scorer.tab.": ["races", "results", "links", "office", "times",
+                                                                       "settings", "new"],
+    "new.": ["oneFrom", "twoFrom", "threeFrom", "fourFrom"], "new.wrong.": ["title", "zone", "exclude", "scp"],
+    "times.": ["start", "laps", "distance", "finish", "corrected"], "rules.from.": ["1", "2", "3", "4"],
+    "settings.key.": ["title", "class", "club", "zone", "exclude", "absent", "scp", "handicap"],
+    "code.": [*OF_COMMITTEE, "ZFP", "SCP"],
+    "finish.": ["level", "code", "round"], "jury.head.": ["CLEAR", "REINSTATE", "SHARE"],
+    "jury.takes.": ["points", "penalty", "limit", "races"],
+    "jury.what.": [*OF_JURY, "ALL", "PRIOR", "POINTS", "ZFP", "SCP", "CLEAR", "DPI", "PRP", "T1", "SHARE", "TLE", "NSC",
+                   "AVG", "DUTY", "REINSTATE"],
+    "refused.": [str(number) for number in NUMBERS if number < 20],
+    "results.state.": STATES, "results.declare.": STATES,
+    "results.file.": ["html", "csv", "semicolons", "json", "text"],
+    "trouble.": ["0", "401", "403", "429"],
+}
+# The questions with words of their own for some values, and what comes before any question about a race that counts.
+VARIANTS = ["ask.announce.amended", "ask.announce.provisional", "ask.counts", "ask.take-over.since",
+            "ask.score-penalised.a53", "ask.redress-unplaced.a53", "ask.abandon.places",
+            "ask.others-recorded.ahead", "ask.others-recorded.changed", "ask.others-recorded.changed.ahead"]
+
+
+# What is said in words that the pages have for something else
+SAID_OTHERWISE = {"refused", "moved"}
+# Values that the page makes of others
+MADE_OF_OTHERS = {"n", "why"}
+
+
+class Asked(dict[str, Value]):
+    """Values that are whatever is asked for: all of them something, or all nothing. `names` are those that were."""
+
+    def __init__(self, is_something: bool) -> None:
+        super().__init__()
+        self.is_something, self.names = is_something, set[str]()
+
+    def __missing__(self, name: str) -> Value:
+        self.names.add(name)
+        return int(self.is_something)
+
+
+def values_said(kind: str) -> set[str]:
+    """The values of which the terminal's words for a kind of what is said are made."""
+    found = set()
+    for is_something in (False, True):
+        values = Asked(is_something)
+        SAID[kind](SaidWords(str, "", values))
+        found |= values.names
+    return found
+
+
+def variants_said() -> set[str]:
+    """The keys of what is said in other words for some values, as the script has them."""
+    with open(os.path.join(STATIC, "said-words.js"), encoding="utf-8") as file:
+        part = file.read().partition("const VARIANTS = {")[2].partition("};")[0]
+    rows = re.findall(r'"([a-z-]+)": values => (.*)', part)
+    return {f"said.{kind}{end}" for kind, rest in rows for end in re.findall(r'"(\.\w+)"', rest)}
+
+
+def table(language: str) -> dict[str, str | dict[str, str]]:
+    """The texts of a language: those of the finish page and of all, and the others."""
+    return part(language) | part(f"{language}-desk")
+
+
+def part(name: str) -> dict[str, str | dict[str, str]]:
+    with open(os.path.join(STATIC, "texts", f"{name}.json"), encoding="utf-8") as file:
+        held: dict[str, str | dict[str, str]] = json.load(file)
+    return held
+
+
+def forms(text: str | dict[str, str]) -> dict[str, str]:
+    return text if isinstance(text, dict) else {"other": text}
+
+
+# The first words of keys
+FIRSTS = "|".join(sorted({key.split(".")[0] for key in table("en")}))
+
+
+def scripts() -> str:
+    """All scripts of the pages."""
+    parts = []
+    for name in sorted(os.listdir(STATIC)):
+        if name.endswith(".js"):
+            with open(os.path.join(STATIC, name), encoding="utf-8") as file:
+                parts.append(file.read())
+    return "\n".join(parts)
+
+
+def used() -> set[str]:
+    """The keys that the scripts name whole or make of a value."""
+    named = set(re.findall(r'"((?:%s)\.[\w.-]+)"' % FIRSTS, scripts()))
+    return {*(key for key in named if not key.endswith((".js", ".css", ".webmanifest"))),
+            *(before + rest for before, all_rest in MADE.items() for rest in all_rest),
+            *(f"ask.{kind}" for kind in WORDS), *VARIANTS,
+            *(f"said.{kind}" for kind in SAID.keys() - SAID_OTHERWISE), *variants_said()}
+
+
+def values_of_questions() -> dict[str, set[str]]:
+    """The values of each kind of question, as docs/BROWSER.md lists them."""
+    with open(os.path.join(helpers.TOP, "docs", "BROWSER.md"), encoding="utf-8") as file:
+        part = file.read().partition("## Questions")[2].partition("\n## ")[0]
+    found = {}
+    for kinds, values in re.findall(r"^\| (`[a-z-]+`(?:, `[a-z-]+`)*) \| (.*?) \|", part, re.MULTILINE):
+        for kind in re.findall(r"`([a-z-]+)`", kinds):
+            found[kind] = set(re.findall(r"`(\w+)`", values))
+    return found
+
+
+class Texts(unittest.TestCase):
+    def test_languages(self) -> None:
+        """There is a table for each language that the pages offer, and no other."""
+        offered = re.search(r"LANGUAGES = \{(.*?)\}", scripts())
+        assert offered
+        self.assertEqual(sorted(re.findall(r"(\w+):", offered[1])), LANGUAGES)
+        self.assertEqual(sorted(os.listdir(os.path.join(STATIC, "texts"))),
+                         sorted(f"{one}{end}.json" for one in LANGUAGES for end in ("", "-desk")))
+
+    def test_parts(self) -> None:
+        """The finish page, which loads the first part alone, has all that it names; no key is in both parts."""
+        with open(os.path.join(STATIC, "worker.js"), encoding="utf-8") as file:
+            names = re.findall(r'"([\w-]+\.js)"', file.read())
+        needed = set()
+        for name in names:
+            with open(os.path.join(STATIC, name), encoding="utf-8") as file:
+                needed |= set(re.findall(r'"((?:%s)\.[\w.-]+)"' % FIRSTS, file.read()))
+        keys = {key for key in needed if not key.endswith((".js", ".css", ".webmanifest"))}
+        self.assertEqual(keys - set(part("en")), set())
+        self.assertEqual(set(part("en")) & set(part("en-desk")), set())
+
+    def test_keys(self) -> None:
+        """Each language has each key that the scripts use, and none besides, in the same order."""
+        english = list(table("en"))
+        self.assertEqual(set(english) - used(), set(), "used by no script")
+        self.assertEqual(used() - set(english), set(), "in no table")
+        for language in LANGUAGES:
+            self.assertEqual(list(table(language)), english, language)
+
+    def test_values(self) -> None:
+        """Each form of a text has the same values in braces in each language; a form for nought may leave out
+        the number."""
+        english = table("en")
+        for language in LANGUAGES:
+            for key, text in table(language).items():
+                wanted = set(VALUE.findall(forms(english[key])["other"]))
+                for form, words in forms(text).items():
+                    with self.subTest(language=language, key=key, form=form):
+                        self.assertNotEqual(words.strip(), "")
+                        self.assertEqual(set(VALUE.findall(words)) | ({"n"} & wanted if form == "zero" else set()),
+                                         wanted)
+
+    def test_plurals(self) -> None:
+        """A text that English has for one and several has both in each language, and no form that none asks for."""
+        english = table("en")
+        for language in LANGUAGES:
+            for key, text in table(language).items():
+                with self.subTest(language=language, key=key):
+                    self.assertEqual(isinstance(text, dict), isinstance(english[key], dict))
+                    needed = ORDINALS if key == "common.ordinal" else PLURALS
+                    if isinstance(text, dict):
+                        self.assertEqual(set(text) - {"zero"}, needed)
+
+    def test_questions(self) -> None:
+        """Each question of the office has words here, of no values but its own."""
+        asked = values_of_questions()
+        self.assertEqual(set(asked), set(WORDS))
+        for key, text in table("en").items():
+            kind = key.removeprefix("ask.").split(".")[0]
+            if key.startswith("ask.") and kind != "counts":
+                of_text = set(VALUE.findall(forms(text)["other"])) - {"n", "held"}
+                self.assertEqual(of_text - asked[kind], set(), key)
+
+    def test_said(self) -> None:
+        """Whatever a session can say has words here, of no values but its own."""
+        self.assertGreater(len(variants_said()), 4)
+        for key, text in table("en").items():
+            kind = key.removeprefix("said.").split(".")[0]
+            if key.startswith("said.") and kind in SAID:
+                of_text = set(VALUE.findall(forms(text)["other"])) - MADE_OF_OTHERS
+                self.assertEqual(of_text - values_said(kind), set(), key)
+
+    def test_codes_and_lines(self) -> None:
+        """Codes and words of lines are the same in each language."""
+        words = re.compile(r"\b(DN[CSFE]|OCS|UFD|BFD|RET|DSQ|TIME|FINISH|TIE|BEFORE|A\d\.\d|A9\([abc]\)|30\.[234]|44\.3"
+                           r"|CSV|raceoffice remove)")
+        english = table("en")
+        for language in LANGUAGES:
+            for key, text in table(language).items():
+                for form, said in forms(text).items():
+                    expected = sorted(words.findall(forms(english[key]).get(form, forms(english[key])["other"])))
+                    if language != "en" and key not in ("new.scpUsual",):
+                        self.assertEqual(sorted(words.findall(said)), expected, f"{language} {key}")
+
+
+class Scripts(unittest.TestCase):
+    def test_strict(self) -> None:
+        """Each script begins with 'use strict', and a line says what it is for."""
+        for name in os.listdir(STATIC):
+            if name.endswith(".js"):
+                with open(os.path.join(STATIC, name), encoding="utf-8") as file:
+                    first, second = file.read().splitlines()[:2]
+                self.assertEqual((first, second[:3]), ("'use strict';", "// "), name)
+
+    def test_codes(self) -> None:
+        """The pages have the codes of the package, each with who gives it and whether she broke a rule."""
+        with open(os.path.join(STATIC, "sails.js"), encoding="utf-8") as file:
+            lists = {name: set(re.findall(r"\w+", words))
+                     for name, words in re.findall(r"const (\w+) = \[(.*?)\]", file.read())}
+        self.assertEqual(lists["CODES"], set(OF_COMMITTEE))
+        self.assertEqual(lists["JURY_CODES"], set(OF_JURY))
+        self.assertEqual((lists["HARD"] - {"JURY_CODES"}) | lists["JURY_CODES"],
+                         {word for word, code in CODES.items() if code.is_breach})
+
+    def test_nothing_inline(self) -> None:
+        """Pages have no script, style or handler of their own, and nothing from elsewhere."""
+        for name in os.listdir(STATIC):
+            if name.endswith(".html"):
+                with open(os.path.join(STATIC, name), encoding="utf-8") as file:
+                    page = file.read()
+                self.assertEqual(re.findall(r"<style|style=| on\w+=|<script(?![^>]*src=)[^>]*>|https?:", page), [], name)
+                for path in re.findall(r'(?:href|src)="([^"]*)"', page):
+                    self.assertTrue(os.path.exists(os.path.join(STATIC, path.removeprefix("/office/static/"))), path)
+
+    def test_no_html_of_texts(self) -> None:
+        """What a list or a device is called is never taken for HTML."""
+        self.assertEqual(re.findall(r"innerHTML|outerHTML|insertAdjacentHTML|document\.write|\beval\(|new Function",
+                                    scripts()), [])
+
+    def test_kept_files(self) -> None:
+        """The finish page's worker keeps all that its page loads."""
+        with open(os.path.join(STATIC, "worker.js"), encoding="utf-8") as file:
+            kept = set(re.findall(r'"([\w-]+\.(?:css|js|webmanifest))"', file.read()))
+        needed, waiting = {"finish.js", "finish.css", "base.css", "finish.webmanifest"}, ["finish.js"]
+        while waiting:
+            with open(os.path.join(STATIC, waiting.pop()), encoding="utf-8") as file:
+                found = set(re.findall(r'from "\./([\w.-]+)"', file.read())) - needed
+            needed |= found
+            waiting += found
+        self.assertEqual(kept, needed)
+        with open(os.path.join(STATIC, "finish.html"), encoding="utf-8") as file:
+            loaded = set(re.findall(r'/office/static/([\w.-]+)"', file.read()))
+        self.assertEqual(loaded, needed)
+
+
+if __name__ == "__main__":
+    unittest.main()

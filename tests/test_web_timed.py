@@ -1,0 +1,227 @@
+"""Corrected times from taps: a start, finishes by the office's clock, codes; the lines are those that the
+program of times computes."""
+from __future__ import annotations
+
+import datetime
+import os
+import unittest
+from typing import Any
+
+import helpers
+from raceoffice.corrected.write_sheet import SheetOfRace
+from raceoffice.errors import NotSent, Trouble
+from raceoffice.series import settings
+from raceoffice.series.folder import Folder
+from web_devices import Device, Web, new_id
+
+ENTRIES = "Sail,Boat,TCF\nGBR 101,Kestrel,1.000\nGBR 7,Sea Pink,0.900\nNED 12,Windhover,1.250\nFRA 9,Plover,0.8\n"
+
+
+def moment(clock: str) -> int:
+    """Milliseconds since 1970 of a time of the clock, in UTC, with a part of a second."""
+    found = datetime.datetime.fromisoformat(f"2026-11-28T{clock}+00:00")
+    return int(found.timestamp() * 1000) + 700
+
+
+@helpers.needs_times
+class Timed(Web):
+    def prepare(self) -> None:
+        self.write(ENTRIES, "cup", "entries.csv")
+        self.write(settings.filled_in({"title": "Autumn Cup", "program": helpers.PROGRAM, "zone": "UTC",
+                                       "handicap": "yes"}), "cup", "series.ini")
+        os.mkdir(os.path.join(self.here, "cup", "times"))
+        self.write(f"[times]\nsystem = tcf\nprogram = {helpers.TIMES}\n", "cup", "times", "rules.ini")
+
+    def finish(self, device: Device, sail: str, clock: str, id: str = "") -> Any:
+        return device.tap(f"FINISH 1 {sail}", id, at=moment(clock))[1]
+
+    def sheet(self) -> list[str]:
+        return self.text("cup", "times", "race-1.csv").splitlines()
+
+    def test_race(self) -> None:
+        """A race from its start to a code: elapsed time by the rating, 3,600 s x 1.000, 3,900 s x 0.900 and
+        2,881 s x 1.250 = 3,601.25 s. A tap that comes again is done once."""
+        ann, scorer, id = self.device("finish"), self.device("scorer"), new_id()
+        self.assertEqual(ann.tap("START 1 14:00")[1]["outcome"], "noted")
+        self.assertEqual(self.finish(ann, "GBR101", "15:00:00")["line"], "FINISH 1 GBR101")
+        for again in (False, True):
+            done = self.finish(ann, "gbr7", "15:05:00", id)
+            self.assertEqual((done["outcome"], done["entry"], done["again"]), ("taken", 6, again))
+        self.finish(ann, "NED12", "14:48:01")
+        self.assertEqual(self.journal(), ["FINISH TIME 1 GBR101 3600", "FINISH TIME 1 GBR7 3510",
+                                          "FINISH TIME 1 NED12 3601"])
+        self.assertEqual(self.sheet(), ["Sail,Start,Finish,Code", "GBR101,14:00:00,15:00:00,",
+                                        "GBR7,14:00:00,15:05:00,", "NED12,14:00:00,14:48:01,", "FRA9,14:00:00,,"])
+        self.assertEqual(scorer.tap("mark 1 9 dnf")[1]["outcome"], "taken")
+        race = scorer.state()["races"]["1"]
+        self.assertEqual(race["order"], [["GBR7"], ["GBR101"], ["NED12"]])
+        self.assertEqual(race["sheet"], {"start": "14:00:00", "wrong": [], "rows": {
+            "GBR101": {"finish": "15:00:00", "code": "", "elapsed": 3600},
+            "GBR7": {"finish": "15:05:00", "code": "", "elapsed": 3900},
+            "NED12": {"finish": "14:48:01", "code": "", "elapsed": 2881},
+            "FRA9": {"finish": "", "code": "DNF", "elapsed": None}}})
+        self.assertEqual(race["at"]["GBR7"], moment("15:05:00"))
+        # She has finished already, and isn't moved by another tap.
+        self.assertEqual(ann.tap("FINISH 1 GBR7", at=moment("15:06:00"))[0], 422)
+        self.assertEqual(len(self.journal()), 4)
+        # raceoffice times has nothing to correct.
+        said, status = helpers.run("times", "cup", "1", cwd=self.here)
+        self.assertIn("4 boats, no lines", said)
+
+    def test_corrections(self) -> None:
+        """Undo and strike take a finish back; a code takes the time away; a start that was wrong moves all."""
+        ann, id = self.device("finish"), new_id()
+        # A finish before the start is known is kept, and its line follows.
+        self.assertEqual(self.finish(ann, "GBR101", "15:00:00", id)["outcome"], "noted")
+        self.finish(ann, "GBR7", "15:05:00")
+        self.assertEqual(self.journal(), [])
+        ann.tap("START 1 14:01:00")
+        self.assertEqual(self.journal(), ["FINISH TIME 1 GBR101 3540", "FINISH TIME 1 GBR7 3456"])
+        ann.tap("START 1 14:00:00")
+        self.assertEqual(self.journal()[2:], ["FINISH STRIKE 1 GBR101", "FINISH TIME 1 GBR101 3600",
+                                              "FINISH STRIKE 1 GBR7", "FINISH TIME 1 GBR7 3510"])
+        self.assertEqual(ann.tap("UNDO", undoes=id)[1]["outcome"], "taken")
+        self.assertEqual((self.journal()[-1], self.sheet()[1]), ("FINISH STRIKE 1 GBR101", "GBR101,14:00:00,,"))
+        ann.tap("MARK 1 GBR7 RET")
+        self.assertEqual(self.journal()[-2:], ["FINISH MARK 1 GBR7 RET", "FINISH STRIKE 1 GBR7"])
+        ann.tap("CLEAR 1 GBR7")
+        self.assertEqual(self.journal()[-2:], ["FINISH CLEAR 1 GBR7", "FINISH TIME 1 GBR7 3510"])
+        self.assertEqual(ann.tap("STRIKE 1 NED12")[0], 422)
+        self.assertEqual(ann.tap("START 1 25:00")[0], 422)
+        self.assertEqual(ann.tap("? 1")[0], 422)
+
+    def test_starts(self) -> None:
+        """Two starts at one line, from the scorer's page: 3,600 s x 1.000 from 14:00, and from 14:10 3,300 s x 0.900. Nothing is sent until TIMES sends it; what isn't of its form isn't written."""
+        ann, scorer = self.device("finish"), self.device("scorer")
+        ann.tap("START 1 14:00")
+        self.finish(ann, "GBR101", "15:00:00")
+        self.finish(ann, "GBR7", "15:05:00")
+        before = self.journal()
+        tag = self.times_sheet(scorer)["tag"]
+        odd: list[tuple[int, Any, str]] = [
+            (1, {"GBR7": {"start": "25:00"}}, tag),
+            (1, {"GBR7": {"laps": "3"}}, tag),
+            (1, None, tag),
+            (1, {"USA1": {"start": "14:10"}}, tag),
+            (1, {"GBR7": {"start": "14:10"}}, "old"),
+            (41, {}, tag),
+            (1, {"GBR7": {"start": "14:1\n0"}}, tag),
+            (1, {"GBR7": "14:10"}, tag),
+            (1, {"GBR7": {"finish": "16:00:00"}}, tag)]
+        for race, rows, wanted in odd:
+            given = {"race": race, "rows": rows, "tag": wanted}
+            self.assertEqual(scorer.ask("POST", "/office/scorer/sheet/cup", given)[0], 422, given)
+        late: dict[str, dict[str, str]] = {"GBR7": {"start": "14:10"}, "NED12": {"start": "14:10"}}
+        status, found = scorer.ask("POST", "/office/scorer/sheet/cup", {"race": 1, "rows": late, "tag": tag})
+        self.assertEqual((status, self.journal()), (200, before), found)
+        self.assertEqual(self.sheet()[:4], ["Sail,Start,Finish,Code", "GBR101,14:00:00,15:00:00,", "GBR7,14:10:00,15:05:00,",
+                                            "NED12,14:10:00,,"])
+        self.assertEqual(scorer.tap("TIMES 1")[1]["outcome"], "taken")
+        self.assertEqual(self.journal()[len(before):], ["SCORER STRIKE 1 GBR7", "SCORER TIME 1 GBR7 2970"])
+        self.assertEqual([row["start"] for row in self.times_sheet(scorer)["rows"][:3]], ["14:00:00", "14:10:00", "14:10:00"])
+        # Who finishes then has the start of her own.
+        self.finish(ann, "NED12", "15:10:00")
+        self.assertEqual(self.journal()[-1], "FINISH TIME 1 NED12 4500")
+        for line in ("TIMES 2", "TIMES", "TIMES 1 2"):
+            self.assertEqual(scorer.tap(line)[0], 422, line)
+
+        self.check_columns(scorer)
+
+    def check_columns(self, scorer: Device) -> None:
+        """Portsmouth Yardstick takes laps, and time on distance miles; a column that is missing is added."""
+        path = "/office/scorer/sheet/cup"
+        for system, key, text, other, line in [("py", "laps", "3", "distance", "GBR7,14:10:00,15:05:00,,3"),
+                                               ("tod", "distance", "6,5", "laps", "GBR7,14:10:00,15:05:00,,3,6.5")]:
+            self.write(f"[times]\nsystem = {system}\n", "cup", "times", "rules.ini")
+            shown = self.times_sheet(scorer)
+            self.assertEqual(shown["columns"], ["start", key])
+            for cells, status in [({other: text}, 422), ({key: "x"}, 422), ({key: text}, 200)]:
+                given = {"race": 1, "rows": {"GBR7": cells}, "tag": shown["tag"]}
+                self.assertEqual(scorer.ask("POST", path, given)[0], status, given)
+            self.assertEqual(self.sheet()[2], line)
+
+    def times_sheet(self, scorer: Device) -> Any:
+        return scorer.ask("GET", "/office/scorer/sheet/cup/1")[1]
+
+    def test_counting(self) -> None:
+        """A race that counts is asked about before the sheet is written."""
+        ann, scorer = self.device("finish"), self.device("scorer")
+        ann.tap("START 1 14:00:00")
+        for sail in ("GBR101", "GBR7", "NED12"):
+            self.finish(ann, sail, "15:00:00")
+        missing = [{"kind": "score-missing", "values": {"race": 1, "sails": ["FRA9"]}}]
+        self.assertEqual(scorer.tap("SCORE 1", agreed=missing)[1]["outcome"], "taken")
+        before, at = self.sheet(), moment("15:30:00")
+        status, said = ann.tap("FINISH 1 FRA9", at=at)
+        self.assertEqual((status, said["question"]["kind"], self.sheet()), (409, "correction", before))
+        self.assertEqual(ann.tap("FINISH 1 FRA9", agreed=[said["question"]], at=at)[1]["outcome"], "taken")
+        self.assertEqual(self.journal()[-1], "FINISH TIME 1 FRA9 4320")
+
+    def test_crash(self) -> None:
+        """The web dies between the sheet and its line: the tap that comes again sends it, once."""
+        ann, id = self.device("finish"), new_id()
+        ann.tap("START 1 14:00:00")
+        self.finish(ann, "GBR101", "15:00:00", id)
+        self.kill()
+        path = ("cup", "office", "web.taps")
+        kept = [line for line in self.text(*path).splitlines() if id not in line or '"line"' in line]
+        self.write("\n".join(kept) + "\n", *path)
+        self.serve()
+        self.assertEqual(self.finish(ann.again(), "GBR101", "15:00:00", id)["outcome"], "noted")
+        self.assertEqual(self.journal(), ["FINISH TIME 1 GBR101 3600"])
+
+
+class Sheets(unittest.TestCase):
+    """The sheet alone."""
+
+    def sheet(self, text: str = "") -> SheetOfRace:
+        folder = self.folder_made()
+        if text:
+            os.mkdir(os.path.join(folder, "times"))
+            with open(os.path.join(folder, "times", "race-3.csv"), "w", encoding="utf-8") as file:
+                file.write(text)
+        return SheetOfRace(self.series(folder), 3)
+
+    def folder_made(self) -> str:
+        holder = helpers.folder()
+        found = holder.__enter__()
+        self.addCleanup(holder.__exit__, None, None, None)
+        with open(os.path.join(found, "series.ini"), "w", encoding="utf-8") as file:
+            file.write(settings.filled_in({"title": "Autumn Cup"}))
+        return found
+
+    @staticmethod
+    def series(folder: str) -> Folder:
+        return Folder(folder)
+
+    def written(self, sheet: SheetOfRace) -> list[str]:
+        sheet.write()
+        with open(sheet.path, encoding="utf-8") as file:
+            return file.read().splitlines()
+
+    def test_other_columns(self) -> None:
+        """A sheet that somebody has begun keeps its columns and rows; decimal commas stay numbers."""
+        sheet = self.sheet("Segelnummer;Runden;Distanz;Notiz\nGBR 7;2;12,5;slow\nNED 12;;;\n".replace(
+            "Notiz", "Finish").replace("slow", ""))
+        sheet.start("14:05", ["GBR7", "NED12", "FRA9"])
+        sheet.finish("GBR7", "15:00:01")
+        sheet.code("FRA9", "DNS")
+        self.assertEqual(self.written(sheet), ["Segelnummer,Runden,Distanz,Finish,Start,Code",
+                                               "GBR 7,2,12.5,15:00:01,14:05:00,", "NED 12,,,,14:05:00,",
+                                               "FRA9,,,,14:05:00,DNS"])
+
+    def test_refused(self) -> None:
+        """Nothing that stands in a sheet is written over."""
+        sheet = self.sheet("Sail,Start,Finish\nGBR7,14:00,15:00:00\nNED12,14:05,RET\n")
+        for attempt in (lambda: sheet.finish("GBR7", "15:00:01"), lambda: sheet.finish("NED12", "15:00:01"),
+                        lambda: sheet.start("14:10", [])):
+            self.assertRaises(NotSent, attempt)
+        sheet.finish("GBR7", "15:00:00")
+        self.assertTrue(sheet.code("NED12", ""))
+        sheet.finish("NED12", "15:20:00")
+        self.assertEqual(self.written(sheet)[2], "NED12,14:05,15:20:00,")
+        self.assertRaises(Trouble, self.sheet, "Boat,Time\nx,1\n")
+
+
+if __name__ == "__main__":
+    unittest.main()
