@@ -56,19 +56,25 @@ class TimesPage(WebTrial):
     settings = {"handicap": "yes", "zone": "UTC"}
 
     def test_starts(self) -> None:
-        """A second start is put in for a boat that is ticked; the times follow: 3,600 s x 1.000, 3,300 s x 0.900."""
+        """A second start is put in for a boat that is ticked; the times follow: 3,600 s x 1.000, 3,300 s x 0.900.
+
+        They come to every page on which the sheet is shown, and there too what is typed stays."""
         os.makedirs(os.path.join(self.here, "cup", "times"), exist_ok=True)
         self.write(f"[times]\nsystem = tcf\nprogram = {helpers.TIMES}\n", "cup", "times", "rules.ini")
         self.write("Sail,Start,Finish\nGBR 101,14:00:00,15:00:00\nGBR 7,14:00:00,15:05:00\n", "cup", "times", "race-1.csv")
-        scorer = self.device("scorer", "Bea’s laptop")
-        scorer.until("!!document.querySelector('#tab-times')")
-        scorer.click("#tab-times")
-        scorer.until("document.querySelectorAll('#times-table tbody tr').length === 2")
+        scorer, other = self.device("scorer", "Bea’s laptop"), self.device("scorer", "Cy’s tablet")
+        for device in (other, scorer):
+            device.until("!!document.querySelector('#tab-times')")
+            device.click("#tab-times")
+            device.until("document.querySelectorAll('#times-table tbody tr').length === 2")
+        other.type(".options input[name=start]", "14:20")
         scorer.click("tr[data-sail=GBR7] input[type=checkbox]")
         scorer.type(".options input[name=start]", "14:10")
         scorer.click("#put-in")
         scorer.click("#send-times")
-        scorer.until("document.querySelector('tr[data-sail=GBR7] td:last-child').textContent === '0:49:30'")
+        for device in (scorer, other):
+            device.until("document.querySelector('tr[data-sail=GBR7] td:last-child').textContent === '0:49:30'")
+        self.assertEqual(other.run("document.querySelector('.options input[name=start]').value"), "14:20")
         self.assertEqual(self.journal(), ["SCORER TIME 1 GBR101 3600", "SCORER TIME 1 GBR7 2970"])
         self.assertIn(",14:10:00,15:05:00", self.text("cup", "times", "race-1.csv"))
         self.need_no_faults()

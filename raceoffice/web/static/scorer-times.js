@@ -12,8 +12,8 @@ import {state} from "./desk.js";
 
 const RACES = 40;
 const HOUR = 3600, MINUTE = 60;
-// The race that is shown
-let number = 0;
+// The race that is shown, and its sheet
+let number = 0, shown = null;
 
 const at = (name, more = "") => `sheet/${encodeURIComponent(name)}${more}`;
 
@@ -54,10 +54,19 @@ class Sheet {
   }
 
   row(row) {
-    const fields = this.fields.get(row.sail), times = state()?.races[this.found.race]?.times ?? {};
+    const fields = this.fields.get(row.sail);
     return element("tr", {"data-sail": row.sail}, element("td", {}, fields.tick), element("th", {scope: "row"}, spaced(row.sail)),
       this.columns.map(key => element("td", {}, fields[key])), element("td", {}, row.code || row.finish || row.elapsed),
-      element("td", {}, duration(times[row.sail])));
+      element("td", {class: "corrected"}, this.corrected(row.sail)));
+  }
+
+  corrected(sail) {
+    return duration(state()?.races[this.found.race]?.times?.[sail]);
+  }
+
+  // Shows the corrected times as they now are; what is typed stays.
+  draw() {
+    for (const row of this.node.querySelectorAll("tr[data-sail]")) row.querySelector(".corrected").textContent = this.corrected(row.dataset.sail);
   }
 
   // Puts the fields for all into the rows that are ticked.
@@ -94,7 +103,13 @@ function raceField(again) {
 async function show(page, name) {
   const found = await ask(at(name, `/${number}`)), again = () => show(page, name);
   const wrong = found.status !== 200 ? troubleOf(found) : found.wrong.join("\n");
-  page.replaceChildren(raceField(again), wrong ? element("p", {class: "step wrong"}, wrong) : new Sheet(name, found, again).node);
+  shown = wrong ? null : new Sheet(name, found, again);
+  page.replaceChildren(raceField(again), shown?.node ?? element("p", {class: "step wrong"}, wrong));
+}
+
+// What the office has taken since the sheet was shown
+export function drawTimes() {
+  shown?.draw();
 }
 
 // The page of a class by corrected time; it has a life of its own.

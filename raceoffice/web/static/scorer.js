@@ -10,7 +10,7 @@ import {lookAtResults, resultsPage} from "./scorer-results.js";
 import {forgetLink, linksPage, lookAtDevices, officePage} from "./scorer-links.js";
 import {newSeries} from "./new-series.js";
 import {settingsPage} from "./scorer-settings.js";
-import {timesPage} from "./scorer-times.js";
+import {drawTimes, timesPage} from "./scorer-times.js";
 import {rulesWords} from "./rules-words.js";
 
 const TABS = ["races", "results", "links", "office", "times", "settings", "new"];
@@ -76,6 +76,7 @@ function draw() {
   drawClasses();
   // Forms have a life of their own. These are about one class, and so is the reason of a declaration.
   const name = tab in OF_CLASS || tab === "results" ? `${tab} ${here}` : tab, isSame = byId("page").dataset.tab === name;
+  if (isSame && tab === "times") drawTimes();
   if (isSame && (tab === "new" || tab in OF_CLASS)) return;
   byId("page").dataset.tab = name;
   const shown = {races: racesPage, results: () => here ? resultsPage(draw) : emptyPage(), links: linksPage, office: officePage,
