@@ -9,6 +9,7 @@ from typing import Any
 from raceoffice.corrected.times import RULES, SHEETS, Rules
 from raceoffice.errors import NotSent, Trouble
 from raceoffice.files import replace_whole
+from raceoffice.remarks import remark
 from raceoffice.results.spreadsheet import harmless
 from raceoffice.series.entry_list import RAISED, plain, problems
 from raceoffice.series.folder import Folder
@@ -35,9 +36,9 @@ def list_of(folder: Folder) -> bytes:
     try:
         data = bytes_of(folder.entries)
     except Trouble as trouble:
-        raise NotSent(str(trouble)) from None
+        raise NotSent(*trouble.said) from None
     if wrong := problems(data, folder.entries):
-        raise NotSent("\n".join(wrong))
+        raise NotSent(*wrong)
     return data
 
 
@@ -60,7 +61,7 @@ def name_boat(folder: Folder, facts: Facts, values: Mapping[str, Any], by: str) 
     """Adds or completes the row of a boat that is entered; whether the list is another then. `by` is who does."""
     sail = text_given(values, "sail").translate(RAISED)
     if plain(sail) not in facts.boats:
-        raise NotSent(f"{sail[:20] or 'a boat without a sail'} isn't entered")
+        raise NotSent(remark("not-entered", sail=sail[:20]) if sail else remark("no-sail-entered"))
     given = {key: text for key in KEYS if (text := text_given(values, key))}
     try:
         data = list_of(folder)
@@ -70,7 +71,7 @@ def name_boat(folder: Folder, facts: Facts, values: Mapping[str, Any], by: str) 
         replace_whole(folder.entries, changed)
         folder.log(by, "", "", "named", "; ".join([plain(sail), *(f"{key} = {text}" for key, text in given.items())]))
     except Trouble as trouble:
-        raise NotSent(str(trouble)) from None
+        raise NotSent(*trouble.said) from None
     return True
 
 
@@ -78,10 +79,10 @@ def text_given(values: Mapping[str, Any], key: str) -> str:
     """A text of a page on one line, without signs that aren't seen."""
     text = values.get(key, "")
     if not isinstance(text, str):
-        raise NotSent(f"her {key} isn't a text")
+        raise NotSent(remark("name-no-text", key=remark(f"key-{key}")))
     text = on_one_line(text)
     if len(text) > LONGEST:
-        raise NotSent(f"her {key} has more than {LONGEST} letters")
+        raise NotSent(remark("name-long", key=remark(f"key-{key}"), most=LONGEST))
     return text
 
 
@@ -89,8 +90,8 @@ def cells_of(places: Mapping[str, list[int]], given: Mapping[str, str]) -> dict[
     """The cells of a row, by the numbers of their columns. None is a formula."""
     for key, text in given.items():
         if key not in places:
-            raise NotSent(f"the entry list has no column for her {key}")
+            raise NotSent(remark("name-no-column", key=remark(f"key-{key}")))
         if key == "rating" and not RATING.fullmatch(text.replace(",", ".")):
-            raise NotSent(f"her rating is {text}. It has to be a number, as 1050 or 0.953")
+            raise NotSent(remark("rating-form", written=text))
     return {at: text.replace(",", ".") if key == "rating" else harmless(text)
             for key, text in given.items() for at in places[key]}

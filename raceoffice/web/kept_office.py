@@ -11,6 +11,7 @@ from raceoffice import system
 from raceoffice.errors import Fault, NotSent, Trouble
 from raceoffice.office.before_opening import Ask, is_meant, is_right, mend, question_of_rules
 from raceoffice.office.keeping import Keeping
+from raceoffice.remarks import remark
 from raceoffice.series import settings
 from raceoffice.series.folder import Folder, clock
 from raceoffice.series.health import disk_fault, faults, notes, summary
@@ -176,10 +177,10 @@ class KeptOffice:
         """Closes the office and opens it with the settings as they are now; whether it is open then. What they
         would change is asked while it is still open. NotSent if it can't be, and nothing is closed then."""
         if not self.keeping and self.is_there():
-            raise NotSent("another window keeps this office: close it there, and open it again")
+            raise NotSent(remark("other-window"))
         fresh = Folder(self.folder.path)
         if wrong := faults(fresh):
-            raise NotSent("\n".join(wrong))
+            raise NotSent(*wrong)
         if asked := question_of_rules(fresh):
             ask(asked)
         self.close()

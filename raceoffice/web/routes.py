@@ -11,6 +11,7 @@ from typing import Any
 
 from raceoffice.errors import NotSent, Trouble
 from raceoffice.program.replay import Line
+from raceoffice.remarks import remark
 from raceoffice.results.http_answers import Text, address_of
 from raceoffice.series.folder import Folder
 from raceoffice.session.confirm import questions
@@ -26,7 +27,7 @@ from raceoffice.web.gate import MARK, ROLES, Device, plain_name
 from raceoffice.web.hosting import Waiting
 from raceoffice.web.requests import JSON, Reply, Request, Wrong, reply_of, tagged
 from raceoffice.web.room import Room
-from raceoffice.web.states import Values, question_of, said_of
+from raceoffice.web.states import Values, question_of, remarks_of, said_of
 from raceoffice.web.tap_session import Asked
 from raceoffice.web.taps import NoTap, Tap, agreed_in
 from raceoffice.web.web_office import Class, WebOffice
@@ -119,7 +120,7 @@ class Routes:
         try:
             return await asyncio.get_running_loop().run_in_executor(self.pool, self.guarded, work, *values)
         except NotSent as why:
-            raise Wrong(422, sentence(why)) from None
+            raise Wrong(422, sentence(why), said=remarks_of(why.said)) from None
         except Asked as asked:
             return reply_of({"outcome": "asked", "question": question_of(asked.question),
                              "said": said_of(asked.said)}, 409)
@@ -127,7 +128,7 @@ class Routes:
             return reply_of({"outcome": "elsewhere", "question": question_of(where.question),
                              "clock": where.clock}, 409)
         except Trouble as trouble:
-            raise Wrong(503, sentence(trouble)) from None
+            raise Wrong(503, sentence(trouble), said=remarks_of(trouble.said)) from None
 
     def guarded(self, work: Callable[..., Reply], *values: object) -> Reply:
         folder = next((one.room.folder.path for one in self.office.classes.values()), "")
@@ -290,7 +291,7 @@ class Routes:
     def ruling(self, request: Request, room: Room) -> Reply:
         """What a decision comes to, or taking one out, and whom it moves."""
         found = ruled(request, room)
-        values: Values = {"text": found.text, "line": found.name, "verdict": found.verdict, "why": found.why,
+        values: Values = {"text": found.text, "line": found.name, "verdict": found.verdict, "why": remarks_of(found.why),
                           "asked": []}
         moved = preview.preview(room.folder, room.facts, found.lines)
         # What takes no lines changes no score, in whichever race.
@@ -309,7 +310,7 @@ class Routes:
                 if found.why:
                     raise NotSent(found.why[0])
                 if [f"{line.role} {line}" for line in found.lines] != values.get("lines"):
-                    raise NotSent("somebody else has typed meanwhile, and it comes to something else: look again")
+                    raise NotSent(remark("decision-changed"))
                 preview.keep_decisions(room.folder, found.text)
                 done = self.sent_one_by_one(room, device, tap, found.lines)
         return reply_of({"outcome": "taken", "done": done, "version": room.version})

@@ -4,7 +4,7 @@ import {element} from "./elements.js";
 import {text} from "./texts.js";
 import {ask} from "./office.js";
 import {choose, say} from "./dialogs.js";
-import {troubleOf} from "./questions.js";
+import {troubleWords} from "./remark-words.js";
 import {spaced} from "./sails.js";
 import {path, state} from "./desk.js";
 import {line} from "./scorer-corrections.js";
@@ -29,7 +29,7 @@ function namesIn(fields) {
 async function putIntoList(sail, names) {
   const done = await ask(path("listed"), {sail: spaced(sail), ...names});
   if (done.status === 200) say(text("scorer.isListed", {sail: spaced(sail)}));
-  else say(`${text("scorer.isNotListed", {sail: spaced(sail)})}\n${troubleOf(done)}`, true);
+  else say(`${text("scorer.isNotListed", {sail: spaced(sail)})}\n${troubleWords(done)}`, true);
 }
 
 // Asks for a boat, enters her, and puts her names into the list once that was taken.

@@ -4,7 +4,8 @@ import {element} from "./elements.js";
 import {text} from "./texts.js";
 import {ask, newId, now} from "./office.js";
 import {choose, say} from "./dialogs.js";
-import {agreedOf, refusalOf, troubleOf, wordsOf} from "./questions.js";
+import {agreedOf, refusalOf, wordsOf} from "./questions.js";
+import {troubleWords} from "./remark-words.js";
 import {saidWords} from "./said-words.js";
 
 const TRIES = 6;
@@ -33,7 +34,7 @@ export async function sendLine(name, line, seen, more = {}) {
     } else if ([0, 429, 503].includes(said.status) && tries < TRIES) {
       await new Promise(goOn => setTimeout(goOn, PAUSE * (tries + 1)));
     } else {
-      say(troubleOf(said), true);
+      say(troubleWords(said), true);
       return null;
     }
   }
