@@ -104,6 +104,15 @@ ENGLISH: dict[str, str | tuple[str, str]] = {
     "decision-gone": "decisions.txt doesn't have this any more: look again",
     "decision-needed": "a decision is needed",
     "decision-changed": "somebody else has typed meanwhile, and it comes to something else: look again",
+    # Why a boat can't be taken out of a journal
+    "removal-beside": "{sail} can't be taken out: entry {number}, {line}, places another boat beside her",
+    "removal-absent": "{sail} isn't in journal.txt",
+    "removal-torn": "journal.txt ends in a torn line, as after a crash: first open the office, and close it",
+    "removal-empty": "journal.txt has no entry",
+    "removal-refused": "{sail} can't be taken out: {why}",
+    "removal-line": "{line} would be refused without her: {why}",
+    "removal-last": "{sail} can't be taken out: no boat would be left",
+    "removal-unsent": "devices have taps that aren't sent yet: {devices}",
     # Why settings, a list or a name aren't taken
     "ini-gone": "series.ini is gone",
     "ini-changed": "somebody else has changed series.ini meanwhile: look again",

@@ -17,16 +17,17 @@ from raceoffice.series.read_list import LARGEST, Table, table_of
 ENCODINGS = {codecs.BOM_UTF8: "utf-8", codecs.BOM_UTF32_LE: "utf-32-le", codecs.BOM_UTF32_BE: "utf-32-be",
              codecs.BOM_UTF16_LE: "utf-16-le", codecs.BOM_UTF16_BE: "utf-16-be"}
 LINE_ENDS = ("\r\n", "\n", "\r")
+NONE: Mapping[int, str] = {}
 
 
-def with_boat(data: bytes, name: str, sail: str, cells: Mapping[int, str]) -> bytes:
+def with_boat(data: bytes, name: str, sail: str, cells: Mapping[int, str], was: Mapping[int, str] = NONE) -> bytes:
     """A list in which a boat has these cells, by the numbers of their columns. `sail` is hers as it is written.
-    NotSent if one of them has something else already, or if the list can't be changed so."""
+    NotSent if one of them has something else already than what it `was`, or if the list can't be changed so."""
     if wrong := problems(data, name):
         raise NotSent(*wrong)
     table, (mark, encoding) = table_of(data), form_of(data)
     number, held = row_of(table, sail)
-    row = completed(table, name, held, cells)
+    row = completed(table, name, held, cells, was)
     if number and row == held:
         return data
     changed = mark + encoded(text_with(text_of(data[len(mark):], encoding, name), table, number, row), encoding, name)
@@ -47,14 +48,15 @@ def row_of(table: Table, sail: str) -> tuple[int, list[str]]:
     return found or (0, [sail if place == at else "" for place in range(len(table.heads))])
 
 
-def completed(table: Table, name: str, held: Sequence[str], cells: Mapping[int, str]) -> list[str]:
+def completed(table: Table, name: str, held: Sequence[str], cells: Mapping[int, str],
+              was: Mapping[int, str]) -> list[str]:
     """A row with these cells."""
     row = list(held)
     for at, text in cells.items():
-        if (before := table.cell(row, at)) not in ("", text):
+        if (before := table.cell(row, at)) not in ("", text, was.get(at, "")):
             raise NotSent(remark("list-has", name=name, before=before, heading=table.heads[at].strip()))
         row += [""] * (at + 1 - len(row))
-        row[at] = row[at] if before else text
+        row[at] = row[at] if before == text else text
     return row
 
 

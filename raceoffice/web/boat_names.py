@@ -26,9 +26,14 @@ RATING = re.compile(r"[0-9]{1,5}(\.[0-9]{1,4})?")
 
 
 def list_shown(folder: Folder) -> Values:
-    """Which of the names of a boat the entry list has columns for."""
-    found = places_of(folder, list_of(folder))
-    return {"columns": [key for key in KEYS if key in found]}
+    """Which of the names of a boat the entry list has columns for, and what it has of each boat there: of her ratings
+    only if there is one column of them."""
+    data = list_of(folder)
+    found, table = places_of(folder, data), table_of(data)
+    single = {key: found[key][0] for key in KEYS if len(found.get(key, [])) == 1}
+    at = columns(table.heads, ENTRIES)["sail"]
+    rows = {plain(row[at]): {key: table.cell(row, place) for key, place in single.items()} for _, row in table.rows}
+    return {"columns": [key for key in KEYS if key in found], "rows": rows}
 
 
 def list_of(folder: Folder) -> bytes:
@@ -58,14 +63,19 @@ def system_of(folder: Folder) -> str:
 
 
 def name_boat(folder: Folder, facts: Facts, values: Mapping[str, Any], by: str) -> bool:
-    """Adds or completes the row of a boat that is entered; whether the list is another then. `by` is who does."""
+    """Adds, completes or corrects the row of a boat that is entered; whether the list is another then. What it has is
+    replaced only if that is what was shown (`was`). `by` is who does."""
     sail = text_given(values, "sail").translate(RAISED)
     if plain(sail) not in facts.boats:
         raise NotSent(remark("not-entered", sail=sail[:20]) if sail else remark("no-sail-entered"))
-    given = {key: text for key in KEYS if (text := text_given(values, key))}
+    shown = values.get("was", {})
+    was = {key: text_given(shown, key) for key in KEYS if isinstance(shown, dict) and key in shown}
+    given = {key: text for key in KEYS if (text := text_given(values, key)) or was.get(key)}
     try:
         data = list_of(folder)
-        changed = with_boat(data, name_of(folder.entries), sail, cells_of(places_of(folder, data), given))
+        places = places_of(folder, data)
+        before = {at: text for key, text in was.items() for at in places.get(key, [])}
+        changed = with_boat(data, name_of(folder.entries), sail, cells_of(places, given), before)
         if changed == data:
             return False
         replace_whole(folder.entries, changed)
@@ -91,7 +101,7 @@ def cells_of(places: Mapping[str, list[int]], given: Mapping[str, str]) -> dict[
     for key, text in given.items():
         if key not in places:
             raise NotSent(remark("name-no-column", key=remark(f"key-{key}")))
-        if key == "rating" and not RATING.fullmatch(text.replace(",", ".")):
+        if key == "rating" and text and not RATING.fullmatch(text.replace(",", ".")):
             raise NotSent(remark("rating-form", written=text))
     return {at: text.replace(",", ".") if key == "rating" else harmless(text)
             for key, text in given.items() for at in places[key]}

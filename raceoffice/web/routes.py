@@ -13,6 +13,7 @@ from raceoffice.errors import NotSent, Trouble
 from raceoffice.program.replay import Line
 from raceoffice.remarks import remark
 from raceoffice.results.http_answers import Text, address_of
+from raceoffice.series.entry_list import plain
 from raceoffice.series.folder import Folder
 from raceoffice.session.confirm import questions
 from raceoffice.session.dialogue import Question
@@ -251,6 +252,8 @@ class Routes:
                 return self.reopen(request, self.room(name))
             case ["listed", name] if role == "SCORER":
                 return self.name_boat(request, device, self.room(name))
+            case ["remove", name] if role == "SCORER":
+                return self.remove_boat(request, device, self.one(name))
             case ["rules", name] if role == "SCORER":
                 return self.rules_effect(request, self.room(name))
             case ["sheet", name] if role == "SCORER":
@@ -387,6 +390,17 @@ class Routes:
             is_another = boat_names.name_boat(room.folder, room.facts, request.values(), device.name)
             session.look()
         return reply_of({"changed": is_another, "version": room.version})
+
+    def remove_boat(self, request: Request, device: Device, one: Class) -> Reply:
+        """Takes a boat that was entered by mistake out of the journal. What goes is asked before. Entries get other
+        numbers then, so that no tap may be under way."""
+        sail, unsent = plain(boat_names.text_given(request.values(), "sail")), [
+            known.name for known in self.gate.devices.values() if known.unsent and known is not device]
+        if unsent:
+            raise NotSent(remark("removal-unsent", devices=unsent))
+        copy = one.office.take_out(sail, device.name, asked_of(request))
+        one.room.news()
+        return reply_of({"copy": copy, "open": one.office.is_there(), "said": list(one.office.said)})
 
     @staticmethod
     def sheet(room: Room, race: str) -> Reply:
