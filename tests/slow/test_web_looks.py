@@ -405,6 +405,17 @@ class Looks(Looking):
                 self.assertEqual(device.run(CUT), [])
             device.close()
 
+    def test_refused_at_the_finish(self) -> None:
+        """The finish page fetches the words for why a tap isn't taken when it needs them."""
+        device = self.device("finish", 390, 844, "de")
+        device.until("document.querySelectorAll('#list li').length === 8")
+        self.office.line = 422, {"words": "NED12 isn't entered.", "said": remarks_of([remark("not-entered", sail="NED12")])}
+        device.tap(SAILS[10])
+        device.until("Object.values(localStorage).some(kept => kept.includes('NED 12 ist nicht gemeldet.'))")
+        device.click("#list li.refused button")
+        device.until("document.querySelector('dialog[open]')?.textContent.includes('NED 12 ist nicht gemeldet.')")
+        device.close()
+
     def test_two_classes(self) -> None:
         """Two classes at one line at 320 pixels, in each language."""
         for language in LANGUAGES:
