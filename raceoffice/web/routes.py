@@ -536,7 +536,7 @@ def check_command(line: str, role: str) -> None:
         command = COMMANDS[rest[-1]]
     own = OWN | ({"START", "TIMES"} if "FINISH" in MAY[role] else set())
     if command not in MAY[role] | own and "?" not in command:
-        raise Wrong(422, f"{first or 'an empty line'} isn't a line of this role")
+        raise NotSent(remark("role-line", written=first) if first else remark("no-words"))
 
 
 def ruled(request: Request, room: Room) -> preview.Ruled:
