@@ -49,7 +49,8 @@ class Jury(Web):
         self.assertEqual((status, shown["lines"]), (200, [f"JURY REDRESS 1 {SAILS[1]} 6.0"]))
         self.assertFalse(os.path.exists(os.path.join(self.here, "cup", "decisions.txt")))
         asked = {"kind": "correction", "values": {"race": 1}}
-        given = {"line": f"race 1 {SAILS[1]} PRP 30%", "lines": shown["lines"], "id": new_id(), "agreed": [asked]}
+        given = {"line": f"race 1 {SAILS[1]} PRP 30%", "lines": shown["lines"], "tag": shown["tag"], "id": new_id(),
+                 "agreed": [asked]}
         self.assertEqual(self.ask("decide", **{**given, "lines": [f"JURY REDRESS 1 {SAILS[1]} 7.0"]})[0], 422)
         for again in (False, True):
             status, done = self.ask("decide", **given)
@@ -66,7 +67,7 @@ class Jury(Web):
     def decided(self, asked: object, **given: object) -> list[str]:
         """Sends a decision as it was shown; the lines that the journal has got by it."""
         before, shown = self.journal(), self.ask("ruling", **given)[1]
-        status, done = self.ask("decide", lines=shown["lines"], id=new_id(), agreed=[asked], **given)
+        status, done = self.ask("decide", lines=shown["lines"], tag=shown["tag"], id=new_id(), agreed=[asked], **given)
         self.assertEqual(status, 200, (shown, done))
         return self.journal()[len(before):]
 

@@ -50,10 +50,15 @@ class SheetOfRace:
                 self.places[key] = len(self.heads)
                 self.heads.append(head)
 
+    @property
+    def data(self) -> bytes:
+        """The sheet as it is written."""
+        return as_csv([self.heads, *self.rows])
+
     def write(self) -> None:
         """Puts the sheet on the disk, whole."""
         os.makedirs(os.path.dirname(self.path), exist_ok=True)
-        replace_whole(self.path, as_csv([self.heads, *self.rows]))
+        replace_whole(self.path, self.data)
 
     # Cells
 

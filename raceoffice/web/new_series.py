@@ -3,13 +3,20 @@ from __future__ import annotations
 
 import base64
 import binascii
+import contextlib
 import os
 import re
-from collections.abc import Mapping
+import secrets
+import shutil
+import time
+from collections.abc import Mapping, Sequence
 from typing import Any
 
+from raceoffice import system
+from raceoffice.corrected.times import RULES, SHEETS
 from raceoffice.corrected.write_sheet import rules_text, write_rules
-from raceoffice.errors import NotSent, Trouble
+from raceoffice.errors import NotSent, NotThere, Trouble, as_trouble
+from raceoffice.files import read_whole
 from raceoffice.series import settings
 from raceoffice.series.create import make
 from raceoffice.series.entry_list import rating_note
@@ -18,6 +25,8 @@ from raceoffice.series.read_list import LARGEST
 from raceoffice.web.states import Values, rules_of
 
 FOLDER = re.compile(r"[a-z0-9][a-z0-9-]{0,23}")
+# A series that isn't whole yet, and after how many seconds nobody makes it any more.
+UNFINISHED, LONG = re.compile(r"\.[0-9a-f]{16}\.new"), 3600.0
 # Where a value is in series.ini, which a page doesn't show.
 PLACE = re.compile(rf"^{re.escape(settings.NAME)}(, line \d+)?: ")
 # What of the settings a page gives. All else is as series.ini has it if nothing is said.
@@ -69,20 +78,69 @@ def settings_shown(values: Mapping[str, Any]) -> Values:
 
 
 def folder_made(parent: str, values: Mapping[str, Any]) -> str:
-    """Makes the folder of a new series; its path. Nothing is written over."""
+    """Makes the folder of a new series; its path. It comes to be whole, in one step, and nothing is written over.
+    The same again, as after a crash, gives the same folder."""
     name = str(values.get("name", ""))
     if not FOLDER.fullmatch(name):
         raise NotSent("the short name has small letters, digits and dashes, as autumn-cup")
-    path = os.path.join(parent, name)
-    if os.path.lexists(path):
-        raise NotSent(f"there is a folder called {name} already")
-    given = settings_given(values.get("settings"))
-    is_timed = given.get("handicap") == "yes" and bool(values.get("system"))
+    path, fresh = os.path.join(parent, name), os.path.join(parent, f".{secrets.token_hex(8)}.new")
     try:
-        rules = rules_text(str(values["system"]), str(values.get("rounding") or "half-up")) if is_timed else b""
-        make(path, given, str(values.get("text", "")).encode())
-        if rules:
-            write_rules(path, rules)
+        with contextlib.suppress(OSError):
+            remove_all(left_behind(parent))
+        make_whole(fresh, values)
+        if os.path.lexists(path):
+            if not is_same(fresh, path):
+                raise NotSent(f"there is a folder called {name} already")
+        else:
+            with as_trouble(f"{path} can't be made"):
+                os.rename(fresh, path)
+                system.sync_folder(parent)
     except Trouble as trouble:
         raise NotSent(str(trouble)) from None
+    finally:
+        remove_all([fresh])
     return path
+
+
+def make_whole(folder: str, values: Mapping[str, Any]) -> None:
+    """Makes a folder with all that a new series has."""
+    given = settings_given(values.get("settings"))
+    is_timed = given.get("handicap") == "yes" and bool(values.get("system"))
+    rules = rules_text(str(values["system"]), str(values.get("rounding") or "half-up")) if is_timed else b""
+    make(folder, given, str(values.get("text", "")).encode())
+    if rules:
+        write_rules(folder, rules)
+
+
+def left_behind(parent: str) -> list[str]:
+    """The folders that a crash has left before they were whole series."""
+    found = [os.path.join(parent, name) for name in os.listdir(parent) if UNFINISHED.fullmatch(name)]
+    return [path for path in found if os.stat(path).st_mtime < time.time() - LONG]
+
+
+def remove_all(folders: Sequence[str]) -> None:
+    for folder in folders:
+        shutil.rmtree(folder, ignore_errors=True)
+
+
+def is_same(fresh: str, path: str) -> bool:
+    """Whether a series is just as it would be made, and nothing has been sailed yet."""
+    return is_unsailed(path) and files_of(path) == files_of(fresh)
+
+
+def files_of(folder: str) -> list[bytes]:
+    """What a series is made with: settings, boats, rules of corrected times."""
+    return [bytes_if_any(os.path.join(folder, name)) for name in (settings.NAME, "entries.csv", os.path.join(SHEETS, RULES))]
+
+
+def is_unsailed(folder: str) -> bool:
+    """Whether a journal has nothing but boats."""
+    lines = bytes_if_any(os.path.join(folder, "journal.txt")).splitlines()[1:]
+    return all(b" ENTER " in line for line in lines)
+
+
+def bytes_if_any(path: str) -> bytes:
+    try:
+        return read_whole(path, LARGEST)
+    except NotThere:
+        return b""

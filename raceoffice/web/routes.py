@@ -6,7 +6,7 @@ import concurrent.futures
 import json
 import os
 import time
-from collections.abc import Callable, Sequence
+from collections.abc import Callable
 from typing import Any
 
 from raceoffice.errors import NotSent, Trouble
@@ -18,7 +18,8 @@ from raceoffice.session.dialogue import Question
 from raceoffice.session.parse import COMMANDS, MAY
 from raceoffice.terminal import sentence
 from raceoffice.traces import guarded
-from raceoffice.web import boat_names, new_series, preview, qr, series_beside, series_settings, sticks, times_sheet
+from raceoffice.web import (boat_names, new_series, preview, qr, rulings, series_beside, series_settings, sticks,
+                            times_sheet)
 from raceoffice.web.declarations import Unasked
 from raceoffice.web.downloads import download
 from raceoffice.web.finish_order import Elsewhere
@@ -26,6 +27,7 @@ from raceoffice.web.gate import MARK, ROLES, Device, plain_name
 from raceoffice.web.hosting import Waiting
 from raceoffice.web.requests import JSON, Reply, Request, Wrong, reply_of, tagged
 from raceoffice.web.room import Room
+from raceoffice.web.rulings import one_line
 from raceoffice.web.states import Values, question_of, said_of
 from raceoffice.web.tap_session import Asked
 from raceoffice.web.taps import NoTap, Tap, agreed_in
@@ -274,7 +276,7 @@ class Routes:
 
     def preview(self, request: Request, role: str, room: Room) -> Reply:
         """What a line would do, and what would be asked."""
-        typed = one_line(request, "line").upper()
+        typed = one_line(request.values(), "line").upper()
         check_command(typed, role)
         with room.lock:
             session = room.session(role)
@@ -287,50 +289,17 @@ class Routes:
         values: Values = {"line": line, "asked": list(map(question_of, asked))}
         return reply_of(values | found)
 
-    def ruling(self, request: Request, room: Room) -> Reply:
+    @staticmethod
+    def ruling(request: Request, room: Room) -> Reply:
         """What a decision comes to, or taking one out, and whom it moves."""
-        found = ruled(request, room)
-        values: Values = {"text": found.text, "line": found.name, "verdict": found.verdict, "why": found.why,
-                          "asked": []}
-        moved = preview.preview(room.folder, room.facts, found.lines)
-        # What takes no lines changes no score, in whichever race.
-        return reply_of(values | moved | ({} if found.lines else {"counts": True}))
+        return reply_of(rulings.ruling_shown(room, request.values()))
 
-    def decide(self, request: Request, device: Device, room: Room) -> Reply:
-        """Keeps a decision in decisions.txt, or takes it out, and sends the lines that it takes, if they are as
-        they were shown. The same again gets the same answer."""
-        values = request.values()
-        tap = tap_of({**values, "line": ""})
-        with room.lock:
-            room.session("JURY").look()
-            done = self.decided_before(room, tap)
-            if not done:
-                found = ruled(request, room)
-                if found.why:
-                    raise NotSent(found.why[0])
-                if [f"{line.role} {line}" for line in found.lines] != values.get("lines"):
-                    raise NotSent("somebody else has typed meanwhile, and it comes to something else: look again")
-                preview.keep_decisions(room.folder, found.text)
-                done = self.sent_one_by_one(room, device, tap, found.lines)
+    @staticmethod
+    def decide(request: Request, device: Device, room: Room) -> Reply:
+        """Keeps a decision in decisions.txt, or takes it out, and sends the lines that it takes. The same again gets
+        the same answer."""
+        done = rulings.decide(room, request.values(), device.name)
         return reply_of({"outcome": "taken", "done": done, "version": room.version})
-
-    @staticmethod
-    def decided_before(room: Room, tap: Tap) -> list[Values]:
-        """What came of the lines of a decision that was sent before; none if it wasn't."""
-        found: list[Values] = []
-        while (done := room.done(part_of(tap, len(found)))) is not None:
-            found.append(done)
-        return found
-
-    @staticmethod
-    def sent_one_by_one(room: Room, device: Device, tap: Tap, lines: Sequence[Line]) -> list[Values]:
-        """Sends the lines of a decision up to the first that isn't taken; what came of each."""
-        found: list[Values] = []
-        for at, line in enumerate(lines):
-            found.append(room.do(line.role, device.name, part_of(tap, at, line.text)))
-            if found[-1]["outcome"] != "taken":
-                break
-        return found
 
     # What the scorer may do beside lines
 
@@ -432,8 +401,11 @@ class Routes:
         return self.serve(new_series.folder_made(self.office.parent, request.values()))
 
     def serve(self, path: str) -> Reply:
-        """Serves one more class, and opens its office. What would be asked before waits for the scorer."""
-        office = self.office.add(Folder(path)).office
+        """Serves one more class, if it isn't served already, and opens its office. What would be asked before waits
+        for the scorer."""
+        found = self.office.classes.get(os.path.basename(path))
+        is_here = found and os.path.samefile(found.room.folder.path, path)
+        office = (found if found and is_here else self.office.add(Folder(path))).office
         is_open = office.open(lambda _: False)
         return reply_of({"class": os.path.basename(path), "open": is_open, "said": list(office.said)})
 
@@ -480,11 +452,6 @@ def tap_of(values: dict[str, Any]) -> Tap:
         raise Wrong(400, "this isn't a tap") from None
 
 
-def part_of(tap: Tap, at: int, line: str = "") -> Tap:
-    """The tap of one line of a decision."""
-    return Tap(f"{tap.id[:-3]}{at:03x}", line, tap.at, agreed=tap.agreed)
-
-
 def agreed_of(request: Request) -> tuple[Question, ...]:
     """The questions that were answered by yes."""
     try:
@@ -514,20 +481,6 @@ def check_command(line: str, role: str) -> None:
     own = OWN | ({"START", "TIMES"} if "FINISH" in MAY[role] else set())
     if command not in MAY[role] | own and "?" not in command:
         raise Wrong(422, f"{first or 'an empty line'} isn't a line of this role")
-
-
-def ruled(request: Request, room: Room) -> preview.Ruled:
-    """The decision that a request gives, with its note, or the row of one that it takes out."""
-    values = request.values()
-    if values.get("out") is True:
-        return preview.decide(room.folder, room.facts, str(values.get("line", "")).strip(), is_out=True)
-    note = preview.note_of(str(values.get("note", "")))
-    return preview.decide(room.folder, room.facts, one_line(request, "line"), note)
-
-
-def one_line(request: Request, name: str) -> str:
-    """A text of a request, as one line without notes."""
-    return " ".join(str(request.values().get(name, "")).partition("#")[0].split())[:120]
 
 
 def now() -> int:

@@ -12,7 +12,7 @@ from collections.abc import Mapping
 from typing import Any
 
 from raceoffice.characters import utf8
-from raceoffice.corrected.times import RULES, SHEETS, Rules
+from raceoffice.corrected.times import KEYS, RULES, SHEETS, Rules
 from raceoffice.corrected.write_sheet import rules_text, write_rules
 from raceoffice.errors import NotSent, NotThere, Trouble
 from raceoffice.files import edited_text, replace_whole
@@ -101,26 +101,50 @@ def effect(folder: Folder, facts: Facts, values: Mapping[str, Any]) -> Values:
 
 def save(folder: Folder, facts: Facts, values: Mapping[str, Any], name: str) -> None:
     """Puts settings into series.ini, whole, if it is still as it was shown, and if the program takes them.
-    `name` is who does."""
+    `name` is who does. What has these settings already, as after a crash, needs nothing."""
+    if is_as_given(folder, values):
+        show_names(folder, text_now(folder))
+        return
     text = text_shown(folder, values)
     found = effect(folder, facts, values)
     if found["wrong"]:
         raise NotSent("\n".join(map(str, found["wrong"] if isinstance(found["wrong"], list) else [])))
     if found.get("refused"):
         raise NotSent(f"the program refuses these rules: {found['refused']}")
-    given, rules = given_of(values), rules_to_write(folder, values)
+    given, rules = given_of(values), rules_to_write(folder, text, values)
     changed = text_with(text, given)
     # The program has taken its time.
     text_shown(folder, values)
     if rules:
+        # These hold for a class by corrected time alone, so they come first: it never is one without them.
         write_rules(folder.path, rules)
     if changed != text:
-        replace_whole(folder.file(settings.NAME), utf8(changed))
         before = settings.DEFAULTS | settings.values_of(text)
         said = [f"{key} = {value}" for key, value in given.items() if value != before[key]]
-        folder.log(name, "", "", "settings", "; ".join(said))
-    kept = settings.settings_of(settings.values_of(changed))
+        log_once(folder, name, "settings", "; ".join(said))
+        replace_whole(folder.file(settings.NAME), utf8(changed))
+    show_names(folder, changed)
+
+
+def is_as_given(folder: Folder, values: Mapping[str, Any]) -> bool:
+    """Whether the files have these settings already."""
+    text, given = text_now(folder), given_of(values)
+    before = settings.DEFAULTS | settings.values_of(text)
+    return all(before[key] == value for key, value in given.items()) and not rules_to_write(folder, text, values)
+
+
+def show_names(folder: Folder, text: str) -> None:
+    """Has pages show the names that a text of series.ini has."""
+    kept = settings.settings_of(settings.values_of(text))
     folder.settings = dataclasses.replace(folder.settings, title=kept.title, group=kept.group, club=kept.club)
+
+
+def log_once(folder: Folder, name: str, what: str, said: str) -> None:
+    """Notes in office.log what is about to be written, unless the last such line says just this: then the web died
+    between that line and the file, and somebody tries again."""
+    last = [(entry.name, entry.answer) for entry in folder.logged() if entry.line == what][-1:]
+    if last != [(name, said)]:
+        folder.log(name, "", "", what, said)
 
 
 def text_shown(folder: Folder, values: Mapping[str, Any]) -> str:
@@ -143,12 +167,32 @@ def text_with(text: str, given: Mapping[str, str]) -> str:
     return text
 
 
-def rules_to_write(folder: Folder, values: Mapping[str, Any]) -> bytes:
-    """times/rules.ini of a class that comes to be one by corrected time; nothing if it has that file."""
+def rules_to_write(folder: Folder, text: str, values: Mapping[str, Any]) -> bytes:
+    """times/rules.ini of a class that comes to be one by corrected time; nothing if it has these rules already. A
+    class that is one keeps those that it has."""
     is_needed = given_of(values).get("handicap") == "yes" and values.get("system")
-    if not is_needed or os.path.exists(folder.file(SHEETS, RULES)):
+    is_there, path = os.path.exists(folder.file(SHEETS, RULES)), folder.file(SHEETS, RULES)
+    if not is_needed or is_there and settings.values_of(text).get("handicap") == "yes":
         return b""
     try:
-        return rules_text(str(values["system"]), str(values.get("rounding") or "half-up"))
+        fresh = rules_text(str(values["system"]), str(values.get("rounding") or "half-up"))
+        if not is_there:
+            return fresh
+        before = edited_text(path)
+        changed = with_system(before, str(values["system"]))
+        return b"" if changed == before else utf8(changed)
     except Trouble as trouble:
         raise NotSent(str(trouble)) from None
+
+
+def with_system(text: str, system: str) -> str:
+    """times/rules.ini with another rating system; all else in it stays as it is."""
+    found, wrong = settings.lines_of(text, f"{SHEETS}/{RULES}", KEYS)
+    if wrong:
+        raise Trouble("\n".join(wrong))
+    rows = settings.rows_of(text)
+    if "system" not in found:
+        return f"{text}\n[times]\nsystem = {system}\n"
+    at, held = found["system"]
+    rows[at - 1] = f"system = {system}"
+    return text if held == system else "\n".join(rows) + "\n"

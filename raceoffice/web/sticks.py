@@ -14,7 +14,7 @@ from raceoffice.files import replace_whole
 from raceoffice.series import settings
 from raceoffice.series.folder import Folder
 from raceoffice.web.kept_office import KeptOffice
-from raceoffice.web.series_settings import text_now
+from raceoffice.web.series_settings import log_once, text_now
 from raceoffice.web.states import Values
 from raceoffice.wording import on_one_line
 
@@ -52,8 +52,8 @@ def choose(folder: Folder, office: KeptOffice, values: Mapping[str, Any], by: st
     try:
         changed = settings.with_value(text, "office", "copy", path)
         if changed != text:
+            log_once(folder, by, "settings", f"copy = {path}")
             replace_whole(folder.file(settings.NAME), utf8(changed))
-            folder.log(by, "", "", "settings", f"copy = {path}")
     except Trouble as trouble:
         raise NotSent(str(trouble)) from None
     if office.keeping or not office.is_there():

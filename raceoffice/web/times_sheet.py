@@ -63,13 +63,17 @@ def save_sheet(folder: Folder, facts: Facts, values: Mapping[str, Any]) -> Value
         raise NotSent("the sheet can't be read: put it right first")
     if not isinstance(rows, dict):
         raise NotSent("the rows are missing")
-    if values.get("tag") != shown["tag"]:
-        raise NotSent("the sheet has been changed meanwhile: look again")
     sheet = SheetOfRace(folder, facts.race(number).number)
+    before = sheet.data
     for sail, cells in rows.items():
         if sail not in facts.boats or not isinstance(cells, dict):
             raise NotSent(f"{str(sail)[:20]} isn't entered")
         put_cells(sheet, sail, cells, columns_of(folder))
+    if sheet.data == before:
+        # The web may have died after it had written this.
+        return shown
+    if values.get("tag") != shown["tag"]:
+        raise NotSent("the sheet has been changed meanwhile: look again")
     sheet.write()
     return sheet_shown(folder, facts, number)
 

@@ -12,6 +12,10 @@ const TRIES = 6;
 const PAUSE = 700;
 const LONG = 9000;
 
+// Whether what was asked for in vain so often may be answered yet: the office is away or busy, or nothing came.
+export const mayComeYet = (said, tries) => [0, 429, 503].includes(said.status) && tries < TRIES;
+export const pauseAfter = tries => new Promise(goOn => setTimeout(goOn, PAUSE * (tries + 1)));
+
 // Asks a question of the office; "yes" if somebody agrees.
 export function agrees(question, said = []) {
   const {lines = [], moves = []} = question.kind === "line-of-several" ? {} : question.values;
@@ -30,8 +34,8 @@ export async function sendLine(name, line, seen, more = {}) {
     if (said.status === 409 && said.outcome === "asked") {
       if (await agrees(said.question, said.said) !== "yes") return null;
       tap.agreed.push(agreedOf(said.question));
-    } else if ([0, 429, 503].includes(said.status) && tries < TRIES) {
-      await new Promise(goOn => setTimeout(goOn, PAUSE * (tries + 1)));
+    } else if (mayComeYet(said, tries)) {
+      await pauseAfter(tries);
     } else {
       say(troubleOf(said), true);
       return null;
