@@ -89,6 +89,8 @@ class Timed(Web):
         self.assertEqual(ann.tap("STRIKE 1 NED12")[0], 422)
         self.assertEqual(ann.tap("START 1 25:00")[0], 422)
         self.assertEqual(ann.tap("? 1")[0], 422)
+        status, said = ann.tap("FINISH 1 FRA9", at=1 << 52)
+        self.assertEqual((status, "the clock of this device" in said["words"]), (422, True), said)
 
     def test_starts(self) -> None:
         """Two starts at one line, from the scorer's page: 3,600 s x 1.000 from 14:00, and from 14:10 3,300 s x 0.900. Nothing is sent until TIMES sends it; what isn't of its form isn't written."""

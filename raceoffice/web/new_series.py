@@ -31,6 +31,8 @@ UNFINISHED, LONG = re.compile(r"\.[0-9a-f]{16}\.new"), 3600.0
 PLACE = re.compile(rf"^{re.escape(settings.NAME)}(, line \d+)?: ")
 # What of the settings a page gives. All else is as series.ini has it if nothing is said.
 GIVEN = ("title", "class", "club", "zone", "exclude", "absent", "scp", "handicap")
+# The most letters of each.
+LONGEST = 200
 
 
 def list_shown(values: Mapping[str, Any]) -> Values:
@@ -52,8 +54,16 @@ def settings_given(values: object) -> dict[str, str]:
     """The settings that a page gives; those that it leaves empty are as if nothing was said."""
     if not isinstance(values, dict):
         raise NotSent("the settings are missing")
-    given = {key: " ".join(str(values.get(key, "")).split()) for key in GIVEN}
+    given = {key: setting_given(values, key) for key in GIVEN}
     return {key: text for key, text in given.items() if text}
+
+
+def setting_given(values: Mapping[str, Any], key: str) -> str:
+    """A setting on one line; NotSent if it is too long."""
+    text = " ".join(str(values.get(key, "")).split())
+    if len(text) > LONGEST:
+        raise NotSent(f"{key} has more than {LONGEST} letters")
+    return text
 
 
 def wrong_settings(given: Mapping[str, str]) -> Values:
@@ -107,9 +117,17 @@ def make_whole(folder: str, values: Mapping[str, Any]) -> None:
     given = settings_given(values.get("settings"))
     is_timed = given.get("handicap") == "yes" and bool(values.get("system"))
     rules = rules_text(str(values["system"]), str(values.get("rounding") or "half-up")) if is_timed else b""
-    make(folder, given, str(values.get("text", "")).encode())
+    make(folder, given, list_given(values))
     if rules:
         write_rules(folder, rules)
+
+
+def list_given(values: Mapping[str, Any]) -> bytes:
+    """The entry list of a new series; NotSent if it is too long to be read again."""
+    data = str(values.get("text", "")).encode()
+    if len(data) > LARGEST:
+        raise NotSent(f"the list is longer than {LARGEST:,} bytes")
+    return data
 
 
 def left_behind(parent: str) -> list[str]:

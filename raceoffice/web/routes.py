@@ -30,7 +30,7 @@ from raceoffice.web.room import Room
 from raceoffice.web.rulings import one_line
 from raceoffice.web.states import Values, question_of, said_of
 from raceoffice.web.tap_session import Asked
-from raceoffice.web.taps import NoTap, Tap, agreed_in
+from raceoffice.web.taps import LATEST, NoTap, Tap, agreed_in
 from raceoffice.web.web_office import Class, WebOffice
 
 STATIC = os.path.join(os.path.dirname(os.path.abspath(__file__)), "static")
@@ -74,6 +74,9 @@ class Routes:
                 return tagged(request, *self.file("enter.html"))
             case ["in"]:
                 return await self.in_thread(self.enter, request)
+            case [role, "in"] if role in PAGES and not is_reading:
+                # A browser that comes again sends its cookie here.
+                return await self.in_thread(self.enter, request)
             case ["static", *names] if is_reading:
                 return self.part("/".join(names), request)
             case [role, *rest] if role in PAGES and is_reading:
@@ -112,9 +115,9 @@ class Routes:
         self.gate.check_origin(request)
         values = request.values()
         role, name = str(values.get("role", "")).upper(), plain_name(str(values.get("name", "")))
-        cookie = self.gate.enter(request, role, str(values.get("key", "")), name)
-        self.office.tell(f"{role.lower()}: {name or 'a device'} came from {request.address}")
-        return reply_of({"next": f"/office/{role.lower()}/"}, 200, {"Set-Cookie": cookie})
+        cookie, name = self.gate.enter(request, role, str(values.get("key", "")), name)
+        self.office.tell(f"{role.lower()}: {name} came from {request.address}")
+        return reply_of({"next": f"/office/{role.lower()}/", "name": name}, 200, {"Set-Cookie": cookie})
 
     async def in_thread(self, work: Callable[..., Reply], *values: object) -> Reply:
         """Does what may take time, and says in words what keeps it from being done."""
@@ -447,9 +450,12 @@ def of_text(request: Request, text: Text) -> Reply:
 
 def tap_of(values: dict[str, Any]) -> Tap:
     try:
-        return Tap.read(values)
+        tap = Tap.read(values)
     except NoTap:
         raise Wrong(400, "this isn't a tap") from None
+    if tap.at > LATEST:
+        raise NotSent("no clock shows the moment of this tap: look at the clock of this device")
+    return tap
 
 
 def agreed_of(request: Request) -> tuple[Question, ...]:

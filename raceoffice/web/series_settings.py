@@ -21,7 +21,7 @@ from raceoffice.series.folder import Folder
 from raceoffice.session.facts import Facts
 from raceoffice.web import preview
 from raceoffice.web.kept_office import KeptOffice
-from raceoffice.web.new_series import GIVEN, wrong_settings
+from raceoffice.web.new_series import GIVEN, setting_given, wrong_settings
 from raceoffice.web.states import Values, rules_of
 
 # What pages show as soon as it is saved.
@@ -79,7 +79,7 @@ def given_of(values: Mapping[str, Any]) -> dict[str, str]:
     given = values.get("settings")
     if not isinstance(given, dict):
         raise NotSent("the settings are missing")
-    found = {key: " ".join(str(given[key]).split()) for key in GIVEN if key in given}
+    found = {key: setting_given(given, key) for key in GIVEN if key in given}
     # A rule that is left empty is as if the sailing instructions said nothing of it.
     return {key: text or settings.DEFAULTS[key] for key, text in found.items()}
 
