@@ -364,7 +364,11 @@ class Shares(unittest.IsolatedAsyncioTestCase):
 
         self.host = Host(answer, lambda _: 0, self.fail)
         await self.host.start("127.0.0.1", self.port, None)
-        self.addCleanup(lambda: [link.transport.abort() for link in self.links])
+        self.addCleanup(self.cut_off)
+
+    def cut_off(self) -> None:
+        for link in self.links:
+            link.transport.abort()
 
     async def asked(self, address: str, text: bytes) -> bytes:
         """What comes first over one more connection of an address, which stays open; nothing if it is closed."""

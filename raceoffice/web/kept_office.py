@@ -169,8 +169,12 @@ class KeptOffice:
             self.say(f"The office has gone {len(recent)} times within {LONG / 60:.0f} minutes. It isn't opened again by itself.")
             return
         asked: list[Question] = []
+
+        def note(question: Question) -> bool:
+            asked.append(question)
+            return False
         pause = SOON
-        while not self.open(lambda question: asked.append(question) is not None):
+        while not self.open(note):
             if asked:
                 self.say("The office waits for an answer: open it on the scorer's page.")
                 return

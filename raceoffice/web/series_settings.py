@@ -12,8 +12,8 @@ from collections.abc import Mapping
 from typing import Any
 
 from raceoffice.characters import utf8
-from raceoffice.corrected.times import KEYS, RULES, SHEETS, Rules
-from raceoffice.corrected.write_sheet import rules_text, write_rules
+from raceoffice.corrected.times import RULES, SHEETS, Rules
+from raceoffice.corrected.write_sheet import rules_text, with_rule, write_rules
 from raceoffice.errors import NotSent, NotThere, Trouble
 from raceoffice.files import edited_text, replace_whole
 from raceoffice.series import settings
@@ -179,20 +179,7 @@ def rules_to_write(folder: Folder, text: str, values: Mapping[str, Any]) -> byte
         if not is_there:
             return fresh
         before = edited_text(path)
-        changed = with_system(before, str(values["system"]))
+        changed = with_rule(before, "system", str(values["system"]))
         return b"" if changed == before else utf8(changed)
     except Trouble as trouble:
         raise NotSent(str(trouble)) from None
-
-
-def with_system(text: str, system: str) -> str:
-    """times/rules.ini with another rating system; all else in it stays as it is."""
-    found, wrong = settings.lines_of(text, f"{SHEETS}/{RULES}", KEYS)
-    if wrong:
-        raise Trouble("\n".join(wrong))
-    rows = settings.rows_of(text)
-    if "system" not in found:
-        return f"{text}\n[times]\nsystem = {system}\n"
-    at, held = found["system"]
-    rows[at - 1] = f"system = {system}"
-    return text if held == system else "\n".join(rows) + "\n"

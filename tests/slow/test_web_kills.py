@@ -344,10 +344,10 @@ class Time(Trial):
         self.typed("FINISH TIME 1 GBR101 3600", "FINISH TIME 1 GBR7 3510")
         data = self.files()["times/race-1.csv"]
         rows = {"GBR7": {"start": "14:10"}, "NED12": {"start": "14:10"}}
-        sheet = Sent("SCORER", ("sheet", "cup"), {"race": 1, "rows": rows, "tag": times_sheet.tag_of(data)})
-        self.each_step(sheet, victims=("web",), wanted=("times/race-1.csv",))
+        sheet = Sent("SCORER", ("sheet", "cup"), {"race": 1, "rows": rows, "tag": times_sheet.tag_of(data), "overnight": True})
+        self.each_step(sheet, victims=("web",), wanted=("times/rules.ini", "times/race-1.csv"))
         self.each_step(sheet, Sent("SCORER", ("line", "cup"), tap_of(1, "TIMES 1")),
-                       wanted=("times/race-1.csv", "journal.txt"))
+                       wanted=("times/rules.ini", "times/race-1.csv", "journal.txt"))
         self.asked([sheet, Sent("SCORER", ("line", "cup"), tap_of(1, "TIMES 1"))])
         self.assertEqual(lines_of(self.files())[-2:], ["SCORER STRIKE 1 GBR7", "SCORER TIME 1 GBR7 2970"])
 
