@@ -155,7 +155,9 @@ class Timed(Web):
         found = self.times_sheet(scorer)
         self.assertEqual((found["overnight"], found["rounding"], self.journal()), (False, "half-up", []))
         held = self.text("cup", "times", "rules.ini")
-        for odd in ({"overnight": "yes"}, {"rows": {"GBR101": {"elapsed": "1:05:00"}}}, {"rows": {"GBR7": {"elapsed": "1:5"}}}):
+        odd_ones: list[dict[str, object]] = [{"overnight": "yes"}, {"rows": {"GBR101": {"elapsed": "1:05:00"}}},
+                                             {"rows": {"GBR7": {"elapsed": "1:5"}}}]
+        for odd in odd_ones:
             self.assertEqual(scorer.ask("POST", path, {"race": 1, "rows": {}, "tag": found["tag"], **odd})[0], 422, odd)
         self.assertEqual(self.text("cup", "times", "rules.ini"), held)
         status, found = scorer.ask("POST", path, {"race": 1, "rows": {"GBR7": {"elapsed": "1:05:00"}}, "tag": found["tag"],

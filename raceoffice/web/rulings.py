@@ -1,27 +1,25 @@
 """What the jury decides from a page: each decision is kept in decisions.txt or taken out, and its lines are sent, once.
 
-A process may be killed between any two steps. A decision that is kept is in the file before its first line is sent,
-and one that is taken out is in it until its last line was taken: so it is in the jury's list until all is done. The
-same request again, and the same decision by another request, goes on from there.
+A process may be killed between any two steps. All lines of a decision are in the register before the first is sent: the
+same request again sends what is left of them. A decision that is kept is in the file before that, and one that is taken
+out is in it until its last line was taken: so it is in the jury's list until all is done.
 """
 from __future__ import annotations
 
-import os
-from collections.abc import Mapping
+from collections.abc import Mapping, Sequence
 from typing import Any
 
 from raceoffice.errors import NotSent
+from raceoffice.program.replay import Line
 from raceoffice.session.confirm import questions
+from raceoffice.session.dialogue import Question
 from raceoffice.web import preview
 from raceoffice.web.requests import Wrong
 from raceoffice.web.room import Room
 from raceoffice.web.series_settings import tag_of
 from raceoffice.web.states import Values
-from raceoffice.web.taps import NoTap, Sent, Tap
-
-# How the register has a decision, and its answer.
-DECIDE, DECIDED = "DECIDE", "DECIDED"
-TYPED = "somebody else has typed meanwhile, and it comes to something else: look again"
+from raceoffice.web.tap_session import Asked
+from raceoffice.web.taps import NoTap, Tap
 
 
 def ruled(room: Room, values: Mapping[str, Any], is_begun: bool = False) -> preview.Ruled:
@@ -48,78 +46,71 @@ def ruling_shown(room: Room, values: Mapping[str, Any]) -> Values:
 
 
 def decide(room: Room, values: Mapping[str, Any], name: str) -> list[Values]:
-    """Does what was decided, if all is as it was shown; what came of each line. `name` is the device's."""
-    tap = tap_of(values)
+    """Does what was decided, if all is as it was shown; what came of each line. The same again goes on at the first that
+    wasn't sent, and gets the same answer. `name` is the device's."""
     with room.lock:
-        session = room.session("JURY")
-        session.look()
-        decision = Decision(room, tap, values, name)
-        if not decision.is_done:
-            decision.do()
-        return decision.done
+        room.session("JURY").look()
+        return Decision(room, values, name).done()
 
 
 class Decision:
-    """A decision on its way: what came of those of its lines that were sent before."""
+    """A decision on its way."""
 
-    def __init__(self, room: Room, tap: Tap, values: Mapping[str, Any], name: str) -> None:
-        self.room, self.tap, self.values, self.name = room, tap, values, name
-        self.sent = room.register.sent.get(tap.id)
-        if self.sent and self.sent.line != DECIDE:
-            raise Wrong(400, "this was another tap")
-        self.done: list[Values] = []
-        while (done := room.done(part_of(tap, len(self.done)))) is not None:
-            self.done.append(done)
+    def __init__(self, room: Room, values: Mapping[str, Any], name: str) -> None:
+        self.room, self.values, self.name = room, values, name
+        self.tap, self.is_out = tap_of(values), values.get("out") is True
 
-    @property
-    def is_done(self) -> bool:
-        return bool(self.sent and self.sent.answer)
-
-    @property
-    def is_refused(self) -> bool:
-        return bool(self.done) and self.done[-1]["outcome"] != "taken"
-
-    def do(self) -> None:
-        """Does what is left of it."""
-        is_out = self.values.get("out") is True
-        found = ruled(self.room, self.values, bool(self.sent))
-        self.begin(found)
-        if not is_out:
-            preview.keep_decisions(self.room.folder, found)
-        self.send(found)
-        if is_out and not self.is_refused:
+    def done(self) -> list[Values]:
+        """Does what is left of it; what came of each of its lines."""
+        lines: Sequence[Line] | None = self.room.register.decisions.get(self.tap.id)
+        if lines is None:
+            lines = self.begun()
+        elif not self.is_out and self.room.done(part_of(self.tap, 0)) is None:
+            # A crash may have come before it was kept.
+            self.keep(ruled(self.room, self.values))
+        found: list[Values] = []
+        for at, line in enumerate(lines):
+            found.append(self.room.do(line.role, self.name, part_of(self.tap, at, line.text)))
+            if found[-1]["outcome"] != "taken":
+                return found
+        if self.is_out:
             # Somebody may have changed other rows meanwhile.
             preview.keep_decisions(self.room.folder, ruled(self.room, self.values, True))
-        self.room.register.end(self.tap.id, DECIDED)
+        return found
 
-    def begin(self, found: preview.Ruled) -> None:
-        """Notes that it is about to be done, if it is as it was shown. What is asked comes back before."""
-        shown = self.values.get("lines")
+    def begun(self) -> Sequence[Line]:
+        """The lines of a decision, which are noted, and which is kept from now on. What the office asks of them is
+        asked before."""
+        found = ruled(self.room, self.values)
         if found.why:
             raise NotSent(found.why[0])
-        if not isinstance(shown, list) or [f"{line.role} {line}" for line in found.lines] != shown[len(self.done):]:
-            raise NotSent(TYPED)
-        if self.sent:
-            return
-        # The same decision may have been kept before the web was killed.
+        if [f"{line.role} {line}" for line in found.lines] != self.values.get("lines"):
+            raise NotSent("somebody else has typed meanwhile, and it comes to something else: look again")
+        self.check(found)
+        for asked in asked_first(self.room, found.lines):
+            if asked not in self.tap.agreed:
+                raise Asked(asked, [])
+        self.room.register.decide(self.tap.id, found.lines)
+        if not self.is_out:
+            self.keep(found)
+        return found.lines
+
+    def check(self, found: preview.Ruled) -> None:
+        """NotSent if decisions.txt is another than the one that was shown, unless it has the decision already."""
         if found.text != found.before and self.values.get("tag") != tag_of(found.before):
             raise NotSent(preview.CHANGED)
-        for line in found.lines[:1]:
-            session = self.room.session(line.role)
-            session.begin(part_of(self.tap, 0, line.text), self.name)
-            session.look()
-            for asked in questions(session.facts, line.role, line.text, []):
-                session.is_agreed(asked)
-        self.room.register.begin(Sent(self.tap.id, "JURY", DECIDE, self.tap.at, self.name,
-                                      len(self.room.facts.sheet.journal), os.getpid()))
 
-    def send(self, found: preview.Ruled) -> None:
-        """Sends its lines up to the first that isn't taken."""
-        for line in found.lines:
-            if self.is_refused:
-                return
-            tap = part_of(self.tap, len(self.done), line.text)
-            self.done.append(self.room.do(line.role, self.name, tap))
+    def keep(self, found: preview.Ruled) -> None:
+        self.check(found)
+        preview.keep_decisions(self.room.folder, found)
+
+
+def asked_first(room: Room, lines: Sequence[Line]) -> list[Question]:
+    """What is asked of the first line for each boat and race. What is asked of a later one depends on the first."""
+    first: dict[tuple[str, ...], Line] = {}
+    for line in lines:
+        first.setdefault(tuple(line.text.split()[1:3]), line)
+    return [asked for line in first.values() for asked in questions(room.facts, line.role, line.text, ())]
 
 
 def tap_of(values: Mapping[str, Any]) -> Tap:

@@ -6,7 +6,7 @@ import {ask, newId} from "./office.js";
 import {say} from "./dialogs.js";
 import {kindOf, spaced} from "./sails.js";
 import {saidWords} from "./said-words.js";
-import {agrees, mayComeYet, pauseAfter} from "./sending.js";
+import {agrees, isTriedAgain, told} from "./sending.js";
 import {agreedOf, troubleOf} from "./questions.js";
 import {beginDesk, called, drawClasses, path, send, state} from "./desk.js";
 import {findBoat} from "./boat-finder.js";
@@ -73,19 +73,17 @@ async function sendDecision() {
 // asked here, and the same is sent again until there is an answer. Gives what was said of its lines, or null if it
 // wasn't sent.
 async function decide(agreed) {
-  const sent = {...given(), id: newId(), lines: shown.lines, tag: shown.tag, agreed};
-  for (let tries = 0; ; tries++) {
-    const done = await ask(path("decide"), sent, LONG);
-    if (done.status === 200) return {outcome: done.done.at(-1)?.outcome, said: done.done.flatMap(one => one.said)};
+  const id = newId(), kept = given(), {lines, tag} = shown;
+  for (let tries = 0; ; ) {
+    const done = await ask(path("decide"), {...kept, id, lines, tag, agreed}, LONG);
+    if (done.status === 200) return told(done.done.at(-1), done.done.flatMap(one => one.said));
     if (done.status === 409) {
       if (await agrees(done.question, done.said) !== "yes") return null;
       agreed.push(agreedOf(done.question));
-    } else if (!mayComeYet(done, tries)) {
+    } else if (!await isTriedAgain(done.status, tries++)) {
       say(troubleOf(done), true);
       lookAtDecisions();
       return null;
-    } else {
-      await pauseAfter(tries);
     }
   }
 }
