@@ -11,13 +11,14 @@ from typing import Any
 
 from raceoffice.errors import NotSent
 from raceoffice.program.replay import Line
+from raceoffice.remarks import remark
 from raceoffice.session.confirm import questions
 from raceoffice.session.dialogue import Question
 from raceoffice.web import preview
 from raceoffice.web.requests import Wrong
 from raceoffice.web.room import Room
 from raceoffice.web.series_settings import tag_of
-from raceoffice.web.states import Values
+from raceoffice.web.states import Values, remarks_of
 from raceoffice.web.tap_session import Asked
 from raceoffice.web.taps import NoTap, Tap
 
@@ -38,7 +39,7 @@ def one_line(values: Mapping[str, Any], name: str) -> str:
 def ruling_shown(room: Room, values: Mapping[str, Any]) -> Values:
     """What a decision comes to, or taking one out, and whom it moves. `tag` is another whenever decisions.txt is."""
     found = ruled(room, values)
-    shown: Values = {"text": found.text, "line": found.name, "verdict": found.verdict, "why": found.why,
+    shown: Values = {"text": found.text, "line": found.name, "verdict": found.verdict, "why": remarks_of(found.why),
                      "asked": [], "tag": tag_of(found.before)}
     moved = preview.preview(room.folder, room.facts, found.lines)
     # What takes no lines changes no score, in whichever race.
@@ -85,7 +86,7 @@ class Decision:
         if found.why:
             raise NotSent(found.why[0])
         if [f"{line.role} {line}" for line in found.lines] != self.values.get("lines"):
-            raise NotSent("somebody else has typed meanwhile, and it comes to something else: look again")
+            raise NotSent(remark("decision-changed"))
         self.check(found)
         for asked in asked_first(self.room, found.lines):
             if asked not in self.tap.agreed:

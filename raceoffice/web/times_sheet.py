@@ -41,7 +41,7 @@ def rules_of(folder: Folder) -> Rules:
     try:
         return Rules.read(folder)
     except Trouble as trouble:
-        raise NotSent(str(trouble)) from None
+        raise NotSent(*trouble.said) from None
 
 
 def sheet_shown(folder: Folder, facts: Facts, number: str) -> Values:
@@ -88,7 +88,7 @@ def put_night(folder: Folder, race: int, is_overnight: object) -> None:
     try:
         replace_whole(path, utf8(with_rule(edited_text(path), "overnight", ",".join(map(str, wanted)))))
     except Trouble as trouble:
-        raise NotSent(str(trouble)) from None
+        raise NotSent(*trouble.said) from None
 
 
 def put_rows(sheet: SheetOfRace, facts: Facts, rows: object, columns: Sequence[str]) -> None:
