@@ -102,6 +102,7 @@ ENGLISH: dict[str, str | tuple[str, str]] = {
     "barred-average": "race {races} is an average itself",
     "barred-alone": "she has no other race yet",
     "decision-gone": "decisions.txt doesn't have this any more: look again",
+    "decisions-changed": "decisions.txt has been changed meanwhile: look again",
     "decision-needed": "a decision is needed",
     "decision-changed": "somebody else has typed meanwhile, and it comes to something else: look again",
     # Why a boat can't be taken out of a journal
@@ -132,6 +133,7 @@ ENGLISH: dict[str, str | tuple[str, str]] = {
     "sail-odd": "{written} has {sign}, which no sail has: type one boat in a line",
     "not-entered-near": "{sail} isn't entered. Do you mean {names:or}?",
     "abandon-role": "abandon {race} needs {lines}, which the {role} doesn't send: let the scorer type it",
+    "no-clock": "no clock shows the moment of this tap: look at the clock of this device",
     # Why nothing is taken back
     "undo-none": "nothing has been typed here yet that changes anything",
     "undo-nothing": "there is nothing to undo: that tap changed nothing",
@@ -170,6 +172,7 @@ ENGLISH: dict[str, str | tuple[str, str]] = {
     "ini-gone": "series.ini is gone",
     "ini-changed": "somebody else has changed series.ini meanwhile: look again",
     "settings-missing": "the settings are missing",
+    "setting-long": "{key} has more than {most} letters",
     "rules-refused": "the program refuses these rules",
     "list-not-whole": "the list didn't come whole",
     "list-too-long": "the list is longer than {most} bytes",
