@@ -81,6 +81,13 @@ class Windows(helpers.Series):
 
 
 class Stopped(Windows):
+    def test_quit_key(self) -> None:
+        """Ctrl-\\, which lies beside other keys, doesn't leave an office without its window."""
+        window = self.copied()
+        window.press("\x1c")
+        window.press()
+        self.assertEqual(window.rest()[1], 0)
+
     def test_goes_on(self) -> None:
         """A window that was stopped, as by Ctrl-Z or a lid, goes on: nobody asked it to close."""
         window, entries = self.copied(), 7
