@@ -92,10 +92,11 @@ class Rules(unittest.TestCase):
         wrong = shown["wrong"]
         assert isinstance(wrong, list)
         self.assertEqual((shown["rules"], len(wrong)), ("", 2))
-        self.assertIn("exclude is '8,4'", wrong[0])
+        self.assertEqual((wrong[0]["kind"], wrong[0]["values"]["key"], wrong[0]["values"]["value"]),
+                         ("setting-value", "exclude", "'8,4'"))
         self.assertRaises(NotSent, settings_shown, {"settings": "all"})
         rated = settings_shown({"settings": {"handicap": "yes"}, "text": ENGLISH.decode()})
-        self.assertIn("has the heading Rating", str(rated["note"]))
+        self.assertIn("'kind': 'list-unrated'", str(rated["note"]))
 
 
 class First(Web):

@@ -182,7 +182,7 @@ class Offices(Web):
                                        "absent": "a53"}), "cup", "series.ini")
         status, said = self.ask(scorer, "open")
         self.assertEqual((status, said["question"]["kind"]), (409, "new-rules"))
-        self.assertIn("RRS A5.3", said["question"]["values"]["now"])
+        self.assertEqual(said["question"]["values"]["now"][1], "a53")
         self.assertEqual(self.ask(scorer, "open", agreed=[{**said["question"], "values": {}}])[0], 409)
         status, done = self.ask(scorer, "open", agreed=[said["question"]])
         self.assertEqual((status, done["open"]), (200, True), done)

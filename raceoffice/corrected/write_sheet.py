@@ -36,8 +36,9 @@ class SheetOfRace:
     def read(self, data: bytes) -> None:
         """Reads what there is; a Trouble if it isn't a sheet."""
         wrong = wrong_form(data, self.name)
-        if faults := [wrong] if wrong else entries_of(data, self.name)[1]:
-            raise Trouble("\n".join(faults))
+        faults: list[str] = [wrong] if wrong else entries_of(data, self.name)[1]
+        if faults:
+            raise Trouble(*faults)
         table = table_of(data)
         self.heads = list(table.heads)
         self.places = columns(self.heads, SHEET)

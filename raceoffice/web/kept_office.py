@@ -11,10 +11,14 @@ from raceoffice import system
 from raceoffice.errors import Fault, NotSent, Trouble
 from raceoffice.office.before_opening import Ask, is_meant, is_right, mend, question_of_rules
 from raceoffice.office.keeping import Keeping
+from raceoffice.program.messages import move_text
+from raceoffice.remarks import remark
 from raceoffice.series import settings
 from raceoffice.series.folder import Folder, clock
 from raceoffice.series.health import disk_fault, faults, notes, summary
+from raceoffice.series.remove_boat import moves_without, removal_of, take_out
 from raceoffice.session.dialogue import Question
+from raceoffice.session.question_words import question
 from raceoffice.terminal import sentence
 from raceoffice.traces import guarded
 from raceoffice.web.tap_session import Asked
@@ -171,19 +175,53 @@ class KeptOffice:
         self.is_ended.wait()
         return True
 
+    def take_out(self, sail: str, by: str, ask: Ask) -> str:
+        """Takes a boat out of the journal, for which the office is closed and opened again: the dated copy that has her
+        still. What goes and whom that moves is asked while the office is open. `by` is who does."""
+        fresh = self.folder_alone()
+        if asked := question_of_rules(fresh):
+            ask(asked)
+        wanted = question_of_removal(fresh, sail)
+        ask(wanted)
+        was_open = self.close()
+        try:
+            # Somebody may have typed until it was closed.
+            if (now := question_of_removal(fresh, sail)) != wanted:
+                raise Asked(now, [])
+            copy, fault = take_out(fresh, removal_of(fresh, sail), by)
+        finally:
+            if was_open:
+                self.open(lambda _: False)
+        self.say(f"{sail} is taken out: {copy} has the journal with her." + (f" No second copy: {fault}." if fault else ""))
+        return copy
+
+    def folder_alone(self) -> Folder:
+        """The folder as it is now, if no other window keeps its office; else NotSent."""
+        if not self.keeping and self.is_there():
+            raise NotSent(remark("other-window"))
+        return Folder(self.folder.path)
 
     def open_again_with_settings(self, ask: Ask) -> bool:
         """Closes the office and opens it with the settings as they are now; whether it is open then. What they
         would change is asked while it is still open. NotSent if it can't be, and nothing is closed then."""
-        if not self.keeping and self.is_there():
-            raise NotSent("another window keeps this office: close it there, and open it again")
-        fresh = Folder(self.folder.path)
+        fresh = self.folder_alone()
         if wrong := faults(fresh):
-            raise NotSent("\n".join(wrong))
+            raise NotSent(*wrong)
         if asked := question_of_rules(fresh):
             ask(asked)
         self.close()
         return self.open(ask)
+
+
+def question_of_removal(folder: Folder, sail: str) -> Question:
+    """What is asked before a boat is taken out: the entries that go, and whom that moves; NotSent if she can't be."""
+    try:
+        found = removal_of(folder, sail)
+        moves = moves_without(folder, found)
+    except Trouble as trouble:
+        raise NotSent(*trouble.said) from None
+    lines = [" ".join(line.split()[2:]) for line in found.about.values()]
+    return question("remove-boat", str, sail=sail, lines=lines, moves=map(move_text, moves))
 
 
 def is_yes(_: Question) -> bool:

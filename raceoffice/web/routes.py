@@ -12,7 +12,9 @@ from typing import Any
 
 from raceoffice.errors import NotSent, Trouble
 from raceoffice.program.replay import Line
+from raceoffice.remarks import remark
 from raceoffice.results.http_answers import Text, address_of
+from raceoffice.series.entry_list import plain
 from raceoffice.series.folder import Folder
 from raceoffice.session.confirm import questions
 from raceoffice.session.dialogue import Question
@@ -27,7 +29,7 @@ from raceoffice.web.gate import MARK, ROLES, Device, plain_name
 from raceoffice.web.hosting import Waiting
 from raceoffice.web.requests import JSON, Reply, Request, Wrong, reply_of, tagged
 from raceoffice.web.room import Room
-from raceoffice.web.states import Values, question_of, said_of
+from raceoffice.web.states import Values, question_of, remarks_of, said_of
 from raceoffice.web.tap_session import Asked
 from raceoffice.web.taps import NoTap, Tap, agreed_in
 from raceoffice.web.web_office import Class, WebOffice
@@ -120,7 +122,7 @@ class Routes:
         try:
             return await asyncio.get_running_loop().run_in_executor(self.pool, self.guarded, work, *values)
         except NotSent as why:
-            raise Wrong(422, sentence(why)) from None
+            raise Wrong(422, sentence(why), said=remarks_of(why.said)) from None
         except Asked as asked:
             return reply_of({"outcome": "asked", "question": question_of(asked.question),
                              "said": said_of(asked.said)}, 409)
@@ -128,7 +130,7 @@ class Routes:
             return reply_of({"outcome": "elsewhere", "question": question_of(where.question),
                              "clock": where.clock}, 409)
         except Trouble as trouble:
-            raise Wrong(503, sentence(trouble)) from None
+            raise Wrong(503, sentence(trouble), said=remarks_of(trouble.said)) from None
 
     def guarded(self, work: Callable[..., Reply], *values: object) -> Reply:
         folder = next((one.room.folder.path for one in self.office.classes.values()), "")
@@ -251,6 +253,8 @@ class Routes:
                 return self.reopen(request, self.room(name))
             case ["listed", name] if role == "SCORER":
                 return self.name_boat(request, device, self.room(name))
+            case ["remove", name] if role == "SCORER":
+                return self.remove_boat(request, device, self.one(name))
             case ["rules", name] if role == "SCORER":
                 return self.rules_effect(request, self.room(name))
             case ["sheet", name] if role == "SCORER":
@@ -291,7 +295,7 @@ class Routes:
     def ruling(self, request: Request, room: Room) -> Reply:
         """What a decision comes to, or taking one out, and whom it moves."""
         found = ruled(request, room)
-        values: Values = {"text": found.text, "line": found.name, "verdict": found.verdict, "why": found.why,
+        values: Values = {"text": found.text, "line": found.name, "verdict": found.verdict, "why": remarks_of(found.why),
                           "asked": []}
         moved = preview.preview(room.folder, room.facts, found.lines)
         # What takes no lines changes no score, in whichever race.
@@ -321,7 +325,7 @@ class Routes:
         if found.why:
             raise NotSent(found.why[0])
         if [f"{line.role} {line}" for line in found.lines] != request.values().get("lines"):
-            raise NotSent("somebody else has typed meanwhile, and it comes to something else: look again")
+            raise NotSent(remark("decision-changed"))
         for asked in asked_first(room, found.lines):
             if asked not in tap.agreed:
                 raise Asked(asked, [])
@@ -394,6 +398,17 @@ class Routes:
             is_another = boat_names.name_boat(room.folder, room.facts, request.values(), device.name)
             session.look()
         return reply_of({"changed": is_another, "version": room.version})
+
+    def remove_boat(self, request: Request, device: Device, one: Class) -> Reply:
+        """Takes a boat that was entered by mistake out of the journal. What goes is asked before. Entries get other
+        numbers then, so that no tap may be under way."""
+        sail, unsent = plain(boat_names.text_given(request.values(), "sail")), [
+            known.name for known in self.gate.devices.values() if known.unsent and known is not device]
+        if unsent:
+            raise NotSent(remark("removal-unsent", devices=unsent))
+        copy = one.office.take_out(sail, device.name, asked_of(request))
+        one.room.news()
+        return reply_of({"copy": copy, "open": one.office.is_there(), "said": list(one.office.said)})
 
     @staticmethod
     def sheet(room: Room, race: str) -> Reply:

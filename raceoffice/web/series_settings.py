@@ -16,13 +16,14 @@ from raceoffice.corrected.times import RULES, SHEETS, Rules
 from raceoffice.corrected.write_sheet import rules_text, write_rules
 from raceoffice.errors import NotSent, NotThere, Trouble
 from raceoffice.files import edited_text, replace_whole
+from raceoffice.remarks import remark
 from raceoffice.series import settings
 from raceoffice.series.folder import Folder
 from raceoffice.session.facts import Facts
 from raceoffice.web import preview
 from raceoffice.web.kept_office import KeptOffice
-from raceoffice.web.new_series import GIVEN, wrong_settings
-from raceoffice.web.states import Values, rules_of
+from raceoffice.web.new_series import GIVEN, wrong_in, wrong_settings
+from raceoffice.web.states import Values, remarks_of, rules_of
 
 # What pages show as soon as it is saved.
 AT_ONCE = ("title", "class", "club")
@@ -34,7 +35,7 @@ def text_now(folder: Folder) -> str:
     try:
         return edited_text(folder.file(settings.NAME))
     except NotThere:
-        raise NotSent(f"{settings.NAME} is gone") from None
+        raise NotSent(remark("ini-gone")) from None
 
 
 def tag_of(text: str) -> str:
@@ -46,7 +47,7 @@ def settings_kept(folder: Folder, office: KeptOffice) -> Values:
     """The settings that series.ini has, and whether the office goes by them."""
     text = text_now(folder)
     if wrong := settings.problems(text):
-        return {"wrong": wrong, "tag": tag_of(text)}
+        return {"wrong": remarks_of(wrong), "tag": tag_of(text)}
     values, is_open = settings.values_of(text), office.is_there()
     kept, opened = settings.settings_of(values), preview.opened_settings(folder)
     return {"wrong": [], "tag": tag_of(text), "is_open": is_open, "is_kept_here": office.keeping is not None,
@@ -78,7 +79,7 @@ def given_of(values: Mapping[str, Any]) -> dict[str, str]:
     """The settings that a page gives. What isn't among them stays as it is."""
     given = values.get("settings")
     if not isinstance(given, dict):
-        raise NotSent("the settings are missing")
+        raise NotSent(remark("settings-missing"))
     found = {key: " ".join(str(given[key]).split()) for key in GIVEN if key in given}
     # A rule that is left empty is as if the sailing instructions said nothing of it.
     return {key: text or settings.DEFAULTS[key] for key, text in found.items()}
@@ -103,12 +104,12 @@ def save(folder: Folder, facts: Facts, values: Mapping[str, Any], name: str) -> 
     """Puts settings into series.ini, whole, if it is still as it was shown, and if the program takes them.
     `name` is who does."""
     text = text_shown(folder, values)
-    found = effect(folder, facts, values)
-    if found["wrong"]:
-        raise NotSent("\n".join(map(str, found["wrong"] if isinstance(found["wrong"], list) else [])))
-    if found.get("refused"):
-        raise NotSent(f"the program refuses these rules: {found['refused']}")
-    given, rules = given_of(values), rules_to_write(folder, values)
+    given = given_of(values)
+    if wrong := wrong_in(settings.DEFAULTS | settings.values_of(text) | given):
+        raise NotSent(*wrong)
+    if effect(folder, facts, values).get("refused"):
+        raise NotSent(remark("rules-refused"))
+    rules = rules_to_write(folder, values)
     changed = text_with(text, given)
     # The program has taken its time.
     text_shown(folder, values)
@@ -127,7 +128,7 @@ def text_shown(folder: Folder, values: Mapping[str, Any]) -> str:
     """The text of series.ini, if it is still the one that was shown; else NotSent."""
     text = text_now(folder)
     if values.get("tag") != tag_of(text):
-        raise NotSent(f"somebody else has changed {settings.NAME} meanwhile: look again")
+        raise NotSent(remark("ini-changed"))
     return text
 
 
@@ -139,7 +140,7 @@ def text_with(text: str, given: Mapping[str, str]) -> str:
             if given.get(key, before[key]) != before[key]:
                 text = settings.with_value(text, SECTIONS[key], key, given[key])
     except Trouble as trouble:
-        raise NotSent(str(trouble)) from None
+        raise NotSent(*trouble.said) from None
     return text
 
 
@@ -151,4 +152,4 @@ def rules_to_write(folder: Folder, values: Mapping[str, Any]) -> bytes:
     try:
         return rules_text(str(values["system"]), str(values.get("rounding") or "half-up"))
     except Trouble as trouble:
-        raise NotSent(str(trouble)) from None
+        raise NotSent(*trouble.said) from None

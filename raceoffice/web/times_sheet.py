@@ -38,7 +38,7 @@ def columns_of(folder: Folder) -> list[str]:
     try:
         return CHANGED[Rules.read(folder).system]
     except Trouble as trouble:
-        raise NotSent(str(trouble)) from None
+        raise NotSent(*trouble.said) from None
 
 
 def sheet_shown(folder: Folder, facts: Facts, number: str) -> Values:

@@ -7,7 +7,8 @@ import {say} from "./dialogs.js";
 import {kindOf, spaced} from "./sails.js";
 import {saidWords} from "./said-words.js";
 import {agrees, isTriedAgain, told} from "./sending.js";
-import {agreedOf, troubleOf} from "./questions.js";
+import {agreedOf} from "./questions.js";
+import {remarkSentences, troubleWords} from "./remark-words.js";
 import {beginDesk, called, drawClasses, path, send, state} from "./desk.js";
 import {findBoat} from "./boat-finder.js";
 import {lastChange, standingTable} from "./standing.js";
@@ -48,7 +49,8 @@ async function preview() {
   if (!line) return;
   const found = await ask(path(isKept() ? "ruling" : "preview"), isKept() ? given() : {line}, LONG);
   if (mine !== asked) return;
-  shown = found.status === 200 ? {...found, line} : {refused: troubleOf(found), line};
+  const refused = found.status === 200 ? found.refused && remarkSentences(found.refused).join(" ") : troubleWords(found);
+  shown = found.status === 200 ? {...found, refused, line} : {refused, line};
   draw();
 }
 
@@ -81,7 +83,7 @@ async function decide(agreed) {
       if (await agrees(done.question, done.said) !== "yes") return null;
       agreed.push(agreedOf(done.question));
     } else if (!await isTriedAgain(done.status, tries++)) {
-      say(troubleOf(done), true);
+      say(troubleWords(done), true);
       return null;
     }
   }

@@ -2,6 +2,7 @@
 // The settings of a series in the words of sailing instructions.
 import {element} from "./elements.js";
 import {hasText, text} from "./texts.js";
+import {remarkSentences} from "./remark-words.js";
 
 // Rating systems as times/rules.ini has them
 const SYSTEMS = [["tcf", "TCF"], ["py", "PY"], ["tod", "TOD"]];
@@ -53,5 +54,5 @@ export function settingsOf(form) {
 
 // What is wrong with settings, as the office says it, in words
 export function wrongWords({keys, wrong}) {
-  return keys.length && keys.every(key => hasText(`new.wrong.${key}`)) ? keys.map(key => text(`new.wrong.${key}`)) : wrong;
+  return keys.length && keys.every(key => hasText(`new.wrong.${key}`)) ? keys.map(key => text(`new.wrong.${key}`)) : remarkSentences(wrong);
 }

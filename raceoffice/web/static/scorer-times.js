@@ -4,7 +4,7 @@ import {element} from "./elements.js";
 import {text} from "./texts.js";
 import {ask} from "./office.js";
 import {say} from "./dialogs.js";
-import {troubleOf} from "./questions.js";
+import {troubleWords} from "./remark-words.js";
 import {saidWords} from "./said-words.js";
 import {sendLine} from "./sending.js";
 import {spaced} from "./sails.js";
@@ -85,7 +85,7 @@ class Sheet {
     }
     const saved = await ask(at(this.name), {race: this.found.race, rows, tag: this.found.tag});
     if (saved.status !== 200) {
-      say(troubleOf(saved), true);
+      say(troubleWords(saved), true);
       return;
     }
     const done = await sendLine(this.name, `TIMES ${this.found.race}`, state()?.entries ?? 0);
@@ -102,7 +102,7 @@ function raceField(again) {
 
 async function show(page, name) {
   const found = await ask(at(name, `/${number}`)), again = () => show(page, name);
-  const wrong = found.status !== 200 ? troubleOf(found) : found.wrong.join("\n");
+  const wrong = found.status !== 200 ? troubleWords(found) : found.wrong.join("\n");
   shown = wrong ? null : new Sheet(name, found, again);
   page.replaceChildren(raceField(again), shown?.node ?? element("p", {class: "step wrong"}, wrong));
 }
