@@ -101,7 +101,7 @@ class Settings(Web):
         tag = self.kept()["tag"]
         text = self.ini()
         for given in ({"exclude": "8,4"}, {"title": ""}, {"title": "  "}, {"handicap": "yes"}, {"scp": "0"}, {"absent": "a54"},
-                      {"title": "A\x00B"}):
+                      {"title": "A\x00B"}, {"title": "T" * 201}, {"class": "C" * 200_000}):
             self.assertEqual(self.ask("save", settings=given, tag=tag)[0], 422, given)
         for odd in (None, "all", 7):
             self.assertEqual(self.ask("save", settings=odd, tag=tag)[0], 422, odd)

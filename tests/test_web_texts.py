@@ -28,7 +28,7 @@ MADE = {
     "enter.as.": ["finish", "jury", "scorer"], "scorer.tab.": ["races", "results", "links", "office", "times",
                                                                        "settings", "new"],
     "new.": ["oneFrom", "twoFrom", "threeFrom", "fourFrom"], "new.wrong.": ["title", "zone", "exclude", "scp"],
-    "times.": ["start", "laps", "distance", "finish", "corrected"], "rules.from.": ["1", "2", "3", "4"],
+    "times.": ["start", "laps", "distance", "elapsed", "finish", "corrected"], "rules.from.": ["1", "2", "3", "4"],
     "settings.key.": ["title", "class", "club", "zone", "exclude", "absent", "scp", "handicap"],
     "code.": [*OF_COMMITTEE, "ZFP", "SCP"],
     "finish.": ["level", "code", "round"], "jury.head.": ["CLEAR", "REINSTATE", "SHARE"],

@@ -17,6 +17,7 @@ from raceoffice.series.headings import ENTRIES, columns, rating_columns
 from raceoffice.series.read_list import bytes_of, name_of, table_of
 from raceoffice.series.write_list import with_boat
 from raceoffice.session.facts import Facts
+from raceoffice.web.series_settings import log_once
 from raceoffice.web.states import Values
 from raceoffice.wording import on_one_line
 
@@ -78,8 +79,8 @@ def name_boat(folder: Folder, facts: Facts, values: Mapping[str, Any], by: str) 
         changed = with_boat(data, name_of(folder.entries), sail, cells_of(places, given), before)
         if changed == data:
             return False
+        log_once(folder, by, "named", "; ".join([plain(sail), *(f"{key} = {text}" for key, text in given.items())]))
         replace_whole(folder.entries, changed)
-        folder.log(by, "", "", "named", "; ".join([plain(sail), *(f"{key} = {text}" for key, text in given.items())]))
     except Trouble as trouble:
         raise NotSent(*trouble.said) from None
     return True

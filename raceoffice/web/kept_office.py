@@ -26,6 +26,8 @@ from raceoffice.web.tap_session import Asked
 # Seconds between two looks at an office, and how often one that has gone is opened again by itself within how
 # many seconds.
 LOOK, TIMES, LONG = 0.2, 3, 600.0
+# Seconds until an office that couldn't be opened again is tried once more: at first, and at most.
+SOON, LATE = 1.0, 60.0
 # How many of an office's words are kept for the scorer's page.
 SAID = 60
 
@@ -41,6 +43,8 @@ class KeptOffice:
         self.opened: list[float] = []
         self.is_asked_to_close, self.is_hurried, self.is_ended = False, False, threading.Event()
         self.is_ended.set()
+        # Whether nobody wants this process to open it by itself any more.
+        self.is_left = threading.Event()
 
     def say(self, text: str) -> None:
         for line in text.splitlines():
@@ -124,6 +128,7 @@ class KeptOffice:
         self.keeping = keeping
         self.opened.append(time.monotonic())
         self.is_asked_to_close = False
+        self.is_left.clear()
         self.is_ended.clear()
         threading.Thread(target=self.stay, args=(keeping,), daemon=True).start()
 
@@ -159,16 +164,35 @@ class KeptOffice:
         return True
 
     def open_again(self) -> None:
-        """Opens an office that has gone by itself, a few times. What has to be asked waits for the scorer."""
+        """Opens an office that has gone by itself, a few times. If it can't be opened it is tried again, after a pause
+        that grows. What has to be asked waits for the scorer."""
         recent = [at for at in self.opened if at > time.monotonic() - LONG]
-        if not self.is_asked_to_close and len(recent) <= TIMES:
-            self.open(lambda _: False)
+        if self.is_asked_to_close:
+            return
+        if len(recent) > TIMES:
+            self.say(f"The office has gone {len(recent)} times within {LONG / 60:.0f} minutes. It isn't opened again by itself.")
+            return
+        asked: list[Question] = []
+
+        def note(question: Question) -> bool:
+            asked.append(question)
+            return False
+        pause = SOON
+        while not self.open(note):
+            if asked:
+                self.say("The office waits for an answer: open it on the scorer's page.")
+                return
+            self.say(f"{clock()} It is tried again in {pause:.0f} seconds.")
+            if self.is_left.wait(pause):
+                return
+            pause = min(2 * pause, LATE)
 
     # Closing
 
     def close(self) -> bool:
         """Closes the office, which lets everybody leave first; whether it was this process that kept it. One
         that a window keeps stays open."""
+        self.is_left.set()
         if not self.keeping:
             return False
         self.is_asked_to_close = True

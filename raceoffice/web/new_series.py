@@ -3,13 +3,20 @@ from __future__ import annotations
 
 import base64
 import binascii
+import contextlib
 import os
 import re
-from collections.abc import Mapping
+import secrets
+import shutil
+import time
+from collections.abc import Mapping, Sequence
 from typing import Any
 
+from raceoffice import system
+from raceoffice.corrected.times import RULES, SHEETS
 from raceoffice.corrected.write_sheet import rules_text, write_rules
-from raceoffice.errors import NotSent, Trouble
+from raceoffice.errors import NotSent, NotThere, Trouble, as_trouble
+from raceoffice.files import read_whole
 from raceoffice.remarks import Remark, remark
 from raceoffice.series import settings
 from raceoffice.series.create import make
@@ -19,8 +26,12 @@ from raceoffice.series.read_list import LARGEST
 from raceoffice.web.states import Values, remarks_of, rules_of
 
 FOLDER = re.compile(r"[a-z0-9][a-z0-9-]{0,23}")
+# A series that isn't whole yet, and after how many seconds nobody makes it any more.
+UNFINISHED, LONG = re.compile(r"\.[0-9a-f]{16}\.new"), 3600.0
 # What of the settings a page gives. All else is as series.ini has it if nothing is said.
 GIVEN = ("title", "class", "club", "zone", "exclude", "absent", "scp", "handicap")
+# The most letters of each.
+LONGEST = 200
 
 
 def list_shown(values: Mapping[str, Any]) -> Values:
@@ -42,8 +53,16 @@ def settings_given(values: object) -> dict[str, str]:
     """The settings that a page gives; those that it leaves empty are as if nothing was said."""
     if not isinstance(values, dict):
         raise NotSent(remark("settings-missing"))
-    given = {key: " ".join(str(values.get(key, "")).split()) for key in GIVEN}
+    given = {key: setting_given(values, key) for key in GIVEN}
     return {key: text for key, text in given.items() if text}
+
+
+def setting_given(values: Mapping[str, Any], key: str) -> str:
+    """A setting on one line; NotSent if it is too long."""
+    text = " ".join(str(values.get(key, "")).split())
+    if len(text) > LONGEST:
+        raise NotSent(f"{key} has more than {LONGEST} letters")
+    return text
 
 
 def wrong_in(given: Mapping[str, str]) -> list[Remark]:
@@ -83,20 +102,77 @@ def settings_shown(values: Mapping[str, Any]) -> Values:
 
 
 def folder_made(parent: str, values: Mapping[str, Any]) -> str:
-    """Makes the folder of a new series; its path. Nothing is written over."""
+    """Makes the folder of a new series; its path. It comes to be whole, in one step, and nothing is written over.
+    The same again, as after a crash, gives the same folder."""
     name = str(values.get("name", ""))
     if not FOLDER.fullmatch(name):
         raise NotSent(remark("short-name"))
-    path = os.path.join(parent, name)
-    if os.path.lexists(path):
-        raise NotSent(remark("folder-there", name=name))
-    given = settings_given(values.get("settings"))
-    is_timed = given.get("handicap") == "yes" and bool(values.get("system"))
+    path, fresh = os.path.join(parent, name), os.path.join(parent, f".{secrets.token_hex(8)}.new")
     try:
-        rules = rules_text(str(values["system"]), str(values.get("rounding") or "half-up")) if is_timed else b""
-        make(path, given, str(values.get("text", "")).encode())
-        if rules:
-            write_rules(path, rules)
+        with contextlib.suppress(OSError):
+            remove_all(left_behind(parent))
+        make_whole(fresh, values)
+        if os.path.lexists(path):
+            if not is_same(fresh, path):
+                raise NotSent(remark("folder-there", name=name))
+        else:
+            with as_trouble(f"{path} can't be made"):
+                os.rename(fresh, path)
+                system.sync_folder(parent)
     except Trouble as trouble:
         raise NotSent(*trouble.said) from None
+    finally:
+        remove_all([fresh])
     return path
+
+
+def make_whole(folder: str, values: Mapping[str, Any]) -> None:
+    """Makes a folder with all that a new series has."""
+    given = settings_given(values.get("settings"))
+    is_timed = given.get("handicap") == "yes" and bool(values.get("system"))
+    rules = rules_text(str(values["system"]), str(values.get("rounding") or "half-up")) if is_timed else b""
+    make(folder, given, list_given(values))
+    if rules:
+        write_rules(folder, rules)
+
+
+def list_given(values: Mapping[str, Any]) -> bytes:
+    """The entry list of a new series; NotSent if it is too long to be read again."""
+    data = str(values.get("text", "")).encode()
+    if len(data) > LARGEST:
+        raise NotSent(f"the list is longer than {LARGEST:,} bytes")
+    return data
+
+
+def left_behind(parent: str) -> list[str]:
+    """The folders that a crash has left before they were whole series."""
+    found = [os.path.join(parent, name) for name in os.listdir(parent) if UNFINISHED.fullmatch(name)]
+    return [path for path in found if os.stat(path).st_mtime < time.time() - LONG]
+
+
+def remove_all(folders: Sequence[str]) -> None:
+    for folder in folders:
+        shutil.rmtree(folder, ignore_errors=True)
+
+
+def is_same(fresh: str, path: str) -> bool:
+    """Whether a series is just as it would be made, and nothing has been sailed yet."""
+    return is_unsailed(path) and files_of(path) == files_of(fresh)
+
+
+def files_of(folder: str) -> list[bytes]:
+    """What a series is made with: settings, boats, rules of corrected times."""
+    return [bytes_if_any(os.path.join(folder, name)) for name in (settings.NAME, "entries.csv", os.path.join(SHEETS, RULES))]
+
+
+def is_unsailed(folder: str) -> bool:
+    """Whether a journal has nothing but boats."""
+    lines = bytes_if_any(os.path.join(folder, "journal.txt")).splitlines()[1:]
+    return all(b" ENTER " in line for line in lines)
+
+
+def bytes_if_any(path: str) -> bytes:
+    try:
+        return read_whole(path, LARGEST)
+    except NotThere:
+        return b""

@@ -27,12 +27,14 @@ from raceoffice.web.states import Values, moves_of, remarks_of, rows_of
 # The line of decisions.txt that something is wrong with, and the most letters of a note.
 LINE = re.compile(r"^decisions\.txt, line (\d+): ")
 NOTE = 200
+CHANGED = "decisions.txt has been changed meanwhile: look again"
 
 
 @dataclass(frozen=True)
 class Ruled:
-    """What a decision comes to: the text of decisions.txt with it, what it is called, its points and what the
-    journal holds, the lines that it takes, and why it can't be given."""
+    """What a decision comes to: the text of decisions.txt before it and with it, what it is called, its points and
+    what the journal holds, the lines that it takes, and why it can't be given."""
+    before: str
     text: str
     name: str
     verdict: Values
@@ -83,29 +85,39 @@ def race_of(line: Line) -> int:
     return int(number[0]) if number and number[0].isdecimal() else 0
 
 
-def decide(folder: Folder, facts: Facts, ruling: str, note: str = "", is_out: bool = False) -> Ruled:
-    """What a decision comes to, and which lines it takes; NotSent if it isn't one. `note` is written after it.
-    If it `is_out`, `ruling` is the row of decisions.txt that is taken out."""
-    if is_out:
-        return without_row(folder, facts, ruling)
-    text, name = with_ruling(folder, facts, ruling, note)
+def decide(folder: Folder, facts: Facts, ruling: str, note: str = "") -> Ruled:
+    """What a decision comes to, and which lines it takes; NotSent if it isn't one. `note` is written after it."""
+    before = decision_lines.read(folder.path)
+    text, name = with_ruling(before, facts, ruling, note)
     found = decided(folder.program, options_of(folder), facts.sheet.journal, text)
     mine = [verdict for verdict in found.verdicts if str(verdict.ruling) == name]
     why = [*found.wrong, *(verdict.why for verdict in mine if verdict.why)]
     values = verdict_shown(mine[0], note) if mine else {}
-    return Ruled(text, name, values, tuple(found.lines), tuple(why))
+    return Ruled(before, text, name, values, tuple(found.lines), tuple(why))
 
 
-def without_row(folder: Folder, facts: Facts, row: str) -> Ruled:
-    """What it takes to take a row out of decisions.txt. One that can't be read has no lines in the journal."""
-    rows = [line.strip() for line in lines_of(decision_lines.read(folder.path))]
-    if not row or row not in rows:
+def take_out(folder: Folder, facts: Facts, row: str, is_begun: bool = False) -> Ruled:
+    """What it takes to take a row out of decisions.txt. One that can't be read has no lines in the journal. If it
+    `is_begun`, the row may have gone already."""
+    before = decision_lines.read(folder.path)
+    if not row or not (has_row(before, row) or is_begun):
         raise NotSent(remark("decision-gone"))
-    at = rows.index(row)
-    text = "\n".join([*rows[:at], *rows[at + 1:], ""])
     ruling = next(iter(decision_lines.rulings_of(row)[0]), None)
     lines = taken_out(ruling, facts.sheet.journal) if ruling else []
-    return Ruled(text, row, {}, tuple(lines), ())
+    return Ruled(before, without_row(before, row), row, {}, tuple(lines), ())
+
+
+def has_row(text: str, row: str) -> bool:
+    return row in [line.strip() for line in lines_of(text)]
+
+
+def without_row(text: str, row: str) -> str:
+    """The text of decisions.txt without a row."""
+    if not has_row(text, row):
+        return text
+    rows = lines_of(text)
+    at = [line.strip() for line in rows].index(row)
+    return "\n".join([*rows[:at], *rows[at + 1:], ""])
 
 
 def note_of(text: str) -> str:
@@ -113,14 +125,14 @@ def note_of(text: str) -> str:
     return " ".join("".join(filter(str.isprintable, text)).split())[:NOTE]
 
 
-def with_ruling(folder: Folder, facts: Facts, added: str, note: str) -> tuple[str, str]:
+def with_ruling(text: str, facts: Facts, added: str, note: str) -> tuple[str, str]:
     """The text of decisions.txt with one more decision and its note, in place of an earlier one for the same
     boat, and what it is called."""
     found, wrong = decision_lines.rulings_of(added)
     if wrong or len(found) != 1:
         why = wrong[0].values.get("why") if wrong else None
         raise NotSent(why if isinstance(why, Remark) else remark("decision-needed"))
-    text, new = decision_lines.read(folder.path), found[0]
+    new = found[0]
     if new.sail not in facts.boats:
         raise NotSent(remark("not-entered", sail=new.sail))
     old = [ruling.line for ruling in decision_lines.rulings_of(text)[0] if ruling.key == new.key]
@@ -129,8 +141,13 @@ def with_ruling(folder: Folder, facts: Facts, added: str, note: str) -> tuple[st
     return "\n".join([*lines, *([] if old else [row]), ""]), str(new)
 
 
-def keep_decisions(folder: Folder, text: str) -> None:
-    replace_whole(folder.file(decision_lines.NAME), utf8(text))
+def keep_decisions(folder: Folder, found: Ruled) -> None:
+    """Writes what was decided, if decisions.txt is still as it was read for that. The program has taken its time
+    meanwhile."""
+    if decision_lines.read(folder.path) != found.before:
+        raise NotSent(CHANGED)
+    if found.text != found.before:
+        replace_whole(folder.file(decision_lines.NAME), utf8(found.text))
 
 
 def decisions_shown(folder: Folder, facts: Facts) -> list[Values]:

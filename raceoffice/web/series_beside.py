@@ -24,7 +24,7 @@ def names_in(parent: str) -> list[str]:
         names = sorted(os.listdir(parent))
     except OSError:
         return []
-    return [name for name in names if is_utf8(name) and os.path.isfile(os.path.join(parent, name, settings.NAME))]
+    return [name for name in names if is_utf8(name) and name[0] != "." and os.path.isfile(os.path.join(parent, name, settings.NAME))]
 
 
 def settings_in(path: str) -> settings.Settings | None:

@@ -13,7 +13,7 @@ from typing import Any
 
 from raceoffice.characters import utf8
 from raceoffice.corrected.times import RULES, SHEETS, Rules
-from raceoffice.corrected.write_sheet import rules_text, write_rules
+from raceoffice.corrected.write_sheet import rules_text, with_rule, write_rules
 from raceoffice.errors import NotSent, NotThere, Trouble
 from raceoffice.files import edited_text, replace_whole
 from raceoffice.remarks import remark
@@ -22,7 +22,7 @@ from raceoffice.series.folder import Folder
 from raceoffice.session.facts import Facts
 from raceoffice.web import preview
 from raceoffice.web.kept_office import KeptOffice
-from raceoffice.web.new_series import GIVEN, wrong_in, wrong_settings
+from raceoffice.web.new_series import GIVEN, setting_given, wrong_in, wrong_settings
 from raceoffice.web.states import Values, remarks_of, rules_of
 
 # What pages show as soon as it is saved.
@@ -80,7 +80,7 @@ def given_of(values: Mapping[str, Any]) -> dict[str, str]:
     given = values.get("settings")
     if not isinstance(given, dict):
         raise NotSent(remark("settings-missing"))
-    found = {key: " ".join(str(given[key]).split()) for key in GIVEN if key in given}
+    found = {key: setting_given(given, key) for key in GIVEN if key in given}
     # A rule that is left empty is as if the sailing instructions said nothing of it.
     return {key: text or settings.DEFAULTS[key] for key, text in found.items()}
 
@@ -102,26 +102,50 @@ def effect(folder: Folder, facts: Facts, values: Mapping[str, Any]) -> Values:
 
 def save(folder: Folder, facts: Facts, values: Mapping[str, Any], name: str) -> None:
     """Puts settings into series.ini, whole, if it is still as it was shown, and if the program takes them.
-    `name` is who does."""
+    `name` is who does. What has these settings already, as after a crash, needs nothing."""
+    if is_as_given(folder, values):
+        show_names(folder, text_now(folder))
+        return
     text = text_shown(folder, values)
     given = given_of(values)
     if wrong := wrong_in(settings.DEFAULTS | settings.values_of(text) | given):
         raise NotSent(*wrong)
     if effect(folder, facts, values).get("refused"):
         raise NotSent(remark("rules-refused"))
-    rules = rules_to_write(folder, values)
+    rules = rules_to_write(folder, text, values)
     changed = text_with(text, given)
     # The program has taken its time.
     text_shown(folder, values)
     if rules:
+        # These hold for a class by corrected time alone, so they come first: it never is one without them.
         write_rules(folder.path, rules)
     if changed != text:
-        replace_whole(folder.file(settings.NAME), utf8(changed))
         before = settings.DEFAULTS | settings.values_of(text)
         said = [f"{key} = {value}" for key, value in given.items() if value != before[key]]
-        folder.log(name, "", "", "settings", "; ".join(said))
-    kept = settings.settings_of(settings.values_of(changed))
+        log_once(folder, name, "settings", "; ".join(said))
+        replace_whole(folder.file(settings.NAME), utf8(changed))
+    show_names(folder, changed)
+
+
+def is_as_given(folder: Folder, values: Mapping[str, Any]) -> bool:
+    """Whether the files have these settings already."""
+    text, given = text_now(folder), given_of(values)
+    before = settings.DEFAULTS | settings.values_of(text)
+    return all(before[key] == value for key, value in given.items()) and not rules_to_write(folder, text, values)
+
+
+def show_names(folder: Folder, text: str) -> None:
+    """Has pages show the names that a text of series.ini has."""
+    kept = settings.settings_of(settings.values_of(text))
     folder.settings = dataclasses.replace(folder.settings, title=kept.title, group=kept.group, club=kept.club)
+
+
+def log_once(folder: Folder, name: str, what: str, said: str) -> None:
+    """Notes in office.log what is about to be written, unless the last such line says just this: then the web died
+    between that line and the file, and somebody tries again."""
+    last = [(entry.name, entry.answer) for entry in folder.logged() if entry.line == what][-1:]
+    if last != [(name, said)]:
+        folder.log(name, "", "", what, said)
 
 
 def text_shown(folder: Folder, values: Mapping[str, Any]) -> str:
@@ -144,12 +168,19 @@ def text_with(text: str, given: Mapping[str, str]) -> str:
     return text
 
 
-def rules_to_write(folder: Folder, values: Mapping[str, Any]) -> bytes:
-    """times/rules.ini of a class that comes to be one by corrected time; nothing if it has that file."""
+def rules_to_write(folder: Folder, text: str, values: Mapping[str, Any]) -> bytes:
+    """times/rules.ini of a class that comes to be one by corrected time; nothing if it has these rules already. A
+    class that is one keeps those that it has."""
     is_needed = given_of(values).get("handicap") == "yes" and values.get("system")
-    if not is_needed or os.path.exists(folder.file(SHEETS, RULES)):
+    is_there, path = os.path.exists(folder.file(SHEETS, RULES)), folder.file(SHEETS, RULES)
+    if not is_needed or is_there and settings.values_of(text).get("handicap") == "yes":
         return b""
     try:
-        return rules_text(str(values["system"]), str(values.get("rounding") or "half-up"))
+        fresh = rules_text(str(values["system"]), str(values.get("rounding") or "half-up"))
+        if not is_there:
+            return fresh
+        before = edited_text(path)
+        changed = with_rule(before, "system", str(values["system"]))
+        return b"" if changed == before else utf8(changed)
     except Trouble as trouble:
         raise NotSent(*trouble.said) from None

@@ -15,7 +15,7 @@ from raceoffice.remarks import remark
 from raceoffice.series import settings
 from raceoffice.series.folder import Folder
 from raceoffice.web.kept_office import KeptOffice
-from raceoffice.web.series_settings import text_now
+from raceoffice.web.series_settings import log_once, text_now
 from raceoffice.web.states import Values
 from raceoffice.wording import on_one_line
 
@@ -53,8 +53,8 @@ def choose(folder: Folder, office: KeptOffice, values: Mapping[str, Any], by: st
     try:
         changed = settings.with_value(text, "office", "copy", path)
         if changed != text:
+            log_once(folder, by, "settings", f"copy = {path}")
             replace_whole(folder.file(settings.NAME), utf8(changed))
-            folder.log(by, "", "", "settings", f"copy = {path}")
     except Trouble as trouble:
         raise NotSent(*trouble.said) from None
     if office.keeping or not office.is_there():

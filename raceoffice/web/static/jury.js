@@ -75,15 +75,16 @@ async function sendDecision() {
 // asked here, and the same is sent again until there is an answer. Gives what was said of its lines, or null if it
 // wasn't sent.
 async function decide(agreed) {
-  const id = newId(), kept = given(), {lines} = shown;
+  const id = newId(), kept = given(), {lines, tag} = shown;
   for (let tries = 0; ; ) {
-    const done = await ask(path("decide"), {...kept, id, lines, agreed}, LONG);
+    const done = await ask(path("decide"), {...kept, id, lines, tag, agreed}, LONG);
     if (done.status === 200) return told(done.done.at(-1), done.done.flatMap(one => one.said));
     if (done.status === 409) {
       if (await agrees(done.question, done.said) !== "yes") return null;
       agreed.push(agreedOf(done.question));
     } else if (!await isTriedAgain(done.status, tries++)) {
       say(troubleWords(done), true);
+      lookAtDecisions();
       return null;
     }
   }

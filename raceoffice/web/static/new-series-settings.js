@@ -31,7 +31,7 @@ function exclusions(exclude) {
     element("div", {class: "numbers"}, EXCLUDED.map((name, at) => raceField(name, `new.${name}From`, races[at]))));
 }
 
-// The settings as they are. The rating system can be chosen until the series has one.
+// The settings as they are. The rating system can be chosen until the series is by corrected time, and has one.
 export function instructionsStep({exclude, absent, scp, handicap} = USUAL, system = "") {
   return [exclusions(exclude),
     group("new.absent", choice("absent", "a52", "new.a52", absent === "a52", "new.a52Means"), choice("absent", "a53", "new.a53", absent === "a53", "new.a53Means")),
@@ -40,7 +40,7 @@ export function instructionsStep({exclude, absent, scp, handicap} = USUAL, syste
         element("input", {type: "number", name: "points", min: 1, max: MOST_PLACES, value: scp || null, inputmode: "numeric"})))),
     group("new.placesBy", choice("handicap", "no", "new.byOrder", handicap === "no"), choice("handicap", "yes", "new.byCorrectedTime", handicap === "yes", "new.correctedMeans"),
       element("div", {class: "numbers"}, element("label", {class: "number"}, text("new.system"),
-        element("select", {name: "system", disabled: system !== ""}, SYSTEMS.map(([value, name]) => element("option", {value, selected: value === system}, name))))))];
+        element("select", {name: "system", disabled: handicap === "yes" && system !== ""}, SYSTEMS.map(([value, name]) => element("option", {value, selected: value === system}, name))))))];
 }
 
 // The settings as series.ini has them, from what was chosen
