@@ -121,6 +121,8 @@ def function_at(crate: str, module: str, lines: list[str], at: int) -> Function 
         line = lines[at].rstrip()
         if line == head[1] + "{" or not found.contract and line.endswith(" {"):
             break
+        if line == head[1] + "{}" or not found.contract and line.endswith(" {}"):
+            return found
         if CLAUSE.match(line) or found.contract:
             found.contract += [line] if line.strip() else []
         if line.endswith(";"):

@@ -101,6 +101,67 @@ class Jury(Web):
         for row in ("", "race 1", "# friday"):
             self.assertEqual(self.ask("ruling", line=row, out=True)[0], 422, row)
 
+    def sent(self, taps: list[str], **given: object) -> tuple[int, Any]:
+        """Sends a decision as the page does: what is asked is answered by yes, and the same is sent again. `taps`
+        gets the kinds of the questions."""
+        lines, id, agreed = self.ask("ruling", **given)[1]["lines"], new_id(), list[object]()
+        while True:
+            status, done = self.ask("decide", lines=lines, id=id, agreed=agreed, **given)
+            if status != 409:
+                return status, done
+            taps.append(done["question"]["kind"])
+            agreed.append(done["question"])
+
+    def test_asked_between(self) -> None:
+        """An amended decision gives back the penalty that its CLEAR takes, though its later lines are asked about
+        after the first was sent. 20% of the score for Did Not Finish (13) is 3, so she has 5 points before it: 7
+        with 2 more (DPI), 9 with 4 more."""
+        sail = SAILS[1]
+        correction = {"kind": "correction", "values": {"race": 1}}
+        self.device("scorer").tap(f"PENALTY 1 {sail} ZFP", agreed=[correction])
+        asked: list[str] = []
+        self.sent(asked, line=f"race 1 {sail} DPI 2")
+        self.assertEqual((asked, self.journal()[-1]), (["correction"], f"JURY REDRESS 1 {sail} 7.0"))
+        self.sent(asked, line=f"race 1 {sail} DPI 4")
+        self.assertEqual(asked[1:], ["clear-several", "correction"])
+        self.assertEqual(self.journal()[-3:], [f"JURY CLEAR 1 {sail}", f"SCORER PENALTY 1 {sail} ZFP",
+                                               f"JURY REDRESS 1 {sail} 9.0"])
+
+    def test_asked_before(self) -> None:
+        """A decision that isn't agreed to changes nothing. One that is taken out after a question goes from the
+        scores, and not from decisions.txt alone."""
+        sail, asked = SAILS[1], list[str]()
+        given = {"line": f"race 1 {sail} DPI 2", "lines": [f"JURY REDRESS 1 {sail} 4.0"], "id": new_id()}
+        self.assertEqual(self.ask("decide", **given)[0], 409)
+        self.assertFalse(os.path.exists(os.path.join(self.here, "cup", "decisions.txt")))
+        self.sent(asked, line=f"race 1 {sail} DPI 2")
+        self.assertEqual(self.sent(asked, line=f"race 1 {sail} DPI 2", out=True)[0], 200)
+        self.assertEqual(asked, ["correction", "correction"])
+        self.assertEqual(self.journal()[-1], f"JURY CLEAR 1 {sail}")
+        self.assertEqual(self.text("cup", "decisions.txt"), "")
+
+    def test_crash_between(self) -> None:
+        """The lines of a decision are sent to the end after a crash between them: what its CLEAR took isn't
+        lost."""
+        sail, correction = SAILS[1], {"kind": "correction", "values": {"race": 1}}
+        self.device("scorer").tap(f"PENALTY 1 {sail} ZFP", agreed=[correction])
+        self.sent([], line=f"race 1 {sail} DPI 2")
+        given = {"line": f"race 1 {sail} DPI 4"}
+        lines, id = self.ask("ruling", **given)[1]["lines"], new_id()
+        first = self.ask("decide", lines=lines, id=id, agreed=[], **given)[1]["question"]
+        self.assertEqual(self.ask("decide", lines=lines, id=id, agreed=[first], **given)[0], 409)
+        self.assertEqual(self.journal()[-1], f"JURY CLEAR 1 {sail}")
+        self.kill()
+        self.kill_program()
+        self.serve()
+        helpers.until("the office", lambda: not self.jury.again().state()["trouble"])
+        self.jury.link.close()
+        for again in ([True, False, False], [True, True, True]):
+            status, done = self.ask("decide", lines=lines, id=id, agreed=[correction], **given)
+            self.assertEqual((status, [one["again"] for one in done["done"]]), (200, again), done)
+        self.assertEqual(self.journal()[-3:], [f"JURY CLEAR 1 {sail}", f"SCORER PENALTY 1 {sail} ZFP",
+                                               f"JURY REDRESS 1 {sail} 9.0"])
+
 
 class Offices(Web):
     """The scorer closes and opens an office from a page."""

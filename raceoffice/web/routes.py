@@ -3,6 +3,7 @@ from __future__ import annotations
 
 import asyncio
 import concurrent.futures
+import contextlib
 import json
 import os
 import time
@@ -298,29 +299,36 @@ class Routes:
 
     def decide(self, request: Request, device: Device, room: Room) -> Reply:
         """Keeps a decision in decisions.txt, or takes it out, and sends the lines that it takes, if they are as
-        they were shown. The same again gets the same answer."""
-        values = request.values()
-        tap = tap_of({**values, "line": ""})
+        they were shown. The same again goes on at the first that wasn't sent, and gets the same answer."""
+        tap = tap_of({**request.values(), "line": ""})
         with room.lock:
             room.session("JURY").look()
-            done = self.decided_before(room, tap)
-            if not done:
-                found = ruled(request, room)
-                if found.why:
-                    raise NotSent(found.why[0])
-                if [f"{line.role} {line}" for line in found.lines] != values.get("lines"):
-                    raise NotSent("somebody else has typed meanwhile, and it comes to something else: look again")
-                preview.keep_decisions(room.folder, found.text)
-                done = self.sent_one_by_one(room, device, tap, found.lines)
+            lines: Sequence[Line] = room.register.decisions.get(tap.id, ())
+            if not lines:
+                lines = self.decision_begun(request, room, tap)
+            elif room.done(part_of(tap, 0)) is None:
+                # A crash may have come before it was kept.
+                with contextlib.suppress(NotSent):
+                    preview.keep_decisions(room.folder, ruled(request, room).text)
+            done = self.sent_one_by_one(room, device, tap, lines)
         return reply_of({"outcome": "taken", "done": done, "version": room.version})
 
     @staticmethod
-    def decided_before(room: Room, tap: Tap) -> list[Values]:
-        """What came of the lines of a decision that was sent before; none if it wasn't."""
-        found: list[Values] = []
-        while (done := room.done(part_of(tap, len(found)))) is not None:
-            found.append(done)
-        return found
+    def decision_begun(request: Request, room: Room, tap: Tap) -> Sequence[Line]:
+        """The lines of a decision, which are noted, and which is kept from now on. What the office asks of them is
+        asked before."""
+        found = ruled(request, room)
+        if found.why:
+            raise NotSent(found.why[0])
+        if [f"{line.role} {line}" for line in found.lines] != request.values().get("lines"):
+            raise NotSent("somebody else has typed meanwhile, and it comes to something else: look again")
+        for asked in asked_first(room, found.lines):
+            if asked not in tap.agreed:
+                raise Asked(asked, [])
+        if found.lines:
+            room.register.decide(tap.id, found.lines)
+        preview.keep_decisions(room.folder, found.text)
+        return found.lines
 
     @staticmethod
     def sent_one_by_one(room: Room, device: Device, tap: Tap, lines: Sequence[Line]) -> list[Values]:
@@ -523,6 +531,14 @@ def ruled(request: Request, room: Room) -> preview.Ruled:
         return preview.decide(room.folder, room.facts, str(values.get("line", "")).strip(), is_out=True)
     note = preview.note_of(str(values.get("note", "")))
     return preview.decide(room.folder, room.facts, one_line(request, "line"), note)
+
+
+def asked_first(room: Room, lines: Sequence[Line]) -> list[Question]:
+    """What is asked of the first line for each boat and race. What is asked of a later one depends on the first."""
+    first: dict[tuple[str, ...], Line] = {}
+    for line in lines:
+        first.setdefault(tuple(line.text.split()[1:3]), line)
+    return [asked for line in first.values() for asked in questions(room.facts, line.role, line.text, ())]
 
 
 def one_line(request: Request, name: str) -> str:

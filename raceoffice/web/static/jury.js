@@ -6,7 +6,7 @@ import {ask, newId} from "./office.js";
 import {say} from "./dialogs.js";
 import {kindOf, spaced} from "./sails.js";
 import {saidWords} from "./said-words.js";
-import {agrees} from "./sending.js";
+import {agrees, isTriedAgain, told} from "./sending.js";
 import {agreedOf, troubleOf} from "./questions.js";
 import {beginDesk, called, drawClasses, path, send, state} from "./desk.js";
 import {findBoat} from "./boat-finder.js";
@@ -70,18 +70,20 @@ async function sendDecision() {
 }
 
 // A decision without a line of its own: it is kept if it still comes to what was shown. What the office asks is
-// asked here. Gives what was said of its lines, or null if it wasn't sent.
+// asked here, and the same is sent again until there is an answer. Gives what was said of its lines, or null if it
+// wasn't sent.
 async function decide(agreed) {
-  const id = newId(), kept = given();
-  for (;;) {
-    const done = await ask(path("decide"), {...kept, id, lines: shown.lines, agreed}, LONG);
-    if (done.status === 200) return {outcome: done.done.at(-1)?.outcome, said: done.done.flatMap(one => one.said)};
-    if (done.status !== 409) {
+  const id = newId(), kept = given(), {lines} = shown;
+  for (let tries = 0; ; ) {
+    const done = await ask(path("decide"), {...kept, id, lines, agreed}, LONG);
+    if (done.status === 200) return told(done.done.at(-1), done.done.flatMap(one => one.said));
+    if (done.status === 409) {
+      if (await agrees(done.question, done.said) !== "yes") return null;
+      agreed.push(agreedOf(done.question));
+    } else if (!await isTriedAgain(done.status, tries++)) {
       say(troubleOf(done), true);
       return null;
     }
-    if (await agrees(done.question, done.said) !== "yes") return null;
-    agreed.push(agreedOf(done.question));
   }
 }
 

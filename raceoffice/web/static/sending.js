@@ -26,20 +26,26 @@ export async function sendLine(name, line, seen, more = {}) {
   const tap = {id: newId(), line, seen, at: now(), agreed: [], ...more};
   for (let tries = 0; ; tries++) {
     const said = await ask(`line/${encodeURIComponent(name)}`, tap);
-    if (said.status === 200) return taken(said);
+    if (said.status === 200) return told(said, said.said);
     if (said.status === 409 && said.outcome === "asked") {
       if (await agrees(said.question, said.said) !== "yes") return null;
       tap.agreed.push(agreedOf(said.question));
-    } else if ([0, 429, 503].includes(said.status) && tries < TRIES) {
-      await new Promise(goOn => setTimeout(goOn, PAUSE * (tries + 1)));
-    } else {
+    } else if (!await isTriedAgain(said.status, tries)) {
       say(troubleOf(said), true);
       return null;
     }
   }
 }
 
-function taken(said) {
-  if (said.outcome === "refused") say(refusalOf(said.answer, saidWords(said.said).join("\n")), true, LONG);
-  return said;
+// Whether what wasn't answered is sent again: that is so for a while, after a pause.
+export async function isTriedAgain(status, tries) {
+  if (![0, 429, 503].includes(status) || tries >= TRIES) return false;
+  await new Promise(goOn => setTimeout(goOn, PAUSE * (tries + 1)));
+  return true;
+}
+
+// What came of the last line that was sent, with what was said; a refusal is shown. A decision may take no line.
+export function told(last, said) {
+  if (last?.outcome === "refused") say(refusalOf(last.answer, saidWords(said).join("\n")), true, LONG);
+  return {...last, said};
 }
