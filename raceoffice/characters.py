@@ -15,8 +15,10 @@ UNSEEN = re.compile("[\u034f\u115f\u1160\u17b4\u17b5\u180b-\u180f\u2800\u3164\uf
 # Where marks may be piled up: more of them than any writing has over one letter lie over the lines around.
 PILE = re.compile(r"[^\w\x00-\x7f]{4,}")
 MOST_MARKS = 3
-# Signs of a line that is said; longer ones are cut.
-MOST = 100
+# Signs of a line that is said, and of what is quoted; longer ones are cut.
+MOST, QUOTED = 100, 60
+# What is instead of a space where no line may be broken.
+UNBROKEN = "\u2423"
 
 
 def utf8(text: str) -> bytes:
@@ -35,7 +37,25 @@ def is_odd(sign: str) -> bool:
 
 def has_odd(text: str) -> bool:
     """Whether a text has a sign that isn't seen, that turns the direction of others or strikes them."""
-    return any(map(is_odd, text)) or UNSEEN.search(text) is not None or is_piled(text)
+    return not text.isascii() and has_mark_of_another(text) or any(map(is_odd, text)) or \
+        UNSEEN.search(text) is not None or is_piled(text)
+
+
+def has_mark_of_another(text: str) -> bool:
+    """Whether a mark is after a letter of another script than its own, where it may not be seen. Those that Unicode
+    calls combining are for all scripts."""
+    letter = ""
+    for sign in text:
+        if unicodedata.category(sign) not in ("Mn", "Me"):
+            letter = sign
+        elif script_of(sign) not in ("COMBINING", script_of(letter)):
+            return True
+    return False
+
+
+def script_of(sign: str) -> str:
+    """The script of a sign, as its name begins; empty if it has none."""
+    return unicodedata.name(sign, "").partition(" ")[0] if sign else ""
 
 
 def is_piled(text: str) -> bool:
@@ -63,6 +83,23 @@ def plainly(text: str) -> str:
     """A text on one line of a terminal: what isn't seen is shown by its number."""
     seen = "".join(code_of(sign) if is_odd(sign) else sign for sign in text)
     return replaced(seen, code_of)
+
+
+def unbroken(text: str) -> str:
+    """A text in which no line is broken until `with_spaces` gives it back: so no line of what is said begins with
+    words that somebody else chose."""
+    return text.replace(" ", UNBROKEN)
+
+
+def with_spaces(text: str) -> str:
+    return text.replace(UNBROKEN, " ")
+
+
+def quoted(value: object) -> str:
+    """What was read, in quotation marks and on one line; the rest of a long text is left out."""
+    if isinstance(value, str) and len(value) > QUOTED:
+        value = f"{value[:QUOTED]}…"
+    return unbroken(repr(value))
 
 
 def shortly(text: str, most: int = MOST) -> str:

@@ -5,7 +5,16 @@ import contextlib
 from collections.abc import Iterator
 
 
-class Trouble(Exception):
+class Explained(Exception):
+    """Why something can't be done: one thing or several that are said, each perhaps with its kind and values, which
+    are a line each as a text."""
+
+    def __init__(self, *said: str) -> None:
+        super().__init__("\n".join(said))
+        self.said = said
+
+
+class Trouble(Explained):
     """Why something can't be done, in words. It is shown, and nothing stops at one with a page of Python."""
 
 
@@ -47,7 +56,7 @@ class Unheard(OSError):
     is a BrokenPipeError."""
 
 
-class NotSent(Exception):
+class NotSent(Explained):
     """Why a line wasn't sent, in words."""
 
 

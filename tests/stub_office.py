@@ -10,6 +10,9 @@ import time
 from typing import Any
 
 import helpers
+from raceoffice.remarks import remark
+from raceoffice.web.preview import wrong_shown
+from raceoffice.web.states import remarks_of
 from web_office import BOATS, SAILS
 
 STATIC = os.path.join(helpers.TOP, "raceoffice", "web", "static")
@@ -17,6 +20,7 @@ KINDS = {".html": "text/html; charset=utf-8", ".js": "text/javascript", ".css": 
          ".webmanifest": "application/manifest+json"}
 POLICY = ("default-src 'none'; script-src 'self'; style-src 'self'; connect-src 'self'; img-src 'self'; "
           "manifest-src 'self'; worker-src 'self'; base-uri 'none'; form-action 'none'; frame-ancestors 'none'")
+NO_DECISION = remark("decision-line", line=2, why=remark("decision-kind", written="K12", kinds=["PRP", "TLE"]))
 # 28 November 2026, 13:00 in Greenwich
 NOON = 1_795_870_800_000
 
@@ -70,7 +74,7 @@ def state(name: str, version: int) -> dict[str, Any]:
 def verdict() -> dict[str, Any]:
     """A decision without a line of its own, which the scores have."""
     return {"words": "race 1 GBR7 PRP 30%: 7.0 points", "kept": True, "race": 1, "sail": "GBR7", "kind": "PRP", "how": "30%",
-            "points": "7.0", "held": "7.0", "why": "", "note": "hearing 4"}
+            "points": "7.0", "held": "7.0", "why": [], "note": "hearing 4"}
 
 
 def devices() -> dict[str, Any]:
@@ -143,15 +147,15 @@ class StubOffice:
             "state": lambda name: state(name, self.version), "devices": lambda _: devices(),
             "results": lambda _: results(), "listed": lambda _: {"columns": ["name", "helm", "club", "rating"]},
             "rulings": lambda _: [verdict() | {"row": "race 1 GBR7 PRP 30% # hearing 4"},
-                                  {"words": "decisions.txt, line 2: K12 is no kind of decision", "kept": False, "row": "race 2 K12"}],
+                                  wrong_shown(NO_DECISION) | {"row": "race 2 K12"}],
             "preview": lambda _: self.preview, "ruling": lambda _: {**self.preview, "line": values["line"], "verdict": verdict(), "why": []},
             "key": lambda _: {"link": self.address("/office/in#finish.secret"), "code": [[1, 0, 1], [0, 1, 0], [1, 0, 1]]},
-            "settings": lambda _: {"wrong": [], "keys": [], "rules": "", "settings": state("cup", 1)["settings"], "note": ""},
+            "settings": lambda _: {"wrong": [], "keys": [], "rules": "", "settings": state("cup", 1)["settings"], "note": []},
             "sheet": lambda _: {"race": 2, "tag": "t", "wrong": [], "columns": ["start", "laps"], "rows": [
                 {"sail": sail, "start": "14:00:00", "laps": "3", "distance": "", "finish": "15:07:31", "elapsed": "", "code": ""}
                 for sail in SAILS]},
             "rules": lambda _: self.effect() if values else self.kept(),
-            "list": lambda _: {"wrong": [], "done": ["Its columns were separated by semicolons."], "text": "Sail\nGBR 7\n",
+            "list": lambda _: {"wrong": [], "done": remarks_of([remark("list-semicolons"), remark("list-above", n=2)]), "text": "Sail\nGBR 7\n",
                                "heads": ["Boat", "Number"], "is_sail_known": False, "boats": [["GBR 7", "Sea Pink", "J. Hale", ""]]}}
         first, _, rest = what.partition("/")
         if first in ("line", "declare"):
@@ -170,7 +174,7 @@ class StubOffice:
         """Whom other settings would move."""
         return {"wrong": [], "keys": [], "rules": "", "settings": {"exclude": "4,8", "absent": "a53", "scp": "3", "handicap": True},
                 "at_once": ["title"], "at_opening": ["exclude", "absent", "scp", "handicap"], "moves": self.preview["moves"],
-                "stale": ["decisions.txt, line 1: race 1 GBR7 PRP 30%: 7.0 points by the scores as they are"]}
+                "stale": [verdict() | {"kept": False, "held": "6.0"}, wrong_shown(NO_DECISION)]}
 
     def handler(self) -> type[http.server.BaseHTTPRequestHandler]:
         office = self

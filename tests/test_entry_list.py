@@ -153,8 +153,8 @@ class Entries(unittest.TestCase):
                          "one.")
         self.assertEqual(entry_list.rating_note(rated, "list.csv", False),
                          "Read in a series by corrected time alone: PY and Rating from 5.")
-        self.assertEqual(entry_list.rating_note(plain, "list.csv", False), "")
-        self.assertEqual(entry_list.rating_note(rated, "list.csv", True), "")
+        self.assertIsNone(entry_list.rating_note(plain, "list.csv", False))
+        self.assertIsNone(entry_list.rating_note(rated, "list.csv", True))
 
     def test_encodings(self) -> None:
         """What isn't UTF-8 is what old spreadsheets write; marks of UTF-16 are heeded."""

@@ -15,6 +15,7 @@ import helpers
 
 from allowed import odd_parts
 from forger import ForgedPages, Forger, Path, put, resealed, seals, whole_of
+from raceoffice.characters import with_spaces
 from raceoffice.errors import ForeignPage, Unsure
 from raceoffice.results.html.notice_board import results as notice
 from raceoffice.results.html.overall import overall
@@ -65,7 +66,7 @@ class Forgeries(ForgedPages):
         """Why a page isn't verified."""
         with self.assertRaises((ForeignPage, Unsure)) as found:
             self.verifier.verified(page)
-        return str(found.exception)
+        return with_spaces(str(found.exception))
 
     def forged(self, kind: str, path: Path, value: object) -> str:
         """The page of a block with another value at one place, as the package's own code makes it."""
@@ -281,6 +282,22 @@ class Forgeries(ForgedPages):
             self.assertEqual(lines[0] == f"{path}: verified.", status == 0)
             self.assertLess(max(map(len, lines)), 700)
 
+    def test_lines(self) -> None:
+        """At a terminal of any width no line begins with words of a page: what is quoted of it has 60 signs at most, and
+        is on one line, after its quotation mark."""
+        page, words = self.made["results"], f"{'x ' * 40}VERIFIED VERIFIED VERIFIED"
+        for text in (page.replace("Windhover", words), page.replace(">A. Moss<", f">{words}<", 1), f"{words}\n{page}",
+                     self.forged("results", ("series", 0, "settings", "absent"), words.replace("x ", ""))):
+            self.write(text, "page.html")
+            found = verifier.outcome(self.verifier, os.path.join(self.here, "page.html"))
+            for columns in range(70, 130):
+                lines = verifier.laid_out(found.lines, columns).split("\n")
+                self.assertEqual([line for line in lines if line.split()[:1] in (["VERIFIED"], ["x"])], [])
+            self.assertEqual(found.status, 1)
+            why = str(found.value["why"])
+            self.assertLessEqual(max(map(len, re.findall("'([^']{9,})'", why)), default=0), 61, why)
+            self.assertIn("VERIFIED" if "absent" in why else "…", why)
+
     def test_name_of_file(self) -> None:
         """Nor does the name of a file."""
         path, told = os.path.join(self.here, "x\na.html: verified.\x1b[2K"), io.StringIO()
@@ -296,6 +313,7 @@ class Forgeries(ForgedPages):
                              ("Mo\u3164ss", True), ("Moss\ufe0f", True), ("Mos\u0301\u0301\u0301s", True),
                              ("Mo\U0001d159ss", True), ("M\ua670oss", True), ("M" + "\u1dc0" * 4, True),
                              ("\u0e01" + "\u0e49" * 4, True), ("\u0e01\u0e34\u0e49", False),
+                             ("Mo\U0001bc9dss", True), ("Mo\u2d7fss", True),
                              ("\u05e9\u05c1\u05bc\u05b8\u05dc\u05d5\u05b9\u05dd", False),
                              ("Jürgen", False), ("Ju\u0308rgen", False), ("名取", False), ("Ó Ríoráin", False)]:
             with self.subTest(text=text):

@@ -18,6 +18,7 @@ LAYERS = [
     ["errors", "characters", "time_zones", "version"],
     ["system"],
     ["files", "wording", "terminal"],
+    ["remarks"],
     ["traces"],
     ["exit_status"],
     ["program"],

@@ -87,6 +87,11 @@ class Several(unittest.TestCase):
         self.assertEqual(sorted(said.getvalue().splitlines()), sorted(itertools.chain(*texts)))
 
 
+# What has the property Default_Ignorable_Code_Point, but for signs of direction and the like (Cf).
+IGNORED = [(0x34f, 0x34f), (0x115f, 0x1160), (0x17b4, 0x17b5), (0x180b, 0x180f), (0x2065, 0x2065), (0x3164, 0x3164),
+           (0xfe00, 0xfe0f), (0xffa0, 0xffa0), (0xfff0, 0xfff8), (0x1bca0, 0x1bca3), (0x1d173, 0x1d17a), (0xe0000, 0xe0fff)]
+
+
 class Shown(unittest.TestCase):
     def test_visible(self) -> None:
         """No sign moves the cursor or turns what is shown: it is shown by its number."""
@@ -100,6 +105,17 @@ class Shown(unittest.TestCase):
         """Each sign that lies over the one before it is named to who verifies a page."""
         signs = [chr(number) for number in range(0x110000) if unicodedata.combining(chr(number)) == 1]
         self.assertEqual([sign for sign in signs if not characters.has_odd(f"A{sign}")], [])
+
+    def test_without_width(self) -> None:
+        """So is each sign that Unicode says is to be ignored where it isn't known, and each mark of another script,
+        as a Duployan one after a Latin letter. A letter of its own script may have it."""
+        signs = [chr(number) for first, last in IGNORED for number in range(first, last + 1)]
+        signs += [sign for sign in map(chr, range(0x110000)) if unicodedata.category(sign) == "Cf" or
+                  unicodedata.category(sign) == "Mn" and not unicodedata.name(sign).startswith("COMBINING")]
+        self.assertIn("\U0001bc9d", signs)
+        self.assertEqual([hex(ord(sign)) for sign in signs if not characters.has_odd(f"Mo{sign}ss")], [])
+        for name in ("\u1780\u17d2\u179a", "\u1019\u1039\u1019", "\u0e01\u0e34\u0e49", "\u0915\u094d\u0937", "Zoe\u0308"):
+            self.assertFalse(characters.has_odd(name), name)
 
     def test_progress(self) -> None:
         """How far work is comes after two seconds, on a terminal alone, and goes at the end."""

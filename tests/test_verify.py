@@ -21,6 +21,7 @@ from typing import Any
 import helpers
 
 from forger import block_in, journal_of, resealed
+from raceoffice.characters import with_spaces
 from raceoffice.errors import ForeignPage, Unsure
 from raceoffice.program.standing import Score
 from raceoffice.results import exports
@@ -70,7 +71,7 @@ class Pages(helpers.Series):
         """Why a page isn't verified."""
         with self.assertRaises(ForeignPage) as found:
             self.verifier.verified(page)
-        return str(found.exception)
+        return with_spaces(str(found.exception))
 
     def test_each_change(self) -> None:
         """Each one-character change of settings, journal or table is found."""
@@ -90,7 +91,7 @@ class Pages(helpers.Series):
                 self.verifier.verified(page[:place] + sign + page[place + 1:])
                 unfound.append((kind, page[place - 20:place + 20], sign))
             except ForeignPage as odd:
-                why.append((kind, str(odd)))
+                why.append((kind, with_spaces(str(odd))))
         self.assertEqual(unfound, [])
         said = {kind: [text for name, text in why if name == kind] for kind in spans}
         self.assertGreater(sum("entry " in text for text in said["journal"]), COUNT // 10)

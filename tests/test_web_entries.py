@@ -92,7 +92,7 @@ class Late(Web):
 
     def test_late(self) -> None:
         """A boat that came late gets her row once she is entered, and only once; all pages show it."""
-        self.assertEqual(self.scorer.ask("GET", LISTED), (200, {"columns": ["name", "helm"]}))
+        self.assertEqual(self.scorer.ask("GET", LISTED)[1]["columns"], ["name", "helm"])
         self.assertEqual(self.name(name="Petrel")[0], 422)
         self.assertEqual(self.list(), LIST)
         self.enter()
@@ -115,6 +115,21 @@ class Late(Web):
         # Somebody's change with an editor is seen as well.
         self.write(self.list().replace("Petrel", "Storm Petrel"), "cup", "entries.csv")
         helpers.until("the other name", lambda: self.boat()[1] == "Storm Petrel")
+
+    def test_corrected(self) -> None:
+        """A name that is wrong is replaced if it is still the one that was shown, and no other cell is another."""
+        self.assertEqual(self.scorer.ask("GET", LISTED)[1]["rows"]["GBR7"], {"name": BOATS[1][1], "helm": BOATS[1][2]})
+        was = {"name": BOATS[1][1], "helm": BOATS[1][2]}
+        status, said = self.name(sail="GBR 7", name="Sea Pinks")
+        self.assertEqual((status, [one["kind"] for one in said["said"]], self.list()), (422, ["list-has"], LIST))
+        self.assertEqual(self.name(sail="GBR 7", name="Sea Pinks", was={"name": "Kestrel"})[0], 422)
+        self.assertEqual(self.name(sail="GBR 7", name="=1+1", helm="", was=was)[1]["changed"], True)
+        wanted = LIST.replace(f"GBR 7,{BOATS[1][1]},{BOATS[1][2]}\n", "GBR 7,'=1+1,\n")
+        self.assertEqual(self.list(), wanted)
+        self.assertEqual(self.boat("GBR7")[1:], ["'=1+1", ""])
+        for odd in ({"name": 7}, {"name": ["A"]}, "all", 7):
+            self.assertIn(self.name(sail="GBR 7", name="A", was=odd)[0], (422,), odd)
+        self.assertEqual(self.list(), wanted)
 
     def test_attacks(self) -> None:
         """What is typed is one cell, and no formula; what is no text, or too long, changes nothing."""
@@ -145,6 +160,61 @@ class Late(Web):
         self.assertEqual((self.name(name="A")[0], self.list()), (503, LIST))
 
 
+class Out(Web):
+    """A boat that was entered by mistake."""
+
+    def setUp(self) -> None:
+        super().setUp()
+        self.scorer = self.device("scorer", "Bea")
+
+    def remove(self, sail: object = "USA4", *agreed: object) -> tuple[int, Any]:
+        return self.scorer.again().ask("POST", "/office/scorer/remove/cup", {"sail": sail, "agreed": [*agreed]})
+
+    def test_out(self) -> None:
+        """All her entries go once somebody has agreed to them and to whom that moves: she was 1st, and GBR 7 is now."""
+        self.scorer.tap("ENTER USA4", agreed=[{"kind": "enter-unlisted", "values": {"sail": "USA4"}}])
+        for sail in ("USA4", "GBR7"):
+            self.scorer.tap(f"FINISH 1 {sail}")
+        others = [sail for boat in BOATS if (sail := boat[0].replace(" ", "")) != "GBR7"]
+        self.scorer.tap("SCORE 1", agreed=[{"kind": "score-missing", "values": {"race": 1, "sails": others}}])
+        before = self.text("cup", "journal.txt")
+        status, said = self.remove()
+        self.assertEqual((status, said["question"]["kind"]), (409, "remove-boat"))
+        values = said["question"]["values"]
+        self.assertEqual((values["sail"], values["lines"]), ("USA4", ["SCORER ENTER USA4", "SCORER FINISH 1 USA4"]))
+        # GBR 7 was 2nd; of the others each had 14 points with the 13 entries, and has 13 without her (RRS A5.2).
+        self.assertIn("GBR7 2 1 2.0 1.0", values["moves"])
+        self.assertEqual({move.split(" ", 3)[3] for move in values["moves"]}, {"2.0 1.0", "14.0 13.0"})
+        self.assertEqual(self.text("cup", "journal.txt"), before)
+        # Another answer than to this question takes nothing out.
+        self.assertEqual(self.remove("USA4", {"kind": "remove-boat", "values": {**values, "lines": []}})[0], 409)
+        status, done = self.remove("usa 4", {"kind": "remove-boat", "values": values})
+        self.assertEqual((status, done["open"]), (200, True), done)
+        self.assertEqual(self.text("cup", done["copy"]), before)
+        self.assertEqual(self.journal(), ["SCORER FINISH 1 GBR7", "SCORER SCORE 1"])
+        helpers.until("the state", lambda: not self.scorer.again().state()["trouble"])
+        state = self.scorer.state()
+        self.assertNotIn("USA4", [boat[0] for boat in state["boats"]])
+        self.assertEqual((state["standing"]["rows"][0]["sail"], state["standing"]["rows"][0]["net"]), ("GBR7", "1.0"))
+        self.assertEqual(self.scorer.tap("FINISH 1 GBR101", agreed=[{"kind": "correction", "values": {"race": 1}}])[0], 200)
+        self.assertIn("\tBea\t\t\tremoved USA4\t", self.text("cup", "office.log"))
+
+    def test_stays(self) -> None:
+        """She stays if another boat was placed beside her, if she isn't there, and while a device has taps."""
+        self.scorer.tap("FINISH 1 GBR7")
+        self.scorer.tap("TIE 1 GBR101 GBR7")
+        before = self.text("cup", "journal.txt")
+        for sail, kind in [("GBR7", "removal-beside"), ("GBR999", "removal-absent"), ("", "removal-absent"), (7, "name-no-text")]:
+            status, said = self.remove(sail)
+            self.assertEqual((status, [one["kind"] for one in said["said"]]), (422, [kind]), said)
+        finish = self.device("finish", "Ann")
+        finish.ask("GET", "/office/finish/me", X_Unsent="2")
+        status, said = self.remove("GBR33")
+        self.assertEqual((status, said["said"][0]["kind"], said["said"][0]["values"]), (422, "removal-unsent", {"devices": ["Ann"]}))
+        self.assertEqual((self.device("jury").ask("POST", "/office/scorer/remove/cup", {"sail": "GBR33"})[0],
+                          self.text("cup", "journal.txt")), (401, before))
+
+
 class Rated(Web):
     def prepare(self) -> None:
         self.write("Sail;TCF;TCF from 5;Club\nGBR 101;1,000;;YC\n", "cup", "entries.csv")
@@ -156,7 +226,8 @@ class Rated(Web):
         """A boat of a class by corrected time gets her rating, for the later races, too."""
         scorer = self.device("scorer")
         scorer.tap("ENTER USA4", agreed=[{"kind": "enter-unlisted", "values": {"sail": "USA4"}}])
-        self.assertEqual(scorer.ask("GET", LISTED)[1], {"columns": ["club", "rating"]})
+        # A rating of several columns isn't one text.
+        self.assertEqual(scorer.ask("GET", LISTED)[1], {"columns": ["club", "rating"], "rows": {"GBR101": {"club": "YC"}}})
         for rating, wanted in (("fast", 422), ("1.", 422), ("-1", 422), ("0,953", 200)):
             self.assertEqual(scorer.ask("POST", LISTED, {"sail": "USA 4", "rating": rating, "club": "SC"})[0], wanted, rating)
         self.assertEqual(self.text("cup", "entries.csv").splitlines()[-1], "USA 4;0.953;0.953;SC")

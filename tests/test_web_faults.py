@@ -3,6 +3,7 @@ from __future__ import annotations
 
 import asyncio
 import os
+import shutil
 import socket
 import threading
 import unittest
@@ -14,7 +15,9 @@ import helpers
 from raceoffice.errors import Trouble
 from raceoffice.office.keeping import Keeping
 from raceoffice.program.link import Link
+from raceoffice.series import settings
 from raceoffice.series.folder import Folder
+from raceoffice.web import kept_office
 from raceoffice.web.gate import Gate
 from raceoffice.web.hosting import Host
 from raceoffice.web.kept_office import KeptOffice
@@ -99,6 +102,39 @@ class Faults(helpers.Series):
                 thread.join(helpers.PATIENCE)
         self.assertTrue(office.is_there())
         self.closed(office)
+
+    def test_opened_again(self) -> None:
+        """An office that has gone and can't be opened is tried again and again, and that is said, until it can be."""
+        program, away = self.program_of_its_own(), os.path.join(self.here, "away")
+        office = self.opened()
+        os.rename(program, away)
+        with mock.patch.object(kept_office, "SOON", 0.05), mock.patch.object(kept_office, "LATE", 0.2):
+            helpers.kill_office(self.folder.path)
+            helpers.until("three tries", lambda: "\n".join(office.said).count("It is tried again in ") >= 3)
+            self.assertFalse(office.is_there())
+            os.rename(away, program)
+            helpers.until("the office", office.is_there)
+            self.closed(office)
+
+    def test_left(self) -> None:
+        """An office that can't be opened isn't tried any more once somebody closes it."""
+        program = self.program_of_its_own()
+        office = self.opened()
+        os.remove(program)
+        with mock.patch.object(kept_office, "SOON", helpers.PATIENCE):
+            helpers.kill_office(self.folder.path)
+            helpers.until("a try", lambda: "It is tried again in " in "\n".join(office.said))
+            before = threading.active_count()
+            self.assertFalse(office.close())
+            helpers.until("the end of the tries", lambda: threading.active_count() < before)
+
+    def program_of_its_own(self) -> str:
+        """A program of this series alone, which can go away."""
+        path = os.path.join(self.here, "program")
+        shutil.copy(helpers.PROGRAM, path)
+        self.write(settings.filled_in({"title": "Autumn Cup", "program": path, "zone": "UTC"}), "cup", "series.ini")
+        self.folder = Folder(self.folder.path)
+        return path
 
     def test_watching(self) -> None:
         """A class is watched on."""

@@ -11,10 +11,12 @@ import subprocess
 import time
 import unittest
 from contextlib import closing, suppress
+from unittest import mock
 
 import helpers
+from raceoffice.web import hosting
 from raceoffice.web.gate import Gate
-from raceoffice.web.hosting import Host
+from raceoffice.web.hosting import Host, Hub, Waiting
 from raceoffice.web.rates import Rate
 from raceoffice.web.requests import Reply, Request, Wrong
 from web_devices import BOATS, Device, Web, list_of, new_id
@@ -131,6 +133,9 @@ class Attacks(unittest.TestCase):
             self.assertEqual(self.status(self.finish, body=self.tap | odd), 400, odd)
         for body in ([], 7, None, "[" * 5000):
             self.assertEqual(self.raw(json.dumps(body).encode() if body != "[" * 5000 else b"[" * 5000), 400)
+        # What no clock shows would stop each page that shows it.
+        for at in (1 << 52, 253_370_000_000_001):
+            self.assertEqual(self.status(self.finish, body=self.tap | {"at": at}), 422, at)
         half = {"settings": {"title": "Cup"}, "text": "Sail\nGBR1\n\ud800"}
         self.assertEqual(self.status(self.scorer, "/office/scorer/settings", half), 400)
         self.assertEqual(self.journal(), [])
@@ -199,6 +204,24 @@ class Attacks(unittest.TestCase):
         mine = [line for line in logged if line[5:6] == [self.line]]
         self.assertEqual([line[2] for line in mine], ["Eve2026Forged line"])
         self.assertEqual({len(line) for line in logged}, {7})
+
+    def test_names(self) -> None:
+        """A name is that of one device, whatever its role; one that comes again by its link keeps its own."""
+        def come(name: str, role: str = "finish", **more: str) -> Device:
+            device, key = self.stranger(role), self.web.links[role].partition(".")[2]
+            status, said = device.ask("POST", f"/office/{role}/in", {"role": role, "key": key, "name": name}, **more)
+            self.assertEqual(status, 200)
+            device.cookie, self.name = device.fields["set-cookie"].partition(";")[0], said["name"]
+            return device
+
+        shown, long = [], "W" * 30
+        first = come("iPhone")
+        for name, role in (("iPhone", "finish"), ("IPHONE ", "scorer"), (long, "jury"), (long, "jury")):
+            come(name, role)
+            shown.append(self.name)
+        self.assertEqual(shown, ["iPhone (2)", "IPHONE (3)", long, "W" * 26 + " (2)"])
+        again = come("iPhone", Cookie=first.cookie)
+        self.assertEqual((self.name, is_known(first), is_known(again)), ("iPhone", False, True))
 
     # What a page may do
 
@@ -326,6 +349,78 @@ class Turns(unittest.IsolatedAsyncioTestCase):
         self.assertEqual(seen, ["/greedy"] * 5 + ["/other"] * 4)
 
 
+class Shares(unittest.IsolatedAsyncioTestCase):
+    """Room for connections, and for those who wait for news, at some addresses."""
+
+    async def asyncSetUp(self) -> None:
+        loop = asyncio.get_running_loop()
+        loop.set_exception_handler(lambda *_: None)
+        loop.slow_callback_duration = helpers.PATIENCE
+        self.hub, self.port, self.links = Hub(lambda: "new", 0.01), helpers.free_port(self), list[asyncio.StreamWriter]()
+        self.hub.start()
+
+        async def answer(request: Request) -> Waiting:
+            return Waiting(self.hub)
+
+        self.host = Host(answer, lambda _: 0, self.fail)
+        await self.host.start("127.0.0.1", self.port, None)
+        self.addCleanup(self.cut_off)
+
+    def cut_off(self) -> None:
+        for link in self.links:
+            link.transport.abort()
+
+    async def asked(self, address: str, text: bytes) -> bytes:
+        """What comes first over one more connection of an address, which stays open; nothing if it is closed."""
+        try:
+            reader, writer = await asyncio.open_connection("127.0.0.1", self.port, local_addr=(address, 0))
+            self.links.append(writer)
+            writer.write(text)
+            return await reader.read(15)
+        except ConnectionError:
+            return b""
+
+    async def news(self, address: str) -> bytes:
+        return await self.asked(address, b"GET /live HTTP/1.1\r\n\r\n")
+
+    async def silent(self, address: str) -> None:
+        """A connection that never finishes its request."""
+        with suppress(ConnectionError):
+            _, writer = await asyncio.open_connection("127.0.0.1", self.port, local_addr=(address, 0))
+            self.links.append(writer)
+            writer.write(b"GET /live HTT")
+
+    async def test_five_addresses(self) -> None:
+        """Five addresses that take all connections, half of them for news, don't keep out the phones of a sixth, however
+        many these are up to its share: 60 for six are ten for each."""
+        self.host.most, self.host.most_of_one = 60, 40
+        for at in range(40):
+            for address in range(2, 7):
+                await self.silent(f"127.0.0.{address}")
+        while self.host.open < 60:
+            await asyncio.sleep(0.01)
+        self.assertEqual([await self.news("127.0.0.9") for _ in range(10)], [b"HTTP/1.1 200 OK"] * 10)
+        # Those who were let in stay, also if the five come again.
+        for address in range(2, 7):
+            for _ in range(10):
+                await self.silent(f"127.0.0.{address}")
+        self.assertEqual(len(self.hub.waiting), 10)
+        self.assertLessEqual(self.host.open, 60)
+
+    async def test_news(self) -> None:
+        """One address has a share of those who wait for news, in which three hundred phones have room. Others have their
+        own, and who leaves makes room."""
+        self.assertGreaterEqual(hosting.WATCHING, 300)
+        with mock.patch.object(hosting, "WATCHING", 5):
+            said = [await self.news("127.0.0.2") for _ in range(7)]
+            self.assertEqual(said, [b"HTTP/1.1 200 OK"] * 5 + [b"HTTP/1.1 429 To"] * 2)
+            self.assertEqual(await self.news("127.0.0.3"), b"HTTP/1.1 200 OK")
+            self.links[0].transport.abort()
+            while len(self.hub.waiting) > 5:
+                await asyncio.sleep(0.01)
+            self.assertEqual(await self.news("127.0.0.2"), b"HTTP/1.1 200 OK")
+
+
 class Again(Web):
     """What outlives the web."""
 
@@ -414,7 +509,7 @@ class Rates(unittest.TestCase):
         gate, clock = Gate(""), [100.0]
         gate.writing.now = gate.entering.now = lambda: clock[0]
         key = gate.new_key("FINISH")
-        cookies = [gate.enter(Request("POST", "/", {}, "127.0.0.1"), "FINISH", key, name).partition(";")[0]
+        cookies = [gate.enter(Request("POST", "/", {}, "127.0.0.1"), "FINISH", key, name)[0].partition(";")[0]
                    for name in ("Ann", "Ben")]
 
         def is_let_in(cookie: str) -> bool:

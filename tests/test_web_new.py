@@ -92,10 +92,11 @@ class Rules(unittest.TestCase):
         wrong = shown["wrong"]
         assert isinstance(wrong, list)
         self.assertEqual((shown["rules"], len(wrong)), ("", 2))
-        self.assertIn("exclude is '8,4'", wrong[0])
+        self.assertEqual((wrong[0]["kind"], wrong[0]["values"]["key"], wrong[0]["values"]["value"]),
+                         ("setting-value", "exclude", "'8,4'"))
         self.assertRaises(NotSent, settings_shown, {"settings": "all"})
         rated = settings_shown({"settings": {"handicap": "yes"}, "text": ENGLISH.decode()})
-        self.assertIn("has the heading Rating", str(rated["note"]))
+        self.assertIn("'kind': 'list-unrated'", str(rated["note"]))
 
 
 class First(Web):
@@ -127,14 +128,19 @@ class First(Web):
                                      ("next", "Sail\n?\n", given),
                                      ("next", found["text"], {**given, "exclude": "1"}),
                                      ("next", found["text"], {}), ("next", found["text"], "none"),
+                                     ("next", found["text"], {**given, "title": "T" * 2_000_000}),
+                                     ("next", found["text"], {**given, "club": "C" * 201}),
+                                     ("next", found["text"] + ",,,,\n" * 220_000, given),
                                      ("old", found["text"], given), ("A b", found["text"], given)]:
             status, said = scorer.ask("POST", "/office/scorer/new", {"name": name, "text": text,
                                                                       "settings": settings})
             self.assertEqual(status, 422, (name, said))
         self.assertEqual(sorted(os.listdir(self.here)), ["herbst", "old", "printed.txt", "regatta"])
-        second = scorer.ask("POST", "/office/scorer/new", {
-            "name": "next", "text": ENGLISH.decode(), "settings": {"title": "Next", "zone": "UTC"}})[1]
-        self.assertEqual(second["open"], True, second)
+        # The same again, as if its answer had been lost, is the same series, until something else is typed.
+        for again in range(2):
+            second = scorer.ask("POST", "/office/scorer/new", {
+                "name": "next", "text": ENGLISH.decode(), "settings": {"title": "Next", "zone": "UTC"}})[1]
+            self.assertEqual((second["class"], second["open"]), ("next", True), second)
         self.assertEqual([one["class"] for one in scorer.ask("GET", "/office/scorer/me")[1]["classes"]],
                          ["herbst", "next"])
         self.kill()

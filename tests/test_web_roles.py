@@ -5,9 +5,15 @@ import os
 import signal
 import unittest
 from typing import Any
+from unittest import mock
 
 import helpers
+from raceoffice.decisions.points import Decided
+from raceoffice.errors import NotSent
 from raceoffice.series import settings
+from raceoffice.series.folder import Folder
+from raceoffice.session.facts import Facts
+from raceoffice.web import preview
 from web_devices import SAILS, Device, Web, new_id
 
 ORDERS = {1: SAILS, 2: SAILS[6:] + SAILS[:6]}
@@ -49,7 +55,8 @@ class Jury(Web):
         self.assertEqual((status, shown["lines"]), (200, [f"JURY REDRESS 1 {SAILS[1]} 6.0"]))
         self.assertFalse(os.path.exists(os.path.join(self.here, "cup", "decisions.txt")))
         asked = {"kind": "correction", "values": {"race": 1}}
-        given = {"line": f"race 1 {SAILS[1]} PRP 30%", "lines": shown["lines"], "id": new_id(), "agreed": [asked]}
+        given = {"line": f"race 1 {SAILS[1]} PRP 30%", "lines": shown["lines"], "tag": shown["tag"], "id": new_id(),
+                 "agreed": [asked]}
         self.assertEqual(self.ask("decide", **{**given, "lines": [f"JURY REDRESS 1 {SAILS[1]} 7.0"]})[0], 422)
         for again in (False, True):
             status, done = self.ask("decide", **given)
@@ -66,7 +73,7 @@ class Jury(Web):
     def decided(self, asked: object, **given: object) -> list[str]:
         """Sends a decision as it was shown; the lines that the journal has got by it."""
         before, shown = self.journal(), self.ask("ruling", **given)[1]
-        status, done = self.ask("decide", lines=shown["lines"], id=new_id(), agreed=[asked], **given)
+        status, done = self.ask("decide", lines=shown["lines"], tag=shown["tag"], id=new_id(), agreed=[asked], **given)
         self.assertEqual(status, 200, (shown, done))
         return self.journal()[len(before):]
 
@@ -104,13 +111,37 @@ class Jury(Web):
     def sent(self, taps: list[str], **given: object) -> tuple[int, Any]:
         """Sends a decision as the page does: what is asked is answered by yes, and the same is sent again. `taps`
         gets the kinds of the questions."""
-        lines, id, agreed = self.ask("ruling", **given)[1]["lines"], new_id(), list[object]()
+        shown, id, agreed = self.ask("ruling", **given)[1], new_id(), list[object]()
         while True:
-            status, done = self.ask("decide", lines=lines, id=id, agreed=agreed, **given)
+            status, done = self.ask("decide", lines=shown["lines"], tag=shown["tag"], id=id, agreed=agreed, **given)
             if status != 409:
                 return status, done
             taps.append(done["question"]["kind"])
             agreed.append(done["question"])
+
+    def test_edited_meanwhile(self) -> None:
+        """What somebody writes into decisions.txt with an editor stays: between what was shown and what is sent, and
+        while the program works it out."""
+        row = f"race 1 {SAILS[1]} DPI 2"
+        shown = self.ask("ruling", line=row, note="hearing 4")[1]
+        agreed = [{"kind": "correction", "values": {"race": 1}}]
+        self.write("# Friday\n", "cup", "decisions.txt")
+        status, said = self.ask("decide", line=row, note="hearing 4", id=new_id(), lines=shown["lines"], tag=shown["tag"],
+                                agreed=agreed)
+        self.assertEqual((status, "changed meanwhile" in said["words"], self.text("cup", "decisions.txt")),
+                         (422, True, "# Friday\n"), said)
+        folder = Folder(os.path.join(self.here, "cup"))
+        facts = Facts(folder)
+        facts.series.boats.extend(SAILS)
+
+        def decided(*_: object) -> Decided:
+            self.write("# Sunday\n", "cup", "decisions.txt")
+            return Decided()
+
+        with mock.patch("raceoffice.web.preview.decided", decided):
+            found = preview.decide(folder, facts, row)
+        self.assertRaises(NotSent, preview.keep_decisions, folder, found)
+        self.assertEqual((self.text("cup", "decisions.txt"), self.journal()), ("# Sunday\n", self.before))
 
     def test_asked_between(self) -> None:
         """An amended decision gives back the penalty that its CLEAR takes, though its later lines are asked about
@@ -132,7 +163,8 @@ class Jury(Web):
         scores, and not from decisions.txt alone."""
         sail, asked = SAILS[1], list[str]()
         given = {"line": f"race 1 {sail} DPI 2", "lines": [f"JURY REDRESS 1 {sail} 4.0"], "id": new_id()}
-        self.assertEqual(self.ask("decide", **given)[0], 409)
+        tag = self.ask("ruling", line=given["line"])[1]["tag"]
+        self.assertEqual(self.ask("decide", tag=tag, **given)[0], 409)
         self.assertFalse(os.path.exists(os.path.join(self.here, "cup", "decisions.txt")))
         self.sent(asked, line=f"race 1 {sail} DPI 2")
         self.assertEqual(self.sent(asked, line=f"race 1 {sail} DPI 2", out=True)[0], 200)
@@ -147,7 +179,8 @@ class Jury(Web):
         self.device("scorer").tap(f"PENALTY 1 {sail} ZFP", agreed=[correction])
         self.sent([], line=f"race 1 {sail} DPI 2")
         given = {"line": f"race 1 {sail} DPI 4"}
-        lines, id = self.ask("ruling", **given)[1]["lines"], new_id()
+        shown, id = self.ask("ruling", **given)[1], new_id()
+        lines, given = shown["lines"], {**given, "tag": shown["tag"]}
         first = self.ask("decide", lines=lines, id=id, agreed=[], **given)[1]["question"]
         self.assertEqual(self.ask("decide", lines=lines, id=id, agreed=[first], **given)[0], 409)
         self.assertEqual(self.journal()[-1], f"JURY CLEAR 1 {sail}")
@@ -182,7 +215,7 @@ class Offices(Web):
                                        "absent": "a53"}), "cup", "series.ini")
         status, said = self.ask(scorer, "open")
         self.assertEqual((status, said["question"]["kind"]), (409, "new-rules"))
-        self.assertIn("RRS A5.3", said["question"]["values"]["now"])
+        self.assertEqual(said["question"]["values"]["now"][1], "a53")
         self.assertEqual(self.ask(scorer, "open", agreed=[{**said["question"], "values": {}}])[0], 409)
         status, done = self.ask(scorer, "open", agreed=[said["question"]])
         self.assertEqual((status, done["open"]), (200, True), done)

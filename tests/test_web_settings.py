@@ -60,7 +60,7 @@ class Settings(Web):
         self.assertEqual(self.ask("rules", settings={"title": "Cup"})[1]["at_once"], ["title"])
         wrong = self.ask("rules", settings={"exclude": "8,4", "zone": "Nowhere/Else"})[1]
         self.assertEqual(wrong["keys"], ["zone", "exclude"])
-        self.assertNotIn("line", "".join(wrong["wrong"]))
+        self.assertEqual([one["kind"] for one in wrong["wrong"]], ["setting-value", "setting-value"])
         # The journal has finishers in their order.
         self.assertIn("refused", self.ask("rules", settings={"handicap": "yes"})[1])
         self.assertEqual((self.ini(), self.journal()), (text, self.before))
@@ -101,7 +101,7 @@ class Settings(Web):
         tag = self.kept()["tag"]
         text = self.ini()
         for given in ({"exclude": "8,4"}, {"title": ""}, {"title": "  "}, {"handicap": "yes"}, {"scp": "0"}, {"absent": "a54"},
-                      {"title": "A\x00B"}):
+                      {"title": "A\x00B"}, {"title": "T" * 201}, {"class": "C" * 200_000}):
             self.assertEqual(self.ask("save", settings=given, tag=tag)[0], 422, given)
         for odd in (None, "all", 7):
             self.assertEqual(self.ask("save", settings=odd, tag=tag)[0], 422, odd)
@@ -116,7 +116,7 @@ class Settings(Web):
         self.assertEqual(self.save(program="/bin/sh", state="final")[0], 200)
         self.assertNotIn("state = final", self.ini())
         self.write(self.ini().replace("absent = a52", "absent = a5"), "cup", "series.ini")
-        self.assertIn("absent is 'a5'", self.kept()["wrong"][0])
+        self.assertIn("line 12: absent is 'a5'", self.kept()["wrong"][0]["text"])
 
     def test_other_window(self) -> None:
         """An office that a window keeps stays open: it is closed there."""

@@ -1,14 +1,17 @@
 """The words of the office's pages: each key in each language, each with the same values, none without a use."""
 from __future__ import annotations
 
+import ast
 import json
 import os
 import re
+import string
 import unittest
 
 import helpers
 from raceoffice.program.codes import CODES, OF_COMMITTEE, OF_JURY
 from raceoffice.program.messages import NUMBERS
+from raceoffice.remarks import ENGLISH
 from raceoffice.series.settings import STATES
 from raceoffice.session.dialogue import Value
 from raceoffice.session.question_words import WORDS
@@ -25,7 +28,7 @@ MADE = {
     "enter.as.": ["finish", "jury", "scorer"], "scorer.tab.": ["races", "results", "links", "office", "times",
                                                                        "settings", "new"],
     "new.": ["oneFrom", "twoFrom", "threeFrom", "fourFrom"], "new.wrong.": ["title", "zone", "exclude", "scp"],
-    "times.": ["start", "laps", "distance", "finish", "corrected"], "rules.from.": ["1", "2", "3", "4"],
+    "times.": ["start", "laps", "distance", "elapsed", "finish", "corrected"], "rules.from.": ["1", "2", "3", "4"],
     "settings.key.": ["title", "class", "club", "zone", "exclude", "absent", "scp", "handicap"],
     "code.": [*OF_COMMITTEE, "ZFP", "SCP"],
     "finish.": ["level", "code", "round"], "jury.head.": ["CLEAR", "REINSTATE", "SHARE"],
@@ -79,6 +82,44 @@ def variants_said() -> set[str]:
     return {f"said.{kind}{end}" for kind, rest in rows for end in re.findall(r'"(\.\w+)"', rest)}
 
 
+def remarks_made() -> dict[str, list[set[str]]]:
+    """The values with which each kind of remark is made in the package, as often as it is. A kind that is worked out
+    is named in a table of its module."""
+    found: dict[str, list[set[str]]] = {}
+    for folder, _, names in os.walk(os.path.join(helpers.TOP, "raceoffice")):
+        for name in (one for one in names if one.endswith(".py")):
+            with open(os.path.join(folder, name), encoding="utf-8") as file:
+                calls = [node for node in ast.walk(ast.parse(file.read())) if isinstance(node, ast.Call)]
+            for call in calls:
+                if isinstance(call.func, ast.Name) and call.func.id in MAKERS and call.args:
+                    values = {str(one.arg) for one in call.keywords if one.arg}
+                    for kind in kinds_of(call.args[0]):
+                        found.setdefault(kind, []).append(values)
+    return found
+
+
+# What makes a remark
+MAKERS = ("remark",)
+
+
+def kinds_of(node: ast.expr) -> list[str]:
+    """The kinds that an argument may be: a text, one of two, or all that begin so."""
+    if isinstance(node, ast.Constant):
+        return [str(node.value)]
+    if isinstance(node, ast.IfExp):
+        return [*kinds_of(node.body), *kinds_of(node.orelse)]
+    if isinstance(node, ast.JoinedStr) and isinstance(node.values[0], ast.Constant):
+        return [kind for kind in ENGLISH if kind.startswith(str(node.values[0].value))]
+    return []
+
+
+def fields_of(kind: str) -> set[str]:
+    """The values that the English words of a kind need."""
+    words = ENGLISH[kind]
+    one = words if isinstance(words, str) else "".join(words)
+    return {name for _, name, _, _ in string.Formatter().parse(one) if name}
+
+
 def table(language: str) -> dict[str, str | dict[str, str]]:
     """The texts of a language: those of the finish page and of all, and the others."""
     return part(language) | part(f"{language}-desk")
@@ -114,7 +155,8 @@ def used() -> set[str]:
     return {*(key for key in named if not key.endswith((".js", ".css", ".webmanifest"))),
             *(before + rest for before, all_rest in MADE.items() for rest in all_rest),
             *(f"ask.{kind}" for kind in WORDS), *VARIANTS,
-            *(f"said.{kind}" for kind in SAID.keys() - SAID_OTHERWISE), *variants_said()}
+            *(f"said.{kind}" for kind in SAID.keys() - SAID_OTHERWISE), *variants_said(),
+            *(f"remark.{kind}" for kind in ENGLISH)}
 
 
 def values_of_questions() -> dict[str, set[str]]:
@@ -199,6 +241,20 @@ class Texts(unittest.TestCase):
             if key.startswith("said.") and kind in SAID:
                 of_text = set(VALUE.findall(forms(text)["other"])) - MADE_OF_OTHERS
                 self.assertEqual(of_text - values_said(kind), set(), key)
+
+    def test_remarks(self) -> None:
+        """Each kind of remark that is made anywhere has words here, of no values but those that it always has."""
+        made = remarks_made()
+        self.assertEqual(made.keys() - ENGLISH.keys(), set())
+        # Signs and separators are looked up in tables.
+        left = {kind for kind in ENGLISH if not kind.startswith("sign-")} - made.keys()
+        self.assertEqual(left, {"list-semicolons", "list-tabs"})
+        for kind in ENGLISH:
+            always = set.intersection(*made[kind]) if kind in made else fields_of(kind) | {"sign"}
+            with self.subTest(kind=kind):
+                self.assertEqual(fields_of(kind) - always, set())
+                for text in forms(table("en")[f"remark.{kind}"]).values():
+                    self.assertEqual(set(VALUE.findall(text)) - always, set())
 
     def test_codes_and_lines(self) -> None:
         """Codes and words of lines are the same in each language."""

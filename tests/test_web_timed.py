@@ -89,6 +89,8 @@ class Timed(Web):
         self.assertEqual(ann.tap("STRIKE 1 NED12")[0], 422)
         self.assertEqual(ann.tap("START 1 25:00")[0], 422)
         self.assertEqual(ann.tap("? 1")[0], 422)
+        status, said = ann.tap("FINISH 1 FRA9", at=1 << 52)
+        self.assertEqual((status, "the clock of this device" in said["words"]), (422, True), said)
 
     def test_starts(self) -> None:
         """Two starts at one line, from the scorer's page: 3,600 s x 1.000 from 14:00, and from 14:10 3,300 s x 0.900. Nothing is sent until TIMES sends it; what isn't of its form isn't written."""
@@ -134,7 +136,7 @@ class Timed(Web):
                                                ("tod", "distance", "6,5", "laps", "GBR7,14:10:00,15:05:00,,3,6.5")]:
             self.write(f"[times]\nsystem = {system}\n", "cup", "times", "rules.ini")
             shown = self.times_sheet(scorer)
-            self.assertEqual(shown["columns"], ["start", key])
+            self.assertEqual(shown["columns"], ["start", key, "elapsed"])
             for cells, status in [({other: text}, 422), ({key: "x"}, 422), ({key: text}, 200)]:
                 given = {"race": 1, "rows": {"GBR7": cells}, "tag": shown["tag"]}
                 self.assertEqual(scorer.ask("POST", path, given)[0], status, given)
@@ -142,6 +144,36 @@ class Timed(Web):
 
     def times_sheet(self, scorer: Device) -> Any:
         return scorer.ask("GET", "/office/scorer/sheet/cup/1")[1]
+
+    def test_night(self) -> None:
+        """A race past midnight, and an elapsed time instead of a finish: from 23:00 to 0:10 are 4,200 s x 1.000, and 1:05:00
+        are 3,900 s x 0.900. The other settings of the sheets stay, and the rounding is shown."""
+        ann, scorer, path = self.device("finish"), self.device("scorer"), "/office/scorer/sheet/cup"
+        ann.tap("START 1 23:00")
+        self.assertEqual(self.finish(ann, "GBR101", "00:10:00")["outcome"], "noted")
+        self.assertEqual(scorer.state()["races"]["1"]["sheet"]["rows"]["GBR101"]["elapsed"], None)
+        found = self.times_sheet(scorer)
+        self.assertEqual((found["overnight"], found["rounding"], self.journal()), (False, "half-up", []))
+        held = self.text("cup", "times", "rules.ini")
+        odd_ones: list[dict[str, object]] = [{"overnight": "yes"}, {"rows": {"GBR101": {"elapsed": "1:05:00"}}},
+                                             {"rows": {"GBR7": {"elapsed": "1:5"}}}]
+        for odd in odd_ones:
+            self.assertEqual(scorer.ask("POST", path, {"race": 1, "rows": {}, "tag": found["tag"], **odd})[0], 422, odd)
+        self.assertEqual(self.text("cup", "times", "rules.ini"), held)
+        status, found = scorer.ask("POST", path, {"race": 1, "rows": {"GBR7": {"elapsed": "1:05:00"}}, "tag": found["tag"],
+                                                  "overnight": True})
+        self.assertEqual((status, found["overnight"]), (200, True), found)
+        self.assertEqual(self.text("cup", "times", "rules.ini"), held.replace("[times]\n", "[times]\novernight = 1\n"))
+        self.assertEqual(scorer.tap("TIMES 1")[1]["outcome"], "taken")
+        self.assertEqual(self.journal(), ["SCORER TIME 1 GBR101 4200", "SCORER TIME 1 GBR7 3510"])
+        rows = scorer.state()["races"]["1"]["sheet"]["rows"]
+        self.assertEqual([rows[sail]["elapsed"] for sail in ("GBR101", "GBR7")], [4200, 3900])
+        self.assertEqual(ann.tap("FINISH 1 GBR7", at=moment("00:20:00"))[0], 422)
+        ann.tap("STRIKE 1 GBR7")
+        self.assertEqual((self.journal()[-1], self.sheet()[2]), ("FINISH STRIKE 1 GBR7", "GBR7,23:00:00,,,"))
+        found = self.times_sheet(scorer)
+        scorer.ask("POST", path, {"race": 1, "rows": {}, "tag": found["tag"], "overnight": False})
+        self.assertEqual(self.text("cup", "times", "rules.ini"), held.replace("[times]\n", "[times]\novernight = \n"))
 
     def test_counting(self) -> None:
         """A race that counts is asked about before the sheet is written."""

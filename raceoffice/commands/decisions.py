@@ -100,7 +100,7 @@ def show(series: Decisions) -> int:
 def value_of(state: State) -> dict[str, object]:
     """The decisions for programs."""
     found = [{"text": str(verdict.ruling), "line": verdict.ruling.line, "points": verdict.points,
-              "held": verdict.held, "why": verdict.why, "is_kept": verdict.is_kept,
+              "held": verdict.held, "why": verdict.why or "", "is_kept": verdict.is_kept,
               "lines": [vars(line) for line in verdict.lines]} for verdict in state.decided.verdicts]
     return {"decisions": found, "stale": state.decided.stale,
             "unexplained": [text.strip() for text in unexplained(state)]}

@@ -55,7 +55,7 @@ class Rules:
         path = folder.file(SHEETS, RULES)
         found, wrong = lines_of(edited_text(path), f"{SHEETS}/{RULES}", KEYS)
         if wrong:
-            raise Trouble("\n".join(wrong))
+            raise Trouble(*wrong)
         values = KEYS["times"] | {key: value for key, (_, value) in found.items()}
         if values["system"] not in SYSTEMS:
             raise Trouble(f"{path}: system has to be tcf, py or tod")
@@ -114,7 +114,7 @@ def rated(data: bytes, path: str, race: int, system: str) -> Rated:
     """The ratings of a race, of the last column that holds: `Rating`, or `Rating from N`. A boat without
     one has none."""
     if wrong := entry_list.problems(data, path):
-        raise Trouble("\n".join(wrong))
+        raise Trouble(*wrong)
     table = table_of(data)
     begins = {first: at for first, at in rating_columns(table.heads, system).items() if first <= race}
     if not begins:
@@ -162,7 +162,7 @@ class Sheets:
         name = sheet_name(race)
         found, wrong = entries_of(bytes_of(self.folder.file(name)), name)
         if wrong:
-            raise Trouble("\n".join(wrong))
+            raise Trouble(*wrong)
         return found
 
     def times(self, race: int, timed: list[Entry]) -> list[Time]:

@@ -8,13 +8,14 @@ from collections.abc import Sequence
 
 from raceoffice.corrected.sheets import DECIDED, FORMS, TIMES, entries_of, with_seconds
 from raceoffice.corrected.sheets import HEADS as COLUMNS
-from raceoffice.corrected.times import ROUNDINGS, RULES, SHEETS, SYSTEMS, sheet_name
+from raceoffice.corrected.times import KEYS, ROUNDINGS, RULES, SHEETS, SYSTEMS, sheet_name
 from raceoffice.errors import NotSent, NotThere, Trouble
 from raceoffice.files import replace_whole
 from raceoffice.series.entry_list import plain
 from raceoffice.series.folder import Folder
 from raceoffice.series.headings import SHEET, columns
 from raceoffice.series.read_list import as_csv, bytes_of, table_of, wrong_form
+from raceoffice.series.settings import head_of, lines_of, rows_of
 from raceoffice.wording import joined
 
 # The headings of a new sheet, and that of each column that is added to another.
@@ -36,8 +37,9 @@ class SheetOfRace:
     def read(self, data: bytes) -> None:
         """Reads what there is; a Trouble if it isn't a sheet."""
         wrong = wrong_form(data, self.name)
-        if faults := [wrong] if wrong else entries_of(data, self.name)[1]:
-            raise Trouble("\n".join(faults))
+        faults: list[str] = [wrong] if wrong else entries_of(data, self.name)[1]
+        if faults:
+            raise Trouble(*faults)
         table = table_of(data)
         self.heads = list(table.heads)
         self.places = columns(self.heads, SHEET)
@@ -50,10 +52,15 @@ class SheetOfRace:
                 self.places[key] = len(self.heads)
                 self.heads.append(head)
 
+    @property
+    def data(self) -> bytes:
+        """The sheet as it is written."""
+        return as_csv([self.heads, *self.rows])
+
     def write(self) -> None:
         """Puts the sheet on the disk, whole."""
         os.makedirs(os.path.dirname(self.path), exist_ok=True)
-        replace_whole(self.path, as_csv([self.heads, *self.rows]))
+        replace_whole(self.path, self.data)
 
     # Cells
 
@@ -105,7 +112,8 @@ class SheetOfRace:
     def finish(self, sail: str, text: str) -> None:
         """Gives a boat her finish. NotSent if she has another one or a code."""
         row = self.row(sail)
-        before = [self.cell(row, key) for key in ("finish", "code") if self.cell(row, key) not in ("", text)]
+        held = [self.cell(row, key) for key in ("finish", "elapsed", "code") if key in self.places]
+        before = [one for one in held if one not in ("", text)]
         if before:
             raise NotSent(f"{sail} has {before[0]} in {self.name} already: strike or clear her first")
         if len(self.starts) == 1:
@@ -113,11 +121,12 @@ class SheetOfRace:
         self.put(row, "finish", text)
 
     def take_finish(self, sail: str) -> bool:
-        """Takes a boat's finish away; whether she had one."""
+        """Takes a boat's finish away, or her elapsed time; whether she had one."""
         row = self.row(sail)
-        had = bool(self.cell(row, "finish"))
-        self.put(row, "finish", "")
-        return had
+        had = [key for key in ("finish", "elapsed") if key in self.places and self.cell(row, key)]
+        for key in had:
+            self.put(row, key, "")
+        return bool(had)
 
     def code(self, sail: str, code: str) -> bool:
         """Gives a boat a code, or takes hers away if it is empty; whether that is another."""
@@ -145,6 +154,22 @@ def write_rules(folder: str, text: bytes) -> None:
     path = os.path.join(folder, SHEETS, RULES)
     os.makedirs(os.path.dirname(path), exist_ok=True)
     replace_whole(path, text)
+
+
+def with_rule(text: str, key: str, value: str) -> str:
+    """times/rules.ini with one value changed; all else in it stays as it is. A Trouble if it can't be read."""
+    found, wrong = lines_of(text, f"{SHEETS}/{RULES}", KEYS)
+    if wrong:
+        raise Trouble("\n".join(wrong))
+    rows = rows_of(text)
+    if key in found:
+        at, held = found[key]
+        if held == value:
+            return text
+        rows[at - 1] = f"{key} = {value}"
+    else:
+        rows.insert(head_of("times", rows), f"{key} = {value}")
+    return "\n".join(rows) + "\n"
 
 
 def is_form(key: str, text: str) -> bool:

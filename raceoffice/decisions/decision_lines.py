@@ -14,6 +14,7 @@ from dataclasses import dataclass
 
 from raceoffice.errors import NotThere
 from raceoffice.files import edited_text
+from raceoffice.remarks import Remark, remark
 from raceoffice.series.entry_list import fault_of, plain
 from raceoffice.series.settings import rows_of
 from raceoffice.wording import joined
@@ -37,12 +38,13 @@ MEANING = {
 }
 POINTS = r"\d{1,3}(\.\d)?"
 # What a kind takes after it, what that is called, and what it is if nothing is given.
-PERCENT = (rf"\d{{1,3}}%|{POINTS}", "a percentage from 1% to 100%, or points")
-RACES = (r"sailed|all|before|\d{1,2}(,\d{1,2})*", "races as 1,2,4, or sailed, all or before")
+PERCENT = (rf"\d{{1,3}}%|{POINTS}", remark("takes-penalty"))
+RACES = (r"sailed|all|before|\d{1,2}(,\d{1,2})*", remark("takes-races"))
+NOTHING = ("", remark("takes-nothing"))
 TAKES = {
     "DPI": PERCENT, "SCP": PERCENT, "PRP": PERCENT, "T1": PERCENT,
-    "TLE": (rf"last\+\d{{1,2}}|{POINTS}", "last+2, or points"),
-    "NSC": ("", "nothing"), "REINSTATE": ("", "nothing"),
+    "TLE": (rf"last\+\d{{1,2}}|{POINTS}", remark("takes-limit")),
+    "NSC": NOTHING, "REINSTATE": NOTHING,
     "AVG": RACES, "DUTY": RACES,
 }
 # RRS T1(b): a boat that takes a Post-Race Penalty gets 30% of the score for Did Not Finish.
@@ -92,63 +94,70 @@ class Ruling:
         return [int(text) for text in self.how.split(",")] if self.how[:1].isdigit() else []
 
 
+class NoRuling(ValueError):
+    """Why a line is no decision."""
+
+    def __init__(self, why: Remark) -> None:
+        super().__init__(why)
+        self.why = why
+
+
 def ruling_of(text: str, line: int) -> Ruling:
-    """A line as a decision; a ValueError says why it isn't one."""
+    """A line as a decision; NoRuling says why it isn't one."""
     words = text.split()
     at = next((at for at in range(3, len(words)) if words[at].upper() in KINDS), None)
     if len(words) < 4 or words[0].lower() != "race":
-        raise ValueError("a decision is written as: race 3 GBR7 PRP 30%")
+        raise NoRuling(remark("decision-form"))
     if not re.fullmatch("[0-9]{1,2}", words[1]) or not 1 <= int(words[1]) <= 40:
-        raise ValueError(f"{words[1]} is no race: a number from 1 to 40")
+        raise NoRuling(remark("no-race", written=words[1]))
     if at is None:
         odd = next((word for word in words[3:] if word.isalpha()), words[3])
         near = difflib.get_close_matches(odd.upper(), KINDS, 1)
-        hint = f" Is {near[0]} meant?" if near else ""
-        raise ValueError(f"{odd} is no kind of decision, which are {joined(KINDS)}.{hint}")
+        raise NoRuling(remark("decision-like", written=odd, kinds=KINDS, near=near[0]) if near else
+                       remark("decision-kind", written=odd, kinds=KINDS))
     sail, kind = plain("".join(words[2:at])), words[at].upper()
     if fault := fault_of(sail):
-        raise ValueError(fault)
+        raise NoRuling(fault)
     how = "".join(words[at + 1:]).lower() or USUAL.get(kind, "")
     ruling = Ruling(line, int(words[1]), sail, kind, how)
     if wrong := wrong_how(ruling):
-        raise ValueError(wrong)
+        raise NoRuling(wrong)
     return ruling
 
 
-def wrong_how(ruling: Ruling) -> str:
-    """Why a kind can't take what is after it; empty if it can."""
-    pattern, wanted = TAKES[ruling.kind]
-    if not re.fullmatch(pattern, ruling.how, re.ASCII):
-        return f"{ruling.kind} takes {wanted}, and not {ruling.how!r}" if ruling.how else \
-            f"{ruling.kind} takes {wanted}"
-    if ruling.how.endswith("%"):
-        return "" if 1 <= ruling.percent <= 100 else f"{ruling.how} isn't from 1% to 100%"
+def wrong_how(ruling: Ruling) -> Remark | None:
+    """Why a kind can't take what is after it; None if it can."""
+    (pattern, wanted), how = TAKES[ruling.kind], ruling.how
+    if not re.fullmatch(pattern, how, re.ASCII):
+        return (remark("decision-takes-not", kind=ruling.kind, wanted=wanted, how=how) if how else
+                remark("decision-takes", kind=ruling.kind, wanted=wanted))
+    if how.endswith("%"):
+        return None if 1 <= ruling.percent <= 100 else remark("decision-percent", how=how)
     if ruling.kind in (*PENALTIES, "TLE") and ruling.after_last is None:
         least = 10 if ruling.kind == "TLE" else 1
-        return "" if ruling.tenths >= least else f"{ruling.how} points are too few"
+        return None if ruling.tenths >= least else remark("decision-few", how=how)
     if ruling.race in ruling.chosen:
-        return f"the average of race {ruling.race} can't count race {ruling.race} itself"
+        return remark("decision-itself", race=ruling.race)
     odd = [race for race in ruling.chosen if not 1 <= race <= 40 or ruling.chosen.count(race) > 1]
-    return f"{ruling.how} has a race twice, or one that isn't from 1 to 40" if odd else ""
+    return remark("decision-races", how=how) if odd else None
 
 
-def rulings_of(text: str) -> tuple[list[Ruling], list[str]]:
+def rulings_of(text: str) -> tuple[list[Ruling], list[Remark]]:
     """The decisions of a file, and what is wrong with its other lines."""
     found: list[Ruling] = []
-    wrong: list[str] = []
+    wrong: list[Remark] = []
     for at, line in enumerate(rows_of(text), 1):
         line = line.partition("#")[0].strip()
         if not line:
             continue
         try:
             ruling = ruling_of(line, at)
-        except ValueError as cause:
-            wrong.append(f"{NAME}, line {at}: {cause}")
+        except NoRuling as cause:
+            wrong.append(remark("decision-line", line=at, why=cause.why))
             continue
         same = [other.line for other in found if other.key == ruling.key]
         if same:
-            wrong.append(f"{NAME}, line {at}: line {same[0]} decides about {ruling.sail} in race "
-                         f"{ruling.race} already")
+            wrong.append(remark("decision-twice", line=at, other=same[0], sail=ruling.sail, race=ruling.race))
         else:
             found.append(ruling)
     return found, wrong

@@ -16,7 +16,8 @@ from raceoffice.program.codes import AS_DNF, OF_JURY
 from raceoffice.program.journal import Race, Series
 from raceoffice.program.replay import Line, scored
 from raceoffice.program.standing import Score, Standing
-from raceoffice.wording import joined, one_decimal
+from raceoffice.remarks import Remark, remark
+from raceoffice.wording import one_decimal
 
 OUT = ("TLE", "NSC")
 
@@ -28,7 +29,7 @@ class Verdict:
     points: str = ""
     held: str = ""
     lines: tuple[Line, ...] = ()
-    why: str = ""
+    why: Remark | None = None
 
     @property
     def is_kept(self) -> bool:
@@ -51,7 +52,7 @@ class Decided:
     """All decisions of a series, and the lines of the file that can't be read."""
     text: str = ""
     verdicts: tuple[Verdict, ...] = ()
-    wrong: tuple[str, ...] = ()
+    wrong: tuple[Remark, ...] = ()
 
     @property
     def labels(self) -> dict[tuple[int, str], str]:
@@ -90,7 +91,7 @@ def decided(program: str, options: list[str], journal: Sequence[str], text: str)
     try:
         found = weighed(program, options, journal, rulings) if rulings else []
     except Trouble as trouble:
-        return Decided(text, (), (*wrong, f"{NAME} can't be worked out: {trouble}"))
+        return Decided(text, (), (*wrong, remark("decisions-fault", why=trouble.said[0])))
     return Decided(text, tuple(found), tuple(wrong))
 
 
@@ -110,7 +111,7 @@ def weighed(program: str, options: list[str], journal: Sequence[str],
 
 
 def figured(program: str, options: list[str], journal: Sequence[str], rulings: list[Ruling],
-            barred: dict[Ruling, str]) -> Figures:
+            barred: dict[Ruling, Remark | None]) -> Figures:
     """The figures of the decisions that aren't barred, with their points."""
     held = holdings(journal)
     open_ones = [ruling for ruling in rulings if not barred[ruling]]
@@ -121,21 +122,21 @@ def figured(program: str, options: list[str], journal: Sequence[str], rulings: l
     return figures
 
 
-def why_barred(ruling: Ruling, series: Series, held: Holding) -> str:
-    """Why a decision can't be worked out, or can't be given; empty if it can."""
+def why_barred(ruling: Ruling, series: Series, held: Holding) -> Remark | None:
+    """Why a decision can't be worked out, or can't be given; None if it can."""
     if ruling.sail not in series.boats:
-        return f"{ruling.sail} isn't entered"
+        return remark("not-entered", sail=ruling.sail)
     if ruling.kind == "REINSTATE":
-        return "" if held.was_decided else "the jury has decided nothing about her there"
+        return None if held.was_decided else remark("barred-undecided")
     if held.code in OF_JURY:
-        return f"she holds {held.code} there, which no points replace"
+        return remark("barred-code", code=held.code)
     if held.redress and not held.is_points:
-        return f"she holds redress {held.redress} there, which isn't of {NAME}"
+        return remark("barred-redress", how=held.redress)
     if ruling.kind in OUT and held.code not in ("", "DNF"):
-        return f"she holds {held.code} there"
+        return remark("barred-holds", code=held.code)
     if ruling.kind != "NSC" and not series.race(ruling.race).counts:
-        return f"race {ruling.race} doesn't count"
-    return ""
+        return remark("barred-open", races=[str(ruling.race)])
+    return None
 
 
 def without(ruling: Ruling, held: Holding) -> list[Line]:
@@ -162,7 +163,7 @@ def taken_out(ruling: Ruling, journal: Sequence[str]) -> list[Line]:
 
 def verdict(ruling: Ruling, held: Holding, figures: Figures) -> Verdict:
     """What a decision comes to, beside what the journal holds."""
-    wanted, why = figures.points.get(ruling, ""), figures.why.get(ruling, "")
+    wanted, why = figures.points.get(ruling, ""), figures.why.get(ruling)
     has_code = held.code == "DNF" or ruling.kind not in OUT
     if why or wanted and wanted == held.redress and has_code:
         return Verdict(ruling, wanted, held.redress, (), why)
@@ -184,7 +185,7 @@ class Figures:
         self.held = holdings(self.sheet.journal)
         self.rulings = rulings
         self.points: dict[Ruling, str] = {}
-        self.why: dict[Ruling, str] = {}
+        self.why: dict[Ruling, Remark] = {}
         self.dnf = self.asked({ruling.race: self.dnf_lines(self.series.race(ruling.race))
                                for ruling in rulings if ruling.kind in (*PENALTIES, "TLE")})
         self.last = self.asked({ruling.race: self.last_lines(self.series.race(ruling.race))
@@ -257,7 +258,7 @@ class Figures:
         """
         race, after = ruling.race, ruling.after_last
         if after is not None and race not in self.last:
-            self.why[ruling] = f"nobody finished in race {race}"
+            self.why[ruling] = remark("barred-nobody", race=race)
             return
         tenths = ruling.tenths if after is None else self.last[race] + 10 * after
         tenths += sum(self.cost(race, kind) for kind, _ in self.held[ruling.key].penalties)
@@ -278,9 +279,8 @@ class Figures:
         missing = [str(race) for race in races if race not in counted]
         itself = [str(race) for race in races if race in averaged]
         if missing or itself or not races:
-            self.why[ruling] = (f"race {joined(missing)} doesn't count" if missing else
-                                f"race {joined(itself)} is an average itself" if itself else
-                                "she has no other race yet")
+            self.why[ruling] = (remark("barred-open", races=missing) if missing else
+                                remark("barred-average", races=itself) if itself else remark("barred-alone"))
             return
         total, count = sum(self.tenths(race, ruling.sail) for race in races), len(races)
         self.points[ruling] = one_decimal((2 * total + count) // (2 * count))

@@ -6,7 +6,8 @@ import os
 from collections.abc import Callable
 
 from raceoffice.files import replace_whole
-from raceoffice.program.messages import moved
+from raceoffice.program.messages import move_text, moved
+from raceoffice.program.standing import Change
 from raceoffice.series import copies, entry_list
 from raceoffice.series.continuity import differences, note_now
 from raceoffice.series.copies import best_copy, places_with
@@ -15,6 +16,7 @@ from raceoffice.series.health import (changes_of_rules, faults, journal_fault, l
 from raceoffice.series.kept_places import Places
 from raceoffice.series.run_program import rules_of
 from raceoffice.series.second_folder import second_of
+from raceoffice.series.settings import Settings
 from raceoffice.session.dialogue import Question
 from raceoffice.session.question_words import question
 
@@ -65,23 +67,29 @@ def is_continued(folder: Folder, say: Say, ask: Ask) -> bool:
 
 def is_agreed(folder: Folder, say: Say, ask: Ask) -> bool:
     """Whether the rules are those of the last opening, or somebody agrees to what they move."""
-    asked = question_of_rules(folder)
-    if asked is None:
+    before = rules_before(folder)
+    if not before:
         return True
-    say(f"The rules were: {asked.values['before']}\nThey are now: {asked.values['now']}")
-    moves = asked.values["moves"]
-    for text in moves if isinstance(moves, tuple) else ():
-        say(f"   {text}")
-    return ask(asked)
+    say(f"The rules were: {with_rules(folder, before).in_words()}\nThey are now: {folder.settings.in_words()}")
+    names, found = entry_list.read_if_there(folder.entries), changes_of_rules(folder, before)
+    for change in found:
+        say(f"   {moved(change, str(names.get(change.after.sail, change.after.sail)))}")
+    return ask(asked_of_rules(folder, before, found))
 
 
 def question_of_rules(folder: Folder) -> Question | None:
     """What is asked if the settings have other rules than the last opening; None if they have the same."""
     before = rules_before(folder)
-    if not before:
-        return None
-    was = dataclasses.replace(folder.settings, **rules_of(before)).in_words()
-    names = entry_list.read_if_there(folder.entries)
-    moves = [moved(change, str(names.get(change.after.sail, change.after.sail)))
-             for change in changes_of_rules(folder, before)]
-    return question("new-rules", str, before=was, now=folder.settings.in_words(), moves=moves)
+    return asked_of_rules(folder, before, changes_of_rules(folder, before)) if before else None
+
+
+def with_rules(folder: Folder, options: list[str]) -> Settings:
+    """The settings with the rules of these options of the program."""
+    return dataclasses.replace(folder.settings, **rules_of(options))
+
+
+def asked_of_rules(folder: Folder, before: list[str], found: list[Change]) -> Question:
+    """The question about these changes of rules: the rules as series.ini has them, and whom they move."""
+    was, now = ([held.exclude, held.absent, held.scp, "yes" if held.handicap else "no"]
+                for held in (with_rules(folder, before), folder.settings))
+    return question("new-rules", str, before=was, now=now, moves=map(move_text, found))

@@ -159,6 +159,12 @@ def move_words(boat: str, values: Mapping[str, object]) -> str:
     return f"{boat}: {rank}, {points}" + (f" ({'; '.join(cells)})" if cells else "")
 
 
+def move_text(change: Change) -> str:
+    """How a boat moved, as one value of a question: her sail, her rank before and after, her net before and after."""
+    before, after = change.before, change.after
+    return f"{after.sail} {before.rank} {after.rank} {before.net} {after.net}"
+
+
 def moved(change: Change, boat: str) -> str:
     """How a boat moved: her rank, her net and her scores."""
     return move_words(boat, move_values(change))

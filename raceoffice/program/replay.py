@@ -19,6 +19,7 @@ from raceoffice.errors import Trouble
 from raceoffice.program.link import Sheet
 from raceoffice.program.messages import refusal
 from raceoffice.program.standing import Standing
+from raceoffice.remarks import remark
 
 # Seconds that the program may take for a replay, and for each 1,000 bytes of its journal: of a full series
 # it prints the table once for each race.
@@ -77,7 +78,7 @@ def watched(program: str, words: list[str], typed: str, journal: bytes,
     if process.returncode == -signal.SIGKILL:
         raise Trouble(f"the program at {program} can't be run: it does not end")
     if process.returncode:
-        raise Trouble(f"the program says {said.strip() or 'nothing'}")
+        raise Trouble(remark("program-says", said=said.strip() or "nothing"))
     return printed
 
 
@@ -96,7 +97,7 @@ def printed(program: str, words: list[str], typed: str, journal: bytes | None = 
     """What a replay prints for these lines, after the journal and the entry list that are given."""
     done = ran(program, words, typed, journal, boats)
     if done.returncode:
-        raise Trouble(f"the program says {done.stderr.strip() or 'nothing'}")
+        raise Trouble(remark("program-says", said=done.stderr.strip() or "nothing"))
     return done.stdout.splitlines()
 
 
@@ -127,7 +128,7 @@ def scored(program: str, options: list[str], journal: Sequence[str],
     said = printed(program, options, "\n".join([*typed, "SHOW", "QUIT", ""]), bytes_of(journal))
     for line, answer in zip(typed, said):
         if not answer.startswith(("OK ", "ROLE ")):
-            raise Trouble(f"the program refuses {line}: {refusal(answer)}")
+            raise Trouble(remark("program-refuses", line=line, answer=answer, why=refusal(answer)))
     return sheet_of(said[len(typed):])
 
 

@@ -12,6 +12,7 @@ from raceoffice.errors import Trouble, as_trouble
 from raceoffice.files import replace_whole
 from raceoffice.program.find import found_program
 from raceoffice.series import entry_list, settings
+from raceoffice.series.mend_list import NAME
 from raceoffice.series.read_list import bytes_of
 from raceoffice.terminal import YES_OR_NO, command_name, is_yes, say, typed
 from raceoffice.wording import count, joined
@@ -139,7 +140,7 @@ def try_folder(folder: str) -> None:
                 os.rmdir(made)
 
 
-def say_if_any(text: str) -> None:
+def say_if_any(text: str | None) -> None:
     """Says what should be known of a list, if anything should."""
     if text:
         say(f"   {text}")
@@ -181,8 +182,8 @@ def make(folder: str, values: dict[str, str], entries: bytes) -> None:
     if os.path.lexists(os.path.join(folder, settings.NAME)):
         raise Trouble(f"{folder} has a {settings.NAME} already. Nothing was changed")
     values = {"copy": "", "program": program_for(folder), **values}
-    if wrong := settings.problems(settings.filled_in(values)) + entry_list.problems(entries, "The list"):
-        raise Trouble("\n".join(wrong))
+    if wrong := settings.problems(settings.filled_in(values)) + entry_list.problems(entries, NAME):
+        raise Trouble(*wrong)
     write_new(folder, values, entries)
 
 

@@ -7,9 +7,10 @@ from collections.abc import Sequence
 from dataclasses import dataclass
 
 from raceoffice.errors import Trouble
+from raceoffice.remarks import Remark, remark, sign_remark
 from raceoffice.series.headings import ENTRIES, columns, plain_heading, rating_columns
 from raceoffice.series.read_list import Table, as_csv, bytes_of, name_of, table_of, wrong_form
-from raceoffice.wording import count, joined, on_one_line, sign
+from raceoffice.wording import on_one_line
 
 SAIL = re.compile(r"[A-Z0-9-]{1,12}")
 ROOM = 500
@@ -70,7 +71,7 @@ def given(path: str) -> bytes:
     """An entry list as the program takes it: the sails alone. A Trouble says what is wrong with it."""
     data = bytes_of(path)
     if wrong := problems(data, path):
-        raise Trouble("\n".join(wrong))
+        raise Trouble(*wrong)
     return as_csv([["Sail"], *([sail] for sail in boats_of(table_of(data)))])
 
 
@@ -79,25 +80,26 @@ def columns_left(data: bytes) -> list[str]:
     table = table_of(data)
     read_ones = {*columns(table.heads, ENTRIES).values(), *rating_columns(table.heads).values()}
     filled = {at for _, row in [(0, table.heads), *table.rows] for at, cell in enumerate(row) if cell.strip()}
-    return [on_one_line(table.cell(table.heads, at)) or f"column {at + 1}"
+    return [on_one_line(table.cell(table.heads, at)) or remark("list-column", number=at + 1)
             for at in sorted(filled - read_ones)]
 
 
-def left_in_words(data: bytes) -> str:
-    """Which columns aren't read; empty if all are."""
+def left_in_words(data: bytes) -> Remark | None:
+    """Which columns aren't read; None if all are."""
     left = columns_left(data)
-    return f"Not read: {joined(left)}." if left else ""
+    return remark("list-unread", columns=left) if left else None
 
 
-def rating_note(data: bytes, name: str, is_rated: bool) -> str:
-    """What should be known of the ratings in a list, in a series by corrected time or in another."""
+def rating_note(data: bytes, name: str, is_rated: bool) -> Remark | None:
+    """What should be known of the ratings in a list, in a series by corrected time or in another; None if nothing
+    should."""
     heads = table_of(data).heads
     found = [on_one_line(heads[at]) for at in rating_columns(heads).values()]
     if is_rated and not found:
-        return f"No column of {name} has the heading Rating, PY or TCF: raceoffice times needs one."
+        return remark("list-unrated", name=name)
     if found and not is_rated:
-        return f"Read in a series by corrected time alone: {joined(found)}."
-    return ""
+        return remark("list-rated", columns=found)
+    return None
 
 
 def column_like(heads: Sequence[str]) -> int | None:
@@ -106,35 +108,34 @@ def column_like(heads: Sequence[str]) -> int | None:
                  if plain_heading(head).startswith(("sail", "segel", "zeil", "voile", "vela"))), None)
 
 
-def heading_faults(table: Table, name: str) -> list[str]:
+def heading_faults(table: Table, name: str) -> list[Remark]:
     """What is wrong with the form of the first rows: a title, the headings."""
     faults = []
     if table.title:
-        faults.append(f"Row {table.title} of {name} is a title; the headings are in row {table.first}. Take "
-                      f"out what is above row {table.first}.")
+        faults.append(remark("list-title", name=name, title=table.title, first=table.first))
     if "sail" not in columns(table.heads, ENTRIES):
         like = column_like(table.heads)
-        found = "" if like is None else f" {table.heads[like].strip()!r} isn't one of them."
-        faults.append(f"No column of {name} has the heading Sail, SailNo or SailNumber.{found}")
+        faults.append(remark("list-no-sails", name=name) if like is None else
+                      remark("list-like-sails", name=name, heading=table.heads[like].strip()))
     return faults
 
 
-def fault_of(sail: str) -> str:
-    """Why a sail isn't one; empty if it is."""
+def fault_of(sail: str) -> Remark | None:
+    """Why a sail isn't one; None if it is."""
     text = plain(sail)
     if SAIL.fullmatch(text):
-        return ""
+        return None
     odd = next((letter for letter in text if not re.fullmatch("[A-Z0-9-]", letter)), "")
     if not text:
-        return "there is no sail"
+        return remark("sail-none")
     if odd:
-        return f'the sail "{sail.strip()}" has {sign(odd)}'
-    return f'the sail "{sail.strip()}" has {len(text)} letters and digits'
+        return remark("sail-sign", written=sail.strip(), sign=sign_remark(odd))
+    return remark("sail-long", written=sail.strip(), n=len(text))
 
 
-def problems(data: bytes, path: str) -> list[str]:
+def problems(data: bytes, path: str) -> list[Remark]:
     """All that keeps a list from being used, in words: as much as shows at once; empty if nothing does."""
-    name = name_of(path)
+    name = path if isinstance(path, Remark) else name_of(path)
     if wrong := wrong_form(data, name):
         return [wrong]
     table = table_of(data)
@@ -146,26 +147,25 @@ def problems(data: bytes, path: str) -> list[str]:
     for number, row in table.rows:
         if fault := fault_of_row(row, at, found):
             helm = on_one_line(table.cell(row, who))
-            named = f" ({helm})" if helm and len(row) > at else ""
-            faults.append(f"{name}, row {number}{named}: {fault}")
+            faults.append(remark("list-row-of", name=name, row=number, helm=helm, fault=fault) if helm and len(row) > at
+                          else remark("list-row", name=name, row=number, fault=fault))
         else:
             found[plain(row[at])] = number
     if not table.rows:
-        faults.append(f"{name} has headings, but no boats.")
+        faults.append(remark("list-no-boats", name=name))
     if len(found) > ROOM:
-        faults.append(f"{name} has {count(len(found), 'boat')}, and {ROOM} fit.")
+        faults.append(remark("list-too-many", name=name, n=len(found), room=ROOM))
     return faults
 
 
-def fault_of_row(row: list[str], at: int, found: dict[str, int]) -> str:
+def fault_of_row(row: list[str], at: int, found: dict[str, int]) -> Remark | None:
     """What is wrong with a row; `found` has the rows of the sails above it."""
     if len(row) <= at:
-        open_quote = " Is a quotation mark not closed?" if "\n" in row[-1] else ""
-        return f"it ends before the column of sails.{open_quote}"
+        return remark("row-quoted" if "\n" in row[-1] else "row-short")
     if fault := fault_of(row[at]):
-        return f"{fault}. A sail has 1 to 12 letters, digits and dashes."
+        return remark("row-sail", fault=fault)
     above = found.get(plain(row[at]))
-    return f"{row[at].strip()} is in row {above}, too." if above else ""
+    return remark("row-twice", written=row[at].strip(), above=above) if above else None
 
 
 def near(sail: str, boats: list[str]) -> list[str]:

@@ -78,7 +78,7 @@ def journal_fault(folder: Folder) -> str:
 def list_faults(folder: Folder) -> list[str]:
     """What is wrong with the entry list."""
     try:
-        return entry_list.problems(bytes_of(folder.entries), folder.entries)
+        return [*entry_list.problems(bytes_of(folder.entries), folder.entries)]
     except Trouble as trouble:
         return [f"{trouble}."]
 

@@ -4,15 +4,16 @@ from __future__ import annotations
 
 from dataclasses import dataclass, field
 
+from raceoffice.remarks import Remark, remark
 from raceoffice.series.entry_list import Boat, boats_of, column_like, left_in_words, problems
 from raceoffice.series.headings import ENTRIES, column, rating_columns
 from raceoffice.series.read_list import (FIRST_ROWS, MARKS, SEPARATORS, Rows, Table, as_csv, decoded, heading_at,
                                          rank_of, rows_of, table_of, wrong_form)
-from raceoffice.wording import count, on_one_line
+from raceoffice.wording import on_one_line
 
 # What the list is called in what is wrong with it, and what parts its columns.
-NAME = "The list"
-PARTED_BY = {";": "semicolons", "\t": "tabs"}
+NAME = remark("the-list")
+PARTED_BY = {";": "list-semicolons", "\t": "list-tabs"}
 
 
 @dataclass(frozen=True)
@@ -21,8 +22,8 @@ class Mended:
     they were; `is_sail_known` says that one of them is a sail's, or was chosen."""
     data: bytes = b""
     heads: list[str] = field(default_factory=list)
-    done: list[str] = field(default_factory=list)
-    wrong: list[str] = field(default_factory=list)
+    done: list[Remark] = field(default_factory=list)
+    wrong: list[Remark] = field(default_factory=list)
     is_sail_known: bool = False
 
     @property
@@ -38,13 +39,13 @@ def mended(data: bytes, sails: int | None = None) -> Mended:
     table, above = whole_table(data)
     done = [*encoding_done(data), *separator_done(table)]
     if above:
-        done.append(f"{count(above, 'row')} above the headings left out.")
+        done.append(remark("list-above", n=above))
     heads = [on_one_line(head) for head in table.heads]
     named = list(heads)
     if sails is None and column(heads, ENTRIES["sail"]) is None:
         sails = column_like(heads)
     if sails is not None and 0 <= sails < len(heads):
-        done.append(f"The column {heads[sails] or sails + 1} is taken for the sails.")
+        done.append(remark("list-sails", column=heads[sails] or sails + 1))
         named[sails] = "Sail"
     clean = as_csv([named, *rows_as_read(table)])
     if left := left_in_words(clean):
@@ -84,18 +85,18 @@ def rows_as_read(table: Table) -> list[list[str]]:
             for _, row in table.rows]
 
 
-def encoding_done(data: bytes) -> list[str]:
+def encoding_done(data: bytes) -> list[Remark]:
     """What was done to the letters of a list, if anything was."""
     mark = next((mark for mark in MARKS if data.startswith(mark)), b"")
     if mark and MARKS[mark] != "utf-8":
-        return [f"It was {MARKS[mark].upper()}."]
+        return [remark("list-encoding", encoding=MARKS[mark].upper())]
     try:
         data.decode("utf-8")
     except UnicodeDecodeError:
-        return ["Its letters were not UTF-8: look at names with accents."]
+        return [remark("list-letters")]
     return []
 
 
-def separator_done(table: Table) -> list[str]:
+def separator_done(table: Table) -> list[Remark]:
     """What was between its columns, if it wasn't a comma."""
-    return [f"Its columns were separated by {PARTED_BY[table.separator]}."] if table.separator in PARTED_BY else []
+    return [remark(PARTED_BY[table.separator])] if table.separator in PARTED_BY else []

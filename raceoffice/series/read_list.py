@@ -12,6 +12,7 @@ from collections.abc import Sequence
 from dataclasses import dataclass
 
 from raceoffice.files import read_whole
+from raceoffice.remarks import Remark, remark
 from raceoffice.series.headings import ENTRIES, column
 
 # Bytes of a list that are read at most, as of any file that the program starts with. A single field may
@@ -108,13 +109,13 @@ def table_of(data: bytes) -> Table:
     return Table(separator, title, number, heads, rows[at + 1:])
 
 
-def wrong_form(data: bytes, name: str) -> str:
-    """Why a file isn't a list with rows in it; empty if it is."""
+def wrong_form(data: bytes, name: str) -> Remark | None:
+    """Why a file isn't a list with rows in it; None if it is."""
     if data.startswith(SPREADSHEETS):
-        return f"{name} is a spreadsheet, not CSV. Save it as \"Text CSV\"."
+        return remark("list-spreadsheet", name=name)
     if b"\0" in data[:1000] and not data.startswith(tuple(MARKS)):
-        return f"{name} is UTF-16 without its mark (\"Unicode text\"). Save it as CSV, UTF-8."
-    return "" if table_of(data).heads else f"{name} is empty."
+        return remark("list-unmarked", name=name)
+    return None if table_of(data).heads else remark("list-empty", name=name)
 
 
 def as_csv(rows: Sequence[Sequence[str]]) -> bytes:

@@ -3,12 +3,14 @@ from __future__ import annotations
 
 import os
 import re
+from dataclasses import dataclass
 
 from raceoffice.errors import Trouble
 from raceoffice.files import replace_whole
 from raceoffice.program.messages import moved, refusal
 from raceoffice.program.replay import ran
-from raceoffice.program.standing import Standing, changes
+from raceoffice.program.standing import Change, Standing, changes
+from raceoffice.remarks import Remark, remark
 from raceoffice.series import copies, entry_list
 from raceoffice.series.continuity import differences, note_now, parts_of, with_entries
 from raceoffice.series.folder import Folder, Lock
@@ -35,11 +37,34 @@ def lines_about(journal: list[str], sail: str) -> dict[int, str]:
     named = {at: line for at, line in enumerate(journal, 1) if sail in sails_of(line)}
     for at, line in named.items():
         if sails_of(line)[0] != sail:
-            raise Trouble(f"{sail} can't be taken out: entry {at}, {' '.join(line.split()[3:])}, "
-                          "places another boat beside her")
+            raise Trouble(remark("removal-beside", sail=sail, number=at, line=" ".join(line.split()[3:])))
     if not named:
-        raise Trouble(f"{sail} isn't in journal.txt")
+        raise Trouble(remark("removal-absent", sail=sail))
     return named
+
+
+@dataclass(frozen=True)
+class Removal:
+    """What goes of a journal with a boat, by the numbers of its entries, and what is left of so many entries."""
+    sail: str
+    held: bytes
+    about: dict[int, str]
+    data: bytes
+    entries: int
+
+
+def removal_of(folder: Folder, sail: str) -> Removal:
+    """What goes if a boat is taken out; a Trouble says why she can't be."""
+    held, torn = folder.parts()
+    if torn:
+        raise Trouble(remark("removal-torn"))
+    if not folder.kept():
+        raise Trouble(remark("removal-empty"))
+    # The program takes lines in several forms, and shows each entry in one.
+    journal = list(replayed(folder, folder.settings.options()).journal)
+    about = lines_about(journal, sail)
+    data = without(held, set(about))
+    return Removal(sail, held, about, data, len(journal))
 
 
 def remove(path: str, words: list[str]) -> int:
@@ -48,34 +73,36 @@ def remove(path: str, words: list[str]) -> int:
     folder.make_private()
     if Lock(folder).is_taken() or folder.is_held():
         raise Trouble("the office is open: close it first, by Ctrl-C in its window")
-    if folder.parts()[1]:
-        raise Trouble("journal.txt ends in a torn line, as after a crash: first open the office, and "
-                      "close it")
-    held = folder.parts()[0]
-    if not folder.kept():
-        raise Trouble("journal.txt has no entry")
-    # The program takes lines in several forms, and shows each entry in one.
-    journal = list(replayed(folder, folder.settings.options()).journal)
-    about = lines_about(journal, sail)
+    found = removal_of(folder, sail)
     if text := differences(folder):
         say(text)
-    say(f"{count(len(about), 'entry goes', 'entries go')}:")
-    for at, line in about.items():
+    say(f"{count(len(found.about), 'entry goes', 'entries go')}:")
+    for at, line in found.about.items():
         say(f"   {at:>5}  {' '.join(line.split()[2:])}")
-    data = without(held, set(about))
-    say_moved(folder, sail, data)
+    names = entry_list.read_if_there(folder.entries)
+    for change in moves_without(folder, found):
+        say(f"   {moved(change, str(names.get(change.after.sail, change.after.sail)))}")
     if not question(f"Take {sail} out? The journal with her stays in kept/."):
         say("Nothing was changed.")
         return 1
-    copy = copies.keep(folder, held)
-    replace(folder, data)
-    copies.keep(folder, data)
-    note = note_now(folder, data)
-    folder.log("", "", "", f"removed {sail}", note)
-    folder.log("", "", "", "closed", note)
-    left = count(len(journal) - len(about), "entry", "entries")
-    say(f"{sail} is taken out. journal.txt has {left}; {copy} has all {len(journal)}.")
+    copy, fault = take_out(folder, found)
+    if fault:
+        say(f"No second copy: {fault}.")
+    left = count(found.entries - len(found.about), "entry", "entries")
+    say(f"{sail} is taken out. journal.txt has {left}; {copy} has all {found.entries}.")
     return 0
+
+
+def take_out(folder: Folder, found: Removal, by: str = "") -> tuple[str, str]:
+    """Takes a boat out of the journal of a closed office: the dated copy that has her still, and why there is no
+    second copy, if there is none. `by` is who does."""
+    copy = copies.keep(folder, found.held)
+    fault = replace(folder, found.data)
+    copies.keep(folder, found.data)
+    note = note_now(folder, found.data)
+    folder.log(by, "", "", f"removed {found.sail}", note)
+    folder.log("", "", "", "closed", note)
+    return copy, fault
 
 
 def without(data: bytes, numbers: set[int]) -> bytes:
@@ -85,35 +112,33 @@ def without(data: bytes, numbers: set[int]) -> bytes:
     return with_entries(version, left)
 
 
-def say_moved(folder: Folder, sail: str, data: bytes) -> None:
-    """Says whom a shorter journal moves; a Trouble if the program doesn't take it."""
+def moves_without(folder: Folder, found: Removal) -> list[Change]:
+    """Whom a shorter journal moves, by the rules of the settings; a Trouble if the program doesn't take it."""
     options = folder.settings.options()
     before = Program(folder).standing(options)
-    done = ran(folder.program, options, journal=data)
+    done = ran(folder.program, options, journal=found.data)
     if done.returncode:
-        raise Trouble(f"{sail} can't be taken out: {why_refused(done.stderr, data)}")
+        raise Trouble(remark("removal-refused", sail=found.sail, why=why_refused(done.stderr, found.data)))
     after = Standing.read(done.stdout.splitlines())
     if not after.rows:
-        raise Trouble(f"{sail} can't be taken out: no boat would be left")
-    names = entry_list.read_if_there(folder.entries)
-    for change in changes(before, after):
-        say(f"   {moved(change, str(names.get(change.after.sail, change.after.sail)))}")
+        raise Trouble(remark("removal-last", sail=found.sail))
+    return changes(before, after)
 
 
-def why_refused(said: str, data: bytes) -> str:
+def why_refused(said: str, data: bytes) -> Remark:
     """Why the program doesn't take a shorter journal."""
     found = re.search(r"^regatta: start refused ([0-9]+) at ([0-9]+)$", said, re.MULTILINE)
     lines = parts_of(data)[1]
     if not found or int(found[2]) > len(lines):
-        return f"the program says {said.strip() or 'nothing'}"
+        return remark("program-says", said=said.strip() or "nothing")
     line = " ".join(lines[int(found[2]) - 1].decode("ascii", "replace").split()[3:])
-    return f"{line} would be refused without her: {refusal('NO ' + found[1])}"
+    answer = f"NO {found[1]}"
+    return remark("removal-line", line=line, answer=answer, why=refusal(answer))
 
 
-def replace(folder: Folder, data: bytes) -> None:
-    """Writes the shorter journal, and its copy on a second disk."""
+def replace(folder: Folder, data: bytes) -> str:
+    """Writes the shorter journal, and its copy on a second disk: why there is none, if there is none."""
     # A link stays, and what it leads to is replaced.
     replace_whole(os.path.realpath(folder.journal), data)
     with second_of(folder) as second:
-        if fault := second.ask("replace", data.decode("ascii", "replace")).fault:
-            say(f"No second copy: {fault}.")
+        return second.ask("replace", data.decode("ascii", "replace")).fault

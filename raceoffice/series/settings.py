@@ -16,8 +16,9 @@ from typing import Any
 from raceoffice import time_zones
 from raceoffice.errors import NotThere, Trouble
 from raceoffice.files import edited_text
+from raceoffice.remarks import Remark, remark, sign_remark
 from raceoffice.terminal import command_name
-from raceoffice.wording import TIMES, joined, on_one_line, sign
+from raceoffice.wording import TIMES, joined, on_one_line
 
 NAME = "series.ini"
 KEYS = {
@@ -125,11 +126,11 @@ def rows_of(text: str) -> list[str]:
 
 
 def lines_of(text: str, name: str = NAME,
-             known: Mapping[str, Mapping[str, str]] = KEYS) -> tuple[dict[str, tuple[int, str]], list[str]]:
+             known: Mapping[str, Mapping[str, str]] = KEYS) -> tuple[dict[str, tuple[int, str]], list[Remark]]:
     """Each value by its key, with the number of its line, and what is wrong. `known` are the keys of
     each section."""
     values: dict[str, tuple[int, str]] = {}
-    wrong: list[str] = []
+    wrong: list[Remark] = []
     section = ""
     for at, line in enumerate(rows_of(text), 1):
         line = line.strip()
@@ -137,30 +138,30 @@ def lines_of(text: str, name: str = NAME,
             continue
         if line[0] == "[" and line[-1] == "]":
             section = line[1:-1].strip()
-            wrong += [] if section in known else [f"{name}, line {at}: no section is called [{section}]."]
+            wrong += [] if section in known else [remark("ini-section", name=name, line=at, section=section)]
             continue
         key, equals, value = (part.strip() for part in line.partition("="))
         if fault := fault_of_line(section, key, equals, value, known):
-            wrong.append(f"{name}, line {at}: {fault}")
+            wrong.append(remark("ini-line", name=name, line=at, fault=fault))
         elif key in values:
-            wrong.append(f"{name}, line {at}: {key} is in line {values[key][0]} already.")
+            wrong.append(remark("ini-twice", name=name, line=at, key=key, other=values[key][0]))
         else:
             values[key] = (at, value)
     return values, wrong
 
 
 def fault_of_line(section: str, key: str, equals: str, value: str,
-                  known: Mapping[str, Mapping[str, str]]) -> str:
-    """What is wrong with a line that should give a value; empty if nothing is."""
+                  known: Mapping[str, Mapping[str, str]]) -> Remark | None:
+    """What is wrong with a line that should give a value; None if nothing is."""
     if not equals:
-        return f"{key!r} has no =."
+        return remark("ini-no-equals", key=key)
     if key not in known.get(section, {}):
         near = difflib.get_close_matches(key, known.get(section, {}), 1)
-        hint = f" Did you mean {near[0]!r}?" if near else ""
-        return f"[{section}] has no key {key!r}.{hint}"
+        return (remark("ini-like-key", section=section, key=key, near=near[0]) if near else
+                remark("ini-no-key", section=section, key=key))
     if odd := ODD.search(value):
-        return f"{key} has {sign(odd[0])}."
-    return ""
+        return remark("ini-sign", key=key, sign=sign_remark(odd[0]))
+    return None
 
 
 def values_of(text: str) -> dict[str, str]:
@@ -189,31 +190,30 @@ def is_between(low: int, high: int) -> Callable[[str], bool]:
     return lambda text: re.fullmatch("[0-9]{1,9}", text) is not None and low <= int(text) <= high
 
 
-CHECKS: dict[str, tuple[Callable[[str], object], str]] = {
-    "title": (bool, "a title"),
-    "zone": (lambda text: text == "" or time_zones.is_name(text), "the name of a time zone, as Europe/Lisbon"),
-    "exclude": (is_exclude, "none, or up to four rising numbers from 2 to 40, as 4,8"),
-    "absent": (["a52", "a53"].__contains__, "a52 or a53"),
-    "scp": (lambda text: text == "" or is_between(1, 99)(text), "whole points from 1 to 99"),
-    "handicap": (["yes", "no"].__contains__, "yes or no"),
-    "entries": (bool, "the entry list's file"),
-    "seats": (is_between(2, 16), "a number from 2 to 16"),
-    "state": (STATES.__contains__, joined(STATES, "or")),
-    "every": (is_between(1, 3600), "seconds from 1 to 3600"),
-    "address": (lambda text: text == "" or is_address(text), "an address, as 192.168.1.20"),
-    "port": (is_between(1, 65535), "a number from 1 to 65535"),
+CHECKS: dict[str, tuple[Callable[[str], object], Remark]] = {
+    "title": (bool, remark("wanted-title")),
+    "zone": (lambda text: text == "" or time_zones.is_name(text), remark("wanted-zone")),
+    "exclude": (is_exclude, remark("wanted-exclude")),
+    "absent": (["a52", "a53"].__contains__, remark("wanted-absent")),
+    "scp": (lambda text: text == "" or is_between(1, 99)(text), remark("wanted-scp")),
+    "handicap": (["yes", "no"].__contains__, remark("wanted-handicap")),
+    "entries": (bool, remark("wanted-entries")),
+    "seats": (is_between(2, 16), remark("wanted-seats")),
+    "state": (STATES.__contains__, remark("wanted-state")),
+    "every": (is_between(1, 3600), remark("wanted-every")),
+    "address": (lambda text: text == "" or is_address(text), remark("wanted-address")),
+    "port": (is_between(1, 65535), remark("wanted-port")),
 }
 
 
-def problems(text: str) -> list[str]:
+def problems(text: str) -> list[Remark]:
     """What is wrong with a series.ini, line by line."""
     values, wrong = lines_of(text)
     for key, (is_right, wanted) in CHECKS.items():
         at, value = values.get(key, (0, DEFAULTS[key]))
         if not is_right(value):
-            place = f"{NAME}, line {at}" if at else NAME
-            shown = repr(value[:60]) if value else "empty"
-            wrong.append(f"{place}: {key} is {shown}. It has to be {wanted}.")
+            wrong.append(remark("ini-value", place=remark("ini-place", name=NAME, line=at) if at else NAME, key=key,
+                                value=repr(value[:60]) if value else remark("ini-empty"), wanted=wanted))
     return wrong
 
 
@@ -225,7 +225,7 @@ def read(folder: str) -> Settings:
         raise Trouble(f"{folder} has no {NAME}: it isn't a series. "
                       f"{command_name()} new {shlex.quote(folder)} makes one") from None
     if wrong := problems(text):
-        raise Trouble("\n".join(wrong))
+        raise Trouble(*wrong)
     return settings_of(values_of(text))
 
 

@@ -8,30 +8,31 @@ import io
 from collections.abc import Mapping, Sequence
 
 from raceoffice.errors import NotSent
+from raceoffice.remarks import remark, sign_remark
 from raceoffice.series.entry_list import plain, problems
 from raceoffice.series.headings import ENTRIES, columns
 from raceoffice.series.read_list import LARGEST, Table, table_of
-from raceoffice.wording import sign
 
 # The encoding of a list by its mark. The longer marks first: that of UTF-32 begins with that of UTF-16.
 ENCODINGS = {codecs.BOM_UTF8: "utf-8", codecs.BOM_UTF32_LE: "utf-32-le", codecs.BOM_UTF32_BE: "utf-32-be",
              codecs.BOM_UTF16_LE: "utf-16-le", codecs.BOM_UTF16_BE: "utf-16-be"}
 LINE_ENDS = ("\r\n", "\n", "\r")
+NONE: Mapping[int, str] = {}
 
 
-def with_boat(data: bytes, name: str, sail: str, cells: Mapping[int, str]) -> bytes:
+def with_boat(data: bytes, name: str, sail: str, cells: Mapping[int, str], was: Mapping[int, str] = NONE) -> bytes:
     """A list in which a boat has these cells, by the numbers of their columns. `sail` is hers as it is written.
-    NotSent if one of them has something else already, or if the list can't be changed so."""
+    NotSent if one of them has something else already than what it `was`, or if the list can't be changed so."""
     if wrong := problems(data, name):
-        raise NotSent("\n".join(wrong))
+        raise NotSent(*wrong)
     table, (mark, encoding) = table_of(data), form_of(data)
     number, held = row_of(table, sail)
-    row = completed(table, name, held, cells)
+    row = completed(table, name, held, cells, was)
     if number and row == held:
         return data
     changed = mark + encoded(text_with(text_of(data[len(mark):], encoding, name), table, number, row), encoding, name)
     if len(changed) > LARGEST or problems(changed, name) or not is_the_same_but_for(table, table_of(changed), sail, row):
-        raise NotSent(f"{name} can't be changed here: add her there with an editor")
+        raise NotSent(remark("list-by-editor", name=name))
     return changed
 
 
@@ -47,14 +48,15 @@ def row_of(table: Table, sail: str) -> tuple[int, list[str]]:
     return found or (0, [sail if place == at else "" for place in range(len(table.heads))])
 
 
-def completed(table: Table, name: str, held: Sequence[str], cells: Mapping[int, str]) -> list[str]:
+def completed(table: Table, name: str, held: Sequence[str], cells: Mapping[int, str],
+              was: Mapping[int, str]) -> list[str]:
     """A row with these cells."""
     row = list(held)
     for at, text in cells.items():
-        if (before := table.cell(row, at)) not in ("", text):
-            raise NotSent(f"{name} has {before} as her {table.heads[at].strip()} already: change it there")
+        if (before := table.cell(row, at)) not in ("", text, was.get(at, "")):
+            raise NotSent(remark("list-has", name=name, before=before, heading=table.heads[at].strip()))
         row += [""] * (at + 1 - len(row))
-        row[at] = row[at] if before else text
+        row[at] = row[at] if before == text else text
     return row
 
 
@@ -107,12 +109,12 @@ def text_of(data: bytes, encoding: str, name: str) -> str:
     try:
         return data.decode(encoding)
     except UnicodeDecodeError:
-        raise NotSent(f"{name} has bytes that are no letters: save it as UTF-8") from None
+        raise NotSent(remark("list-bytes", name=name)) from None
 
 
 def encoded(text: str, encoding: str, name: str) -> bytes:
     try:
         return text.encode(encoding)
     except UnicodeEncodeError as cause:
-        raise NotSent(f"{name} is saved in {encoding.upper()}, which hasn't {sign(text[cause.start])}: save it as "
-                      "UTF-8") from None
+        raise NotSent(remark("list-encoded", name=name, encoding=encoding.upper(),
+                             sign=sign_remark(text[cause.start]))) from None

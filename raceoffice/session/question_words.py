@@ -165,6 +165,11 @@ def of_rules(words: Words) -> str:
     return "Go on with the new rules?"
 
 
+def of_removal(words: Words) -> str:
+    """Before a boat is taken out of the journal; the entries that go are said before."""
+    return f"Take {words.text('sail')} out? The journal with her stays in kept/."
+
+
 def of_taking_over(words: Words) -> str:
     since = f" since {words.text('since')}" if words.text("since") else ""
     return f"The office is open{since}, but its window has gone. Take it over?"
@@ -192,7 +197,7 @@ WORDS: dict[str, Callable[[Words], str]] = {
     "sent-already": of_same_line, "others-recorded": of_others,
     # Before an office is opened.
     "use-copy": of_copy, "not-continued": of_difference, "new-rules": of_rules,
-    "take-over": of_taking_over,
+    "take-over": of_taking_over, "remove-boat": of_removal,
     # Before results are declared.
     "announce": of_announcing,
 }

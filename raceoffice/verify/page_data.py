@@ -9,6 +9,7 @@ from collections.abc import Mapping
 from dataclasses import dataclass
 
 from raceoffice import time_zones
+from raceoffice.characters import quoted
 from raceoffice.errors import ForeignPage, Unsure
 from raceoffice.results.html.sealing import ID, KIND, NUMBER, SETTINGS, Carried, Stamp, digest, form, marks
 from raceoffice.series.entry_list import ROOM, SAIL, plain
@@ -96,8 +97,8 @@ def value_of(text: str) -> object:
     try:
         return json.loads(text, parse_int=whole_number, parse_float=no_number, parse_constant=no_number)
     except json.JSONDecodeError as cause:
-        line = text.split("\n")[cause.lineno - 1][:80]
-        raise ForeignPage(f"the block isn't JSON at its line {cause.lineno}: {line}") from None
+        line = text.split("\n")[cause.lineno - 1]
+        raise ForeignPage(f"the block isn't JSON at its line {cause.lineno}: {quoted(line)}") from None
     except ValueError as cause:
         raise ForeignPage(f"the block has a number that raceoffice never writes: {cause}") from None
     except RecursionError:
@@ -199,7 +200,7 @@ def compare_marks(carried: Carried, written: str) -> None:
                 if fresh[at:at + 4] != written[at:at + 4]), None)
     if odd is not None:
         name, text = (items + [("the last item", "")])[min(odd // 4, len(items))]
-        raise ForeignPage(f"{name} isn't as it was written: {text!r}")
+        raise ForeignPage(f"{name} isn't as it was written: {quoted(text)}")
 
 
 def compare_seal(text: str, seal: object) -> None:
@@ -215,7 +216,7 @@ def wrong_form(kept: Kept) -> str:
     names = [carried.name for carried in kept.series]
     for name in names:
         if names.count(name) > 1:
-            return f"the page has the series {name!r} twice"
+            return f"the page has the series {quoted(name)} twice"
     for carried in kept.series:
         wrong = (wrong_name(carried) or wrong_settings(carried) or wrong_boat(carried)
                  or wrong_stamp(carried))
@@ -226,9 +227,9 @@ def wrong_form(kept: Kept) -> str:
 
 def wrong_name(carried: Carried) -> str:
     if carried.name in ("", ".", "..") or "/" in carried.name or "\0" in carried.name:
-        return f"{carried.name!r} is no name of a folder"
+        return f"{quoted(carried.name)} is no name of a folder"
     if not PROGRAM.fullmatch(carried.program):
-        return f"the program is {carried.program!r}, which is no SHA-256"
+        return f"the program is {quoted(carried.program)}, which is no SHA-256"
     return ""
 
 
@@ -237,7 +238,7 @@ def wrong_settings(carried: Carried) -> str:
     for name, value in carried.settings.items():
         is_right, wanted = CHECKS.get(name, (is_text, "a text"))
         if not is_right(value):
-            return f"the setting {name} is {value!r}, and has to be {wanted}"
+            return f"the setting {name} is {quoted(value)}, and has to be {wanted}"
     return ""
 
 
@@ -246,9 +247,9 @@ def wrong_boat(carried: Carried) -> str:
     known: set[str] = set()
     for sail, shown, *_ in carried.boats:
         if not SAIL.fullmatch(sail):
-            return f"{sail!r} is no sail"
+            return f"{quoted(sail)} is no sail"
         if not SHOWN.fullmatch(shown) or plain(shown) != sail:
-            return f"the sail {sail} is shown as {shown!r}, which is another"
+            return f"the sail {sail} is shown as {quoted(shown)}, which is another"
         if sail in known:
             return f"{sail} has names twice"
         known.add(sail)
@@ -266,7 +267,7 @@ def moment_of(text: str) -> datetime.datetime | None:
 def wrong_moment(text: str) -> str:
     """Why a page can't have this moment; empty if it can."""
     moment = moment_of(text)
-    return "" if moment and FIRST <= moment < LAST else f"is {text!r}, which is no moment"
+    return "" if moment and FIRST <= moment < LAST else f"is {quoted(text)}, which is no moment"
 
 
 def wrong_stamp(carried: Carried) -> str:
@@ -279,7 +280,7 @@ def wrong_stamp(carried: Carried) -> str:
     moment = moment_of(stamp.changed)
     # The words of a series' own zone are worked out again, and those on the page compared with them.
     if moment and not carried.settings["zone"] and not time_zones.is_of_some_computer(stamp.when, moment):
-        return f"the time of change in words is {stamp.when!r}, which isn't that of {stamp.changed}"
+        return f"the time of change in words is {quoted(stamp.when)}, which isn't that of {stamp.changed}"
     return ""
 
 
@@ -292,8 +293,8 @@ def wrong_confirmation(kept: Kept, checked: str, office: str) -> str:
     if wrong := wrong_moment(checked):
         return f"the time at which the page was confirmed {wrong}"
     if kept.kind != "list":
-        return "" if office in ("open", "journal", "away", "once") else f"{office!r} is no state of an office"
-    return "" if is_state_of_offices(office, len(kept.series)) else f"{office!r} is no state of offices"
+        return "" if office in ("open", "journal", "away", "once") else f"{quoted(office)} is no state of an office"
+    return "" if is_state_of_offices(office, len(kept.series)) else f"{quoted(office)} is no state of offices"
 
 
 def is_state_of_offices(text: str, series: int) -> bool:

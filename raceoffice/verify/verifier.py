@@ -9,6 +9,7 @@ from collections.abc import Callable, Iterable, Sequence
 from dataclasses import dataclass
 
 from raceoffice import characters, system
+from raceoffice.characters import quoted, unbroken, with_spaces
 from raceoffice.decisions.points import Decided, decided
 from raceoffice.errors import ForeignPage, NoTable, Trouble, Unsure
 from raceoffice.files import opened_at_once
@@ -25,7 +26,7 @@ from raceoffice.results.html.race import one_race
 from raceoffice.results.html.sealing import Carried, seal_words
 from raceoffice.results.snapshot import Snapshot, labelled
 from raceoffice.series.settings import Settings, rows_of, settings_of
-from raceoffice.terminal import Progress, say, say_json, sentence
+from raceoffice.terminal import Progress, put_out, say_json, sentence, visible, width, wrapped
 from raceoffice.traces import guarded
 from raceoffice.verify import page_data
 from raceoffice.verify.page_data import Kept, found_in, moment_of, still_to_come, wrong_confirmation
@@ -126,7 +127,7 @@ class Verifier:
         at = first_of(journal, list(sheet.journal))
         if at is not None:
             raise ForeignPage(f"entry {at + 1} of the journal isn't written as the program writes it: "
-                      f"{(journal + ['nothing'])[at]!r}")
+                      f"{quoted((journal + ['nothing'])[at])}")
         return sheet
 
     def verified(self, text: str) -> Rebuilt:
@@ -157,7 +158,7 @@ def refused(trouble: str, journal: list[str]) -> str:
         at, why = int(start[2]), f"is refused: {refusal('NO ' + start[1])}"
     else:
         return ""
-    return f"entry {at} of the journal {why}: {(journal + [''] * at)[at - 1]!r}"
+    return f"entry {at} of the journal {why}: {quoted((journal + [''] * at)[at - 1])}"
 
 
 def page_of(kept: Kept, views: Sequence[Snapshot]) -> str:
@@ -186,7 +187,7 @@ def compare_tables(rebuilt: Rebuilt) -> None:
         try:
             standing = standing_of(table, sails, view.standing.races) if view.standing.races else None
         except (ValueError, NoTable) as cause:
-            raise ForeignPage(f"{view.label}: {cause}") from None
+            raise ForeignPage(f"{unbroken(characters.shortly(view.label, characters.QUOTED))}: {cause}") from None
         if standing not in (None, view.standing):
             assert standing is not None
             at = first_of([repr(row) for row in standing.rows],
@@ -198,7 +199,7 @@ def first_difference(text: str, wanted: str) -> str:
     """Where a page first differs from what it has to be: a cell, a text, or else a line of its file."""
     ours, others = text.split("\n"), wanted.split("\n")
     at = first_of(ours, others) or 0
-    line = f"line {at + 1} of the file isn't as raceoffice writes it: {part(ours, at)!r}"
+    line = f"line {at + 1} of the file isn't as raceoffice writes it: {quoted(part(ours, at))}"
     if len(text) > len(wanted) + LONGER:
         return f"the page is longer than the right one, and {line}"
     return difference(Seen(text), Seen(wanted)) or (
@@ -206,7 +207,7 @@ def first_difference(text: str, wanted: str) -> str:
 
 
 def part(lines: list[str], at: int) -> str:
-    return lines[at].strip()[:80] if at < len(lines) else "nothing"
+    return lines[at].strip() if at < len(lines) else "nothing"
 
 
 # What is said
@@ -215,7 +216,8 @@ def value_of(rebuilt: Rebuilt, program: str) -> dict[str, object]:
     """What was found right with a page, for programs."""
     series = [{"name": view.label, "boats": len(view.standing.rows), "races": len(view.standing.races),
                "entries": view.series.entries, "state": view.settings.state, "seal": seal_words(view),
-               "changed": view.changed.isoformat(), "program": view.program, "beware": bewares(view)}
+               "changed": view.changed.isoformat(), "program": view.program,
+               "beware": [*map(with_spaces, bewares(view))]}
               for view in rebuilt.views]
     return {"series": series, "program": digest_of(program)}
 
@@ -225,7 +227,7 @@ def report(rebuilt: Rebuilt, program: str) -> list[str]:
     lines = []
     for view in rebuilt.views:
         rows, races = len(view.standing.rows), len(view.standing.races)
-        lines += [f"   {characters.shortly(view.label)}: {count(rows, 'boat')}, {count(races, 'race')}, "
+        lines += [f"   {unbroken(characters.shortly(view.label, characters.QUOTED))}: {count(rows, 'boat')}, {count(races, 'race')}, "
                   f"{count(view.series.entries, 'entry', 'entries')}, {view.settings.state}. "
                   "Scored again: every cell is the same.",
                   f"   Seal {seal_words(view)}",
@@ -246,7 +248,7 @@ def bewares(view: Snapshot) -> list[str]:
     texts += [text for boat in view.boats.values() for text in (boat.helm, boat.name, boat.club)]
     texts += rows_of(view.decided.text)
     odd = [text for text in texts if characters.has_odd(text)]
-    found = [f"{characters.shortly(text)} has a sign that isn't seen, or that turns or strikes others"
+    found = [f"{unbroken(characters.shortly(text, characters.QUOTED))} has a sign that isn't seen, or that turns or strikes others"
              for text in odd[:BEWARES]]
     if len(odd) > BEWARES:
         found.append(f"and so have {len(odd) - BEWARES} other texts")
@@ -297,7 +299,8 @@ def outcome(verifier: Verifier, path: str) -> Outcome:
     except (Unsure, Trouble, ValueError) as trouble:
         status, what, why = UNSURE, "not verified", characters.shortly(str(trouble), MESSAGE)
     return Outcome(status, (f"{path}: {what}: {sentence(why)}",),
-                   {"page": path, "result": "differs" if status == DIFFERS else "unsure", "why": why})
+                   {"page": path, "result": "differs" if status == DIFFERS else "unsure",
+                    "why": with_spaces(why)})
 
 
 def verify(pages: Sequence[str], program: str, is_json: bool = False) -> int:
@@ -308,10 +311,16 @@ def verify(pages: Sequence[str], program: str, is_json: bool = False) -> int:
     for path in pages:
         found.append(outcome(verifier, path))
         if not is_json:
-            say("\n".join(map(characters.plainly, found[-1].lines)))
+            put_out(laid_out(found[-1].lines, width()))
     if is_json:
         say_json([one.value for one in found])
     return worst(one.status for one in found)
+
+
+def laid_out(lines: Sequence[str], columns: int) -> str:
+    """What is said, in lines of a terminal. What was read of a page is never broken, so that no line begins with words
+    of it, as VERIFIED."""
+    return with_spaces(wrapped(visible("\n".join(map(characters.plainly, lines))), columns))
 
 
 def worst(statuses: Iterable[int]) -> int:

@@ -2,10 +2,12 @@
 from __future__ import annotations
 
 import html
+import os
 import re
 from collections.abc import Iterator
 from dataclasses import dataclass, field
 
+from raceoffice.characters import QUOTED, quoted, shortly, unbroken
 from raceoffice.program.standing import Row, Score, Standing
 
 # Parts that end a text; all others are inside one.
@@ -18,6 +20,8 @@ TAG = re.compile("<([^<>]*)>")
 CLASS = re.compile('class="([^"]*)"')
 # A number of a sign that is too long for one.
 LONG = re.compile("&#[xX]?[0-9a-fA-F]{8}")
+# Signs before those in which two texts differ.
+BEFORE = 20
 # Parts inside one another, and signs of a cell to which more are added. The package's pages have fewer.
 DEEPEST, LONGEST = 40, 10_000
 
@@ -128,12 +132,20 @@ def longer(text: str, more: str) -> str:
 def place(table: Table, row: int, column: int) -> str:
     """Where a cell is, in words."""
     heads = table.heads
-    head = heads[column] if column < len(heads) else f"column {column + 1}"
-    name = table.caption.partition(":")[0] or "a table"
+    head = named(heads[column]) if column < len(heads) else f"column {column + 1}"
     if row == 0:
-        return f"{name}, the heading {head}"
-    sail = f" ({table.sail(row)})" if table.sail(row) else ""
-    return f"{name}, row {row}{sail}, {head}"
+        return f"{name_of(table)}, the heading {head}"
+    sail = f" ({named(table.sail(row))})" if table.sail(row) else ""
+    return f"{name_of(table)}, row {row}{sail}, {head}"
+
+
+def name_of(table: Table) -> str:
+    return named(table.caption.partition(":")[0]) or "a table"
+
+
+def named(text: str) -> str:
+    """A name that is read from a page, on one line."""
+    return unbroken(shortly(text, QUOTED))
 
 
 def first_of(found: list[str], wanted: list[str]) -> int | None:
@@ -142,19 +154,28 @@ def first_of(found: list[str], wanted: list[str]) -> int | None:
     return min(len(found), len(wanted)) if at is None and len(found) != len(wanted) else at
 
 
+def both(found: str, wanted: str) -> tuple[str, str]:
+    """Two texts, each quoted from a little before where they differ."""
+    same = len(os.path.commonprefix([found, wanted]))
+    start = max(0, same - BEFORE) if max(len(found), len(wanted)) > QUOTED else 0
+    shown = [quoted(f"…{text[start:]}" if start else text) for text in (found, wanted)]
+    return shown[0], shown[1]
+
+
 def table_difference(found: Table, wanted: Table) -> str:
     """The first cell in which two tables differ; empty if they agree."""
     if found.caption != wanted.caption:
-        return f"a table is called {found.caption!r}, and not {wanted.caption!r}"
+        shown, right = both(found.caption, wanted.caption)
+        return f"{name_of(wanted)} is called {shown}, and not {right}"
     for row, (one, other) in enumerate(zip(found.rows, wanted.rows)):
         texts, others = [cell.text for cell in one], [cell.text for cell in other]
         column = first_of(texts, others)
         if column is not None:
-            shown, right = ((texts + ["no cell"])[min(column, len(texts))],
-                            (others + ["no cell"])[min(column, len(others))])
-            return f"{place(wanted, row, column)}: the page has {shown!r}, and not {right!r}"
+            shown, right = both((texts + ["no cell"])[min(column, len(texts))],
+                                (others + ["no cell"])[min(column, len(others))])
+            return f"{place(wanted, row, column)}: the page has {shown}, and not {right}"
     if len(found.rows) != len(wanted.rows):
-        return (f"{place(wanted, 0, 0).partition(',')[0]}: the page has {len(found.rows) - 1} rows, "
+        return (f"{name_of(wanted)}: the page has {len(found.rows) - 1} rows, "
                 f"and not {len(wanted.rows) - 1}")
     return ""
 
@@ -170,9 +191,9 @@ def difference(found: Seen, wanted: Seen) -> str:
     at = first_of(ours, others)
     if at is None:
         return ""
-    shown, right = ((texts + ["\tnothing more"])[min(at, len(texts))].partition("\t")[2]
-                    for texts in (ours, others))
-    return f"the text {shown!r} of the page has to be {right!r}"
+    shown, right = both(*((texts + ["\tnothing more"])[min(at, len(texts))].partition("\t")[2]
+                          for texts in (ours, others)))
+    return f"the text {shown} of the page has to be {right}"
 
 
 # A page's table as the program's
@@ -189,12 +210,12 @@ def row_of(table: Table, at: int, sails: dict[str, str], races: int) -> Row:
     net = re.fullmatch(r"(\d+\.\d) ?[a-z]*", cells[3])
     sail = sails.get(cells[1])
     if not rank or not net or sail is None:
-        raise ValueError(f"row {at} begins with {' '.join(cells[:4])!r}")
+        raise ValueError(f"row {at} begins with {quoted(' '.join(cells[:4]))}")
     scores = []
     for number, cell in enumerate(cells[4:4 + races], 1):
         score = SCORE.fullmatch(cell)
         if not score:
-            raise ValueError(f"{table.sail(at)} has {cell!r} in column {number} of the races")
+            raise ValueError(f"{table.sail(at)} has {quoted(cell)} in column {number} of the races")
         scores.append(Score(score[1] or score[2], score[3] or "", bool(score[2])))
     return Row(int(rank[1]), bool(rank[2]), sail, net[1], tuple(scores))
 

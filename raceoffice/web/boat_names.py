@@ -9,6 +9,7 @@ from typing import Any
 from raceoffice.corrected.times import RULES, SHEETS, Rules
 from raceoffice.errors import NotSent, Trouble
 from raceoffice.files import replace_whole
+from raceoffice.remarks import remark
 from raceoffice.results.spreadsheet import harmless
 from raceoffice.series.entry_list import RAISED, plain, problems
 from raceoffice.series.folder import Folder
@@ -16,6 +17,7 @@ from raceoffice.series.headings import ENTRIES, columns, rating_columns
 from raceoffice.series.read_list import bytes_of, name_of, table_of
 from raceoffice.series.write_list import with_boat
 from raceoffice.session.facts import Facts
+from raceoffice.web.series_settings import log_once
 from raceoffice.web.states import Values
 from raceoffice.wording import on_one_line
 
@@ -25,9 +27,14 @@ RATING = re.compile(r"[0-9]{1,5}(\.[0-9]{1,4})?")
 
 
 def list_shown(folder: Folder) -> Values:
-    """Which of the names of a boat the entry list has columns for."""
-    found = places_of(folder, list_of(folder))
-    return {"columns": [key for key in KEYS if key in found]}
+    """Which of the names of a boat the entry list has columns for, and what it has of each boat there: of her ratings
+    only if there is one column of them."""
+    data = list_of(folder)
+    found, table = places_of(folder, data), table_of(data)
+    single = {key: found[key][0] for key in KEYS if len(found.get(key, [])) == 1}
+    at = columns(table.heads, ENTRIES)["sail"]
+    rows = {plain(row[at]): {key: table.cell(row, place) for key, place in single.items()} for _, row in table.rows}
+    return {"columns": [key for key in KEYS if key in found], "rows": rows}
 
 
 def list_of(folder: Folder) -> bytes:
@@ -35,9 +42,9 @@ def list_of(folder: Folder) -> bytes:
     try:
         data = bytes_of(folder.entries)
     except Trouble as trouble:
-        raise NotSent(str(trouble)) from None
+        raise NotSent(*trouble.said) from None
     if wrong := problems(data, folder.entries):
-        raise NotSent("\n".join(wrong))
+        raise NotSent(*wrong)
     return data
 
 
@@ -57,20 +64,25 @@ def system_of(folder: Folder) -> str:
 
 
 def name_boat(folder: Folder, facts: Facts, values: Mapping[str, Any], by: str) -> bool:
-    """Adds or completes the row of a boat that is entered; whether the list is another then. `by` is who does."""
+    """Adds, completes or corrects the row of a boat that is entered; whether the list is another then. What it has is
+    replaced only if that is what was shown (`was`). `by` is who does."""
     sail = text_given(values, "sail").translate(RAISED)
     if plain(sail) not in facts.boats:
-        raise NotSent(f"{sail[:20] or 'a boat without a sail'} isn't entered")
-    given = {key: text for key in KEYS if (text := text_given(values, key))}
+        raise NotSent(remark("not-entered", sail=sail[:20]) if sail else remark("no-sail-entered"))
+    shown = values.get("was", {})
+    was = {key: text_given(shown, key) for key in KEYS if isinstance(shown, dict) and key in shown}
+    given = {key: text for key in KEYS if (text := text_given(values, key)) or was.get(key)}
     try:
         data = list_of(folder)
-        changed = with_boat(data, name_of(folder.entries), sail, cells_of(places_of(folder, data), given))
+        places = places_of(folder, data)
+        before = {at: text for key, text in was.items() for at in places.get(key, [])}
+        changed = with_boat(data, name_of(folder.entries), sail, cells_of(places, given), before)
         if changed == data:
             return False
+        log_once(folder, by, "named", "; ".join([plain(sail), *(f"{key} = {text}" for key, text in given.items())]))
         replace_whole(folder.entries, changed)
-        folder.log(by, "", "", "named", "; ".join([plain(sail), *(f"{key} = {text}" for key, text in given.items())]))
     except Trouble as trouble:
-        raise NotSent(str(trouble)) from None
+        raise NotSent(*trouble.said) from None
     return True
 
 
@@ -78,10 +90,10 @@ def text_given(values: Mapping[str, Any], key: str) -> str:
     """A text of a page on one line, without signs that aren't seen."""
     text = values.get(key, "")
     if not isinstance(text, str):
-        raise NotSent(f"her {key} isn't a text")
+        raise NotSent(remark("name-no-text", key=remark(f"key-{key}")))
     text = on_one_line(text)
     if len(text) > LONGEST:
-        raise NotSent(f"her {key} has more than {LONGEST} letters")
+        raise NotSent(remark("name-long", key=remark(f"key-{key}"), most=LONGEST))
     return text
 
 
@@ -89,8 +101,8 @@ def cells_of(places: Mapping[str, list[int]], given: Mapping[str, str]) -> dict[
     """The cells of a row, by the numbers of their columns. None is a formula."""
     for key, text in given.items():
         if key not in places:
-            raise NotSent(f"the entry list has no column for her {key}")
-        if key == "rating" and not RATING.fullmatch(text.replace(",", ".")):
-            raise NotSent(f"her rating is {text}. It has to be a number, as 1050 or 0.953")
+            raise NotSent(remark("name-no-column", key=remark(f"key-{key}")))
+        if key == "rating" and text and not RATING.fullmatch(text.replace(",", ".")):
+            raise NotSent(remark("rating-form", written=text))
     return {at: text.replace(",", ".") if key == "rating" else harmless(text)
             for key, text in given.items() for at in places[key]}

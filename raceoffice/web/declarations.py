@@ -8,6 +8,7 @@ from typing import Any
 
 from raceoffice.errors import NotSent, Trouble
 from raceoffice.program.link import Sheet
+from raceoffice.remarks import remark
 from raceoffice.results import announce
 from raceoffice.results.source import ResultsSource
 from raceoffice.series import settings
@@ -82,7 +83,7 @@ class Declarations:
             try:
                 self.declare_now(name, tap, str(state), str(values.get("reason", "")))
             except Trouble as trouble:
-                raise NotSent(str(trouble)) from None
+                raise NotSent(*trouble.said) from None
         self.room.news()
         return {"outcome": "taken", "state": state, "again": False}
 
@@ -90,7 +91,7 @@ class Declarations:
         """Declares it, if somebody has agreed to what is open and to the table as it is now."""
         reason = announce.need_reason(state, given)
         if len(reason) > announce.LONGEST:
-            raise NotSent(f"the reason has more than {announce.LONGEST} letters")
+            raise NotSent(remark("reason-long", most=announce.LONGEST))
         self.look()
         sheet = self.sheet()
         points = announce.open_points(self.folder, sheet) if state != "provisional" else []

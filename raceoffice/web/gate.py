@@ -8,6 +8,7 @@ from __future__ import annotations
 import contextlib
 import hashlib
 import hmac
+import itertools
 import json
 import os
 import secrets
@@ -128,26 +129,36 @@ class Gate:
             self.told_out()
             self.write()
 
-    def enter(self, request: Request, role: str, secret: str, name: str) -> str:
-        """The cookie of a device that shows the secret of a role."""
+    def enter(self, request: Request, role: str, secret: str, name: str) -> tuple[str, str]:
+        """The cookie of a device that shows the secret of a role, and its name. If another has that already it gets a
+        number, so that a name is that of one device."""
         self.entering.take(request.address)
         held = self.keys.get(role, "")
         if not held or not same(held, hashed(secret)):
             raise Wrong(403, "this link isn't valid any more: ask for a new one", "link-ended")
         cookie, now = secrets.token_urlsafe(32), time.time()
         with self.lock:
+            if before := self.known(request, role):
+                # It comes again.
+                self.devices.pop(before.mark, None)
             of_role = sorted((device for device in self.devices.values() if device.role == role),
                              key=lambda device: device.heard)
             for device in of_role[:max(0, len(of_role) - DEVICES + 1)]:
                 self.devices.pop(device.mark)
             self.told_out()
-            device = Device(hashed(cookie), role, plain_name(name) or role.lower(), now, now, 0,
+            device = Device(hashed(cookie), role, self.free_name(plain_name(name) or role.lower()), now, now, 0,
                             request.address)
             self.devices[device.mark] = device
             self.write()
         secure = "; Secure" if self.is_secure else ""
         return (f"{cookie_name(role)}={cookie}; Path=/office/{role.lower()}; Max-Age={LONG}; HttpOnly; "
-                f"SameSite=Strict{secure}")
+                f"SameSite=Strict{secure}"), device.name
+
+    def free_name(self, name: str) -> str:
+        """A name that no device has, as `iPhone (2)`."""
+        taken = {device.name.casefold() for device in self.devices.values()}
+        ends = itertools.chain([""], (f" ({number})" for number in itertools.count(2)))
+        return next(free for end in ends if (free := name[:NAME - len(end)].rstrip() + end).casefold() not in taken)
 
     def known(self, request: Request, role: str) -> Device | None:
         """The device of a role that a request comes from, if it is one."""

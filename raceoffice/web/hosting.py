@@ -8,6 +8,7 @@ from __future__ import annotations
 import asyncio
 import collections
 import contextlib
+import functools
 import itertools
 import socket
 import ssl
@@ -29,6 +30,8 @@ BEHIND = 64 << 10
 # How many connections this process may have, if its system allows that, and how many files are left to the
 # rest of it. One address may have so many, and leaves at least some to the others.
 ROOM, SPARE, CROWD, OTHERS = 8192, 64, 2000, 256
+# How many at one address may wait for news of the board: two for each of three hundred phones.
+WATCHING = 600
 # How many requests of one address are answered at once, and each second from then on: three hundred phones may
 # have one address.
 AT_ONCE, EACH_SECOND = 2000, 800
@@ -139,10 +142,11 @@ class Host:
         self.most = max(8, system.room_for_files(ROOM) - SPARE)
         self.most_of_one = max(4, min(CROWD, self.most - OTHERS))
         self.open = 0
-        self.by_address: collections.Counter[str] = collections.Counter()
+        # The connections of each address, in the order in which they came, and how many wait for news by their names.
+        self.visits: dict[str, dict[asyncio.Task[None], None]] = {}
+        self.watching: collections.Counter[str] = collections.Counter()
         self.turns = Rate(AT_ONCE, EACH_SECOND)
         self.letting_in: asyncio.Task[None] | None = None
-        self.visits: set[asyncio.Task[None]] = set()
 
     async def start(self, address: str, port: int, secure: ssl.SSLContext | None) -> None:
         """Lets in whoever there is room for, until `close`."""
@@ -170,23 +174,39 @@ class Host:
                     await asyncio.sleep(MOMENT)
                     continue
                 address = str(peer[0])
-                if self.open < self.most and self.by_address[address] < self.most_of_one:
-                    self.count(address, 1)
+                if await self.is_room_for(address):
+                    self.open += 1
                     visit = asyncio.get_running_loop().create_task(self.visit(link, address, secure))
-                    self.visits.add(visit)
-                    visit.add_done_callback(self.visits.discard)
+                    self.visits.setdefault(address, {})[visit] = None
+                    visit.add_done_callback(functools.partial(self.forget, address, link))
                 else:
                     link.close()
                 if number % TOGETHER == 0:
                     # Those who are in have their turn, too.
                     await asyncio.sleep(0)
 
-    def count(self, address: str, more: int) -> None:
-        """Counts one more connection of an address, or one less."""
-        self.open += more
-        self.by_address[address] += more
-        if not self.by_address[address]:
-            del self.by_address[address]
+    async def is_room_for(self, address: str) -> bool:
+        """Whether an address may have one more connection. If there is no room left, the address that has most gives
+        its newest one up for another that has fewer: so some that take all they get keep out nobody."""
+        held = len(self.visits.get(address, ()))
+        if held >= self.most_of_one:
+            return False
+        if self.open >= self.most:
+            greedy = max(self.visits.values(), key=len)
+            if len(greedy) <= held + 1:
+                return False
+            newest = next(reversed(greedy))
+            newest.cancel()
+            await asyncio.wait([newest], timeout=MOMENT)
+        return self.open < self.most
+
+    def forget(self, address: str, link: socket.socket, visit: asyncio.Task[None]) -> None:
+        """Forgets a connection of an address that has ended, perhaps before it began."""
+        link.close()
+        self.open -= 1
+        self.visits[address].pop(visit)
+        if not self.visits[address]:
+            del self.visits[address]
 
     async def visit(self, link: socket.socket, address: str, secure: ssl.SSLContext | None) -> None:
         """One connection, from its first request to its end."""
@@ -195,6 +215,10 @@ class Host:
             try:
                 while await self.is_going_on(reader, writer, address):
                     pass
+            except asyncio.CancelledError:
+                # It gives way to another address at once.
+                writer.transport.abort()
+                raise
             finally:
                 await end(writer)
         except (OSError, EOFError, asyncio.TimeoutError):
@@ -204,7 +228,6 @@ class Host:
             self.note("".join(traceback.format_exception(cause)))
         finally:
             link.close()
-            self.count(address, -1)
 
     async def is_going_on(self, reader: asyncio.StreamReader, writer: asyncio.StreamWriter,
                           address: str) -> bool:
@@ -224,11 +247,28 @@ class Host:
         except Wrong as wrong:
             reply = wrong.reply()
         if isinstance(reply, Waiting):
-            await reply.hub.serve(reader, writer, reply.name)
+            await self.send_news(reader, writer, reply, address)
             return False
         is_last = request.fields.get("connection", "").lower() == "close"
         await send(writer, bytes_of(packed(request, reply), is_last, request.method == "HEAD"))
         return not is_last
+
+
+    async def send_news(self, reader: asyncio.StreamReader, writer: asyncio.StreamWriter, reply: Waiting,
+                        address: str) -> None:
+        """Sends news to one who waits, until the connection ends. Strangers at one address have a share of them; a page
+        that gets no news looks every few seconds."""
+        name = reply.name or address
+        if not reply.name and self.watching[name] >= WATCHING:
+            await send(writer, bytes_of(Wrong(429).reply(), True, False))
+            return
+        self.watching[name] += 1
+        try:
+            await reply.hub.serve(reader, writer, reply.name)
+        finally:
+            self.watching[name] -= 1
+            if not self.watching[name]:
+                del self.watching[name]
 
 
 async def streams_of(link: socket.socket,

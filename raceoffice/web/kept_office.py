@@ -11,10 +11,14 @@ from raceoffice import system
 from raceoffice.errors import Fault, NotSent, Trouble
 from raceoffice.office.before_opening import Ask, is_meant, is_right, mend, question_of_rules
 from raceoffice.office.keeping import Keeping
+from raceoffice.program.messages import move_text
+from raceoffice.remarks import remark
 from raceoffice.series import settings
 from raceoffice.series.folder import Folder, clock
 from raceoffice.series.health import disk_fault, faults, notes, summary
+from raceoffice.series.remove_boat import moves_without, removal_of, take_out
 from raceoffice.session.dialogue import Question
+from raceoffice.session.question_words import question
 from raceoffice.terminal import sentence
 from raceoffice.traces import guarded
 from raceoffice.web.tap_session import Asked
@@ -22,6 +26,8 @@ from raceoffice.web.tap_session import Asked
 # Seconds between two looks at an office, and how often one that has gone is opened again by itself within how
 # many seconds.
 LOOK, TIMES, LONG = 0.2, 3, 600.0
+# Seconds until an office that couldn't be opened again is tried once more: at first, and at most.
+SOON, LATE = 1.0, 60.0
 # How many of an office's words are kept for the scorer's page.
 SAID = 60
 
@@ -37,6 +43,8 @@ class KeptOffice:
         self.opened: list[float] = []
         self.is_asked_to_close, self.is_hurried, self.is_ended = False, False, threading.Event()
         self.is_ended.set()
+        # Whether nobody wants this process to open it by itself any more.
+        self.is_left = threading.Event()
 
     def say(self, text: str) -> None:
         for line in text.splitlines():
@@ -120,6 +128,7 @@ class KeptOffice:
         self.keeping = keeping
         self.opened.append(time.monotonic())
         self.is_asked_to_close = False
+        self.is_left.clear()
         self.is_ended.clear()
         threading.Thread(target=self.stay, args=(keeping,), daemon=True).start()
 
@@ -155,35 +164,88 @@ class KeptOffice:
         return True
 
     def open_again(self) -> None:
-        """Opens an office that has gone by itself, a few times. What has to be asked waits for the scorer."""
+        """Opens an office that has gone by itself, a few times. If it can't be opened it is tried again, after a pause
+        that grows. What has to be asked waits for the scorer."""
         recent = [at for at in self.opened if at > time.monotonic() - LONG]
-        if not self.is_asked_to_close and len(recent) <= TIMES:
-            self.open(lambda _: False)
+        if self.is_asked_to_close:
+            return
+        if len(recent) > TIMES:
+            self.say(f"The office has gone {len(recent)} times within {LONG / 60:.0f} minutes. It isn't opened again by itself.")
+            return
+        asked: list[Question] = []
+
+        def note(question: Question) -> bool:
+            asked.append(question)
+            return False
+        pause = SOON
+        while not self.open(note):
+            if asked:
+                self.say("The office waits for an answer: open it on the scorer's page.")
+                return
+            self.say(f"{clock()} It is tried again in {pause:.0f} seconds.")
+            if self.is_left.wait(pause):
+                return
+            pause = min(2 * pause, LATE)
 
     # Closing
 
     def close(self) -> bool:
         """Closes the office, which lets everybody leave first; whether it was this process that kept it. One
         that a window keeps stays open."""
+        self.is_left.set()
         if not self.keeping:
             return False
         self.is_asked_to_close = True
         self.is_ended.wait()
         return True
 
+    def take_out(self, sail: str, by: str, ask: Ask) -> str:
+        """Takes a boat out of the journal, for which the office is closed and opened again: the dated copy that has her
+        still. What goes and whom that moves is asked while the office is open. `by` is who does."""
+        fresh = self.folder_alone()
+        if asked := question_of_rules(fresh):
+            ask(asked)
+        wanted = question_of_removal(fresh, sail)
+        ask(wanted)
+        was_open = self.close()
+        try:
+            # Somebody may have typed until it was closed.
+            if (now := question_of_removal(fresh, sail)) != wanted:
+                raise Asked(now, [])
+            copy, fault = take_out(fresh, removal_of(fresh, sail), by)
+        finally:
+            if was_open:
+                self.open(lambda _: False)
+        self.say(f"{sail} is taken out: {copy} has the journal with her." + (f" No second copy: {fault}." if fault else ""))
+        return copy
+
+    def folder_alone(self) -> Folder:
+        """The folder as it is now, if no other window keeps its office; else NotSent."""
+        if not self.keeping and self.is_there():
+            raise NotSent(remark("other-window"))
+        return Folder(self.folder.path)
 
     def open_again_with_settings(self, ask: Ask) -> bool:
         """Closes the office and opens it with the settings as they are now; whether it is open then. What they
         would change is asked while it is still open. NotSent if it can't be, and nothing is closed then."""
-        if not self.keeping and self.is_there():
-            raise NotSent("another window keeps this office: close it there, and open it again")
-        fresh = Folder(self.folder.path)
+        fresh = self.folder_alone()
         if wrong := faults(fresh):
-            raise NotSent("\n".join(wrong))
+            raise NotSent(*wrong)
         if asked := question_of_rules(fresh):
             ask(asked)
         self.close()
         return self.open(ask)
+
+
+def question_of_removal(folder: Folder, sail: str) -> Question:
+    """What is asked before a boat is taken out: the entries that go, and whom that moves; NotSent if she can't be."""
+    try:
+        found = removal_of(folder, sail)
+        moves = moves_without(folder, found)
+    except Trouble as trouble:
+        raise NotSent(*trouble.said) from None
+    lines = [" ".join(line.split()[2:]) for line in found.about.values()]
+    return question("remove-boat", str, sail=sail, lines=lines, moves=map(move_text, moves))
 
 
 def is_yes(_: Question) -> bool:

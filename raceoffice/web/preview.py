@@ -11,32 +11,35 @@ from dataclasses import dataclass
 
 from raceoffice.characters import utf8
 from raceoffice.decisions import decision_lines
-from raceoffice.decisions.points import Verdict, decided, taken_out
+from raceoffice.decisions.points import Decided, Verdict, decided, taken_out
 from raceoffice.errors import NotSent, Trouble
 from raceoffice.files import replace_whole
 from raceoffice.program.replay import Line, scored
 from raceoffice.program.standing import Standing
+from raceoffice.remarks import Remark, remark
 from raceoffice.series.folder import Folder
 from raceoffice.series.run_program import opened_rules, replayed
 from raceoffice.series.settings import Settings
 from raceoffice.series.settings import rows_of as lines_of
 from raceoffice.session.facts import Facts
-from raceoffice.web.states import Values, moves_of, rows_of
+from raceoffice.web.states import Values, moves_of, remarks_of, rows_of
 
 # The line of decisions.txt that something is wrong with, and the most letters of a note.
 LINE = re.compile(r"^decisions\.txt, line (\d+): ")
 NOTE = 200
+CHANGED = "decisions.txt has been changed meanwhile: look again"
 
 
 @dataclass(frozen=True)
 class Ruled:
-    """What a decision comes to: the text of decisions.txt with it, what it is called, its points and what the
-    journal holds, the lines that it takes, and why it can't be given."""
+    """What a decision comes to: the text of decisions.txt before it and with it, what it is called, its points and
+    what the journal holds, the lines that it takes, and why it can't be given."""
+    before: str
     text: str
     name: str
     verdict: Values
     lines: tuple[Line, ...]
-    why: tuple[str, ...]
+    why: tuple[Remark, ...]
 
 
 def opened_settings(folder: Folder) -> Settings:
@@ -55,7 +58,7 @@ def preview(folder: Folder, facts: Facts, lines: Sequence[Line]) -> Values:
     try:
         after = scored(folder.program, options_of(folder), facts.sheet.journal, lines)
     except Trouble as trouble:
-        return {"refused": str(trouble).removeprefix("the program "), "entries": entries}
+        return {"refused": remarks_of(trouble.said), "entries": entries}
     standing = Standing.read(list(after.table))
     return {"entries": entries, "lines": [f"{line.role} {line}" for line in lines],
             "moves": moves_of(facts.standing, standing, facts), "rows": rows_of(standing),
@@ -68,11 +71,12 @@ def effect_of_rules(folder: Folder, facts: Facts, options: list[str]) -> Values:
     try:
         before, after = replayed(folder, options_of(folder)), replayed(folder, options)
     except Trouble as trouble:
-        return {"refused": str(trouble).removeprefix("the program says "), "moves": [], "stale": []}
+        return {"refused": remarks_of(trouble.said), "moves": [], "stale": []}
     text = decision_lines.read(folder.path)
-    found = decided(folder.program, options, after.journal, text).stale if text.strip() else []
+    found = decided(folder.program, options, after.journal, text) if text.strip() else Decided()
     moves = moves_of(Standing.read(list(before.table)), Standing.read(list(after.table)), facts)
-    return {"moves": moves, "stale": found}
+    stale = [verdict_shown(verdict, "") for verdict in found.verdicts if not verdict.is_kept]
+    return {"moves": moves, "stale": [*map(wrong_shown, found.wrong), *stale]}
 
 
 def race_of(line: Line) -> int:
@@ -81,29 +85,39 @@ def race_of(line: Line) -> int:
     return int(number[0]) if number and number[0].isdecimal() else 0
 
 
-def decide(folder: Folder, facts: Facts, ruling: str, note: str = "", is_out: bool = False) -> Ruled:
-    """What a decision comes to, and which lines it takes; NotSent if it isn't one. `note` is written after it.
-    If it `is_out`, `ruling` is the row of decisions.txt that is taken out."""
-    if is_out:
-        return without_row(folder, facts, ruling)
-    text, name = with_ruling(folder, facts, ruling, note)
+def decide(folder: Folder, facts: Facts, ruling: str, note: str = "") -> Ruled:
+    """What a decision comes to, and which lines it takes; NotSent if it isn't one. `note` is written after it."""
+    before = decision_lines.read(folder.path)
+    text, name = with_ruling(before, facts, ruling, note)
     found = decided(folder.program, options_of(folder), facts.sheet.journal, text)
     mine = [verdict for verdict in found.verdicts if str(verdict.ruling) == name]
     why = [*found.wrong, *(verdict.why for verdict in mine if verdict.why)]
     values = verdict_shown(mine[0], note) if mine else {}
-    return Ruled(text, name, values, tuple(found.lines), tuple(why))
+    return Ruled(before, text, name, values, tuple(found.lines), tuple(why))
 
 
-def without_row(folder: Folder, facts: Facts, row: str) -> Ruled:
-    """What it takes to take a row out of decisions.txt. One that can't be read has no lines in the journal."""
-    rows = [line.strip() for line in lines_of(decision_lines.read(folder.path))]
-    if not row or row not in rows:
-        raise NotSent("decisions.txt doesn't have this any more: look again")
-    at = rows.index(row)
-    text = "\n".join([*rows[:at], *rows[at + 1:], ""])
+def take_out(folder: Folder, facts: Facts, row: str, is_begun: bool = False) -> Ruled:
+    """What it takes to take a row out of decisions.txt. One that can't be read has no lines in the journal. If it
+    `is_begun`, the row may have gone already."""
+    before = decision_lines.read(folder.path)
+    if not row or not (has_row(before, row) or is_begun):
+        raise NotSent(remark("decision-gone"))
     ruling = next(iter(decision_lines.rulings_of(row)[0]), None)
     lines = taken_out(ruling, facts.sheet.journal) if ruling else []
-    return Ruled(text, row, {}, tuple(lines), ())
+    return Ruled(before, without_row(before, row), row, {}, tuple(lines), ())
+
+
+def has_row(text: str, row: str) -> bool:
+    return row in [line.strip() for line in lines_of(text)]
+
+
+def without_row(text: str, row: str) -> str:
+    """The text of decisions.txt without a row."""
+    if not has_row(text, row):
+        return text
+    rows = lines_of(text)
+    at = [line.strip() for line in rows].index(row)
+    return "\n".join([*rows[:at], *rows[at + 1:], ""])
 
 
 def note_of(text: str) -> str:
@@ -111,23 +125,29 @@ def note_of(text: str) -> str:
     return " ".join("".join(filter(str.isprintable, text)).split())[:NOTE]
 
 
-def with_ruling(folder: Folder, facts: Facts, added: str, note: str) -> tuple[str, str]:
+def with_ruling(text: str, facts: Facts, added: str, note: str) -> tuple[str, str]:
     """The text of decisions.txt with one more decision and its note, in place of an earlier one for the same
     boat, and what it is called."""
     found, wrong = decision_lines.rulings_of(added)
     if wrong or len(found) != 1:
-        raise NotSent(LINE.sub("", wrong[0]) if wrong else "a decision is needed")
-    text, new = decision_lines.read(folder.path), found[0]
+        why = wrong[0].values.get("why") if wrong else None
+        raise NotSent(why if isinstance(why, Remark) else remark("decision-needed"))
+    new = found[0]
     if new.sail not in facts.boats:
-        raise NotSent(f"{new.sail} isn't entered")
+        raise NotSent(remark("not-entered", sail=new.sail))
     old = [ruling.line for ruling in decision_lines.rulings_of(text)[0] if ruling.key == new.key]
     row = f"{added}  # {note}" if note else added
     lines = [row if at in old else line for at, line in enumerate(lines_of(text), 1)]
     return "\n".join([*lines, *([] if old else [row]), ""]), str(new)
 
 
-def keep_decisions(folder: Folder, text: str) -> None:
-    replace_whole(folder.file(decision_lines.NAME), utf8(text))
+def keep_decisions(folder: Folder, found: Ruled) -> None:
+    """Writes what was decided, if decisions.txt is still as it was read for that. The program has taken its time
+    meanwhile."""
+    if decision_lines.read(folder.path) != found.before:
+        raise NotSent(CHANGED)
+    if found.text != found.before:
+        replace_whole(folder.file(decision_lines.NAME), utf8(found.text))
 
 
 def decisions_shown(folder: Folder, facts: Facts) -> list[Values]:
@@ -140,7 +160,7 @@ def decisions_shown(folder: Folder, facts: Facts) -> list[Values]:
     for verdict in found.verdicts:
         row = rows[verdict.ruling.line - 1].strip()
         shown.append(verdict_shown(verdict, row.partition("#")[2].strip()) | {"row": row})
-    return shown + [{"words": wrong, "kept": False, "row": row_of(wrong, rows)} for wrong in found.wrong]
+    return shown + [wrong_shown(wrong) | {"row": row_of(wrong, rows)} for wrong in found.wrong]
 
 
 def verdict_shown(verdict: Verdict, note: str) -> Values:
@@ -148,7 +168,12 @@ def verdict_shown(verdict: Verdict, note: str) -> Values:
     ruling = verdict.ruling
     return {"words": str(verdict), "kept": verdict.is_kept, "race": ruling.race, "sail": ruling.sail,
             "kind": ruling.kind, "how": ruling.how, "points": verdict.points, "held": verdict.held,
-            "why": verdict.why, "note": note}
+            "why": remarks_of([verdict.why] if verdict.why else []), "note": note}
+
+
+def wrong_shown(wrong: Remark) -> Values:
+    """A line of decisions.txt that is none, or what keeps all from being worked out."""
+    return {"words": wrong, "wrong": remarks_of([wrong]), "kept": False}
 
 
 def row_of(wrong: str, rows: Sequence[str]) -> str:

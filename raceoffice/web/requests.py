@@ -8,7 +8,7 @@ import gzip
 import hashlib
 import json
 import urllib.parse
-from collections.abc import Iterator, Mapping
+from collections.abc import Iterator, Mapping, Sequence
 from dataclasses import dataclass, field
 from email.utils import formatdate
 from typing import Any
@@ -48,14 +48,17 @@ WHY = {401: "unknown-device", 403: "not-from-a-page", 404: "not-there", 408: "to
 
 class Wrong(Exception):
     """Why a request isn't done: the number of a status, words, and a fixed word for pages in other
-    languages."""
+    languages; perhaps what more is known, as remarks."""
 
-    def __init__(self, status: int, words: str = "", kind: str = "") -> None:
+    def __init__(self, status: int, words: str = "", kind: str = "", said: Sequence[object] = ()) -> None:
         super().__init__(words or REASONS[status])
-        self.status, self.kind = status, kind or WHY.get(status, "no-request")
+        self.status, self.kind, self.said = status, kind or WHY.get(status, "no-request"), said
 
     def reply(self) -> Reply:
-        return reply_of({"words": str(self), "kind": self.kind}, self.status)
+        values: dict[str, object] = {"words": str(self), "kind": self.kind}
+        if self.said:
+            values["said"] = self.said
+        return reply_of(values, self.status)
 
 
 @dataclass(frozen=True)

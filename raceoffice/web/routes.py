@@ -3,23 +3,25 @@ from __future__ import annotations
 
 import asyncio
 import concurrent.futures
-import contextlib
 import json
 import os
 import time
-from collections.abc import Callable, Sequence
+from collections.abc import Callable
 from typing import Any
 
 from raceoffice.errors import NotSent, Trouble
 from raceoffice.program.replay import Line
+from raceoffice.remarks import remark
 from raceoffice.results.http_answers import Text, address_of
+from raceoffice.series.entry_list import plain
 from raceoffice.series.folder import Folder
 from raceoffice.session.confirm import questions
 from raceoffice.session.dialogue import Question
 from raceoffice.session.parse import COMMANDS, MAY
 from raceoffice.terminal import sentence
 from raceoffice.traces import guarded
-from raceoffice.web import boat_names, new_series, preview, qr, series_beside, series_settings, sticks, times_sheet
+from raceoffice.web import (boat_names, new_series, preview, qr, rulings, series_beside, series_settings, sticks,
+                            times_sheet)
 from raceoffice.web.declarations import Unasked
 from raceoffice.web.downloads import download
 from raceoffice.web.finish_order import Elsewhere
@@ -27,9 +29,10 @@ from raceoffice.web.gate import MARK, ROLES, Device, plain_name
 from raceoffice.web.hosting import Waiting
 from raceoffice.web.requests import JSON, Reply, Request, Wrong, reply_of, tagged
 from raceoffice.web.room import Room
-from raceoffice.web.states import Values, question_of, said_of
+from raceoffice.web.rulings import one_line
+from raceoffice.web.states import Values, question_of, remarks_of, said_of
 from raceoffice.web.tap_session import Asked
-from raceoffice.web.taps import NoTap, Tap, agreed_in
+from raceoffice.web.taps import LATEST, NoTap, Tap, agreed_in
 from raceoffice.web.web_office import Class, WebOffice
 
 STATIC = os.path.join(os.path.dirname(os.path.abspath(__file__)), "static")
@@ -73,6 +76,9 @@ class Routes:
                 return tagged(request, *self.file("enter.html"))
             case ["in"]:
                 return await self.in_thread(self.enter, request)
+            case [role, "in"] if role in PAGES and not is_reading:
+                # A browser that comes again sends its cookie here.
+                return await self.in_thread(self.enter, request)
             case ["static", *names] if is_reading:
                 return self.part("/".join(names), request)
             case [role, *rest] if role in PAGES and is_reading:
@@ -111,16 +117,16 @@ class Routes:
         self.gate.check_origin(request)
         values = request.values()
         role, name = str(values.get("role", "")).upper(), plain_name(str(values.get("name", "")))
-        cookie = self.gate.enter(request, role, str(values.get("key", "")), name)
-        self.office.tell(f"{role.lower()}: {name or 'a device'} came from {request.address}")
-        return reply_of({"next": f"/office/{role.lower()}/"}, 200, {"Set-Cookie": cookie})
+        cookie, name = self.gate.enter(request, role, str(values.get("key", "")), name)
+        self.office.tell(f"{role.lower()}: {name} came from {request.address}")
+        return reply_of({"next": f"/office/{role.lower()}/", "name": name}, 200, {"Set-Cookie": cookie})
 
     async def in_thread(self, work: Callable[..., Reply], *values: object) -> Reply:
         """Does what may take time, and says in words what keeps it from being done."""
         try:
             return await asyncio.get_running_loop().run_in_executor(self.pool, self.guarded, work, *values)
         except NotSent as why:
-            raise Wrong(422, sentence(why)) from None
+            raise Wrong(422, sentence(why), said=remarks_of(why.said)) from None
         except Asked as asked:
             return reply_of({"outcome": "asked", "question": question_of(asked.question),
                              "said": said_of(asked.said)}, 409)
@@ -128,7 +134,7 @@ class Routes:
             return reply_of({"outcome": "elsewhere", "question": question_of(where.question),
                              "clock": where.clock}, 409)
         except Trouble as trouble:
-            raise Wrong(503, sentence(trouble)) from None
+            raise Wrong(503, sentence(trouble), said=remarks_of(trouble.said)) from None
 
     def guarded(self, work: Callable[..., Reply], *values: object) -> Reply:
         folder = next((one.room.folder.path for one in self.office.classes.values()), "")
@@ -251,6 +257,8 @@ class Routes:
                 return self.reopen(request, self.room(name))
             case ["listed", name] if role == "SCORER":
                 return self.name_boat(request, device, self.room(name))
+            case ["remove", name] if role == "SCORER":
+                return self.remove_boat(request, device, self.one(name))
             case ["rules", name] if role == "SCORER":
                 return self.rules_effect(request, self.room(name))
             case ["sheet", name] if role == "SCORER":
@@ -275,7 +283,7 @@ class Routes:
 
     def preview(self, request: Request, role: str, room: Room) -> Reply:
         """What a line would do, and what would be asked."""
-        typed = one_line(request, "line").upper()
+        typed = one_line(request.values(), "line").upper()
         check_command(typed, role)
         with room.lock:
             session = room.session(role)
@@ -288,57 +296,17 @@ class Routes:
         values: Values = {"line": line, "asked": list(map(question_of, asked))}
         return reply_of(values | found)
 
-    def ruling(self, request: Request, room: Room) -> Reply:
+    @staticmethod
+    def ruling(request: Request, room: Room) -> Reply:
         """What a decision comes to, or taking one out, and whom it moves."""
-        found = ruled(request, room)
-        values: Values = {"text": found.text, "line": found.name, "verdict": found.verdict, "why": found.why,
-                          "asked": []}
-        moved = preview.preview(room.folder, room.facts, found.lines)
-        # What takes no lines changes no score, in whichever race.
-        return reply_of(values | moved | ({} if found.lines else {"counts": True}))
+        return reply_of(rulings.ruling_shown(room, request.values()))
 
-    def decide(self, request: Request, device: Device, room: Room) -> Reply:
-        """Keeps a decision in decisions.txt, or takes it out, and sends the lines that it takes, if they are as
-        they were shown. The same again goes on at the first that wasn't sent, and gets the same answer."""
-        tap = tap_of({**request.values(), "line": ""})
-        with room.lock:
-            room.session("JURY").look()
-            lines: Sequence[Line] = room.register.decisions.get(tap.id, ())
-            if not lines:
-                lines = self.decision_begun(request, room, tap)
-            elif room.done(part_of(tap, 0)) is None:
-                # A crash may have come before it was kept.
-                with contextlib.suppress(NotSent):
-                    preview.keep_decisions(room.folder, ruled(request, room).text)
-            done = self.sent_one_by_one(room, device, tap, lines)
+    @staticmethod
+    def decide(request: Request, device: Device, room: Room) -> Reply:
+        """Keeps a decision in decisions.txt, or takes it out, and sends the lines that it takes. The same again gets
+        the same answer."""
+        done = rulings.decide(room, request.values(), device.name)
         return reply_of({"outcome": "taken", "done": done, "version": room.version})
-
-    @staticmethod
-    def decision_begun(request: Request, room: Room, tap: Tap) -> Sequence[Line]:
-        """The lines of a decision, which are noted, and which is kept from now on. What the office asks of them is
-        asked before."""
-        found = ruled(request, room)
-        if found.why:
-            raise NotSent(found.why[0])
-        if [f"{line.role} {line}" for line in found.lines] != request.values().get("lines"):
-            raise NotSent("somebody else has typed meanwhile, and it comes to something else: look again")
-        for asked in asked_first(room, found.lines):
-            if asked not in tap.agreed:
-                raise Asked(asked, [])
-        if found.lines:
-            room.register.decide(tap.id, found.lines)
-        preview.keep_decisions(room.folder, found.text)
-        return found.lines
-
-    @staticmethod
-    def sent_one_by_one(room: Room, device: Device, tap: Tap, lines: Sequence[Line]) -> list[Values]:
-        """Sends the lines of a decision up to the first that isn't taken; what came of each."""
-        found: list[Values] = []
-        for at, line in enumerate(lines):
-            found.append(room.do(line.role, device.name, part_of(tap, at, line.text)))
-            if found[-1]["outcome"] != "taken":
-                break
-        return found
 
     # What the scorer may do beside lines
 
@@ -395,6 +363,17 @@ class Routes:
             session.look()
         return reply_of({"changed": is_another, "version": room.version})
 
+    def remove_boat(self, request: Request, device: Device, one: Class) -> Reply:
+        """Takes a boat that was entered by mistake out of the journal. What goes is asked before. Entries get other
+        numbers then, so that no tap may be under way."""
+        sail, unsent = plain(boat_names.text_given(request.values(), "sail")), [
+            known.name for known in self.gate.devices.values() if known.unsent and known is not device]
+        if unsent:
+            raise NotSent(remark("removal-unsent", devices=unsent))
+        copy = one.office.take_out(sail, device.name, asked_of(request))
+        one.room.news()
+        return reply_of({"copy": copy, "open": one.office.is_there(), "said": list(one.office.said)})
+
     @staticmethod
     def sheet(room: Room, race: str) -> Reply:
         """The sheet of times of a race."""
@@ -440,8 +419,11 @@ class Routes:
         return self.serve(new_series.folder_made(self.office.parent, request.values()))
 
     def serve(self, path: str) -> Reply:
-        """Serves one more class, and opens its office. What would be asked before waits for the scorer."""
-        office = self.office.add(Folder(path)).office
+        """Serves one more class, if it isn't served already, and opens its office. What would be asked before waits
+        for the scorer."""
+        found = self.office.classes.get(os.path.basename(path))
+        is_here = found and os.path.samefile(found.room.folder.path, path)
+        office = (found if found and is_here else self.office.add(Folder(path))).office
         is_open = office.open(lambda _: False)
         return reply_of({"class": os.path.basename(path), "open": is_open, "said": list(office.said)})
 
@@ -483,14 +465,12 @@ def of_text(request: Request, text: Text) -> Reply:
 
 def tap_of(values: dict[str, Any]) -> Tap:
     try:
-        return Tap.read(values)
+        tap = Tap.read(values)
     except NoTap:
         raise Wrong(400, "this isn't a tap") from None
-
-
-def part_of(tap: Tap, at: int, line: str = "") -> Tap:
-    """The tap of one line of a decision."""
-    return Tap(f"{tap.id[:-3]}{at:03x}", line, tap.at, agreed=tap.agreed)
+    if tap.at > LATEST:
+        raise NotSent("no clock shows the moment of this tap: look at the clock of this device")
+    return tap
 
 
 def agreed_of(request: Request) -> tuple[Question, ...]:
@@ -522,28 +502,6 @@ def check_command(line: str, role: str) -> None:
     own = OWN | ({"START", "TIMES"} if "FINISH" in MAY[role] else set())
     if command not in MAY[role] | own and "?" not in command:
         raise Wrong(422, f"{first or 'an empty line'} isn't a line of this role")
-
-
-def ruled(request: Request, room: Room) -> preview.Ruled:
-    """The decision that a request gives, with its note, or the row of one that it takes out."""
-    values = request.values()
-    if values.get("out") is True:
-        return preview.decide(room.folder, room.facts, str(values.get("line", "")).strip(), is_out=True)
-    note = preview.note_of(str(values.get("note", "")))
-    return preview.decide(room.folder, room.facts, one_line(request, "line"), note)
-
-
-def asked_first(room: Room, lines: Sequence[Line]) -> list[Question]:
-    """What is asked of the first line for each boat and race. What is asked of a later one depends on the first."""
-    first: dict[tuple[str, ...], Line] = {}
-    for line in lines:
-        first.setdefault(tuple(line.text.split()[1:3]), line)
-    return [asked for line in first.values() for asked in questions(room.facts, line.role, line.text, ())]
-
-
-def one_line(request: Request, name: str) -> str:
-    """A text of a request, as one line without notes."""
-    return " ".join(str(request.values().get(name, "")).partition("#")[0].split())[:120]
 
 
 def now() -> int:

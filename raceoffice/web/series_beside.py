@@ -7,6 +7,7 @@ from typing import Any
 
 from raceoffice.characters import is_utf8
 from raceoffice.errors import NotSent, Trouble
+from raceoffice.remarks import remark
 from raceoffice.series import settings
 from raceoffice.web.states import Values
 
@@ -23,7 +24,7 @@ def names_in(parent: str) -> list[str]:
         names = sorted(os.listdir(parent))
     except OSError:
         return []
-    return [name for name in names if is_utf8(name) and os.path.isfile(os.path.join(parent, name, settings.NAME))]
+    return [name for name in names if is_utf8(name) and name[0] != "." and os.path.isfile(os.path.join(parent, name, settings.NAME))]
 
 
 def settings_in(path: str) -> settings.Settings | None:
@@ -38,5 +39,5 @@ def path_of(parent: str, served: Collection[str], values: Mapping[str, Any]) -> 
     """The folder of a series that isn't served yet: one of those that are shown, and no other."""
     name = values.get("name")
     if name not in [one["name"] for one in series_beside(parent, served)]:
-        raise NotSent("there is no such series that isn't open already: look again")
+        raise NotSent(remark("no-series-beside"))
     return os.path.join(parent, str(name))

@@ -13,16 +13,17 @@ from typing import Any
 
 from raceoffice.characters import utf8
 from raceoffice.corrected.times import RULES, SHEETS, Rules
-from raceoffice.corrected.write_sheet import rules_text, write_rules
+from raceoffice.corrected.write_sheet import rules_text, with_rule, write_rules
 from raceoffice.errors import NotSent, NotThere, Trouble
 from raceoffice.files import edited_text, replace_whole
+from raceoffice.remarks import remark
 from raceoffice.series import settings
 from raceoffice.series.folder import Folder
 from raceoffice.session.facts import Facts
 from raceoffice.web import preview
 from raceoffice.web.kept_office import KeptOffice
-from raceoffice.web.new_series import GIVEN, wrong_settings
-from raceoffice.web.states import Values, rules_of
+from raceoffice.web.new_series import GIVEN, setting_given, wrong_in, wrong_settings
+from raceoffice.web.states import Values, remarks_of, rules_of
 
 # What pages show as soon as it is saved.
 AT_ONCE = ("title", "class", "club")
@@ -34,7 +35,7 @@ def text_now(folder: Folder) -> str:
     try:
         return edited_text(folder.file(settings.NAME))
     except NotThere:
-        raise NotSent(f"{settings.NAME} is gone") from None
+        raise NotSent(remark("ini-gone")) from None
 
 
 def tag_of(text: str) -> str:
@@ -46,7 +47,7 @@ def settings_kept(folder: Folder, office: KeptOffice) -> Values:
     """The settings that series.ini has, and whether the office goes by them."""
     text = text_now(folder)
     if wrong := settings.problems(text):
-        return {"wrong": wrong, "tag": tag_of(text)}
+        return {"wrong": remarks_of(wrong), "tag": tag_of(text)}
     values, is_open = settings.values_of(text), office.is_there()
     kept, opened = settings.settings_of(values), preview.opened_settings(folder)
     return {"wrong": [], "tag": tag_of(text), "is_open": is_open, "is_kept_here": office.keeping is not None,
@@ -78,8 +79,8 @@ def given_of(values: Mapping[str, Any]) -> dict[str, str]:
     """The settings that a page gives. What isn't among them stays as it is."""
     given = values.get("settings")
     if not isinstance(given, dict):
-        raise NotSent("the settings are missing")
-    found = {key: " ".join(str(given[key]).split()) for key in GIVEN if key in given}
+        raise NotSent(remark("settings-missing"))
+    found = {key: setting_given(given, key) for key in GIVEN if key in given}
     # A rule that is left empty is as if the sailing instructions said nothing of it.
     return {key: text or settings.DEFAULTS[key] for key, text in found.items()}
 
@@ -101,33 +102,57 @@ def effect(folder: Folder, facts: Facts, values: Mapping[str, Any]) -> Values:
 
 def save(folder: Folder, facts: Facts, values: Mapping[str, Any], name: str) -> None:
     """Puts settings into series.ini, whole, if it is still as it was shown, and if the program takes them.
-    `name` is who does."""
+    `name` is who does. What has these settings already, as after a crash, needs nothing."""
+    if is_as_given(folder, values):
+        show_names(folder, text_now(folder))
+        return
     text = text_shown(folder, values)
-    found = effect(folder, facts, values)
-    if found["wrong"]:
-        raise NotSent("\n".join(map(str, found["wrong"] if isinstance(found["wrong"], list) else [])))
-    if found.get("refused"):
-        raise NotSent(f"the program refuses these rules: {found['refused']}")
-    given, rules = given_of(values), rules_to_write(folder, values)
+    given = given_of(values)
+    if wrong := wrong_in(settings.DEFAULTS | settings.values_of(text) | given):
+        raise NotSent(*wrong)
+    if effect(folder, facts, values).get("refused"):
+        raise NotSent(remark("rules-refused"))
+    rules = rules_to_write(folder, text, values)
     changed = text_with(text, given)
     # The program has taken its time.
     text_shown(folder, values)
     if rules:
+        # These hold for a class by corrected time alone, so they come first: it never is one without them.
         write_rules(folder.path, rules)
     if changed != text:
-        replace_whole(folder.file(settings.NAME), utf8(changed))
         before = settings.DEFAULTS | settings.values_of(text)
         said = [f"{key} = {value}" for key, value in given.items() if value != before[key]]
-        folder.log(name, "", "", "settings", "; ".join(said))
-    kept = settings.settings_of(settings.values_of(changed))
+        log_once(folder, name, "settings", "; ".join(said))
+        replace_whole(folder.file(settings.NAME), utf8(changed))
+    show_names(folder, changed)
+
+
+def is_as_given(folder: Folder, values: Mapping[str, Any]) -> bool:
+    """Whether the files have these settings already."""
+    text, given = text_now(folder), given_of(values)
+    before = settings.DEFAULTS | settings.values_of(text)
+    return all(before[key] == value for key, value in given.items()) and not rules_to_write(folder, text, values)
+
+
+def show_names(folder: Folder, text: str) -> None:
+    """Has pages show the names that a text of series.ini has."""
+    kept = settings.settings_of(settings.values_of(text))
     folder.settings = dataclasses.replace(folder.settings, title=kept.title, group=kept.group, club=kept.club)
+
+
+def log_once(folder: Folder, name: str, what: str, said: str) -> None:
+    """Notes in office.log what is about to be written, unless the last such line says just this: then the web died
+    between that line and the file, and somebody tries again."""
+    last = [(entry.name, entry.answer) for entry in folder.logged() if entry.line == what][-1:]
+    if last != [(name, said)]:
+        folder.log(name, "", "", what, said)
 
 
 def text_shown(folder: Folder, values: Mapping[str, Any]) -> str:
     """The text of series.ini, if it is still the one that was shown; else NotSent."""
     text = text_now(folder)
     if values.get("tag") != tag_of(text):
-        raise NotSent(f"somebody else has changed {settings.NAME} meanwhile: look again")
+        raise NotSent(remark("ini-changed"))
     return text
 
 
@@ -139,16 +164,23 @@ def text_with(text: str, given: Mapping[str, str]) -> str:
             if given.get(key, before[key]) != before[key]:
                 text = settings.with_value(text, SECTIONS[key], key, given[key])
     except Trouble as trouble:
-        raise NotSent(str(trouble)) from None
+        raise NotSent(*trouble.said) from None
     return text
 
 
-def rules_to_write(folder: Folder, values: Mapping[str, Any]) -> bytes:
-    """times/rules.ini of a class that comes to be one by corrected time; nothing if it has that file."""
+def rules_to_write(folder: Folder, text: str, values: Mapping[str, Any]) -> bytes:
+    """times/rules.ini of a class that comes to be one by corrected time; nothing if it has these rules already. A
+    class that is one keeps those that it has."""
     is_needed = given_of(values).get("handicap") == "yes" and values.get("system")
-    if not is_needed or os.path.exists(folder.file(SHEETS, RULES)):
+    is_there, path = os.path.exists(folder.file(SHEETS, RULES)), folder.file(SHEETS, RULES)
+    if not is_needed or is_there and settings.values_of(text).get("handicap") == "yes":
         return b""
     try:
-        return rules_text(str(values["system"]), str(values.get("rounding") or "half-up"))
+        fresh = rules_text(str(values["system"]), str(values.get("rounding") or "half-up"))
+        if not is_there:
+            return fresh
+        before = edited_text(path)
+        changed = with_rule(before, "system", str(values["system"]))
+        return b"" if changed == before else utf8(changed)
     except Trouble as trouble:
-        raise NotSent(str(trouble)) from None
+        raise NotSent(*trouble.said) from None

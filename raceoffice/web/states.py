@@ -6,6 +6,7 @@ from collections.abc import Iterable, Sequence
 from raceoffice.program.journal import Race
 from raceoffice.program.messages import moved
 from raceoffice.program.standing import Standing, changes
+from raceoffice.remarks import Remark, Value
 from raceoffice.series.settings import Settings
 from raceoffice.series.unknown_finishers import Waiting
 from raceoffice.session.dialogue import Question, Said
@@ -72,6 +73,19 @@ def moves_of(before: Standing, after: Standing, facts: Facts) -> list[Values]:
     return [{"sail": change.after.sail, "was": change.before.rank, "rank": change.after.rank,
              "net_before": change.before.net, "net": change.after.net,
              "words": moved(change, facts.called(change.after.sail))} for change in changes(before, after)]
+
+
+def remarks_of(said: Iterable[str]) -> list[Values]:
+    """What is said, as a page gets it: with an empty kind if it has only English words."""
+    return [{"kind": one.kind, "values": {name: value_shown(value) for name, value in one.values.items()}, "text": str(one)}
+            if isinstance(one, Remark) else {"kind": "", "values": {}, "text": one} for one in said]
+
+
+def value_shown(value: Value) -> object:
+    """A value of a remark: another remark as such, several one by one."""
+    if isinstance(value, Remark):
+        return remarks_of([value])[0]
+    return value if isinstance(value, (str, int)) else [value_shown(one) for one in value]
 
 
 def question_of(asked: Question) -> Values:

@@ -11,10 +11,11 @@ from raceoffice import system
 from raceoffice.characters import utf8
 from raceoffice.errors import NotSent, Trouble
 from raceoffice.files import replace_whole
+from raceoffice.remarks import remark
 from raceoffice.series import settings
 from raceoffice.series.folder import Folder
 from raceoffice.web.kept_office import KeptOffice
-from raceoffice.web.series_settings import text_now
+from raceoffice.web.series_settings import log_once, text_now
 from raceoffice.web.states import Values
 from raceoffice.wording import on_one_line
 
@@ -45,16 +46,16 @@ def choose(folder: Folder, office: KeptOffice, values: Mapping[str, Any], by: st
     this process keeps or that is closed. `by` is who does."""
     path = values.get("path")
     if not isinstance(path, str) or path and path not in sticks_in():
-        raise NotSent("that stick isn't in any more: look again")
+        raise NotSent(remark("stick-gone"))
     text = text_now(folder)
     if wrong := settings.problems(text):
-        raise NotSent("\n".join(wrong))
+        raise NotSent(*wrong)
     try:
         changed = settings.with_value(text, "office", "copy", path)
         if changed != text:
+            log_once(folder, by, "settings", f"copy = {path}")
             replace_whole(folder.file(settings.NAME), utf8(changed))
-            folder.log(by, "", "", "settings", f"copy = {path}")
     except Trouble as trouble:
-        raise NotSent(str(trouble)) from None
+        raise NotSent(*trouble.said) from None
     if office.keeping or not office.is_there():
         folder.settings = dataclasses.replace(folder.settings, copy=path)

@@ -3,10 +3,11 @@ of that goes to the office as lines."""
 from __future__ import annotations
 
 import datetime
+import functools
 import zoneinfo
 
-from raceoffice.corrected.sheets import Entry, entries_of
-from raceoffice.corrected.times import Sheets, sheet_name
+from raceoffice.corrected.sheets import Entry, entries_of, with_seconds
+from raceoffice.corrected.times import Rules, Sheets, sheet_name
 from raceoffice.corrected.write_sheet import SheetOfRace, is_for_sheet, races_with_sheet
 from raceoffice.errors import NotSent, NotThere, Trouble
 from raceoffice.program.codes import OF_JURY
@@ -18,6 +19,8 @@ from raceoffice.web.states import Values
 from raceoffice.web.tap_session import TapSession
 from raceoffice.web.taps import Sent
 
+# Seconds of a day.
+DAY = 86400
 # What a tap of such a class may begin with that is done here. Any other line is sent as it is.
 TIMED = ("START", "TIMES", "FINISH", "STRIKE", "MARK", "CLEAR")
 
@@ -109,31 +112,41 @@ def sheets_shown(folder: Folder) -> dict[int, Values]:
     """The sheets of a class by corrected time, by their races: the start, and each boat's finish, elapsed time
     and code; or what is wrong with one."""
     found: dict[int, Values] = {}
-    for race in races_with_sheet(folder) if folder.settings.handicap else []:
+    races = races_with_sheet(folder) if folder.settings.handicap else []
+    nights = nights_of(folder) if races else ()
+    for race in races:
         try:
             rows, wrong = entries_of(bytes_of(folder.file(sheet_name(race))), sheet_name(race))
         except (NotThere, Trouble) as trouble:
             rows, wrong = [], [str(trouble)]
         starts = sorted({row.cells["start"] for row in rows if row.cells["start"]})
         found[race] = {"start": starts[0] if len(starts) == 1 else "", "wrong": wrong,
-                       "rows": {row.sail: row_shown(row) for row in rows if row.is_timed or row.code}}
+                       "rows": {row.sail: row_shown(row, race in nights) for row in rows if row.is_timed or row.code}}
     return found
 
 
-def row_shown(row: Entry) -> Values:
-    return {"finish": row.cells["finish"], "code": row.code, "elapsed": elapsed(row)}
+def nights_of(folder: Folder) -> tuple[int, ...]:
+    """The races past midnight; none if the rules can't be read."""
+    try:
+        return Rules.read(folder).overnight
+    except Trouble:
+        return ()
 
 
-def elapsed(row: Entry) -> int | None:
-    """Seconds from a boat's start to her finish, if both are known and on one day."""
-    if not row.cells["start"] or not row.cells["finish"] or row.code:
+def row_shown(row: Entry, is_overnight: bool) -> Values:
+    return {"finish": row.cells["finish"], "code": row.code, "elapsed": None if row.code else elapsed(row, is_overnight)}
+
+
+def elapsed(row: Entry, is_overnight: bool) -> int | None:
+    """The seconds that a boat took, as they are given or from her start to her finish; None if they aren't known."""
+    if row.cells["elapsed"]:
+        return seconds_of(row.cells["elapsed"])
+    if not row.cells["start"] or not row.cells["finish"]:
         return None
-    seconds = seconds_of(row.cells["finish"]) - seconds_of(row.cells["start"])
-    return seconds if seconds >= 0 else None
+    seconds = seconds_of(with_seconds("start", row.cells["finish"])) - seconds_of(with_seconds("start", row.cells["start"]))
+    return seconds + (DAY if seconds < 0 and is_overnight else 0) if seconds >= 0 or is_overnight else None
 
 
-def seconds_of(clock: str) -> int:
-    hours, minutes, *rest = map(int, clock.split(":"))
-    return hours * 3600 + minutes * 60 + (rest[0] if rest else 0)
-
-
+def seconds_of(time: str) -> int:
+    """The seconds of a text as 1:02:31, 62:31 or 3751."""
+    return functools.reduce(lambda total, part: total * 60 + int(part), time.split(":"), 0)

@@ -1,22 +1,25 @@
-"""A race's sheet of times as the scorer's page shows and changes it: each boat's start, and her laps or distance if
-the rating system takes them. Her finish and her code come from taps."""
+"""A race's sheet of times as the scorer's page shows and changes it: each boat's start, her laps or distance if the
+rating system takes them, an elapsed time instead of a finish, and whether the race goes on past midnight. Her finish
+and her code come from taps."""
 from __future__ import annotations
 
 import hashlib
 from collections.abc import Mapping, Sequence
 from typing import Any
 
+from raceoffice.characters import utf8
 from raceoffice.corrected.sheets import FORMS, entries_of
-from raceoffice.corrected.times import Rules, sheet_name
-from raceoffice.corrected.write_sheet import SheetOfRace, is_form
+from raceoffice.corrected.times import RULES, SHEETS, Rules, sheet_name
+from raceoffice.corrected.write_sheet import SheetOfRace, is_form, with_rule
 from raceoffice.errors import NotSent, NotThere, Trouble
+from raceoffice.files import edited_text, replace_whole
 from raceoffice.series.folder import Folder
 from raceoffice.series.read_list import bytes_of
 from raceoffice.session.facts import Facts
 from raceoffice.web.states import Values
 
 # What a page may change, by the rating system, and all that it shows.
-CHANGED = {"tcf": ["start"], "py": ["start", "laps"], "tod": ["start", "distance"]}
+CHANGED = {"tcf": ["start", "elapsed"], "py": ["start", "laps", "elapsed"], "tod": ["start", "distance", "elapsed"]}
 SHOWN = ("start", "laps", "distance", "finish", "elapsed")
 
 
@@ -33,12 +36,12 @@ def tag_of(data: bytes) -> str:
     return hashlib.sha256(data).hexdigest()[:20]
 
 
-def columns_of(folder: Folder) -> list[str]:
-    """What a page may change of the sheets of a class."""
+def rules_of(folder: Folder) -> Rules:
+    """The rules of the sheets of a class."""
     try:
-        return CHANGED[Rules.read(folder).system]
+        return Rules.read(folder)
     except Trouble as trouble:
-        raise NotSent(str(trouble)) from None
+        raise NotSent(*trouble.said) from None
 
 
 def sheet_shown(folder: Folder, facts: Facts, number: str) -> Values:
@@ -46,32 +49,59 @@ def sheet_shown(folder: Folder, facts: Facts, number: str) -> Values:
     if not folder.settings.handicap:
         raise NotSent("a sheet of times belongs to a series by corrected time")
     race = facts.race(number).number
-    data, columns = data_of(folder, race), columns_of(folder)
+    data, rules = data_of(folder, race), rules_of(folder)
     found, wrong = entries_of(data, sheet_name(race)) if data else ([], [])
     rows = {entry.sail: {**{key: entry.cells[key] for key in SHOWN}, "code": entry.code} for entry in found}
     empty = {**{key: "" for key in SHOWN}, "code": ""}
     sails = [*facts.boats, *(sail for sail in rows if sail not in facts.boats)]
-    return {"race": race, "tag": tag_of(data), "wrong": wrong, "columns": columns,
+    return {"race": race, "tag": tag_of(data), "wrong": wrong, "columns": CHANGED[rules.system],
+            "overnight": race in rules.overnight, "rounding": rules.rounding,
             "rows": [{"sail": sail, **rows.get(sail, empty)} for sail in sails]}
 
 
 def save_sheet(folder: Folder, facts: Facts, values: Mapping[str, Any]) -> Values:
     """Puts what a page gives into the sheet of a race, whole, if it is still as it was shown; the sheet then."""
-    number, rows = str(values.get("race", "")), values.get("rows")
+    number = str(values.get("race", ""))
     shown = sheet_shown(folder, facts, number)
     if shown["wrong"]:
         raise NotSent("the sheet can't be read: put it right first")
+    sheet = SheetOfRace(folder, facts.race(number).number)
+    before = sheet.data
+    put_rows(sheet, facts, values.get("rows"), CHANGED[rules_of(folder).system])
+    # The web may have died after it had written just this.
+    if sheet.data != before and values.get("tag") != shown["tag"]:
+        raise NotSent("the sheet has been changed meanwhile: look again")
+    put_night(folder, facts.race(number).number, values.get("overnight", shown["overnight"]))
+    if sheet.data != before:
+        sheet.write()
+    return sheet_shown(folder, facts, number)
+
+
+def put_night(folder: Folder, race: int, is_overnight: object) -> None:
+    """Has times/rules.ini say whether a race goes on past midnight."""
+    nights, path = rules_of(folder).overnight, folder.file(SHEETS, RULES)
+    if not isinstance(is_overnight, bool):
+        raise NotSent("overnight has to be true or false")
+    if is_overnight == (race in nights):
+        return
+    wanted = sorted({*nights, race} if is_overnight else {*nights} - {race})
+    try:
+        replace_whole(path, utf8(with_rule(edited_text(path), "overnight", ",".join(map(str, wanted)))))
+    except Trouble as trouble:
+        raise NotSent(*trouble.said) from None
+
+
+def put_rows(sheet: SheetOfRace, facts: Facts, rows: object, columns: Sequence[str]) -> None:
+    """Changes what a page gives of each boat."""
     if not isinstance(rows, dict):
         raise NotSent("the rows are missing")
-    if values.get("tag") != shown["tag"]:
-        raise NotSent("the sheet has been changed meanwhile: look again")
-    sheet = SheetOfRace(folder, facts.race(number).number)
     for sail, cells in rows.items():
         if sail not in facts.boats or not isinstance(cells, dict):
             raise NotSent(f"{str(sail)[:20]} isn't entered")
-        put_cells(sheet, sail, cells, columns_of(folder))
-    sheet.write()
-    return sheet_shown(folder, facts, number)
+        put_cells(sheet, sail, cells, columns)
+        row = sheet.row(sail)
+        if cells.get("elapsed") and (held := sheet.cell(row, "finish") or sheet.cell(row, "code")):
+            raise NotSent(f"{sail} has {held} in {sheet.name} already: strike or clear her first")
 
 
 def put_cells(sheet: SheetOfRace, sail: str, cells: Mapping[str, Any], columns: Sequence[str]) -> None:

@@ -238,7 +238,7 @@ class Worked(unittest.TestCase):
         journal = replay.scored(helpers.PROGRAM, list(options), [], typed).journal
         found = decision_points.decided(helpers.PROGRAM, list(options), journal, text)
         self.assertEqual(found.wrong, ())
-        return [verdict.points or verdict.why for verdict in found.verdicts]
+        return [verdict.points or str(verdict.why) for verdict in found.verdicts]
 
     def test_penalties(self) -> None:
         """Of ten boats the score for DNF is 11: 30% is 3.3, 50% is 5.5, and no score is above 11."""

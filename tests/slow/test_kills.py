@@ -56,16 +56,15 @@ class Steps:
         return step
 
 
-class Kills(helpers.Series):
-    """One race after another is sailed at one office, which is opened again after each kill."""
+class Served(helpers.Series):
+    """A series whose program is started whenever it has gone."""
 
     def setUp(self) -> None:
         super().setUp()
         self.folder = Folder(os.path.join(self.here, "cup"))
         self.folder.make_private()
-        self.race, self.places = 0, self.folder.file("office", "places")
-        self.lines: list[str] = TYPED
-        self.counted: tuple[str, ...] = COUNTED
+        # More of what the program is started with
+        self.words: tuple[str, ...] = ()
         self.program: subprocess.Popen[bytes] | None = None
         self.addCleanup(self.close)
 
@@ -84,7 +83,7 @@ class Kills(helpers.Series):
             os.remove(self.folder.socket)
         words = [] if os.path.exists(self.folder.journal) else ["--entries", "../entries.csv"]
         self.program = subprocess.Popen(
-            [helpers.PROGRAM, "serve", "--socket", "race.sock", "--keep", "../journal.txt", *words],
+            [helpers.PROGRAM, "serve", "--socket", "race.sock", "--keep", "../journal.txt", *self.words, *words],
             cwd=self.folder.file("office"), stdin=subprocess.DEVNULL, stdout=subprocess.DEVNULL,
             stderr=subprocess.DEVNULL)
         helpers.until("the office", self.is_open)
@@ -94,6 +93,16 @@ class Kills(helpers.Series):
         with contextlib.suppress(Trouble), contextlib.closing(self.folder.link()):
             return True
         return False
+
+
+class Kills(Served):
+    """One race after another is sailed at one office, which is opened again after each kill."""
+
+    def setUp(self) -> None:
+        super().setUp()
+        self.race, self.places = 0, self.folder.file("office", "places")
+        self.lines: list[str] = TYPED
+        self.counted: tuple[str, ...] = COUNTED
 
     def next_race(self) -> int:
         """A race of which nothing is recorded; after the last of a series that of a new one."""

@@ -2,17 +2,19 @@
 and for those who listen. They are looked at over canned answers."""
 from __future__ import annotations
 
+import re
 import unittest
 from collections.abc import Callable, Iterator
 from typing import Any
 
 import browser
 from devices import Chromium, Device
+from raceoffice.remarks import ENGLISH, Remark, Value as RemarkValue, remark
 from raceoffice.session.dialogue import NOTE, Said, Value
 from raceoffice.session.said_words import WORDS as SAID, said
-from raceoffice.web.states import said_of
+from raceoffice.web.states import remarks_of, said_of
 from stub_office import OPEN as OPEN_POINTS, StubOffice
-from test_web_texts import SAID_OTHERWISE, values_said
+from test_web_texts import SAID_OTHERWISE, fields_of, remarks_made, values_said
 from web_office import SAILS
 
 LANGUAGES = ["en", "de", "fr", "es", "it", "nl"]
@@ -297,7 +299,7 @@ class Looking(unittest.TestCase):
         device.click(".kept li:last-child .bad")
         device.until("!!document.querySelector('#send') && !document.querySelector('#takes')")
         yield "taken out"
-        self.office.preview, held = {"refused": "she holds DSQ"}, self.office.preview
+        self.office.preview, held = {"refused": remarks_of([remark("barred-code", code="DSQ")])}, self.office.preview
         device.click("#what-CLEAR")
         device.until("!!document.querySelector('.preview.bad')")
         self.office.preview = held
@@ -331,6 +333,32 @@ def all_said() -> list[Said]:
             for kind in sorted(SAID.keys() - SAID_OTHERWISE)]
 
 
+# Values of remarks; a name or a list that is longer is broken as a text of its own is.
+OF_REMARKS: dict[str, RemarkValue] = {
+    "name": "entries.csv", "row": 100, "title": 1, "first": 3, "above": 99, "n": 501, "room": 500, "line": 12, "other": 11,
+    "number": 12, "encoding": "UTF-16", "column": "Nummer", "columns": ["Crew", "Yardstick"], "heading": "Sail no.",
+    "helm": "Ann", "written": "GBR_7", "sail": "GBR7", "race": 40, "races": ["4", "5"], "key": "exclude", "near": "PRP",
+    "section": "rules", "value": "'8,4'", "said": "regatta: start refused 8 at 12", "answer": "NO 8", "how": "30%",
+    "kind": "PRP", "kinds": ["DPI", "PRP"], "code": "DSQ", "most": 200, "before": "Kestrel", "sign": "U+2013"}
+PLACED: dict[str, RemarkValue] = {"name": "series.ini", "line": 12}
+# Remarks that are alike in some languages
+ALIKE = {"takes-limit", "wanted-handicap", "wanted-absent", "wanted-state", "key-club", "key-rating"}
+# Remarks within others
+WITHIN = {"fault": "sail-none", "place": "ini-place", "wanted": "wanted-scp", "why": "barred-alone"}
+
+
+def all_remarks() -> list[Remark]:
+    """One of each kind of remark."""
+    made = remarks_made()
+    found = []
+    for kind in ENGLISH:
+        names = fields_of(kind) | (set.intersection(*made[kind]) if kind in made else {"sign"})
+        values = {name: OF_REMARKS[name] for name in names & OF_REMARKS.keys()}
+        within = {name: remark(WITHIN[name], **(PLACED if name == "place" else {})) for name in names & WITHIN.keys()}
+        found.append(remark(kind, **values, **within))
+    return found
+
+
 class Looks(Looking):
     """What has to hold of each page in all its states."""
 
@@ -357,6 +385,36 @@ class Looks(Looking):
                 self.assertEqual(in_english if language != "en" else [], [])
                 self.assertEqual(device.run(CUT), [])
             device.close()
+
+    def test_remarks(self) -> None:
+        """Each language has words of its own for whatever isn't taken, which can be read whole at 320 pixels."""
+        everything = all_remarks()
+        for language in LANGUAGES:
+            device = self.device("scorer", 320, 640, language)
+            self.office.line = 422, {"words": "", "kind": "not-sent", "said": remarks_of(everything)}
+            device.click("#score")
+            device.until("document.querySelector('#alarm').textContent !== ''")
+            shown = device.text("#alarm")
+            with self.subTest(language=language):
+                self.assertEqual(len(shown.split("\n")), len(everything))
+                self.assertEqual([one.kind for one in everything if language != "en" and f"\n{one}.\n" in shown
+                                  and one.kind not in ALIKE], [])
+                self.assertNotIn("[object", shown)
+                self.assertNotIn("undefined", shown)
+                self.assertEqual(re.findall(r"\{\w+\}", shown), [])
+                self.assertEqual(device.run(CUT), [])
+            device.close()
+
+    def test_refused_at_the_finish(self) -> None:
+        """The finish page fetches the words for why a tap isn't taken when it needs them."""
+        device = self.device("finish", 390, 844, "de")
+        device.until("document.querySelectorAll('#list li').length === 8")
+        self.office.line = 422, {"words": "NED12 isn't entered.", "said": remarks_of([remark("not-entered", sail="NED12")])}
+        device.tap(SAILS[10])
+        device.until("Object.values(localStorage).some(kept => kept.includes('NED 12 ist nicht gemeldet.'))")
+        device.click("#list li.refused button")
+        device.until("document.querySelector('dialog[open]')?.textContent.includes('NED 12 ist nicht gemeldet.')")
+        device.close()
 
     def test_two_classes(self) -> None:
         """Two classes at one line at 320 pixels, in each language."""

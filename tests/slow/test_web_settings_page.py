@@ -50,6 +50,40 @@ class SettingsPage(WebTrial):
         self.need_no_faults()
 
 
+class EntriesPage(WebTrial):
+    """A boat's names are put right, and a boat that was entered by mistake is taken out."""
+
+    def test_entries(self) -> None:
+        ann, scorer = self.phone(), self.device("scorer", "Bea’s laptop")
+        for sail in SAILS[:2]:
+            ann.tap(sail)
+        self.settle(ann)
+        scorer.until("document.querySelectorAll('.order tbody tr').length === 2")
+        scorer.click("#correct-names")
+        scorer.click(f"dialog button[data-sail={SAILS[0]}]")
+        scorer.until("!!document.querySelector('dialog input[name=name]')")
+        was = scorer.run("document.querySelector('dialog input[name=name]').value")
+        scorer.type("dialog input[name=name]", "Kestrels")
+        scorer.choose("yes")
+        scorer.until(f"document.querySelector('dialog[open]')?.textContent.includes('{was} → Kestrels')")
+        self.assertNotIn("Kestrels", self.text("cup", "entries.csv"))
+        scorer.choose("yes")
+        scorer.until("document.querySelector('.order tbody tr').textContent.includes('Kestrels')")
+        self.assertIn("Kestrels", self.text("cup", "entries.csv"))
+        scorer.click("#take-out")
+        scorer.click(f"dialog button[data-sail={SAILS[1]}]")
+        scorer.until(f"document.querySelector('dialog[open] .mono')?.textContent.includes('FINISH 1 {SAILS[1]}')")
+        self.assertEqual(len(self.journal()), 2)
+        scorer.choose("yes")
+        scorer.until("document.querySelectorAll('.order tbody tr').length === 1")
+        self.assertEqual(self.journal(), [f"FINISH FINISH 1 {SAILS[0]}"])
+        # The devices go on.
+        ann.tap(SAILS[2])
+        self.settle(ann)
+        self.assertEqual(self.journal(), [f"FINISH FINISH 1 {SAILS[0]}", f"FINISH FINISH 1 {SAILS[2]}"])
+        self.need_no_faults()
+
+
 @helpers.needs_times
 class TimesPage(WebTrial):
     classes = {"cup": "Sail,Boat,TCF\nGBR 101,Kestrel,1.000\nGBR 7,Sea Pink,0.900\n"}

@@ -15,7 +15,7 @@ function usualName() {
 }
 
 async function enter(name) {
-  const said = await ask("/office/in", {role, key, name});
+  const said = await ask(`/office/${role}/in`, {role, key, name});
   if (said.status === 200) location.replace(said.next);
   else fill(byId("wrong"), troubleOf(said));
 }

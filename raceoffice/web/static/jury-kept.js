@@ -3,11 +3,12 @@
 import {element} from "./elements.js";
 import {points, text} from "./texts.js";
 import {spaced} from "./sails.js";
+import {remarkSentences, remarkWords} from "./remark-words.js";
 
 // What a decision comes to, and whether the scores have it
 export function verdictWords({race, sail, kind, how, points: wanted, held, kept, why}) {
   const line = `${text("common.race")} ${race}, ${spaced(sail)}: ${[kind, how].filter(Boolean).join(" ")}`;
-  if (why) return `${line}. ${text("jury.notInScores", {why})}`;
+  if (why.length) return `${line}. ${text("jury.notInScores", {why: why.map(remarkWords).join("; ")})}`;
   if (kept) return `${line}. ${wanted ? text("jury.comesTo", {points: points(wanted)}) : text("jury.isDone")}`;
   const due = wanted ? text("jury.comesTo", {points: points(wanted)}) : text("jury.toBeSent");
   return `${line}. ${due} ${held ? text("jury.scoresHave", {points: points(held)}) : text("jury.scoresHaveNone")}`;
@@ -16,7 +17,7 @@ export function verdictWords({race, sail, kind, how, points: wanted, held, kept,
 function rowOf(one, actions) {
   const button = (key, look, press) => element("button", {type: "button", class: `quiet ${look}`, onclick: press,
     "aria-label": `${text(key)}: ${one.row}`}, text(key));
-  return element("li", {class: one.kept ? "" : "wrong", "data-key": one.row}, one.kind ? verdictWords(one) : one.words,
+  return element("li", {class: one.kept ? "" : "wrong", "data-key": one.row}, one.kind ? verdictWords(one) : remarkSentences(one.wrong).join("\n"),
     one.note ? element("span", {class: "soft note"}, one.note) : null,
     element("span", {class: "acts"}, one.kind ? button("jury.amend", "", () => actions.amend(one)) : null,
       one.row ? button("jury.takeOut", "bad", () => actions.takeOut(one)) : null));

@@ -3,6 +3,7 @@
 import {element} from "./elements.js";
 import {text} from "./texts.js";
 import {called} from "./desk.js";
+import {remarkSentences} from "./remark-words.js";
 import {moveWords} from "./moves.js";
 
 const box = (look, ...inside) => element("div", {class: `preview ${look}`, id: "preview", role: "status"}, inside);
@@ -29,7 +30,7 @@ function moveRow(move) {
 export function previewBox(line, shown, sail, actions) {
   if (!line) return waiting("jury.chooseFirst");
   if (!shown) return waiting("jury.asking");
-  if (shown.refused || shown.why?.length) return box("bad", element("h3", {}, text("jury.notTaken")), element("p", {}, shown.why?.join("; ") || shown.refused));
+  if (shown.refused || shown.why?.length) return box("bad", element("h3", {}, text("jury.notTaken")), element("p", {}, shown.why?.length ? remarkSentences(shown.why).join(" ") : shown.refused));
   const moves = shown.moves ?? [], own = moves.find(move => move.sail === sail);
   const ranked = moves.filter(move => move !== own && move.was !== move.rank), others = moves.length - ranked.length - (own ? 1 : 0);
   return box("", element("header", {}, element("h3", {}, heading(moves, shown)),

@@ -7,7 +7,8 @@ import {say} from "./dialogs.js";
 import {kindOf, spaced} from "./sails.js";
 import {saidWords} from "./said-words.js";
 import {agrees, isTriedAgain, told} from "./sending.js";
-import {agreedOf, troubleOf} from "./questions.js";
+import {agreedOf} from "./questions.js";
+import {remarkSentences, troubleWords} from "./remark-words.js";
 import {beginDesk, called, drawClasses, path, send, state} from "./desk.js";
 import {findBoat} from "./boat-finder.js";
 import {lastChange, standingTable} from "./standing.js";
@@ -48,7 +49,8 @@ async function preview() {
   if (!line) return;
   const found = await ask(path(isKept() ? "ruling" : "preview"), isKept() ? given() : {line}, LONG);
   if (mine !== asked) return;
-  shown = found.status === 200 ? {...found, line} : {refused: troubleOf(found), line};
+  const refused = found.status === 200 ? found.refused && remarkSentences(found.refused).join(" ") : troubleWords(found);
+  shown = found.status === 200 ? {...found, refused, line} : {refused, line};
   draw();
 }
 
@@ -73,15 +75,16 @@ async function sendDecision() {
 // asked here, and the same is sent again until there is an answer. Gives what was said of its lines, or null if it
 // wasn't sent.
 async function decide(agreed) {
-  const id = newId(), kept = given(), {lines} = shown;
+  const id = newId(), kept = given(), {lines, tag} = shown;
   for (let tries = 0; ; ) {
-    const done = await ask(path("decide"), {...kept, id, lines, agreed}, LONG);
+    const done = await ask(path("decide"), {...kept, id, lines, tag, agreed}, LONG);
     if (done.status === 200) return told(done.done.at(-1), done.done.flatMap(one => one.said));
     if (done.status === 409) {
       if (await agrees(done.question, done.said) !== "yes") return null;
       agreed.push(agreedOf(done.question));
     } else if (!await isTriedAgain(done.status, tries++)) {
-      say(troubleOf(done), true);
+      say(troubleWords(done), true);
+      lookAtDecisions();
       return null;
     }
   }

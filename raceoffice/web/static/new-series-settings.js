@@ -2,6 +2,7 @@
 // The settings of a series in the words of sailing instructions.
 import {element} from "./elements.js";
 import {hasText, text} from "./texts.js";
+import {remarkSentences} from "./remark-words.js";
 
 // Rating systems as times/rules.ini has them
 const SYSTEMS = [["tcf", "TCF"], ["py", "PY"], ["tod", "TOD"]];
@@ -30,7 +31,7 @@ function exclusions(exclude) {
     element("div", {class: "numbers"}, EXCLUDED.map((name, at) => raceField(name, `new.${name}From`, races[at]))));
 }
 
-// The settings as they are. The rating system can be chosen until the series has one.
+// The settings as they are. The rating system can be chosen until the series is by corrected time, and has one.
 export function instructionsStep({exclude, absent, scp, handicap} = USUAL, system = "") {
   return [exclusions(exclude),
     group("new.absent", choice("absent", "a52", "new.a52", absent === "a52", "new.a52Means"), choice("absent", "a53", "new.a53", absent === "a53", "new.a53Means")),
@@ -39,7 +40,7 @@ export function instructionsStep({exclude, absent, scp, handicap} = USUAL, syste
         element("input", {type: "number", name: "points", min: 1, max: MOST_PLACES, value: scp || null, inputmode: "numeric"})))),
     group("new.placesBy", choice("handicap", "no", "new.byOrder", handicap === "no"), choice("handicap", "yes", "new.byCorrectedTime", handicap === "yes", "new.correctedMeans"),
       element("div", {class: "numbers"}, element("label", {class: "number"}, text("new.system"),
-        element("select", {name: "system", disabled: system !== ""}, SYSTEMS.map(([value, name]) => element("option", {value, selected: value === system}, name))))))];
+        element("select", {name: "system", disabled: handicap === "yes" && system !== ""}, SYSTEMS.map(([value, name]) => element("option", {value, selected: value === system}, name))))))];
 }
 
 // The settings as series.ini has them, from what was chosen
@@ -53,5 +54,5 @@ export function settingsOf(form) {
 
 // What is wrong with settings, as the office says it, in words
 export function wrongWords({keys, wrong}) {
-  return keys.length && keys.every(key => hasText(`new.wrong.${key}`)) ? keys.map(key => text(`new.wrong.${key}`)) : wrong;
+  return keys.length && keys.every(key => hasText(`new.wrong.${key}`)) ? keys.map(key => text(`new.wrong.${key}`)) : remarkSentences(wrong);
 }

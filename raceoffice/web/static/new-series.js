@@ -4,7 +4,7 @@ import {element, fill} from "./elements.js";
 import {text} from "./texts.js";
 import {ask} from "./office.js";
 import {say} from "./dialogs.js";
-import {troubleOf} from "./questions.js";
+import {remarkSentences, troubleWords} from "./remark-words.js";
 import {instructionsStep, settingsOf, wrongWords} from "./new-series-settings.js";
 import {rulesWords} from "./rules-words.js";
 
@@ -49,14 +49,14 @@ class EntryList {
     this.found = await ask("list", {data: this.data, column}, READING);
     this.changed();
     if (this.found.status === 200) fill(this.shown, this.parts());
-    else fill(this.shown, element("p", {class: "wrong"}, troubleOf(this.found)));
+    else fill(this.shown, element("p", {class: "wrong"}, troubleWords(this.found)));
   }
 
   parts() {
     const {boats, done, wrong} = this.found;
     return [element("p", {}, element("b", {}, this.name), wrong.length ? "" : ` · ${text("common.boats", {n: boats.length})}`),
-      done.map(words => element("p", {class: "done"}, `✓ ${words}`)), this.columnField(),
-      element("p", {class: "wrong"}, wrong.join("\n")), boats.length ? this.table() : null];
+      remarkSentences(done).map(words => element("p", {class: "done"}, `✓ ${words}`)), this.columnField(),
+      element("p", {class: "wrong"}, remarkSentences(wrong).join("\n")), boats.length ? this.table() : null];
   }
 
   columnField() {
@@ -106,9 +106,9 @@ function meaningOf(list) {
   async function look(form) {
     const mine = ++asked, said = await ask("settings", {settings: settingsOf(new FormData(form)), text: list.found?.text ?? ""}, READING);
     if (mine !== asked) return;
-    const wrong = said.status === 200 ? wrongWords(said) : [troubleOf(said)];
+    const wrong = said.status === 200 ? wrongWords(said) : [troubleWords(said)];
     fill(shown, element("h3", {}, text("new.meaning")), wrong.length ? element("p", {class: "wrong"}, wrong.join("\n")) : element("p", {}, rulesWords(said.settings)),
-      said.note ? element("p", {class: "waits"}, said.note) : null);
+      said.note?.length ? element("p", {class: "waits"}, remarkSentences(said.note).join("\n")) : null);
   }
   return {shown, look};
 }
@@ -130,7 +130,7 @@ export function newSeries(done) {
       say(text("new.isMade", {title: form.get("title")}));
       done();
     } else {
-      wrong.textContent = made.said?.join("\n") ?? troubleOf(made);
+      wrong.textContent = made.status === 200 ? made.said.join("\n") : troubleWords(made);
     }
   }
   const form = element("form", {class: "steps", onsubmit: send, onchange: () => meaning.look(form)},

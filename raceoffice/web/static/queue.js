@@ -4,12 +4,19 @@
 // page that is loaded again without a connection needs it. Its identity stays the same however often it is sent:
 // the office does it once.
 import {ask, newId, now} from "./office.js";
+import {loadRest} from "./texts.js";
 import {troubleOf} from "./questions.js";
 
 const PREFIX = "tap:";
 const WAITING = ["unsent", "sending", "asked"];
 // Milliseconds until a tap is tried again: 0.5 s, 1 s, ... 5 s
 const pauseAfter = tries => Math.min(5000, 500 * 2 ** tries);
+
+// Why a tap isn't taken, in words that this page fetches only then
+async function inWords(said) {
+  const [{troubleWords}] = await Promise.all([import("./remark-words.js"), loadRest()]);
+  return troubleWords(said);
+}
 
 // The taps that were kept when the page was left. One that was on its way is sent again.
 function keptItems() {
@@ -118,6 +125,7 @@ export class Queue {
     }
     if (said.status === 422 || said.status === 400) {
       this.change(item, {state: "refused", words: said.words});
+      inWords(said).then(words => { if (this.items.includes(item)) this.change(item, {words}); }, () => {});
       return true;
     }
     // Nobody has answered, or the office is away: the same again, later.

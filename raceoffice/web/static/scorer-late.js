@@ -4,32 +4,44 @@ import {element} from "./elements.js";
 import {text} from "./texts.js";
 import {ask} from "./office.js";
 import {choose, say} from "./dialogs.js";
-import {troubleOf} from "./questions.js";
+import {troubleWords} from "./remark-words.js";
 import {spaced} from "./sails.js";
 import {path, state} from "./desk.js";
+import {findBoat} from "./boat-finder.js";
+import {agreedOf} from "./questions.js";
+import {agrees} from "./sending.js";
 import {line} from "./scorer-corrections.js";
 
 const FIELDS = {name: "scorer.boatName", helm: "new.helm", club: "new.club", rating: "scorer.rating"};
 // Letters of a name
 const LONGEST = 80;
+// Milliseconds that closing an office and opening it again may take; how many of its last words are shown
+const REMOVING = 135000, SHOWN = 4;
 const button = (value, label, look) => ({value, label, look});
 
-// Fields for the names that the entry list has columns for; none if it can't be read.
-async function nameFields() {
-  const found = await ask(path("listed")), columns = found.status === 200 ? found.columns : [];
-  return Object.fromEntries(columns.map(name => [name, element("input", {name, maxlength: LONGEST, autocomplete: "off"})]));
+async function columnsOfList() {
+  const found = await ask(path("listed"));
+  return found.status === 200 ? found.columns : [];
 }
+
+// Fields for the names that the entry list has columns for; none if it can't be read.
+async function nameFields(columns, was = {}) {
+  const asked = columns ?? await columnsOfList();
+  return Object.fromEntries(asked.map(name => [name, element("input", {name, maxlength: LONGEST, autocomplete: "off", value: was[name] ?? ""})]));
+}
+
+const valuesOf = fields => Object.fromEntries(Object.entries(fields).map(([name, field]) => [name, field.value.trim()]));
 
 const shown = fields => Object.entries(fields).map(([name, field]) => element("label", {class: "field"}, text(FIELDS[name]), field));
 
 function namesIn(fields) {
-  return Object.fromEntries(Object.entries(fields).map(([name, field]) => [name, field.value.trim()]).filter(([, words]) => words));
+  return Object.fromEntries(Object.entries(valuesOf(fields)).filter(([, words]) => words));
 }
 
-async function putIntoList(sail, names) {
-  const done = await ask(path("listed"), {sail: spaced(sail), ...names});
+async function putIntoList(sail, names, was = {}) {
+  const done = await ask(path("listed"), {sail: spaced(sail), ...names, was});
   if (done.status === 200) say(text("scorer.isListed", {sail: spaced(sail)}));
-  else say(`${text("scorer.isNotListed", {sail: spaced(sail)})}\n${troubleOf(done)}`, true);
+  else say(`${text("scorer.isNotListed", {sail: spaced(sail)})}\n${troubleWords(done)}`, true);
 }
 
 // Asks for a boat, enters her, and puts her names into the list once that was taken.
@@ -48,6 +60,37 @@ async function nameBoat(sail) {
   const done = await choose(text("scorer.nameHer", {sail: spaced(sail)}), [text("scorer.intoList"), ...shown(fields)],
     [button("", text("common.cancel")), button("yes", text("times.putIn"), "main")]);
   if (done === "yes") putIntoList(sail, namesIn(fields));
+}
+
+// Asks what is wrong with a boat's names, and puts them right in the entry list once somebody says yes.
+export async function correctNames() {
+  const sail = await findBoat(text("scorer.whoseNames"), state().boats.map(boat => boat[0]));
+  if (!sail) return;
+  const found = await ask(path("listed"));
+  if (found.status !== 200) return say(troubleWords(found), true);
+  const was = found.rows[sail] ?? {}, fields = await nameFields(found.columns, was);
+  const done = await choose(text("scorer.nameHer", {sail: spaced(sail)}), [text("scorer.namesMean"), ...shown(fields)],
+    [button("", text("common.cancel")), button("yes", text("scorer.correctThem"), "main")]);
+  const names = valuesOf(fields), others = Object.keys(names).filter(name => names[name] !== (was[name] ?? ""));
+  if (done !== "yes" || !others.length) return;
+  const changes = others.map(name => `${text(FIELDS[name])}: ${was[name] || "–"} → ${names[name] || "–"}`);
+  const isMeant = await choose(text("common.isThatRight"), [text("scorer.namesQuestion", {sail: spaced(sail)}), element("p", {}, changes.join("\n"))],
+    [button("", text("common.no")), button("yes", text("common.yes"), "main")]);
+  if (isMeant === "yes") putIntoList(sail, Object.fromEntries(others.map(name => [name, names[name]])), was);
+}
+
+// Takes a boat that was entered by mistake out of the journal. The office asks before, with all that goes.
+export async function takeOut() {
+  const sail = await findBoat(text("scorer.whoIsOut"), state().boats.map(boat => boat[0]), text("scorer.outMeans"));
+  if (!sail) return;
+  const agreed = [];
+  for (;;) {
+    const done = await ask(path("remove"), {sail, agreed}, REMOVING);
+    if (done.status === 200) return say(done.open ? text("scorer.isOut", {sail: spaced(sail), copy: done.copy}) : done.said.slice(-SHOWN).join("\n"), !done.open);
+    if (done.status !== 409) return say(troubleWords(done), true);
+    if (await agrees(done.question, done.said) !== "yes") return undefined;
+    agreed.push(agreedOf(done.question));
+  }
 }
 
 // The boats that are entered and not in the entry list, each with a button

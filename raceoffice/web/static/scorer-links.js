@@ -4,7 +4,8 @@ import {byId, element} from "./elements.js";
 import {text} from "./texts.js";
 import {ask} from "./office.js";
 import {choose, hush, say} from "./dialogs.js";
-import {agreedOf, troubleOf} from "./questions.js";
+import {agreedOf} from "./questions.js";
+import {troubleWords} from "./remark-words.js";
 import {agrees} from "./sending.js";
 import {codePicture} from "./qr.js";
 
@@ -37,7 +38,7 @@ async function makeLink(role, isMore) {
   if (!agreed) return;
   const made = await ask("key", {role, stay: isMore});
   if (made.status !== 200) {
-    say(troubleOf(made), true);
+    say(troubleWords(made), true);
     return;
   }
   known.link = {role, ...made};
@@ -112,6 +113,11 @@ async function closeOffice(name) {
   lookAtDevices(drawAgain);
 }
 
+// Says whether an office is open now, or why it isn't.
+function sayOpened(done) {
+  say(done.open ? text("office.isOpen") : done.status === 200 ? done.said.slice(-SHOWN).join("\n") : troubleWords(done), !done.open);
+}
+
 // Opens an office, or (`reopen`) closes it and opens it again. What is asked before (a change of the rules, another
 // journal) is asked here.
 export async function openAsking(what, name) {
@@ -120,7 +126,7 @@ export async function openAsking(what, name) {
     say(text("office.opening"));
     const done = await ask(`${what}/${encodeURIComponent(name)}`, {agreed}, what === "reopen" ? CLOSING + OPENING : OPENING);
     if (done.status !== 409) {
-      say(done.open ? text("office.isOpen") : done.said?.slice(-SHOWN).join("\n") ?? troubleOf(done), !done.open);
+      sayOpened(done);
       break;
     }
     hush();
@@ -147,7 +153,7 @@ function officeStep(one) {
 async function serveToo(name) {
   say(text("office.opening"));
   const done = await ask("serve", {name}, OPENING);
-  say(done.open ? text("office.isOpen") : done.said?.slice(-SHOWN).join("\n") ?? troubleOf(done), !done.open);
+  sayOpened(done);
   lookAtDevices(drawAgain);
 }
 

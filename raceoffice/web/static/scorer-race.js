@@ -6,7 +6,7 @@ import {kindOf, spaced} from "./sails.js";
 import {boatOf, called, heldIn, missingFrom, raceNumbered} from "./desk.js";
 import {finishers} from "./race-view.js";
 import {addFinisher, correct, line, resolve, toOtherRace} from "./scorer-corrections.js";
-import {enterLate, unlistedPart} from "./scorer-late.js";
+import {correctNames, enterLate, takeOut, unlistedPart} from "./scorer-late.js";
 
 // What was compared with the paper on this page: "RACE SAIL"
 const ticked = new Set();
@@ -78,7 +78,14 @@ function typedForm() {
   };
   return element("form", {class: "typed", onsubmit: send},
     element("input", {id: "typed", "aria-label": text("scorer.typeLine"), placeholder: text("scorer.typeLineAs", {line: "before 3 33 9"}), autocomplete: "off", spellcheck: "false"}),
-    element("button", {}, text("common.send")), element("button", {type: "button", onclick: enterLate}, text("scorer.lateEntry")));
+    element("button", {}, text("common.send")));
+}
+
+// What the scorer does with entries, whichever race is shown
+function entriesPart() {
+  const button = (id, key, press, look = "") => element("button", {type: "button", id, class: look, onclick: press}, text(key));
+  return element("div", {class: "acts"}, button("late", "scorer.lateEntry", enterLate), button("correct-names", "scorer.correctNames", correctNames),
+    button("take-out", "scorer.takeOut", takeOut, "quiet bad"));
 }
 
 function actions(race, number, isEmpty) {
@@ -102,5 +109,5 @@ export function racePane(number, draw) {
       element("span", {class: `chip ${race.counts ? "good" : "wait"}`}, text(race.counts ? "scorer.counts" : "scorer.doesntCount")),
       element("span", {class: "soft"}, counts)),
     actions(race, number, !rows.length), rows.length ? comparedLine(race, number) : null, missingParts(race, away),
-    orderTable(rows), awayPart(race, number, away), unlistedPart(), typedForm());
+    orderTable(rows), awayPart(race, number, away), unlistedPart(), typedForm(), entriesPart());
 }

@@ -5,7 +5,8 @@ import {date, list, text, timeOfDay} from "./texts.js";
 import {ask, me, newId} from "./office.js";
 import {here, path, state} from "./desk.js";
 import {choose, say} from "./dialogs.js";
-import {agreedOf, troubleOf, wordsOf} from "./questions.js";
+import {agreedOf, wordsOf} from "./questions.js";
+import {troubleWords} from "./remark-words.js";
 import {spaced} from "./sails.js";
 
 const STATES = ["provisional", "final", "amended"];
@@ -98,7 +99,7 @@ async function declare(to, draw) {
     byId("reason").value = "";
     say(text("results.areDeclared"));
   } else if (done) {
-    say(troubleOf(done), true);
+    say(troubleWords(done), true);
   }
   lookAtResults(draw);
 }
@@ -170,7 +171,7 @@ function secondWords(second) {
 // Makes the folder of a stick the second folder, or none ("").
 async function chooseStick(folder, draw) {
   const done = await ask(path("second"), {path: folder});
-  if (done.status !== 200) say(troubleOf(done), true);
+  if (done.status !== 200) say(troubleWords(done), true);
   else say(folder ? text(done.copies.is_waiting ? "results.stickLater" : "results.stickNow", {folder}) : text("results.noStickNow"));
   lookAtResults(draw);
 }

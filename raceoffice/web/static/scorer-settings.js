@@ -4,7 +4,8 @@ import {element, fill} from "./elements.js";
 import {list, text} from "./texts.js";
 import {ask, comeIn} from "./office.js";
 import {choose, say} from "./dialogs.js";
-import {troubleOf} from "./questions.js";
+import {remarkSentences, remarkWords, troubleWords} from "./remark-words.js";
+import {verdictWords} from "./jury-kept.js";
 import {moveRows} from "./jury-preview.js";
 import {instructionsStep, settingsOf, wrongWords} from "./new-series-settings.js";
 import {rulesWords} from "./rules-words.js";
@@ -19,16 +20,16 @@ const step = (title, ...inside) => element("section", {class: "step"}, element("
 
 // Whom the settings would move, and when each holds
 function effectParts(found) {
-  if (found.status !== 200) return element("p", {class: "wrong"}, troubleOf(found));
+  if (found.status !== 200) return element("p", {class: "wrong"}, troubleWords(found));
   if (found.wrong.length) return element("p", {class: "wrong"}, wrongWords(found).join("\n"));
   const {moves, stale, refused} = found;
   return [element("p", {}, rulesWords(found.settings)),
     found.at_once.length ? element("p", {}, text("settings.atOnce", {what: named(found.at_once)})) : null,
     found.at_opening.length ? element("p", {class: "waits"}, text("settings.atOpening", {what: named(found.at_opening)})) : null,
-    refused ? element("p", {class: "wrong"}, text("settings.refused", {why: refused})) : null,
+    refused ? element("p", {class: "wrong"}, text("settings.refused", {why: refused.map(remarkWords).join("; ")})) : null,
     refused ? null : element("h4", {}, moves.length ? text("jury.wouldChange", {n: moves.length}) : text("jury.noChange")),
     element("ul", {class: "moves"}, moveRows(moves)),
-    stale.length ? [element("p", {class: "waits"}, text("settings.stale")), element("ul", {}, stale.map(words => element("li", {}, words)))] : null];
+    stale.length ? [element("p", {class: "waits"}, text("settings.stale")), element("ul", {}, stale.map(one => element("li", {}, one.kind ? verdictWords(one) : remarkSentences(one.wrong).join("\n"))))] : null];
 }
 
 // The form with the settings of a class. Nothing can be saved before its effect is shown.
@@ -75,7 +76,7 @@ class SettingsForm {
     const done = await ask(at("save", this.name), this.values, LONG);
     this.button.disabled = false;
     if (done.status !== 200) {
-      say(troubleOf(done), true);
+      say(troubleWords(done), true);
       return;
     }
     say(text("settings.saved"));
@@ -105,8 +106,8 @@ function waitingPart(name, found, again) {
 // Shows the settings of a class in a part of the page. `known` is what the office said of them just now, if it did.
 async function show(page, name, known) {
   const found = known ?? await ask(at("rules", name)), again = said => show(page, name, said);
-  if (found.status !== 200) page.replaceChildren(element("p", {class: "card wrong"}, troubleOf(found)));
-  else if (found.wrong.length) page.replaceChildren(element("p", {class: "card wrong"}, found.wrong.join("\n")));
+  if (found.status !== 200) page.replaceChildren(element("p", {class: "card wrong"}, troubleWords(found)));
+  else if (found.wrong.length) page.replaceChildren(element("p", {class: "card wrong"}, remarkSentences(found.wrong).join("\n")));
   else page.replaceChildren(element("div", {class: "steps"}, waitingPart(name, found, again)), new SettingsForm(name, found, again).node);
 }
 

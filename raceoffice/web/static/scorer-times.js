@@ -1,10 +1,11 @@
 'use strict';
-// A race's sheet of times: each boat's start, and her laps or distance; and what came of it.
+// A race's sheet of times: each boat's start, her laps or distance, an elapsed time instead of a finish; and what came
+// of it.
 import {element} from "./elements.js";
 import {text} from "./texts.js";
 import {ask} from "./office.js";
 import {say} from "./dialogs.js";
-import {troubleOf} from "./questions.js";
+import {troubleWords} from "./remark-words.js";
 import {saidWords} from "./said-words.js";
 import {sendLine} from "./sending.js";
 import {spaced} from "./sails.js";
@@ -28,13 +29,17 @@ class Sheet {
   constructor(name, found, again) {
     Object.assign(this, {name, found, again, columns: found.columns});
     this.fields = new Map(found.rows.map(row => [row.sail, this.fieldsOf(row)]));
-    this.all = Object.fromEntries(this.columns.map(key => [key, this.field(key, "", text("times.forTicked"))]));
+    this.forAll = this.columns.filter(key => key !== "elapsed");
+    this.all = Object.fromEntries(this.forAll.map(key => [key, this.field(key, "", text("times.forTicked"))]));
+    this.night = element("input", {type: "checkbox", id: "overnight", checked: found.overnight});
     this.node = element("form", {class: "step", onsubmit: event => { event.preventDefault(); this.save(); }},
       element("h2", {}, text("times.sheetOf", {number: found.race})), element("p", {class: "soft"}, text("times.whatFor")),
       element("div", {class: "wide", tabindex: "0", role: "region", "aria-label": text("times.sheetOf", {number: found.race})}, this.table()),
       element("fieldset", {class: "options"}, element("legend", {}, text("times.forTicked")),
-        element("div", {class: "numbers"}, this.columns.map(key => element("label", {class: "number"}, text(`times.${key}`), this.all[key]))),
+        element("div", {class: "numbers"}, this.forAll.map(key => element("label", {class: "number"}, text(`times.${key}`), this.all[key]))),
         element("div", {class: "acts"}, element("button", {type: "button", id: "put-in", onclick: () => this.putIn()}, text("times.putIn")))),
+      element("div", {class: "options"}, element("label", {}, this.night, element("span", {}, text("times.overnight")))),
+      element("p", {class: "soft"}, text("times.rounding", {rounding: found.rounding})),
       element("div", {class: "acts"}, element("button", {class: "main", id: "send-times"}, text("times.save"))));
   }
 
@@ -56,7 +61,7 @@ class Sheet {
   row(row) {
     const fields = this.fields.get(row.sail);
     return element("tr", {"data-sail": row.sail}, element("td", {}, fields.tick), element("th", {scope: "row"}, spaced(row.sail)),
-      this.columns.map(key => element("td", {}, fields[key])), element("td", {}, row.code || row.finish || row.elapsed),
+      this.columns.map(key => element("td", {}, fields[key])), element("td", {}, row.code || row.finish),
       element("td", {class: "corrected"}, this.corrected(row.sail)));
   }
 
@@ -72,7 +77,7 @@ class Sheet {
   // Puts the fields for all into the rows that are ticked.
   putIn() {
     for (const fields of this.fields.values()) {
-      if (fields.tick.checked) for (const key of this.columns) if (this.all[key].value.trim()) fields[key].value = this.all[key].value.trim();
+      if (fields.tick.checked) for (const key of this.forAll) if (this.all[key].value.trim()) fields[key].value = this.all[key].value.trim();
     }
   }
 
@@ -83,9 +88,9 @@ class Sheet {
       const fields = this.fields.get(sail), given = this.columns.filter(key => fields[key].value.trim() !== row[key]);
       if (given.length) rows[sail] = Object.fromEntries(given.map(key => [key, fields[key].value.trim()]));
     }
-    const saved = await ask(at(this.name), {race: this.found.race, rows, tag: this.found.tag});
+    const saved = await ask(at(this.name), {race: this.found.race, rows, tag: this.found.tag, overnight: this.night.checked});
     if (saved.status !== 200) {
-      say(troubleOf(saved), true);
+      say(troubleWords(saved), true);
       return;
     }
     const done = await sendLine(this.name, `TIMES ${this.found.race}`, state()?.entries ?? 0);
@@ -102,7 +107,7 @@ function raceField(again) {
 
 async function show(page, name) {
   const found = await ask(at(name, `/${number}`)), again = () => show(page, name);
-  const wrong = found.status !== 200 ? troubleOf(found) : found.wrong.join("\n");
+  const wrong = found.status !== 200 ? troubleWords(found) : found.wrong.join("\n");
   shown = wrong ? null : new Sheet(name, found, again);
   page.replaceChildren(raceField(again), shown?.node ?? element("p", {class: "step wrong"}, wrong));
 }

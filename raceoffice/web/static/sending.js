@@ -4,19 +4,35 @@ import {element} from "./elements.js";
 import {text} from "./texts.js";
 import {ask, newId, now} from "./office.js";
 import {choose, say} from "./dialogs.js";
-import {agreedOf, refusalOf, troubleOf, wordsOf} from "./questions.js";
+import {agreedOf, refusalOf, wordsOf} from "./questions.js";
+import {troubleWords} from "./remark-words.js";
 import {saidWords} from "./said-words.js";
+import {moveWords} from "./moves.js";
+import {rulesWords} from "./rules-words.js";
 
 const TRIES = 6;
 // Milliseconds until the same line is sent again
 const PAUSE = 700;
 const LONG = 9000;
 
+// How a boat would move, as a question has it: "GBR7 3 2 25.0 4.0"
+function moveOf(words) {
+  const [sail, was, rank, before, net] = words.split(" ");
+  return {sail, was: Number(was), rank: Number(rank), net_before: before, net};
+}
+
+// A question with its rules in words
+function withRules(question) {
+  const inWords = ([exclude, absent, scp, handicap]) => rulesWords({exclude, absent, scp, handicap: handicap === "yes"});
+  const {before, now} = question.values;
+  return Array.isArray(now) ? {...question, values: {...question.values, before: inWords(before), now: inWords(now)}} : question;
+}
+
 // Asks a question of the office; "yes" if somebody agrees.
 export function agrees(question, said = []) {
   const {lines = [], moves = []} = question.kind === "line-of-several" ? {} : question.values;
-  const more = lines.length ? element("p", {class: "mono"}, lines.join("\n")) : [...moves, ...moves.length ? [] : saidWords(said)].join("\n");
-  return choose(text("common.isThatRight"), [wordsOf(question), more],
+  const more = lines.length || moves.length ? moves.map(moveOf).map(one => moveWords(one)).join("\n") : saidWords(said).join("\n");
+  return choose(text("common.isThatRight"), [wordsOf(withRules(question)), lines.length ? element("p", {class: "mono"}, lines.join("\n")) : null, more],
     [{value: "", label: text("common.no")}, {value: "yes", label: text("common.yes"), look: "main"}]);
 }
 
@@ -31,7 +47,7 @@ export async function sendLine(name, line, seen, more = {}) {
       if (await agrees(said.question, said.said) !== "yes") return null;
       tap.agreed.push(agreedOf(said.question));
     } else if (!await isTriedAgain(said.status, tries)) {
-      say(troubleOf(said), true);
+      say(troubleWords(said), true);
       return null;
     }
   }

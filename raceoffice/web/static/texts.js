@@ -34,6 +34,11 @@ export async function loadTexts(isFinish = false) {
   document.documentElement.lang = language;
 }
 
+// Fetches the other words, too.
+export async function loadRest() {
+  Object.assign(table, await tableOf(`${language}-desk`));
+}
+
 export const hasText = key => key in table;
 
 // The form of a text for a number: its own form for nought if it has one, or that of the language's rules.

@@ -1,0 +1,126 @@
+"""What the jury decides from a page: each decision is kept in decisions.txt or taken out, and its lines are sent, once.
+
+A process may be killed between any two steps. All lines of a decision are in the register before the first is sent: the
+same request again sends what is left of them. A decision that is kept is in the file before that, and one that is taken
+out is in it until its last line was taken: so it is in the jury's list until all is done.
+"""
+from __future__ import annotations
+
+from collections.abc import Mapping, Sequence
+from typing import Any
+
+from raceoffice.errors import NotSent
+from raceoffice.program.replay import Line
+from raceoffice.remarks import remark
+from raceoffice.session.confirm import questions
+from raceoffice.session.dialogue import Question
+from raceoffice.web import preview
+from raceoffice.web.requests import Wrong
+from raceoffice.web.room import Room
+from raceoffice.web.series_settings import tag_of
+from raceoffice.web.states import Values, remarks_of
+from raceoffice.web.tap_session import Asked
+from raceoffice.web.taps import NoTap, Tap
+
+
+def ruled(room: Room, values: Mapping[str, Any], is_begun: bool = False) -> preview.Ruled:
+    """The decision that a request gives, with its note, or the row of one that it takes out."""
+    if values.get("out") is True:
+        return preview.take_out(room.folder, room.facts, str(values.get("line", "")).strip(), is_begun)
+    note = preview.note_of(str(values.get("note", "")))
+    return preview.decide(room.folder, room.facts, one_line(values, "line"), note)
+
+
+def one_line(values: Mapping[str, Any], name: str) -> str:
+    """A text of a request, as one line without notes."""
+    return " ".join(str(values.get(name, "")).partition("#")[0].split())[:120]
+
+
+def ruling_shown(room: Room, values: Mapping[str, Any]) -> Values:
+    """What a decision comes to, or taking one out, and whom it moves. `tag` is another whenever decisions.txt is."""
+    found = ruled(room, values)
+    shown: Values = {"text": found.text, "line": found.name, "verdict": found.verdict, "why": remarks_of(found.why),
+                     "asked": [], "tag": tag_of(found.before)}
+    moved = preview.preview(room.folder, room.facts, found.lines)
+    # What takes no lines changes no score, in whichever race.
+    return shown | moved | ({} if found.lines else {"counts": True})
+
+
+def decide(room: Room, values: Mapping[str, Any], name: str) -> list[Values]:
+    """Does what was decided, if all is as it was shown; what came of each line. The same again goes on at the first that
+    wasn't sent, and gets the same answer. `name` is the device's."""
+    with room.lock:
+        room.session("JURY").look()
+        return Decision(room, values, name).done()
+
+
+class Decision:
+    """A decision on its way."""
+
+    def __init__(self, room: Room, values: Mapping[str, Any], name: str) -> None:
+        self.room, self.values, self.name = room, values, name
+        self.tap, self.is_out = tap_of(values), values.get("out") is True
+
+    def done(self) -> list[Values]:
+        """Does what is left of it; what came of each of its lines."""
+        lines: Sequence[Line] | None = self.room.register.decisions.get(self.tap.id)
+        if lines is None:
+            lines = self.begun()
+        elif not self.is_out and self.room.done(part_of(self.tap, 0)) is None:
+            # A crash may have come before it was kept.
+            self.keep(ruled(self.room, self.values))
+        found: list[Values] = []
+        for at, line in enumerate(lines):
+            found.append(self.room.do(line.role, self.name, part_of(self.tap, at, line.text)))
+            if found[-1]["outcome"] != "taken":
+                return found
+        if self.is_out:
+            # Somebody may have changed other rows meanwhile.
+            preview.keep_decisions(self.room.folder, ruled(self.room, self.values, True))
+        return found
+
+    def begun(self) -> Sequence[Line]:
+        """The lines of a decision, which are noted, and which is kept from now on. What the office asks of them is
+        asked before."""
+        found = ruled(self.room, self.values)
+        if found.why:
+            raise NotSent(found.why[0])
+        if [f"{line.role} {line}" for line in found.lines] != self.values.get("lines"):
+            raise NotSent(remark("decision-changed"))
+        self.check(found)
+        for asked in asked_first(self.room, found.lines):
+            if asked not in self.tap.agreed:
+                raise Asked(asked, [])
+        self.room.register.decide(self.tap.id, found.lines)
+        if not self.is_out:
+            self.keep(found)
+        return found.lines
+
+    def check(self, found: preview.Ruled) -> None:
+        """NotSent if decisions.txt is another than the one that was shown, unless it has the decision already."""
+        if found.text != found.before and self.values.get("tag") != tag_of(found.before):
+            raise NotSent(preview.CHANGED)
+
+    def keep(self, found: preview.Ruled) -> None:
+        self.check(found)
+        preview.keep_decisions(self.room.folder, found)
+
+
+def asked_first(room: Room, lines: Sequence[Line]) -> list[Question]:
+    """What is asked of the first line for each boat and race. What is asked of a later one depends on the first."""
+    first: dict[tuple[str, ...], Line] = {}
+    for line in lines:
+        first.setdefault(tuple(line.text.split()[1:3]), line)
+    return [asked for line in first.values() for asked in questions(room.facts, line.role, line.text, ())]
+
+
+def tap_of(values: Mapping[str, Any]) -> Tap:
+    try:
+        return Tap.read({**values, "line": ""})
+    except NoTap:
+        raise Wrong(400, "this isn't a tap") from None
+
+
+def part_of(tap: Tap, at: int, line: str = "") -> Tap:
+    """The tap of one line of a decision."""
+    return Tap(f"{tap.id[:-3]}{at:03x}", line, tap.at, agreed=tap.agreed)

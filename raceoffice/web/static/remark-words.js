@@ -1,0 +1,31 @@
+'use strict';
+// What the office says of a list, of settings, of a decision or of what was asked for, in the words of this page. It
+// comes as a kind with its values, and with English words for a kind that this page doesn't know.
+import {hasText, text} from "./texts.js";
+import {refusalOf, troubleOf} from "./questions.js";
+import {spaced} from "./sails.js";
+
+// A value of one: another remark, several values, a sail
+function valueWords(name, value) {
+  if (Array.isArray(value)) return value.map(one => valueWords(name, one));
+  if (value?.kind !== undefined) return remarkWords(value);
+  return name === "sail" ? spaced(value) : value;
+}
+
+export function remarkWords({kind, values, text: english}) {
+  if (!hasText(`remark.${kind}`)) return english;
+  const shown = Object.fromEntries(Object.entries(values).map(([name, value]) => [name, valueWords(name, value)]));
+  // What the program refuses has its number.
+  if (values.answer) shown.why = refusalOf(values.answer, values.why);
+  return text(`remark.${kind}`, shown);
+}
+
+const sentence = words => /[.?!]$/.test(words) ? words : `${words}.`;
+
+export const remarkSentences = remarks => remarks.map(one => sentence(remarkWords(one)));
+
+// What is wrong with an answer that isn't a result
+export function troubleWords(answer) {
+  if (hasText(`trouble.${answer.status}`) || !answer.said?.length) return troubleOf(answer);
+  return remarkSentences(answer.said).join("\n");
+}
