@@ -242,6 +242,14 @@ def works_in(number: int, folder: str) -> bool:
 def hold_stops() -> None:
     """From now on a signal that would end this window waits until it is asked for."""
     signal.pthread_sigmask(signal.SIG_BLOCK, STOPS)
+    pass_over_quit()
+
+
+def pass_over_quit() -> None:
+    """From now on Ctrl-\\, which lies beside other keys, doesn't end this window. Programs that it starts have
+    their own way."""
+    if LINUX:
+        signal.signal(signal.SIGQUIT, lambda *_: None)
 
 
 def stop_that_waits() -> int:

@@ -81,6 +81,13 @@ class Windows(helpers.Series):
 
 
 class Stopped(Windows):
+    def test_quit_key(self) -> None:
+        """Ctrl-\\, which lies beside other keys, doesn't leave an office without its window."""
+        window = self.copied()
+        window.press("\x1c")
+        window.press()
+        self.assertEqual(window.rest()[1], 0)
+
     def test_goes_on(self) -> None:
         """A window that was stopped, as by Ctrl-Z or a lid, goes on: nobody asked it to close."""
         window, entries = self.copied(), 7
@@ -683,7 +690,7 @@ class Seconds(Windows):
             began, process = time.monotonic(), found.process
             for _ in range(20):
                 self.assertEqual(found.ask("save", "x\n"), silent)
-            self.assertLess(time.monotonic() - began, 0.3)
+            self.assertLess(time.monotonic() - began, 3, "each of them was waited for")
         hanging.end(stick)
         helpers.until("a late answer", lambda: not found.ask("look").fault)
         self.assertIs(found.process, process)

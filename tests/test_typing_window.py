@@ -653,6 +653,15 @@ OK 9   1st in race 1
             self.assertNotIn("usage", said)
             self.assertEqual(status, 1)
 
+    def test_no_role(self) -> None:
+        """Ctrl-C at the question for the role leaves at once."""
+        self.open()
+        window = self.window("type", "cup")
+        window.read("scorer: $")
+        window.press()
+        said, status = window.rest()
+        self.assertEqual((said.strip(), status), ("Stopped: no role was given.", 1))
+
     def test_history(self) -> None:
         """Arrow up brings the last line, and no answer to a question."""
         self.open()

@@ -254,10 +254,14 @@ class Pages(helpers.Series):
             self.assertIn(why, said)
 
     def test_decisions(self) -> None:
-        """Notes, blank lines and other ends of lines in decisions.txt are no hindrance."""
+        """Notes, blank lines and other ends of lines in decisions.txt are no hindrance, however many there are."""
         for text in ("race 1 GBR7 PRP 30%\r\n# a note\r\n", "\n\n# a note", "x\x0b\x85y\u2028# z\n\n \n"):
             self.write(text, "tide", "decisions.txt")
             with self.subTest(text=text):
+                self.verifier.verified(self.page())
+        for lines in (1000, 1001):
+            self.write("\n" * lines, "tide", "decisions.txt")
+            with self.subTest(lines=lines):
                 self.verifier.verified(self.page())
 
     def test_patience(self) -> None:

@@ -223,6 +223,13 @@ class Offices(Web):
         self.assertEqual(self.journal(), ["FINISH FINISH 1 GBR101", "FINISH FINISH 1 GBR7"])
         self.assertIn("RRS A5.3", scorer.state()["rules"])
 
+    def test_quit_key(self) -> None:
+        """Ctrl-\\ in its window doesn't leave the devices alone."""
+        self.web.send_signal(signal.SIGQUIT)
+        self.assertEqual(self.device("finish").tap("FINISH 1 GBR101")[1]["outcome"], "taken")
+        self.close()
+        self.assertEqual(self.web.returncode, 0)
+
     def test_window_keeps_it(self) -> None:
         """An office that a window keeps is joined, and stays open when the web ends."""
         self.close()

@@ -34,16 +34,19 @@ from raceoffice.program.messages import ROLES
 from raceoffice.series.folder import Folder
 from raceoffice.series.settings import is_between
 from raceoffice.session.session import Session
-from raceoffice.terminal import answer, command_name, say
+from raceoffice.terminal import command_name, say, typed
 from raceoffice.typing_window.batch import LARGEST, Batch, lines_of
 from raceoffice.typing_window.window import Window, show
 from raceoffice.wording import on_one_line
 
 
 def asked_role() -> str:
-    """The role, which is asked for: forgetting it must not make anybody the scorer."""
+    """The role, which is asked for: forgetting it must not make anybody the scorer. Ctrl-C leaves."""
     for _ in range(5):
-        if role := role_meant(answer("Whose lines are these? finish, jury or scorer: ")):
+        given = typed("Whose lines are these? finish, jury or scorer: ")
+        if given is None:
+            break
+        if role := role_meant(given):
             return role
     raise Trouble("no role was given")
 

@@ -12,7 +12,7 @@ import re
 from collections.abc import Sequence
 from dataclasses import dataclass
 
-from raceoffice.errors import NotThere
+from raceoffice.errors import NotThere, Trouble
 from raceoffice.files import edited_text
 from raceoffice.remarks import Remark, remark
 from raceoffice.series.entry_list import fault_of, plain
@@ -20,6 +20,8 @@ from raceoffice.series.settings import rows_of
 from raceoffice.wording import joined
 
 NAME = "decisions.txt"
+# The most lines: as many are verified.
+MOST = 1000
 PENALTIES = ("DPI", "PRP", "T1", "SCP")
 AVERAGES = ("AVG", "DUTY")
 KINDS = (*PENALTIES, "TLE", "NSC", *AVERAGES, "REINSTATE")
@@ -164,11 +166,14 @@ def rulings_of(text: str) -> tuple[list[Ruling], list[Remark]]:
 
 
 def read(folder: str) -> str:
-    """The text of a series' decisions; empty if there are none."""
+    """The text of a series' decisions; empty if there are none. A Trouble if it has more lines than a page takes."""
     try:
-        return edited_text(os.path.join(folder, NAME))
+        text = edited_text(os.path.join(folder, NAME))
     except NotThere:
         return ""
+    if (lines := len(rows_of(text))) > MOST:
+        raise Trouble(f"{NAME} has {lines:,} lines, and {MOST:,} fit")
+    return text
 
 
 def ruling_text(ruling: Ruling, points: str) -> str:

@@ -10,6 +10,7 @@ from dataclasses import dataclass
 
 from raceoffice import time_zones
 from raceoffice.characters import quoted
+from raceoffice.decisions import decision_lines
 from raceoffice.errors import ForeignPage, Unsure
 from raceoffice.results.html.sealing import ID, KIND, NUMBER, SETTINGS, Carried, Stamp, digest, form, marks
 from raceoffice.series.entry_list import ROOM, SAIL, plain
@@ -17,8 +18,8 @@ from raceoffice.series.settings import CHECKS
 
 START = f'<script type="{KIND}" id="{ID}">\n'
 END = "</script>"
-# What the program reads of a journal at most, and how many series and decisions are worked out.
-JOURNAL, ENTRIES, SERIES, DECISIONS = 1 << 20, 8192, 100, 1000
+# What the program reads of a journal at most, and how many series are worked out.
+JOURNAL, ENTRIES, SERIES = 1 << 20, 8192, 100
 SHOWN = re.compile("[A-Za-z0-9-]+(?: [A-Za-z0-9-]+)*")
 PROGRAM = re.compile("(?:[0-9a-f]{64})?")
 MOMENT = re.compile(r"[0-9]{4}-[0-9]{2}-[0-9]{2}T[0-9]{2}:[0-9]{2}:[0-9]{2}\+00:00")
@@ -163,7 +164,7 @@ def is_series(value: object) -> bool:
     return (all(is_text(value[name]) for name in TEXTS) and is_boats(value["boats"])
             and has_types(settings, {**dict.fromkeys(SETTINGS, str), "class": str, "handicap": str})
             and all(map(is_text, settings.values()))
-            and is_texts(value["decisions"], DECISIONS) and is_texts(journal, ENTRIES)
+            and is_texts(value["decisions"], decision_lines.MOST) and is_texts(journal, ENTRIES)
             and sum(map(len, journal)) + len(journal) <= JOURNAL)
 
 

@@ -159,6 +159,7 @@ class Web:
             await asyncio.sleep(TICK)
 
     def run(self) -> int:
+        system.pass_over_quit()
         asyncio.run(self.serve())
         return 0
 
