@@ -151,7 +151,8 @@ class StubOffice:
             "preview": lambda _: self.preview, "ruling": lambda _: {**self.preview, "line": values["line"], "verdict": verdict(), "why": []},
             "key": lambda _: {"link": self.address("/office/in#finish.secret"), "code": [[1, 0, 1], [0, 1, 0], [1, 0, 1]]},
             "settings": lambda _: {"wrong": [], "keys": [], "rules": "", "settings": state("cup", 1)["settings"], "note": []},
-            "sheet": lambda _: {"race": 2, "tag": "t", "wrong": [], "columns": ["start", "laps"], "rows": [
+            "sheet": lambda _: {"race": 2, "tag": "t", "wrong": [], "columns": ["start", "laps", "elapsed"], "overnight": True,
+                                "rounding": "half-up", "rows": [
                 {"sail": sail, "start": "14:00:00", "laps": "3", "distance": "", "finish": "15:07:31", "elapsed": "", "code": ""}
                 for sail in SAILS]},
             "rules": lambda _: self.effect() if values else self.kept(),

@@ -690,7 +690,7 @@ class Seconds(Windows):
             began, process = time.monotonic(), found.process
             for _ in range(20):
                 self.assertEqual(found.ask("save", "x\n"), silent)
-            self.assertLess(time.monotonic() - began, 0.3)
+            self.assertLess(time.monotonic() - began, 3, "each of them was waited for")
         hanging.end(stick)
         helpers.until("a late answer", lambda: not found.ask("look").fault)
         self.assertIs(found.process, process)

@@ -163,6 +163,22 @@ class Timed(Web):
         self.assertEqual(self.text("cup", "times", "rules.ini"), "[times]\nsystem = py\nrounding = half-up\n")
         self.assertEqual(save("tcf")[1]["system"], "py")
 
+    def test_rules_left(self) -> None:
+        """Rules of a class that isn't one by corrected time yet, as a crash or an editor has left them, get the system
+        that is chosen then; all else in them stays."""
+        scorer, rules = self.device("scorer"), os.path.join(self.here, "cup", "times")
+        os.mkdir(rules)
+        self.write("[times]\n# ours\nsystem = tcf\novernight = 2\n", rules, "rules.ini")
+
+        def save(system: str) -> tuple[int, Any]:
+            tag = scorer.ask("GET", "/office/scorer/rules/cup")[1]["tag"]
+            return scorer.ask("POST", "/office/scorer/save/cup", {"settings": {"handicap": "yes"}, "system": system, "tag": tag})
+
+        self.assertEqual(save("py")[0], 200)
+        self.assertEqual(self.text(rules, "rules.ini"), "[times]\n# ours\nsystem = py\novernight = 2\n")
+        self.assertEqual(save("tod")[0], 200)
+        self.assertIn("system = py\n", self.text(rules, "rules.ini"))
+
 
 if __name__ == "__main__":
     unittest.main()

@@ -163,7 +163,8 @@ class Trial(Served):
         self.assertEqual(changed, list(wanted))
         for victim in victims:
             # Before the first change one step is as good as another.
-            for stop, step in list(enumerate(steps, 1))[steps.index("write") if "write" in steps else 0:]:
+            reading = next((at for at, step in enumerate(steps) if step not in ("sendall", "recv")), 0)
+            for stop, step in list(enumerate(steps, 1))[reading:]:
                 if victim == "web" or step in ("sendall", "recv"):
                     with self.subTest(victim=victim, stop=stop, step=step):
                         self.trial(some, stop, victim, before, after)

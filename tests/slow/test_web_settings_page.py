@@ -113,6 +113,28 @@ class TimesPage(WebTrial):
         self.assertIn(",14:10:00,15:05:00", self.text("cup", "times", "race-1.csv"))
         self.need_no_faults()
 
+    def test_night(self) -> None:
+        """A race past midnight, and a boat of which only the elapsed time is known: 23:00 to 0:10 are 4,200 s x 1.000, and
+        3,900 s x 0.900. The rounding is shown."""
+        os.makedirs(os.path.join(self.here, "cup", "times"), exist_ok=True)
+        self.write(f"[times]\nsystem = tcf\nprogram = {helpers.TIMES}\n", "cup", "times", "rules.ini")
+        self.write("Sail,Start,Finish\nGBR 101,23:00:00,00:10:00\nGBR 7,23:00:00,\n", "cup", "times", "race-1.csv")
+        scorer = self.device("scorer", "Bea’s laptop")
+        scorer.until("!!document.querySelector('#tab-times')")
+        scorer.click("#tab-times")
+        scorer.until("document.querySelectorAll('#times-table tbody tr').length === 2")
+        self.assertIn("half-up", scorer.run("document.querySelector('#page').textContent"))
+        scorer.click("#overnight")
+        scorer.type("tr[data-sail=GBR7] input[name=elapsed]", "1:05:00")
+        scorer.click("#send-times")
+        for sail, corrected in (("GBR101", "1:10:00"), ("GBR7", "0:58:30")):
+            scorer.until(f"document.querySelector('tr[data-sail={sail}] td:last-child')?.textContent === '{corrected}'")
+        scorer.until("document.querySelector('#overnight')?.checked && "
+                     "document.querySelector('tr[data-sail=GBR7] input[name=elapsed]').value === '1:05:00'")
+        self.assertEqual(self.journal(), ["SCORER TIME 1 GBR101 4200", "SCORER TIME 1 GBR7 3510"])
+        self.assertIn("overnight = 1\n", self.text("cup", "times", "rules.ini"))
+        self.need_no_faults()
+
 
 if __name__ == "__main__":
     unittest.main()
