@@ -9,7 +9,7 @@ import time
 from collections.abc import Callable
 
 from raceoffice import system
-from raceoffice.errors import NoSeat, NotSent, Trouble
+from raceoffice.errors import NoSeat, NotSent, Trouble, as_trouble
 from raceoffice.files import PRIVATE, PRIVATE_MODE
 from raceoffice.program.link import Link, Sheet
 from raceoffice.remarks import remark
@@ -342,7 +342,9 @@ class Room:
 
 def held_alone(folder: Folder) -> int:
     """The file that says that a web serves this class. Two would not know of each other's taps."""
-    file = os.open(folder.file(PRIVATE, "web.lock"), os.O_RDWR | os.O_CREAT | system.NO_LINK, PRIVATE_MODE)
+    path = folder.file(PRIVATE, "web.lock")
+    with as_trouble(f"{path} can't be used"):
+        file = os.open(path, os.O_RDWR | os.O_CREAT | system.NO_LINK, PRIVATE_MODE)
     if not system.take_lock(file):
         os.close(file)
         raise Trouble(f"{folder.path} is served to browsers already, by another raceoffice serve")
