@@ -14,6 +14,15 @@ DASHES, SPACES = "\u2013\u2014", "\u00a0"
 
 # A kind's words; two if it has others for one and for several, by its value `n`.
 ENGLISH: dict[str, str | tuple[str, str]] = {
+    # What an office says
+    "office-rules": "{words}",
+    "office-open": "{time} The office is open.",
+    "office-nothing": "Nothing was opened.",
+    "office-gone-often": "The office has gone {times} times within {minutes} minutes. It isn't opened again by itself.",
+    "office-waits": "The office waits for an answer: open it on the scorer's page.",
+    "office-again": "{time} It is tried again in {seconds} seconds.",
+    "office-out": "{sail} is taken out: {copy} has the journal with her.",
+    "office-no-copy": "No second copy: {why}.",
     # Signs, by their names
     "sign-seen": "{name}", "sign-tab": "{name}", "sign-space": "{name}", "sign-dash": "{name}", "sign-unseen": "{name}",
     # What was done to a list that somebody gave

@@ -84,8 +84,8 @@ def devices() -> dict[str, Any]:
                             ("SCORER", "Bea’s laptop", 0, 0), ("FINISH", "Ann’s phone", 4, 3),
                             ("JURY", "Protest room", 700, 0)])],
             "beside": [{"name": "spring-cup-2025", "title": "Spring Cup", "state": "final"}],
-            "offices": [{"class": "cup", "said": ["The office is open."], "open": True, "is_kept_here": False},
-                        {"class": "fleet", "said": ["The office is closed."], "open": False, "is_kept_here": False}]}
+            "offices": [{"class": "cup", "said": remarks_of([remark("office-open", time="13:00")]), "open": True, "is_kept_here": False},
+                        {"class": "fleet", "said": remarks_of([remark("office-nothing")]), "open": False, "is_kept_here": False}]}
 
 
 def results() -> dict[str, Any]:

@@ -208,7 +208,7 @@ class Offices(Web):
         finish.tap("FINISH 1 GBR101")
         status, done = self.ask(scorer, "close")
         self.assertEqual((status, done["open"]), (200, False))
-        self.assertIn("Closed.", "\n".join(done["said"]))
+        self.assertIn("Closed.", "\n".join(one["text"] for one in done["said"]))
         self.assertEqual(finish.tap("FINISH 1 GBR7", id)[0], 503)
         self.assertEqual(scorer.state()["races"]["1"]["order"], [["GBR101"]])
         self.write(settings.filled_in({"title": "Autumn Cup", "program": helpers.PROGRAM, "zone": "UTC",

@@ -48,6 +48,7 @@ VARIANTS = ["ask.announce.amended", "ask.announce.provisional", "ask.counts", "a
 
 # What is said in words that the pages have for something else
 SAID_OTHERWISE = {"refused", "moved"}
+REMARKED_OTHERWISE = {"office-rules"}
 # Values that the page makes of others
 MADE_OF_OTHERS = {"n", "why"}
 
@@ -156,7 +157,7 @@ def used() -> set[str]:
             *(before + rest for before, all_rest in MADE.items() for rest in all_rest),
             *(f"ask.{kind}" for kind in WORDS), *VARIANTS,
             *(f"said.{kind}" for kind in SAID.keys() - SAID_OTHERWISE), *variants_said(),
-            *(f"remark.{kind}" for kind in ENGLISH)}
+            *(f"remark.{kind}" for kind in ENGLISH.keys() - REMARKED_OTHERWISE)}
 
 
 def values_of_questions() -> dict[str, set[str]]:
@@ -249,7 +250,7 @@ class Texts(unittest.TestCase):
         # Signs and separators are looked up in tables.
         left = {kind for kind in ENGLISH if not kind.startswith("sign-")} - made.keys()
         self.assertEqual(left, {"list-semicolons", "list-tabs"})
-        for kind in ENGLISH:
+        for kind in ENGLISH.keys() - REMARKED_OTHERWISE:
             always = set.intersection(*made[kind]) if kind in made else fields_of(kind) | {"sign"}
             with self.subTest(kind=kind):
                 self.assertEqual(fields_of(kind) - always, set())

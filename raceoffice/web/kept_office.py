@@ -12,7 +12,7 @@ from raceoffice.errors import Fault, NotSent, Trouble
 from raceoffice.office.before_opening import Ask, is_meant, is_right, mend, question_of_rules
 from raceoffice.office.keeping import Keeping
 from raceoffice.program.messages import move_text
-from raceoffice.remarks import remark
+from raceoffice.remarks import Remark, remark
 from raceoffice.series import settings
 from raceoffice.series.folder import Folder, clock
 from raceoffice.series.health import disk_fault, faults, notes, summary
@@ -46,10 +46,10 @@ class KeptOffice:
         # Whether nobody wants this process to open it by itself any more.
         self.is_left = threading.Event()
 
-    def say(self, text: str) -> None:
-        for line in text.splitlines():
-            self.said.append(line)
-        self.tell(text)
+    def say(self, *said: str) -> None:
+        for text in said:
+            self.said.extend([text] if isinstance(text, Remark) else text.splitlines())
+        self.tell("\n".join(said))
 
     def is_there(self) -> bool:
         """Whether the office lets clients in."""
@@ -113,14 +113,14 @@ class KeptOffice:
         else:
             mend(self.folder, ask)
             if not (is_right(self.folder, self.say) and is_meant(self.folder, self.say, ask)):
-                self.say("Nothing was opened.")
+                self.say(remark("office-nothing"))
                 return False
             keeping.start()
         keeping.begin()
         for text in notes(self.folder):
             self.say(text)
         keeping.note_opened()
-        self.say(f"{summary(self.folder)}\n{self.folder.settings.in_words()}\n{clock()} The office is open.")
+        self.say(summary(self.folder), rules_remark(self.folder.settings), remark("office-open", time=clock()))
         return True
 
     def keep(self, keeping: Keeping) -> None:
@@ -170,7 +170,7 @@ class KeptOffice:
         if self.is_asked_to_close:
             return
         if len(recent) > TIMES:
-            self.say(f"The office has gone {len(recent)} times within {LONG / 60:.0f} minutes. It isn't opened again by itself.")
+            self.say(remark("office-gone-often", times=len(recent), minutes=f"{LONG / 60:.0f}"))
             return
         asked: list[Question] = []
 
@@ -180,9 +180,9 @@ class KeptOffice:
         pause = SOON
         while not self.open(note):
             if asked:
-                self.say("The office waits for an answer: open it on the scorer's page.")
+                self.say(remark("office-waits"))
                 return
-            self.say(f"{clock()} It is tried again in {pause:.0f} seconds.")
+            self.say(remark("office-again", time=clock(), seconds=f"{pause:.0f}"))
             if self.is_left.wait(pause):
                 return
             pause = min(2 * pause, LATE)
@@ -216,7 +216,7 @@ class KeptOffice:
         finally:
             if was_open:
                 self.open(lambda _: False)
-        self.say(f"{sail} is taken out: {copy} has the journal with her." + (f" No second copy: {fault}." if fault else ""))
+        self.say(remark("office-out", sail=sail, copy=copy), *([remark("office-no-copy", why=fault)] if fault else []))
         return copy
 
     def folder_alone(self) -> Folder:
@@ -235,6 +235,12 @@ class KeptOffice:
             ask(asked)
         self.close()
         return self.open(ask)
+
+
+def rules_remark(held: settings.Settings) -> Remark:
+    """The rules of a series in one line."""
+    return remark("office-rules", words=held.in_words(), exclude=held.exclude, absent=held.absent, scp=held.scp,
+                  handicap="yes" if held.handicap else "no")
 
 
 def question_of_removal(folder: Folder, sail: str) -> Question:

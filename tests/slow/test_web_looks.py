@@ -14,7 +14,7 @@ from raceoffice.session.dialogue import NOTE, Said, Value
 from raceoffice.session.said_words import WORDS as SAID, said
 from raceoffice.web.states import remarks_of, said_of
 from stub_office import OPEN as OPEN_POINTS, StubOffice
-from test_web_texts import SAID_OTHERWISE, fields_of, remarks_made, values_said
+from test_web_texts import REMARKED_OTHERWISE, SAID_OTHERWISE, fields_of, remarks_made, values_said
 from web_office import SAILS
 
 LANGUAGES = ["en", "de", "fr", "es", "it", "nl"]
@@ -342,7 +342,8 @@ OF_REMARKS: dict[str, RemarkValue] = {
     "kind": "PRP", "kinds": ["DPI", "PRP"], "code": "DSQ", "most": 200, "before": "Kestrel", "sign": "U+2013",
     "mark": "?77", "marks": ["?77", "?78"], "command": "BEFORE", "form": "BEFORE race sail other", "typed": "101",
     "names": ["GBR 101 Ann", "NED 101 Bea"], "lines": ["STRIKE 40 GBR101", "CLEAR 40 GBR101"], "role": "jury", "by": "the jury",
-    "boat": "GBR 101 Ann", "devices": ["Ann’s phone", "Bea’s laptop"]}
+    "boat": "GBR 101 Ann", "devices": ["Ann’s phone", "Bea’s laptop"], "time": "13:00", "times": 4,
+    "minutes": "10", "seconds": "60", "copy": "kept/2026-11-28-120000Z.txt"}
 PLACED: dict[str, RemarkValue] = {"name": "series.ini", "line": 12}
 # Remarks that are alike in some languages
 ALIKE = {"takes-limit", "wanted-handicap", "wanted-absent", "wanted-state", "key-club", "key-rating"}
@@ -354,7 +355,7 @@ def all_remarks() -> list[Remark]:
     """One of each kind of remark."""
     made = remarks_made()
     found = []
-    for kind in ENGLISH:
+    for kind in ENGLISH.keys() - REMARKED_OTHERWISE:
         names = fields_of(kind) | (set.intersection(*made[kind]) if kind in made else {"sign"})
         values = {name: OF_REMARKS[name] for name in names & OF_REMARKS.keys()}
         within = {name: remark(WITHIN[name], **(PLACED if name == "place" else {})) for name in names & WITHIN.keys()}

@@ -4,7 +4,7 @@ import {element, fill} from "./elements.js";
 import {text} from "./texts.js";
 import {ask} from "./office.js";
 import {say} from "./dialogs.js";
-import {remarkSentences, troubleWords} from "./remark-words.js";
+import {remarkSentences, remarkWords, troubleWords} from "./remark-words.js";
 import {instructionsStep, settingsOf, wrongWords} from "./new-series-settings.js";
 import {rulesWords} from "./rules-words.js";
 
@@ -130,7 +130,7 @@ export function newSeries(done) {
       say(text("new.isMade", {title: form.get("title")}));
       done();
     } else {
-      wrong.textContent = made.status === 200 ? made.said.join("\n") : troubleWords(made);
+      wrong.textContent = made.status === 200 ? made.said.map(remarkWords).join("\n") : troubleWords(made);
     }
   }
   const form = element("form", {class: "steps", onsubmit: send, onchange: () => meaning.look(form)},

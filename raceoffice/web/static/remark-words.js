@@ -4,6 +4,7 @@
 import {hasText, text} from "./texts.js";
 import {refusalOf, troubleOf} from "./questions.js";
 import {spaced} from "./sails.js";
+import {rulesWords} from "./rules-words.js";
 
 // A value of one: another remark, several values, a sail
 function valueWords(name, value) {
@@ -13,6 +14,7 @@ function valueWords(name, value) {
 }
 
 export function remarkWords({kind, values, text: english}) {
+  if (kind === "office-rules") return rulesWords({...values, handicap: values.handicap === "yes"});
   if (!hasText(`remark.${kind}`)) return english;
   const shown = Object.fromEntries(Object.entries(values).map(([name, value]) => [name, valueWords(name, value)]));
   // What the program refuses has its number.

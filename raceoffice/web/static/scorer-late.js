@@ -4,7 +4,7 @@ import {element} from "./elements.js";
 import {text} from "./texts.js";
 import {ask} from "./office.js";
 import {choose, say} from "./dialogs.js";
-import {troubleWords} from "./remark-words.js";
+import {remarkWords, troubleWords} from "./remark-words.js";
 import {spaced} from "./sails.js";
 import {path, state} from "./desk.js";
 import {findBoat} from "./boat-finder.js";
@@ -86,7 +86,7 @@ export async function takeOut() {
   const agreed = [];
   for (;;) {
     const done = await ask(path("remove"), {sail, agreed}, REMOVING);
-    if (done.status === 200) return say(done.open ? text("scorer.isOut", {sail: spaced(sail), copy: done.copy}) : done.said.slice(-SHOWN).join("\n"), !done.open);
+    if (done.status === 200) return say(done.open ? text("scorer.isOut", {sail: spaced(sail), copy: done.copy}) : done.said.slice(-SHOWN).map(remarkWords).join("\n"), !done.open);
     if (done.status !== 409) return say(troubleWords(done), true);
     if (await agrees(done.question, done.said) !== "yes") return undefined;
     agreed.push(agreedOf(done.question));

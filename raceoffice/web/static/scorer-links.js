@@ -5,7 +5,7 @@ import {text} from "./texts.js";
 import {ask} from "./office.js";
 import {choose, hush, say} from "./dialogs.js";
 import {agreedOf} from "./questions.js";
-import {troubleWords} from "./remark-words.js";
+import {remarkWords, troubleWords} from "./remark-words.js";
 import {agrees} from "./sending.js";
 import {codePicture} from "./qr.js";
 
@@ -115,7 +115,7 @@ async function closeOffice(name) {
 
 // Says whether an office is open now, or why it isn't.
 function sayOpened(done) {
-  say(done.open ? text("office.isOpen") : done.status === 200 ? done.said.slice(-SHOWN).join("\n") : troubleWords(done), !done.open);
+  say(done.open ? text("office.isOpen") : done.status === 200 ? done.said.slice(-SHOWN).map(remarkWords).join("\n") : troubleWords(done), !done.open);
 }
 
 // Opens an office, or (`reopen`) closes it and opens it again. What is asked before (a change of the rules, another
@@ -146,7 +146,7 @@ function officeStep(one) {
     : element("button", {type: "button", class: "main", onclick: () => openOffice(one.class)}, text("office.open"));
   return element("section", {class: "step", "data-key": one.class},
     element("h2", {}, one.class, " ", element("span", {class: `chip ${one.open ? "good" : "bad"}`}, text(one.open ? "office.stateOpen" : "office.stateClosed"))),
-    element("pre", {class: "mono linktext", tabindex: "0", "aria-label": text("office.itsWords")}, one.said.slice(-14).join("\n")), one.open && !one.is_kept_here ? element("p", {class: "waits"}, text("office.joined")) : null, element("div", {class: "acts"}, buttons));
+    element("pre", {class: "mono linktext", tabindex: "0", "aria-label": text("office.itsWords")}, one.said.slice(-14).map(remarkWords).join("\n")), one.open && !one.is_kept_here ? element("p", {class: "waits"}, text("office.joined")) : null, element("div", {class: "acts"}, buttons));
 }
 
 // Has a series served that wasn't yet, as one whose results are final.
