@@ -122,7 +122,6 @@ ENGLISH: dict[str, str | tuple[str, str]] = {
     "removal-refused": "{sail} can't be taken out: {why}",
     "removal-line": "{line} would be refused without her: {why}",
     "removal-last": "{sail} can't be taken out: no boat would be left",
-    "removal-unsent": "devices have taps that aren't sent yet: {devices}",
     # Why a line isn't sent
     "role-line": "{written} isn't a line of this role",
     "no-words": "an empty line isn't a line of this role",

@@ -200,17 +200,13 @@ class Out(Web):
         self.assertIn("\tBea\t\t\tremoved USA4\t", self.text("cup", "office.log"))
 
     def test_stays(self) -> None:
-        """She stays if another boat was placed beside her, if she isn't there, and while a device has taps."""
+        """She stays if another boat was placed beside her, or if she isn't there; and only a scorer takes her out."""
         self.scorer.tap("FINISH 1 GBR7")
         self.scorer.tap("TIE 1 GBR101 GBR7")
         before = self.text("cup", "journal.txt")
         for sail, kind in [("GBR7", "removal-beside"), ("GBR999", "removal-absent"), ("", "removal-absent"), (7, "name-no-text")]:
             status, said = self.remove(sail)
             self.assertEqual((status, [one["kind"] for one in said["said"]]), (422, [kind]), said)
-        finish = self.device("finish", "Ann")
-        finish.ask("GET", "/office/finish/me", X_Unsent="2")
-        status, said = self.remove("GBR33")
-        self.assertEqual((status, said["said"][0]["kind"], said["said"][0]["values"]), (422, "removal-unsent", {"devices": ["Ann"]}))
         self.assertEqual((self.device("jury").ask("POST", "/office/scorer/remove/cup", {"sail": "GBR33"})[0],
                           self.text("cup", "journal.txt")), (401, before))
 

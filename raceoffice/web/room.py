@@ -259,6 +259,14 @@ class Room:
             self.register.end(sent.id, answer, mark)
         return outcome_of(sent, True)
 
+    def settle(self) -> None:
+        """Notes what came of each tap that was begun and never ended, as the journal has it now."""
+        with self.lock:
+            for sent in [one for one in self.register.sent.values() if not one.answer and one.line.split()]:
+                answer, mark = self.answer_found(sent)
+                if answer:
+                    self.register.end(sent.id, answer, mark)
+
     def answer_found(self, sent: Sent) -> tuple[str, str]:
         """The answer to something that was begun and never ended, by the journal or by the places that are
         kept; and the place that it is about. Empty if nothing came of it."""

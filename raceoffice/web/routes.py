@@ -372,11 +372,9 @@ class Routes:
 
     def remove_boat(self, request: Request, device: Device, one: Class) -> Reply:
         """Takes a boat that was entered by mistake out of the journal. What goes is asked before. Entries get other
-        numbers then, so that no tap may be under way."""
-        sail, unsent = plain(boat_names.text_given(request.values(), "sail")), [
-            known.name for known in self.gate.devices.values() if known.unsent and known is not device]
-        if unsent:
-            raise NotSent(remark("removal-unsent", devices=unsent))
+        numbers then, so that what came of each tap is noted while they have their own."""
+        sail = plain(boat_names.text_given(request.values(), "sail"))
+        one.room.settle()
         copy = one.office.take_out(sail, device.name, asked_of(request))
         one.room.news()
         return reply_of({"copy": copy, "open": one.office.is_there(), "said": remarks_of(one.office.said)})

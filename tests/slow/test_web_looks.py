@@ -342,7 +342,7 @@ OF_REMARKS: dict[str, RemarkValue] = {
     "kind": "PRP", "kinds": ["DPI", "PRP"], "code": "DSQ", "most": 200, "before": "Kestrel", "sign": "U+2013",
     "mark": "?77", "marks": ["?77", "?78"], "command": "BEFORE", "form": "BEFORE race sail other", "typed": "101",
     "names": ["GBR 101 Ann", "NED 101 Bea"], "lines": ["STRIKE 40 GBR101", "CLEAR 40 GBR101"], "role": "jury", "by": "the jury",
-    "boat": "GBR 101 Ann", "devices": ["Ann’s phone", "Bea’s laptop"], "time": "13:00", "times": 4,
+    "boat": "GBR 101 Ann", "time": "13:00", "times": 4,
     "minutes": "10", "seconds": "60", "copy": "kept/2026-11-28-120000Z.txt"}
 PLACED: dict[str, RemarkValue] = {"name": "series.ini", "line": 12}
 # Remarks that are alike in some languages
