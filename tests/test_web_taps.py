@@ -6,13 +6,19 @@ import http.client
 import json
 import os
 import random
+import tempfile
 import threading
 import time
 import unittest
 from collections.abc import Callable
 from typing import Any
+from unittest import mock
 
 import helpers
+from raceoffice.errors import Trouble
+from raceoffice.web.gate import Gate
+from raceoffice.web.room import held_alone, outcome_of
+from raceoffice.web.taps import Register, Sent
 from web_devices import SAILS, Device, Web, new_id
 
 # The register of taps.
@@ -147,6 +153,61 @@ OK 13
                       and finish.state()["races"]["1"]["unread"])
         self.assertEqual(finish.state()["races"]["1"]["order"], [["GBR101"]])
         self.assertEqual(finish.tap("?1 1 GBR7")[1]["line"], "FINISH 1 GBR7")
+
+
+class Damaged(unittest.TestCase):
+    """Files of the web that a disk or somebody has damaged."""
+
+    def setUp(self) -> None:
+        # In memory, if there is such a folder: each try is synced.
+        holder = tempfile.TemporaryDirectory(dir="/dev/shm" if os.path.isdir("/dev/shm") else None)
+        self.addCleanup(holder.cleanup)
+        self.here = holder.name
+        self.path = os.path.join(self.here, "web.taps")
+
+    def test_each_bit(self) -> None:
+        """Whichever bit of the register rots, the others of its taps are known, and nothing goes wrong."""
+        journal, ids = ["1 1 SCORER ENTER GBR7", "1 2 FINISH FINISH 1 GBR7"], [new_id(), new_id()]
+        register = Register(self.path)
+        register.begin(Sent(ids[0], "FINISH", "FINISH 1 GBR7", 5, "Ann", 1, 9))
+        register.end(ids[0], "OK 2 1= 0.0", "", [["OK 2", "answer", "finished", {"entry": 2}]])
+        register.begin(Sent(ids[1], "FINISH", "? 1", 6, "Ann", 2, 9))
+        register.end(ids[1], "NOTED", "?1")
+        register.close()
+        with open(self.path, "rb") as file:
+            data = file.read()
+        for bit in range(8 * len(data)):
+            changed = bytearray(data)
+            changed[bit // 8] ^= 1 << bit % 8
+            with open(self.path, "wb") as file:
+                file.write(changed)
+            with self.subTest(bit=bit, byte=chr(changed[bit // 8])):
+                register = Register(self.path)
+                register.moments(journal)
+                register.marks_of(1, 9)
+                for sent in register.sent.values():
+                    register.found(sent, journal)
+                    if sent.answer:
+                        outcome_of(sent, True)
+                self.assertTrue(set(ids) & register.sent.keys())
+                register.close()
+
+    def test_no_plain_files(self) -> None:
+        """A pipe holds nobody up, and a folder or a link is named."""
+        os.mkfifo(self.path)
+        with self.assertRaisesRegex(Trouble, "web.taps can't be used: it is no plain file"):
+            Register(self.path)
+        os.makedirs(os.path.join(self.here, "office", "web.lock"))
+        with self.assertRaisesRegex(Trouble, "web.lock can't be used: Is a directory"):
+            held_alone(mock.Mock(file=lambda *names: os.path.join(self.here, *names)))
+
+    def test_devices(self) -> None:
+        """A file of devices that can't be read lets nobody in; so does one with a part of another type."""
+        device = {"mark": "a", "role": "FINISH", "name": "Ann", "since": "now", "heard": 1.0}
+        for text in ("[" * 100_000, json.dumps({"keys": {}, "devices": {"a": device}})):
+            with open(self.path, "w", encoding="ascii") as file:
+                file.write(text)
+            self.assertEqual(Gate(self.path).devices, {})
 
 
 class Elsewhere(Web):

@@ -39,7 +39,7 @@ def pictures(folder: str) -> list[str]:
     paths = [os.path.join(folder, name) for name in NAMES]
     try:
         phone = opened(chromium, office, "finish", 390, 844, 2)
-        phone.until("document.querySelectorAll('#list li').length === 8")
+        phone.until("document.querySelectorAll('#list li').length === 8 && document.querySelector('#clock').textContent !== ''")
         for path in paths[:2]:
             phone.colours(path == paths[1])
             shot(phone, path)

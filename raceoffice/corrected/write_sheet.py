@@ -11,6 +11,7 @@ from raceoffice.corrected.sheets import HEADS as COLUMNS
 from raceoffice.corrected.times import KEYS, ROUNDINGS, RULES, SHEETS, SYSTEMS, sheet_name
 from raceoffice.errors import NotSent, NotThere, Trouble
 from raceoffice.files import replace_whole
+from raceoffice.remarks import remark
 from raceoffice.series.entry_list import plain
 from raceoffice.series.folder import Folder
 from raceoffice.series.headings import SHEET, columns
@@ -101,9 +102,9 @@ class SheetOfRace:
     def start(self, text: str, sails: Sequence[str]) -> None:
         """Gives all boats one start. NotSent if they have several, or if it isn't one."""
         if not is_form("start", text):
-            raise NotSent(f"{text} isn't {FORMS['start'][1]}")
+            raise NotSent(remark("start-wrong", written=text, wanted=FORMS["start"][1]))
         if len(self.starts) > 1:
-            raise NotSent(f"{self.name} has several starts: change them there")
+            raise NotSent(remark("starts-several", name=self.name))
         for sail in sails:
             self.row(sail)
         for row in self.rows:
@@ -115,7 +116,7 @@ class SheetOfRace:
         held = [self.cell(row, key) for key in ("finish", "elapsed", "code") if key in self.places]
         before = [one for one in held if one not in ("", text)]
         if before:
-            raise NotSent(f"{sail} has {before[0]} in {self.name} already: strike or clear her first")
+            raise NotSent(remark("sheet-has", sail=sail, before=before[0], name=self.name))
         if len(self.starts) == 1:
             self.put(row, "start", self.starts[0])
         self.put(row, "finish", text)

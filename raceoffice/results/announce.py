@@ -10,6 +10,7 @@ from raceoffice.errors import Trouble
 from raceoffice.files import edited_text, replace_whole
 from raceoffice.program.journal import Race, Series
 from raceoffice.program.link import Sheet
+from raceoffice.remarks import remark
 from raceoffice.series import entry_list, settings
 from raceoffice.series.folder import Folder
 from raceoffice.series.kept_places import kept_now
@@ -110,7 +111,7 @@ def need_reason(state: str, reason: str) -> str:
     """The reason on one line; a Trouble if amended results have none."""
     reason = on_one_line(reason)
     if state == "amended" and not reason:
-        raise Trouble("amended results need a reason. Nothing was announced")
+        raise Trouble(remark("reason-needed"))
     return reason
 
 

@@ -9,6 +9,7 @@ from dataclasses import dataclass
 
 from raceoffice.errors import NotSent
 from raceoffice.program.journal import Race
+from raceoffice.remarks import remark
 from raceoffice.wording import joined, ordinal
 
 # How one is called until she is known: ?1, or what was typed of her sail as 101?, and 101?2 for another.
@@ -112,17 +113,14 @@ class Waiting:
         """One of them as she is called, or the only one by ? alone; NotSent if it isn't clear who."""
         kept, marks = self.of(race), self.marks(race)
         if mark == "?" and len(kept) > 1:
-            raise NotSent(f"more than one place is kept: type {joined(marks, 'or')} and her sail")
+            raise NotSent(remark("places-several", marks=marks))
         found = [unread for unread in kept if mark in ("?", unread.mark)]
         if not found:
-            raise NotSent(f"no finisher {mark} is kept in race {race}"
-                          + (f", only {joined(marks)}" if marks else "") + self.elsewhere(race, mark))
+            why = (remark("no-place-only", mark=mark, race=race, marks=marks) if marks else
+                   remark("no-place", mark=mark, race=race))
+            others = [unread.race for unread in self.all if unread.mark == mark and unread.race != race]
+            raise NotSent(remark("no-place-here", why=why, races=[*map(str, others)], race=others[0]) if others else why)
         return found[0]
-
-    def elsewhere(self, race: int, mark: str) -> str:
-        """In which other races somebody is called so, in words; empty if in none."""
-        races = [unread.race for unread in self.all if unread.mark == mark and unread.race != race]
-        return f". Race {joined(list(map(str, races)))} has one: type at {races[0]} first" if races else ""
 
     def ahead_of(self, race: Race, sail: str) -> int:
         """How many of them finished ahead of a boat that is in the order."""

@@ -3,11 +3,12 @@ from __future__ import annotations
 
 from raceoffice.errors import NotSent
 from raceoffice.program.journal import Plan, Race, plan_of_abandoning
+from raceoffice.remarks import remark
 from raceoffice.session.answers import changes_said, plan_said
 from raceoffice.session.parse import MAY
 from raceoffice.session.seat import Done, Seat
 from raceoffice.session.sending import say_declared
-from raceoffice.wording import count, joined
+from raceoffice.wording import count
 
 
 def abandon(seat: Seat, race: Race) -> bool:
@@ -15,8 +16,7 @@ def abandon(seat: Seat, race: Race) -> bool:
     plan, kept = plan_of_abandoning(race), seat.unread.marks(race.number)
     needed = {line.split()[0] for line in plan.lines} | ({"STRIKE"} if kept else set())
     if barred := sorted(needed - MAY[seat.role]):
-        raise NotSent(f"abandon {race.number} needs {joined(barred)}, which the "
-                      f"{seat.role.lower()} doesn't send: let the scorer type it")
+        raise NotSent(remark("abandon-role", race=race.number, lines=barred, role=seat.role.lower()))
     if not needed:
         seat.say_of("nothing-there", race=race.number)
         return True
@@ -28,7 +28,7 @@ def abandon(seat: Seat, race: Race) -> bool:
         return False
     seat.drop_safely(seat.unread.of(race.number), f"race {race.number} was taken away")
     lines = count(len(plan.lines), "line")
-    seat.done = Done(why=f"race {race.number} was taken away by {lines}: type again what stays of it")
+    seat.done = Done(why=remark("undo-abandon", race=race.number, lines=lines))
     seat.say_of("taken-away", race=race.number, lines=len(plan.lines))
     if before.races:
         mixed = len(seat.facts.sheet.journal) != length + len(plan.lines)

@@ -8,6 +8,7 @@ from raceoffice.errors import NotSent
 from raceoffice.program.journal import Race, Series
 from raceoffice.program.link import Sheet
 from raceoffice.program.standing import Standing
+from raceoffice.remarks import remark
 from raceoffice.series import entry_list
 from raceoffice.series.folder import Folder
 from raceoffice.session.parse import race_number, short
@@ -45,7 +46,7 @@ class Facts:
     def race(self, text: str) -> Race:
         """A race by its number, also one of which nothing is recorded."""
         if not (number := race_number(text)):
-            raise NotSent(f"{short(text)} is no race: a number from 1 to 40")
+            raise NotSent(remark("no-race", written=short(text)))
         return self.series.races.get(number) or Race(number)
 
     def race_of(self, line: str) -> Race | None:

@@ -3,6 +3,7 @@ from __future__ import annotations
 
 from raceoffice.errors import NotSent
 from raceoffice.program.journal import Race
+from raceoffice.remarks import remark
 from raceoffice.series.entry_list import near
 from raceoffice.series.kept_places import Twin
 from raceoffice.series.unknown_finishers import MARK, Unread
@@ -14,17 +15,16 @@ from raceoffice.session.sending import is_meant, send, transmit
 def keep_or_send(seat: Seat, mark: str, sail: list[str]) -> bool:
     """Keeps her place (`?`, `101?`), or sends her sail (`?1 GBR 33`); whether it was taken."""
     if "FINISH" not in MAY[seat.role]:
-        raise NotSent("the places of finishers are for the finish and the scorer")
+        raise NotSent(remark("place-role"))
     if seat.folder.settings.handicap:
-        raise NotSent("in a series by corrected time the order of lines doesn't matter: send her "
-                      "TIME when she is known")
+        raise NotSent(remark("place-timed"))
     race, typed = race_of(seat, mark, sail), mark.removesuffix("?")
     if mark == "?" and not sail:
         return keep(seat, race)
     if not sail and seat.reader.crossed(typed) and mark not in seat.unread.marks(race.number):
         return keep(seat, race, typed)
     if not sail:
-        raise NotSent(f"type {mark} and her sail, or {mark} none")
+        raise NotSent(remark("place-whose", mark=mark))
     return send_known(seat, race, seat.unread.one(race.number, mark), sail)
 
 
@@ -32,7 +32,7 @@ def race_of(seat: Seat, mark: str, sail: list[str]) -> Race:
     """The race of a place: that of `at`, or the only one in which somebody is called so."""
     races = {unread.race for unread in seat.unread.all if sail and mark in ("?", unread.mark)}
     if not seat.at and len(races) != 1:
-        raise NotSent("first say which race: at 3")
+        raise NotSent(remark("which-race"))
     return seat.facts.race(str(seat.at or min(races)))
 
 
@@ -113,5 +113,5 @@ def marked(words: list[str]) -> tuple[str, list[str]] | None:
         return None
     mark = "".join(words[:at + 1]).upper()
     if not MARK.fullmatch(mark):
-        raise NotSent(f"{short(mark)} is no place: type ?, ?1 or 101?")
+        raise NotSent(remark("no-mark", written=short(mark)))
     return mark, words[at + 1:]

@@ -7,10 +7,11 @@ from dataclasses import dataclass, field
 
 from raceoffice.errors import NotSent
 from raceoffice.program.codes import CODES
+from raceoffice.remarks import Remark, remark, sign_remark
 from raceoffice.series.entry_list import near
 from raceoffice.session.dialogue import Question
 from raceoffice.session.question_words import question
-from raceoffice.wording import joined, sign
+from raceoffice.wording import joined
 
 # How many sails a line has after its race, and which lines end with one more word.
 SAILS = {"FINISH": 1, "TIE": 2, "BEFORE": 2, "STRIKE": 1, "MARK": 1, "PENALTY": 1, "CLEAR": 1,
@@ -33,12 +34,12 @@ FIRST = SAILS.keys() | OTHERS | OWN.keys() | COMMANDS.keys()
 
 
 class Unclear(NotSent):
-    """A sail that is no boat's, or may be that of several; and what to type then. `typed` and `boats` are
-    what was typed of her sail, and the boats that it may mean, if there are several."""
+    """A sail that is no boat's, or may be that of several; and what to type then. `what` says the same without that.
+    `typed` and `boats` are what was typed of her sail, and the boats that it may mean, if there are several."""
 
-    def __init__(self, what: str, advice: str = "", typed: str = "", boats: Sequence[str] = ()) -> None:
-        super().__init__(what + advice)
-        self.what, self.typed, self.boats = what, typed, boats
+    def __init__(self, said: Remark, what: str = "", typed: str = "", boats: Sequence[str] = ()) -> None:
+        super().__init__(said)
+        self.what, self.typed, self.boats = what or str(said), typed, boats
 
 
 def race_number(text: str) -> int:
@@ -92,15 +93,15 @@ def boat_meant(words: list[str], boats: list[str],
     if len(found) == 1:
         return found[0]
     if found:
-        raise Unclear(f"{text} may be {joined([called(boat) for boat in found], 'or')}",
-                      ": type more of her sail", text, found)
+        names = [called(boat) for boat in found]
+        raise Unclear(remark("sail-several", typed=text, names=names), f"{text} may be {joined(names, 'or')}", text, found)
     if sum(word.isdecimal() for word in words) > 1:
-        raise NotSent(f"{short(' '.join(words))} are several numbers: type one boat in a line")
+        raise NotSent(remark("numbers-several", written=short(" ".join(words))))
     if odd := re.search("[^A-Z0-9-]", text):
-        raise NotSent(f"{short(text)} has {sign(odd[0])}, which no sail has: type one boat in a line")
-    close = near(text, boats)
-    hint = f". Do you mean {joined([called(boat) for boat in close], 'or')}?" if close else ""
-    raise Unclear(f"{short(text)} isn't entered{hint}")
+        raise NotSent(remark("sail-odd", written=short(text), sign=sign_remark(odd[0])))
+    if close := near(text, boats):
+        raise Unclear(remark("not-entered-near", sail=short(text), names=[called(boat) for boat in close]))
+    raise Unclear(remark("not-entered", sail=short(text)))
 
 
 def split_in_two(words: list[str], boats: list[str]) -> tuple[list[str], list[str]]:
@@ -110,9 +111,9 @@ def split_in_two(words: list[str], boats: list[str]) -> tuple[list[str], list[st
     exact = [way for way in both if all("".join(part).upper() in boats for part in way)]
     found = exact or both or ways[:1]
     if not found:
-        raise NotSent("two sails are needed")
+        raise NotSent(remark("two-sails"))
     if len(found) > 1:
-        raise NotSent("it isn't clear where the second sail begins: write each sail without spaces")
+        raise NotSent(remark("second-sail"))
     return found[0]
 
 
@@ -148,7 +149,7 @@ class Reader:
         if len(found) > 1:
             doubt = question("line-of-several", self.called, line=line, lines=list(found))
         if doubt and not ask(doubt):
-            raise NotSent(f"type the race and all of her sail: {shape(line.split()[0])}")
+            raise NotSent(remark("line-unmeant", form=shape(line.split()[0])))
         return line
 
     def other_line(self, words: list[str]) -> str:
@@ -188,8 +189,8 @@ class Reader:
     def no_line(self, words: list[str]) -> NotSent:
         """Why words that begin with no command are no line before a race is said."""
         if boats_meant(words, self.boats):
-            return NotSent("first say which race: at 3")
-        return NotSent(f"{short(' '.join(words))} is no line. help lists the lines")
+            return NotSent(remark("which-race"))
+        return NotSent(remark("no-line", written=short(" ".join(words))))
 
     def readings(self, words: list[str]) -> list[Reading]:
         """The ways to read what was typed, the likeliest first."""
@@ -208,17 +209,17 @@ class Reader:
         """The line of a reading; NotSent if it isn't one."""
         command, race, words = reading.command, reading.race, reading.words
         if not words:
-            raise NotSent(f"{command} needs more words: {shape(command)}, after at 3 without the race")
+            raise NotSent(remark("line-short", command=command, form=shape(command)))
         if not race_number(race):
-            raise NotSent(f"{short(race)} is no race: the number of the race comes after {command}")
+            raise NotSent(remark("race-after", written=short(race), command=command))
         last = words[-1:] if command in LAST else []
         if last and (decision := known_fault(last)):
             raise decision
         sail = words[:-1] if last else words
         if command == "TIME" and ("".join(words) in self.boats or not sail or not last[0].isdecimal()):
-            raise NotSent(f"her corrected time is missing: {short(' '.join(words).lower())} and its seconds")
+            raise NotSent(remark("time-missing", written=short(" ".join(words).lower())))
         if not sail:
-            raise NotSent(f"{command} needs more words: {shape(command)}, after at 3 without the race")
+            raise NotSent(remark("line-short", command=command, form=shape(command)))
         sails = split_in_two(sail, self.boats) if SAILS[command] == 2 else (sail,)
         # If one part is no boat's, this is no line, whatever the other may be.
         for part in sorted(sails, key=lambda part: len(boats_meant(part, self.boats))):
@@ -246,10 +247,9 @@ def known_fault(words: list[str]) -> NotSent | None:
     """What to type instead, if it is the window's own word that was typed, or a decision of the jury that no
     line has."""
     if words[0] in OWN:
-        return NotSent(f"{words[0]} is typed as {OWN[words[0]]}")
+        return NotSent(remark("own-word", written=words[0], form=OWN[words[0]]))
     if words[-1] in DECISIONS:
-        return NotSent(f"{words[-1]} goes into decisions.txt, not into a line: raceoffice decisions --help "
-                       "says how")
+        return NotSent(remark("decision-file", code=words[-1]))
     return None
 
 

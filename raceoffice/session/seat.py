@@ -10,6 +10,7 @@ from time import monotonic
 from raceoffice.errors import Gone, NotSent, Trouble
 from raceoffice.program.journal import Race
 from raceoffice.program.link import Link
+from raceoffice.remarks import remark
 from raceoffice.series.folder import Folder
 from raceoffice.series.kept_places import History, Places, Twin
 from raceoffice.series.lost_lines import UNANSWERED, as_kept
@@ -188,7 +189,7 @@ class Seat:
         self.look_at_places()
         # What is on the disk may not be readable just then: she is kept all the same.
         kept = next((unread for unread in self.unread.of(race.number) if unread.mark == mark), None)
-        self.done = Done(unread=kept, what="kept", why="" if kept else "office/places can't be read")
+        self.done = Done(unread=kept, what="kept", why="" if kept else remark("places-unread"))
         return mark
 
     def drop(self, waiting: list[Unread], why: str) -> None:

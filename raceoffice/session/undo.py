@@ -4,6 +4,7 @@ from __future__ import annotations
 from raceoffice.errors import NotSent
 from raceoffice.program.journal import Race, Series
 from raceoffice.program.messages import ROLES
+from raceoffice.remarks import Remark, remark
 from raceoffice.series.lost_lines import as_kept
 from raceoffice.series.unknown_finishers import Unread
 from raceoffice.session.dialogue import NOTE
@@ -12,21 +13,20 @@ from raceoffice.session.parse import FINISHING
 from raceoffice.session.said_words import said
 from raceoffice.session.seat import Done, Seat
 from raceoffice.session.sending import is_meant, transmit
-from raceoffice.wording import joined
 
 
 def undo(seat: Seat) -> bool:
     """Takes back what was done last at a seat, after a question; whether that was done."""
     done = seat.done
     if not done:
-        raise NotSent("nothing has been typed here yet that changes anything")
+        raise NotSent(remark("undo-none"))
     if done.why:
         raise NotSent(done.why)
     if done.unread and done.what:
         return undo_place(seat, done.unread, done.what)
     kept = as_kept(done.line)
     if seat.facts.commands[done.number - 1:done.number] != [kept]:
-        raise NotSent(f"{done.line} isn't in the journal any more")
+        raise NotSent(remark("undo-gone", line=done.line))
     line = reversal(seat.facts, done.number)
     if not seat.is_yes(seat.question("undo", line=kept, by=line)) or not is_meant(seat, line):
         return seat.not_sent()
@@ -40,14 +40,14 @@ def undo(seat: Seat) -> bool:
         seat.look()
         if leaving.key in seat.history.ended:
             seat.places.take_back(leaving, "refused")
-    seat.done = Done(why=f"type {done.unread.mark} and her sail")
+    seat.done = Done(why=remark("undo-place", mark=done.unread.mark))
     return is_taken
 
 
 def undo_place(seat: Seat, unread: Unread, what: str) -> bool:
     """Drops a place that was kept last, or keeps one again that was dropped last."""
     if (what == "kept") != (unread.mark in seat.unread.marks(unread.race)):
-        raise NotSent(f"somebody has typed for {unread.mark} in race {unread.race} since")
+        raise NotSent(remark("undo-typed", mark=unread.mark, race=unread.race))
     kind = "drop-place" if what == "kept" else "keep-place-again"
     if not seat.is_yes(seat.question(kind, race=unread.race, mark=unread.mark)):
         return seat.not_sent()
@@ -66,10 +66,9 @@ def reversal(facts: Facts, number: int) -> str:
     line = facts.commands[number - 1]
     command, *rest = line.split()
     if command == "ENTER":
-        raise NotSent(f"{rest[0]} stays while the office is open. When it is closed, raceoffice remove "
-                      "takes her out")
+        raise NotSent(remark("undo-enter", sail=rest[0]))
     if later := later_entry(facts, number):
-        raise NotSent(f"something has been typed about the same since: {later}")
+        raise NotSent(later)
     if command in ("SCORE", "UNSCORE"):
         return f"{'UNSCORE' if command == 'SCORE' else 'SCORE'} {rest[0]}"
     race, sail = int(rest[0]), rest[1]
@@ -81,15 +80,15 @@ def reversal(facts: Facts, number: int) -> str:
     return as_before(command, before, facts.race(rest[0]), sail)
 
 
-def later_entry(facts: Facts, number: int) -> str:
-    """The first entry after another that is about the same boat and race, in words; empty if there is
-    none. SCORE and UNSCORE are about their race alone."""
+def later_entry(facts: Facts, number: int) -> Remark | None:
+    """The first entry after another that is about the same boat and race, in words; None if there is none. SCORE and
+    UNSCORE are about their race alone."""
     about = what_about(facts.commands[number - 1])
     for at, entry in enumerate(facts.sheet.journal[number:], number + 1):
         _, _, role, line = entry.split(maxsplit=3)
         if what_about(line) == about:
-            return f"entry {at}, {line}, by {ROLES[role]}"
-    return ""
+            return remark("undo-later", number=at, line=line, by=ROLES[role])
+    return None
 
 
 def what_about(line: str) -> list[str]:
@@ -122,7 +121,7 @@ def as_before(command: str, before: Race, now: Race, sail: str) -> str:
     if command == "CLEAR" and len(held) == 1:
         return held[0]
     lines = held if command == "CLEAR" else [f"CLEAR {now.number} {sail}", *held]
-    raise NotSent(f"no one line does it. Type {joined(lines)}")
+    raise NotSent(remark("undo-lines", lines=lines))
 
 
 def lines_held(race: Race, sail: str) -> list[str]:

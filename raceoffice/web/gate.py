@@ -55,6 +55,15 @@ class Device:
     address: str = ""
 
 
+def device_of(values: dict[str, Any]) -> Device:
+    """A device as the file has it; a TypeError if a part of it is of another type."""
+    device = Device(**values)
+    texts, numbers = (device.mark, device.role, device.name, device.address), (device.since, device.heard, device.unsent)
+    if not (all(isinstance(text, str) for text in texts) and all(isinstance(one, (int, float)) for one in numbers)):
+        raise TypeError("a part of a device is of another type")
+    return device
+
+
 def plain_name(name: str) -> str:
     """The name of a device, on one line, and without signs that would turn a line of the log."""
     return " ".join("".join(filter(str.isprintable, name)).split())[:NAME]
@@ -85,10 +94,10 @@ class Gate:
         try:
             held: dict[str, Any] = json.loads(read_whole(self.path, LARGEST))
             self.keys = {role: str(held["keys"][role]) for role in ROLES if role in held["keys"]}
-            self.devices = {mark: Device(**values) for mark, values in held["devices"].items()}
+            self.devices = {mark: device_of(values) for mark, values in held["devices"].items()}
         except NotThere:
             return
-        except (ValueError, LookupError, TypeError, AttributeError):
+        except (ValueError, LookupError, TypeError, AttributeError, RecursionError):
             self.keys, self.devices = {}, {}
 
     def write(self) -> None:

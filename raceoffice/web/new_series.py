@@ -61,7 +61,7 @@ def setting_given(values: Mapping[str, Any], key: str) -> str:
     """A setting on one line; NotSent if it is too long."""
     text = " ".join(str(values.get(key, "")).split())
     if len(text) > LONGEST:
-        raise NotSent(f"{key} has more than {LONGEST} letters")
+        raise NotSent(remark("setting-long", key=key, most=LONGEST))
     return text
 
 
@@ -140,7 +140,7 @@ def list_given(values: Mapping[str, Any]) -> bytes:
     """The entry list of a new series; NotSent if it is too long to be read again."""
     data = str(values.get("text", "")).encode()
     if len(data) > LARGEST:
-        raise NotSent(f"the list is longer than {LARGEST:,} bytes")
+        raise NotSent(remark("list-too-long", most=f"{LARGEST:,}"))
     return data
 
 

@@ -27,7 +27,7 @@ from raceoffice.web.states import Values, moves_of, remarks_of, rows_of
 # The line of decisions.txt that something is wrong with, and the most letters of a note.
 LINE = re.compile(r"^decisions\.txt, line (\d+): ")
 NOTE = 200
-CHANGED = "decisions.txt has been changed meanwhile: look again"
+CHANGED = remark("decisions-changed")
 
 
 @dataclass(frozen=True)

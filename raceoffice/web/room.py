@@ -9,9 +9,10 @@ import time
 from collections.abc import Callable
 
 from raceoffice import system
-from raceoffice.errors import NoSeat, NotSent, Trouble
+from raceoffice.errors import NoSeat, NotSent, Trouble, as_trouble
 from raceoffice.files import PRIVATE, PRIVATE_MODE
 from raceoffice.program.link import Link, Sheet
+from raceoffice.remarks import remark
 from raceoffice.series.folder import Folder
 from raceoffice.series.kept_places import History, Places
 from raceoffice.series.lost_lines import as_kept
@@ -301,16 +302,16 @@ class Room:
             return timed_undo(self.register.sent.get(tap.undoes)) or tap.line
         if first == "START":
             if not self.folder.settings.handicap or not 1 <= len(rest) <= 2:
-                raise NotSent("a race of a series by corrected time has a start: START race 14:05:00")
+                raise NotSent(remark("start-form"))
             return tap.line
         if first == "TIMES":
             if not self.folder.settings.handicap or len(rest) != 1:
-                raise NotSent("a race of a series by corrected time has a sheet: TIMES race")
+                raise NotSent(remark("times-form"))
             return tap.line
         if "?" in first or first in ("UNDO", "ABANDON"):
             return tap.line
         if tap.undoes and not self.is_undoable(tap):
-            raise NotSent("there is nothing to undo: that tap changed nothing")
+            raise NotSent(remark("undo-nothing"))
         line = session.line(tap.line)
         if is_timed_tap(self.folder, line):
             return line
@@ -341,7 +342,9 @@ class Room:
 
 def held_alone(folder: Folder) -> int:
     """The file that says that a web serves this class. Two would not know of each other's taps."""
-    file = os.open(folder.file(PRIVATE, "web.lock"), os.O_RDWR | os.O_CREAT | system.NO_LINK, PRIVATE_MODE)
+    path = folder.file(PRIVATE, "web.lock")
+    with as_trouble(f"{path} can't be used"):
+        file = os.open(path, os.O_RDWR | os.O_CREAT | system.NO_LINK, PRIVATE_MODE)
     if not system.take_lock(file):
         os.close(file)
         raise Trouble(f"{folder.path} is served to browsers already, by another raceoffice serve")

@@ -240,38 +240,45 @@ class Routes:
             case ["leave"]:
                 self.gate.revoke(device.mark)
                 return reply_of({})
-            case ["key"] if role == "SCORER":
+        if role == "SCORER":
+            return self.write_as_scorer(request, device, rest)
+        raise Wrong(404)
+
+    def write_as_scorer(self, request: Request, device: Device, rest: list[str]) -> Reply:
+        """What the scorer's page alone writes."""
+        match rest:
+            case ["key"]:
                 return self.new_key(request)
-            case ["revoke"] if role == "SCORER":
+            case ["revoke"]:
                 self.gate.revoke(str(request.values().get("mark", "")))
                 return reply_of({})
-            case ["open", name] if role == "SCORER":
+            case ["open", name]:
                 return self.open(request, self.room(name))
-            case ["close", name] if role == "SCORER":
+            case ["close", name]:
                 return self.close(request, self.room(name))
-            case ["declare", name] if role == "SCORER":
+            case ["declare", name]:
                 return self.declare(request, device, self.one(name))
-            case ["list"] if role == "SCORER":
+            case ["list"]:
                 return reply_of(new_series.list_shown(request.values()))
-            case ["reopen", name] if role == "SCORER":
+            case ["reopen", name]:
                 return self.reopen(request, self.room(name))
-            case ["listed", name] if role == "SCORER":
+            case ["listed", name]:
                 return self.name_boat(request, device, self.room(name))
-            case ["remove", name] if role == "SCORER":
+            case ["remove", name]:
                 return self.remove_boat(request, device, self.one(name))
-            case ["rules", name] if role == "SCORER":
+            case ["rules", name]:
                 return self.rules_effect(request, self.room(name))
-            case ["sheet", name] if role == "SCORER":
+            case ["sheet", name]:
                 return self.save_sheet(request, self.room(name))
-            case ["second", name] if role == "SCORER":
+            case ["second", name]:
                 return self.choose_second(request, device, self.one(name))
-            case ["save", name] if role == "SCORER":
+            case ["save", name]:
                 return self.save(request, device, self.room(name))
-            case ["settings"] if role == "SCORER":
+            case ["settings"]:
                 return reply_of(new_series.settings_shown(request.values()))
-            case ["new"] if role == "SCORER":
+            case ["new"]:
                 return self.make(request)
-            case ["serve"] if role == "SCORER":
+            case ["serve"]:
                 return self.serve(series_beside.path_of(self.office.parent, self.office.classes, request.values()))
         raise Wrong(404)
 
@@ -469,7 +476,7 @@ def tap_of(values: dict[str, Any]) -> Tap:
     except NoTap:
         raise Wrong(400, "this isn't a tap") from None
     if tap.at > LATEST:
-        raise NotSent("no clock shows the moment of this tap: look at the clock of this device")
+        raise NotSent(remark("no-clock"))
     return tap
 
 
@@ -501,7 +508,7 @@ def check_command(line: str, role: str) -> None:
         command = COMMANDS[rest[-1]]
     own = OWN | ({"START", "TIMES"} if "FINISH" in MAY[role] else set())
     if command not in MAY[role] | own and "?" not in command:
-        raise Wrong(422, f"{first or 'an empty line'} isn't a line of this role")
+        raise NotSent(remark("role-line", written=first) if first else remark("no-words"))
 
 
 def now() -> int:

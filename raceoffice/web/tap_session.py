@@ -7,6 +7,7 @@ from collections.abc import Callable, Sequence
 from raceoffice.errors import NotSent, Trouble
 from raceoffice.program.journal import Race
 from raceoffice.program.link import Link
+from raceoffice.remarks import remark
 from raceoffice.series.folder import Folder
 from raceoffice.series.kept_places import Places, Twin
 from raceoffice.series.lost_lines import as_kept
@@ -90,7 +91,7 @@ class TapSession(Session):
     def is_place_taken(self, mark: str, rest: Sequence[str]) -> bool:
         """`? 3` keeps a place in race 3; `?1 3 GBR7` or `?1 3 NONE` resolves it."""
         if not rest:
-            raise NotSent("the race is missing")
+            raise NotSent(remark("race-missing"))
         self.at = self.facts.race(rest[0]).number
         return keep_or_send(self, mark, [word.lower() for word in rest[1:]])
 
@@ -103,13 +104,13 @@ class TapSession(Session):
         """What a tap has done; NotSent if nothing stands of it."""
         first, *rest = sent.line.split() if sent else [""]
         if sent is None or not sent.answer.startswith(("OK ", "NOTED")) or first == "ABANDON":
-            raise NotSent("there is nothing to undo: that tap changed nothing")
+            raise NotSent(remark("undo-nothing"))
         unread = Unread(sent.mark, self.facts.race(rest[0]).number, frozenset()) if sent.mark else None
         if not sent.entry:
             return Done(unread=unread, what="dropped" if rest[1:] == [DROPPED] else "kept")
         now = self.facts.commands[sent.entry - 1:sent.entry]
         if now != [as_kept(sent.line)]:
-            raise NotSent(f"{sent.line} isn't in the journal any more")
+            raise NotSent(remark("undo-gone", line=sent.line))
         return Done(now[0], sent.entry, unread)
 
     # What is noted in the register before it is done

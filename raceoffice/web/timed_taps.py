@@ -11,6 +11,7 @@ from raceoffice.corrected.times import Rules, Sheets, sheet_name
 from raceoffice.corrected.write_sheet import SheetOfRace, is_for_sheet, races_with_sheet
 from raceoffice.errors import NotSent, NotThere, Trouble
 from raceoffice.program.codes import OF_JURY
+from raceoffice.remarks import remark
 from raceoffice.series.folder import Folder
 from raceoffice.series.read_list import bytes_of
 from raceoffice.session.sending import is_meant, transmit
@@ -64,12 +65,12 @@ class TimedTap:
             self.rest = [text]
             sheet.start(text, self.session.facts.boats)
         elif self.command == "TIMES" and not sheet.rows:
-            raise NotSent(f"race {self.race.number} has no sheet of times")
+            raise NotSent(remark("no-sheet", race=self.race.number))
         elif self.command == "FINISH":
             sheet.finish(self.sail, clock_text(self.folder, self.session.tap.at))
         elif self.command == "STRIKE":
             if not sheet.take_finish(self.sail) and self.sail not in self.race.times:
-                raise NotSent(f"{self.session.facts.called(self.sail)} has no finish in race {self.race.number}")
+                raise NotSent(remark("no-finish", boat=self.session.facts.called(self.sail), race=self.race.number))
         elif self.command == "MARK" and is_for_sheet(self.rest[-1]):
             sheet.code(self.sail, self.rest[-1])
         elif self.command == "CLEAR":
@@ -94,9 +95,9 @@ def timed_undo(sent: Sent | None) -> str:
     """The line that takes back what a tap did to a sheet; empty if it did nothing to one."""
     words = sent.line.split() if sent and sent.answer.startswith(("OK ", "NOTED")) else [""]
     if words[0] == "START":
-        raise NotSent(f"type the right start of race {words[1]}")
+        raise NotSent(remark("start-again", race=words[1]))
     if words[0] == "TIMES":
-        raise NotSent(f"put the sheet of race {words[1]} right, and send its times again")
+        raise NotSent(remark("times-again", race=words[1]))
     opposite = {"FINISH": "STRIKE", "MARK": "CLEAR"}.get(words[0], "")
     return f"{opposite} {words[1]} {words[2]}" if opposite else ""
 

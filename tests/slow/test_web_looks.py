@@ -339,7 +339,10 @@ OF_REMARKS: dict[str, RemarkValue] = {
     "number": 12, "encoding": "UTF-16", "column": "Nummer", "columns": ["Crew", "Yardstick"], "heading": "Sail no.",
     "helm": "Ann", "written": "GBR_7", "sail": "GBR7", "race": 40, "races": ["4", "5"], "key": "exclude", "near": "PRP",
     "section": "rules", "value": "'8,4'", "said": "regatta: start refused 8 at 12", "answer": "NO 8", "how": "30%",
-    "kind": "PRP", "kinds": ["DPI", "PRP"], "code": "DSQ", "most": 200, "before": "Kestrel", "sign": "U+2013"}
+    "kind": "PRP", "kinds": ["DPI", "PRP"], "code": "DSQ", "most": 200, "before": "Kestrel", "sign": "U+2013",
+    "mark": "?77", "marks": ["?77", "?78"], "command": "BEFORE", "form": "BEFORE race sail other", "typed": "101",
+    "names": ["GBR 101 Ann", "NED 101 Bea"], "lines": ["STRIKE 40 GBR101", "CLEAR 40 GBR101"], "role": "jury", "by": "the jury",
+    "boat": "GBR 101 Ann", "devices": ["Ann’s phone", "Bea’s laptop"]}
 PLACED: dict[str, RemarkValue] = {"name": "series.ini", "line": 12}
 # Remarks that are alike in some languages
 ALIKE = {"takes-limit", "wanted-handicap", "wanted-absent", "wanted-state", "key-club", "key-rating"}
