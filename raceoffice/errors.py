@@ -60,6 +60,10 @@ class NotSent(Explained):
     """Why a line wasn't sent, in words."""
 
 
+class NotNow(NotSent):
+    """Why a line wasn't sent that may go later, as there is no room just now."""
+
+
 class ForeignPage(Exception):
     """Why a page isn't one that this package wrote, in words."""
 

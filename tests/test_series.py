@@ -135,6 +135,13 @@ class Opening(helpers.Series):
         self.assertEqual(again.rest()[1], 0)
         self.assertEqual(self.held(), 11)
 
+    def test_folder_in_place_of_the_lock(self) -> None:
+        """What isn't a file in the place of the lock is named, and is no fault of the package."""
+        os.makedirs(os.path.join(self.here, "cup", "office", "lock"), mode=0o700)
+        said, status = helpers.run("open", "cup", cwd=self.here)
+        self.assertIn("office/lock can't be used: Is a directory.\n", said)
+        self.assertEqual(status, 1)
+
     def test_crash(self) -> None:
         """The office is killed: what was answered stays, and what an older journal lacks is listed."""
         window = self.open()

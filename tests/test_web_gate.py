@@ -358,6 +358,10 @@ class Shares(unittest.IsolatedAsyncioTestCase):
         loop.slow_callback_duration = helpers.PATIENCE
         self.hub, self.port, self.links = Hub(lambda: "new", 0.01), helpers.free_port(self), list[asyncio.StreamWriter]()
         self.hub.start()
+        # However slow this computer is, those who never finish a request stay.
+        patch = mock.patch("raceoffice.web.requests.HEAD_TIME", 10 * helpers.PATIENCE)
+        patch.start()
+        self.addCleanup(patch.stop)
 
         async def answer(request: Request) -> Waiting:
             return Waiting(self.hub)

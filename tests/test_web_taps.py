@@ -2,6 +2,7 @@
 from __future__ import annotations
 
 import concurrent.futures
+import fcntl
 import http.client
 import json
 import os
@@ -138,6 +139,16 @@ class Once(Web):
         self.assertEqual(finish.tap("UNDO", undoes=dropped)[1]["outcome"], "noted")
         self.assertEqual(scorer.tap("UNDO", undoes=known)[1]["line"], "STRIKE 2 IRL5")
         self.assertEqual([one["mark"] for one in scorer.state()["races"]["2"]["unread"]], ["?1", "?2"])
+
+    def test_place_that_waits(self) -> None:
+        """A finisher without a sail isn't refused because a window that was stopped holds the file: her tap waits,
+        and those behind her with it."""
+        finish, id = self.device("finish"), new_id()
+        self.assertEqual(finish.tap("? 2")[1]["mark"], "?1")
+        with open(os.path.join(self.here, "cup", "office", "places"), "rb") as file:
+            fcntl.flock(file, fcntl.LOCK_EX)
+            self.assertEqual(finish.tap("? 2", id)[0], 503)
+        self.assertEqual(finish.tap("? 2", id)[1]["mark"], "?2")
 
     def test_window_beside(self) -> None:
         """What is typed in a window beside is shown on pages, and places are kept for both."""

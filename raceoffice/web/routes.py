@@ -9,7 +9,7 @@ import time
 from collections.abc import Callable
 from typing import Any
 
-from raceoffice.errors import NotSent, Trouble
+from raceoffice.errors import NotNow, NotSent, Trouble
 from raceoffice.program.replay import Line
 from raceoffice.remarks import remark
 from raceoffice.results.http_answers import Text, address_of
@@ -125,6 +125,9 @@ class Routes:
         """Does what may take time, and says in words what keeps it from being done."""
         try:
             return await asyncio.get_running_loop().run_in_executor(self.pool, self.guarded, work, *values)
+        except NotNow as why:
+            # The device keeps the tap, and its place among those that wait.
+            raise Wrong(503, sentence(why), said=remarks_of(why.said)) from None
         except NotSent as why:
             raise Wrong(422, sentence(why), said=remarks_of(why.said)) from None
         except Asked as asked:

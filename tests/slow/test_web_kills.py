@@ -40,6 +40,8 @@ WHOLE = ("series.ini", "entries.csv", "decisions.txt", "times/rules.ini", "times
 FILES = (*WHOLE, "journal.txt", "office.log", "office/web.taps")
 SAILS = ["GBR101", "GBR7", "NED12", "FRA9", "GBR33", "IRL5", "IRL55"]
 BY = "Bea"
+# How many looks in a row have to find a program that has nothing to do.
+STILL = 50
 Held = dict[str, bytes]
 
 
@@ -58,6 +60,8 @@ class Trial(Served):
         super().setUp()
         self.stick = os.path.join(self.here, "stick")
         os.mkdir(self.stick)
+        # The fewest files that the program ever had: those that it has without a link
+        self.least = 0
 
     # The program
 
@@ -68,6 +72,21 @@ class Trial(Served):
                 role, text = line.split(maxsplit=1)
                 link.ask(f"ROLE {role}")
                 self.assertTrue(link.ask(text).startswith("OK"), line)
+
+    def settle(self) -> None:
+        """Waits until the program has done with all that was sent to it: its links have ended."""
+        files = f"/proc/{self.serving().pid}/fd"
+        if not self.least:
+            # At first nobody knows how many it has without a link.
+            seen: list[int] = []
+
+            def is_still() -> bool:
+                seen.append(len(os.listdir(files)))
+                return len(seen) >= STILL and len(set(seen[-STILL:])) == 1
+            helpers.until("an idle program", is_still)
+            self.least = seen[-1]
+        helpers.until("the end of its links", lambda: len(os.listdir(files)) <= self.least)
+        self.least = min(self.least, len(os.listdir(files)))
 
     def files(self) -> Held:
         """The files of the series."""
@@ -154,6 +173,7 @@ class Trial(Served):
     def each_step(self, *some: Sent, victims: Sequence[str] = ("web", "program"), wanted: Sequence[str] = ()) -> list[str]:
         """Kills before each step of the last request, and has it sent again; the steps. `wanted` are the files that it
         changes."""
+        self.settle()
         before = self.files()
         answers, steps = self.asked(some)
         self.assertEqual({status for status, _ in answers}, {200}, answers)
@@ -178,14 +198,12 @@ class Trial(Served):
         """Kills before this step, and looks at what is left, and at what the next try makes of it."""
         self.restore(before)
         program = self.serving()
-        files = f"/proc/{program.pid}/fd"
-        links = len(os.listdir(files))
         answers, _ = self.asked(some, stop, victim)
         if victim == "program":
             program.wait()
         else:
             self.assertEqual(answers, [])
-            helpers.until("the end of its links", lambda: len(os.listdir(files)) <= links)
+            self.settle()
         left = self.files()
         for name in WHOLE:
             self.assertIn(left.get(name), (before.get(name), after.get(name)), name)
