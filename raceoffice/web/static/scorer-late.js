@@ -15,12 +15,13 @@ import {line} from "./scorer-corrections.js";
 const FIELDS = {name: "scorer.boatName", helm: "new.helm", club: "new.club", rating: "scorer.rating"};
 // Letters of a name
 const LONGEST = 80;
-// Milliseconds that closing an office and opening it again may take; how many of its last words are shown
-const REMOVING = 135000, SHOWN = 4;
+// Milliseconds that reading and writing the entry list may take on a busy computer, and closing an office and opening it
+// again; how many of its last words are shown
+const LONG = 60000, REMOVING = 135000, SHOWN = 4;
 const button = (value, label, look) => ({value, label, look});
 
 async function columnsOfList() {
-  const found = await ask(path("listed"));
+  const found = await ask(path("listed"), undefined, LONG);
   return found.status === 200 ? found.columns : [];
 }
 
@@ -39,7 +40,7 @@ function namesIn(fields) {
 }
 
 async function putIntoList(sail, names, was = {}) {
-  const done = await ask(path("listed"), {sail: spaced(sail), ...names, was});
+  const done = await ask(path("listed"), {sail: spaced(sail), ...names, was}, LONG);
   if (done.status === 200) say(text("scorer.isListed", {sail: spaced(sail)}));
   else say(`${text("scorer.isNotListed", {sail: spaced(sail)})}\n${troubleWords(done)}`, true);
 }
@@ -66,7 +67,7 @@ async function nameBoat(sail) {
 export async function correctNames() {
   const sail = await findBoat(text("scorer.whoseNames"), state().boats.map(boat => boat[0]));
   if (!sail) return;
-  const found = await ask(path("listed"));
+  const found = await ask(path("listed"), undefined, LONG);
   if (found.status !== 200) return say(troubleWords(found), true);
   const was = found.rows[sail] ?? {}, fields = await nameFields(found.columns, was);
   const done = await choose(text("scorer.nameHer", {sail: spaced(sail)}), [text("scorer.namesMean"), ...shown(fields)],
