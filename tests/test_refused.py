@@ -126,7 +126,7 @@ class Systems(unittest.TestCase):
 
     def test_no_role(self) -> None:
         """Who never says whose lines these are doesn't come to be the scorer."""
-        with mock.patch("raceoffice.commands.type.answer", side_effect=["", "x", "boat", "", ""]) as asked, \
+        with mock.patch("raceoffice.commands.type.typed", side_effect=["", "x", "boat", "", ""]) as asked, \
                 self.assertRaisesRegex(Trouble, "^no role was given$"):
             asked_role()
         self.assertEqual(asked.call_count, 5)
