@@ -31,8 +31,8 @@ class Watchers:
         self.port, self.heard = port, [(0.0, "")] * number
         self.loop = asyncio.new_event_loop()
         threading.Thread(target=self.loop.run_forever, daemon=True).start()
-        for at in range(number):
-            asyncio.run_coroutine_threadsafe(self.watch(at), self.loop)
+        # Python forgets a task that nobody holds, also one that waits: its phone would leave.
+        self.tasks = [asyncio.run_coroutine_threadsafe(self.watch(at), self.loop) for at in range(number)]
 
     async def watch(self, at: int) -> None:
         reader, writer = await asyncio.open_connection("127.0.0.1", self.port)
