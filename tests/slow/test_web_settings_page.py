@@ -78,7 +78,7 @@ class EntriesPage(WebTrial):
         scorer.until("document.querySelectorAll('.order tbody tr').length === 1")
         self.assertEqual(self.journal(), [f"FINISH FINISH 1 {SAILS[0]}"])
         # The devices go on. One that taps before she has the news is asked.
-        ann.until(f"!!document.querySelector('#grid .boat[data-sail={SAILS[1]}]')")
+        ann.until("document.querySelectorAll('li[data-sail]').length === 1")
         ann.tap(SAILS[2])
         self.settle(ann)
         self.assertEqual(self.journal(), [f"FINISH FINISH 1 {SAILS[0]}", f"FINISH FINISH 1 {SAILS[2]}"])
