@@ -20,6 +20,8 @@ KINDS = {".html": "text/html; charset=utf-8", ".js": "text/javascript", ".css": 
          ".webmanifest": "application/manifest+json"}
 POLICY = ("default-src 'none'; script-src 'self'; style-src 'self'; connect-src 'self'; img-src 'self'; "
           "manifest-src 'self'; worker-src 'self'; base-uri 'none'; form-action 'none'; frame-ancestors 'none'")
+# What the window of an open office says: its series in English words, and when it was opened.
+OFFICE_SAYS = ["Autumn Cup: 24 boats, 1 race scored, 30 entries", remark("office-open", time="13:00")]
 NO_DECISION = remark("decision-line", line=2, why=remark("decision-kind", written="K12", kinds=["PRP", "TLE"]))
 # 28 November 2026, 13:00 in Greenwich
 NOON = 1_795_870_800_000
@@ -84,7 +86,7 @@ def devices() -> dict[str, Any]:
                             ("SCORER", "Bea’s laptop", 0, 0), ("FINISH", "Ann’s phone", 4, 3),
                             ("JURY", "Protest room", 700, 0)])],
             "beside": [{"name": "spring-cup-2025", "title": "Spring Cup", "state": "final"}],
-            "offices": [{"class": "cup", "said": remarks_of([remark("office-open", time="13:00")]), "open": True, "is_kept_here": False},
+            "offices": [{"class": "cup", "said": remarks_of(OFFICE_SAYS), "open": True, "is_kept_here": False},
                         {"class": "fleet", "said": remarks_of([remark("office-nothing")]), "open": False, "is_kept_here": False}]}
 
 
