@@ -299,12 +299,12 @@ class Forgeries(ForgedPages):
             self.assertIn("VERIFIED" if "absent" in why else "…", why)
 
     def test_name_of_file(self) -> None:
-        """Nor does the name of a file."""
+        """Nor does the name of a file: one with spaces is in quotation marks, on one line."""
         path, told = os.path.join(self.here, "x\na.html: verified.\x1b[2K"), io.StringIO()
         self.write("<p>Results</p>", path)
         with contextlib.redirect_stdout(told):
             self.assertEqual(verifier.verify([path, f"{path} no"], helpers.PROGRAM), 2)
-        self.assertEqual([line.startswith(self.here) for line in told.getvalue().splitlines()], [True] * 2)
+        self.assertEqual([line.startswith(f'"{self.here}') for line in told.getvalue().splitlines()], [True] * 2)
         self.assertEqual(told.getvalue().count("\\x0aa.html: verified.\\x1b[2K"), 2)
 
     def test_beware(self) -> None:

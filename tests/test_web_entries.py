@@ -3,18 +3,22 @@ the second folder, and which series are served."""
 from __future__ import annotations
 
 import codecs
+import contextlib
 import os
 import pwd
 import sys
+import threading
 import unittest
 from typing import Any
 from unittest import mock
 
 import helpers
 from raceoffice.errors import NotSent
-from raceoffice.series import settings
+from raceoffice.series import remove_boat, settings
+from raceoffice.series.folder import Folder, Lock
 from raceoffice.series.read_list import table_of
 from raceoffice.series.write_list import with_boat
+from raceoffice.web.kept_office import KeptOffice
 from web_devices import BOATS, Device, Web, list_of
 
 LISTED = "/office/scorer/listed/cup"
@@ -209,6 +213,41 @@ class Out(Web):
             self.assertEqual((status, [one["kind"] for one in said["said"]]), (422, [kind]), said)
         self.assertEqual((self.device("jury").ask("POST", "/office/scorer/remove/cup", {"sail": "GBR33"})[0],
                           self.text("cup", "journal.txt")), (401, before))
+
+
+class OutAlone(helpers.Series):
+    def test_nobody_opens(self) -> None:
+        """While a boat is taken out neither a page nor a window can open the office: what it answered would be lost."""
+        folder, taken = Folder(os.path.join(self.here, "cup")), []
+        folder.make_private()
+        office = KeptOffice(folder, lambda _: None)
+        self.assertTrue(office.open(lambda _: True))
+        self.addCleanup(self.stop, "cup")
+        self.addCleanup(office.close)
+        self.assertEqual(self.answer(folder, "SCORER", "ENTER XXX1")[:3], "OK ")
+        opener = threading.Thread(target=office.open, args=(lambda _: True,))
+        replace = remove_boat.replace
+
+        def replaced(journal: Folder, data: bytes) -> str:
+            window = Lock(journal)
+            taken.append(window.is_taken())
+            window.leave()
+            opener.start()
+            opener.join(0.3)
+            taken.append(opener.is_alive())
+            return replace(journal, data)
+        with mock.patch.object(remove_boat, "replace", replaced):
+            office.take_out("XXX1", "Bea", lambda _: True)
+        opener.join(helpers.PATIENCE)
+        self.assertEqual(taken, [True, True])
+        self.assertEqual(self.answer(folder, "FINISH", "FINISH 1 GBR7")[:3], "OK ")
+        self.assertIn("FINISH FINISH 1 GBR7", self.text("cup", "journal.txt"))
+        self.assertNotIn("XXX1", self.text("cup", "journal.txt"))
+
+    def answer(self, folder: Folder, role: str, line: str) -> str:
+        with contextlib.closing(folder.link()) as link:
+            link.ask(f"ROLE {role}")
+            return link.ask(line)
 
 
 class Rated(Web):

@@ -287,18 +287,23 @@ class Outcome:
     value: dict[str, object]
 
 
+def name_shown(path: str) -> str:
+    """The name of a file, in quotation marks and on one line if it has spaces: it may be words that somebody chose."""
+    return unbroken(f'"{path}"') if " " in path else path
+
+
 def outcome(verifier: Verifier, path: str) -> Outcome:
     """Verifies a page."""
     try:
         with guarded("", ForeignPage, Unsure, ValueError):
             rebuilt = verifier.verified(text_of_page(path))
-            return Outcome(VERIFIED, (f"{path}: verified.", *report(rebuilt, verifier.program)),
+            return Outcome(VERIFIED, (f"{name_shown(path)}: verified.", *report(rebuilt, verifier.program)),
                            {"page": path, "result": "verified", **value_of(rebuilt, verifier.program)})
     except ForeignPage as odd:
         status, what, why = DIFFERS, "NOT VERIFIED", characters.shortly(str(odd), MESSAGE)
     except (Unsure, Trouble, ValueError) as trouble:
         status, what, why = UNSURE, "not verified", characters.shortly(str(trouble), MESSAGE)
-    return Outcome(status, (f"{path}: {what}: {sentence(why)}",),
+    return Outcome(status, (f"{name_shown(path)}: {what}: {sentence(why)}",),
                    {"page": path, "result": "differs" if status == DIFFERS else "unsure",
                     "why": with_spaces(why)})
 

@@ -14,7 +14,7 @@ from raceoffice.office.keeping import Keeping
 from raceoffice.program.messages import move_text
 from raceoffice.remarks import Remark, remark
 from raceoffice.series import settings
-from raceoffice.series.folder import Folder, clock
+from raceoffice.series.folder import Folder, Lock, clock
 from raceoffice.series.health import disk_fault, faults, notes, summary
 from raceoffice.series.remove_boat import moves_without, removal_of, take_out
 from raceoffice.session.dialogue import Question
@@ -209,15 +209,27 @@ class KeptOffice:
         ask(wanted)
         was_open = self.close()
         try:
-            # Somebody may have typed until it was closed.
-            if (now := question_of_removal(fresh, sail)) != wanted:
-                raise Asked(now, [])
-            copy, fault = take_out(fresh, removal_of(fresh, sail), by)
+            copy, fault = self.taken_out(fresh, sail, by, wanted)
         finally:
             if was_open:
                 self.open(lambda _: False)
         self.say(remark("office-out", sail=sail, copy=copy), *([remark("office-no-copy", why=fault)] if fault else []))
         return copy
+
+    def taken_out(self, folder: Folder, sail: str, by: str, wanted: Question) -> tuple[str, str]:
+        """Takes a boat out while nobody can open the office, on a page or in a window: a line that is answered meanwhile
+        would be lost. The copy that has her, and why there is no second copy, if there is none."""
+        lock = Lock(folder)
+        try:
+            with self.lock:
+                if lock.is_taken():
+                    raise NotSent(remark("other-window"))
+                # Somebody may have typed until it was closed.
+                if (now := question_of_removal(folder, sail)) != wanted:
+                    raise Asked(now, [])
+                return take_out(folder, removal_of(folder, sail), by)
+        finally:
+            lock.leave()
 
     def folder_alone(self) -> Folder:
         """The folder as it is now, if no other window keeps its office; else NotSent."""
