@@ -234,6 +234,31 @@ OK 9   cup: DNF in race 1
         self.assertTrue(watcher.is_open(cup))
         window.read("The office of cup is back with 7 entries.\n")
 
+    def test_a_boat_taken_out(self) -> None:
+        """A window that stays for another class knows its lines by their new numbers, and names none of hers."""
+        office = self.open()
+        self.open("fleet")
+        window = self.client("cup", "fleet", "--role", "scorer")
+        window.say("cup enter usa 4", r"\[y/N\] $")
+        window.say("y", "OK 8 ")
+        window.say("cup finish 1 gbr 101", "OK 9 ")
+        window.say("cup finish 1 usa 4", "OK 10 ")
+        window.say("cup finish 1 gbr 7", "OK 11 ")
+        window.say("cup penalty 1 gbr 7 zfp", "OK 12 ")
+        office.process.send_signal(signal.SIGTERM)
+        office.rest()
+        said, status = helpers.run("remove", "cup", "USA4", lines="y\n", cwd=self.here)
+        self.assertEqual(status, 0, said)
+        self.open()
+        said = window.read("The office of cup is back(.|\n)*> $")
+        self.assertIn("is back with 10 entries.\nUSA4 was taken out meanwhile, with all lines about her: don't type "
+                      "these again. Later entries have lower numbers.\nYour last line, PENALTY 1 GBR7 ZFP, is entry 10 "
+                      "now.\n", said)
+        self.assertNotIn("lost", said)
+        window.say("cup undo", r"PENALTY 1 GBR7 ZFP(.|\n)*\[y/N\] $")
+        window.say("y", "OK 11 ")
+        self.assertTrue(self.text("cup", "journal.txt").endswith(" CLEAR 1 GBR7\n"))
+
     def test_a_class_that_opens_later(self) -> None:
         self.open()
         window = self.window("type", "cup", "fleet", "--role", "finish")

@@ -12,11 +12,49 @@ import helpers
 from raceoffice.errors import Trouble
 from raceoffice.series.folder import Folder
 from raceoffice.session.session import Session
+from raceoffice.typing_window.lines_back import LinesBack as LinesBackFound, lines_back
 from raceoffice.typing_window.watcher import News, Watcher, has_no_seat, seats_of
 
 
 # How long an answer may take, for a trial that waits for none.
 SHORT = {"program.link.PATIENCE": 3.0}
+
+
+class LinesBack(unittest.TestCase):
+    """Lines of a window by their numbers: A is taken out of entries 1 and 4."""
+
+    BEFORE = ["- 1 SCORER ENTER A", "- 2 SCORER ENTER B", "- 3 FINISH FINISH 1 B", "- 4 FINISH FINISH 1 A",
+              "- 5 JURY PENALTY 1 B ZFP", "- 6 JURY PENALTY 1 B ZFP"]
+    AFTER = ["ENTER B", "FINISH 1 B", "PENALTY 1 B ZFP", "PENALTY 1 B ZFP"]
+
+    def test_lower_numbers(self) -> None:
+        back = lines_back({1: "ENTER A", 3: "FINISH 1 B", 4: "FINISH 1 A", 6: "PENALTY 1 B ZFP"}, self.BEFORE,
+                          self.AFTER, ["A"])
+        self.assertEqual(back, LinesBackFound(["A"], {2: "FINISH 1 B", 4: "PENALTY 1 B ZFP"}, {}, {3: 2, 6: 4}))
+
+    def test_lost_beside(self) -> None:
+        """A line that is lost is named, also if somebody else has sent the same line."""
+        back = lines_back({3: "FINISH 1 B", 6: "PENALTY 1 B ZFP"}, self.BEFORE, self.AFTER[:3], ["A"])
+        self.assertEqual((back.sent, back.lost), ({2: "FINISH 1 B"}, {6: "PENALTY 1 B ZFP"}))
+
+    def test_lost_without(self) -> None:
+        """Without a boat taken out a line counts at its number alone."""
+        back = lines_back({6: "PENALTY 1 B ZFP"}, self.BEFORE, self.AFTER, [])
+        self.assertEqual((back.sent, back.lost), ({}, {6: "PENALTY 1 B ZFP"}))
+
+    def test_put_back(self) -> None:
+        """Somebody has put the journal with her back."""
+        journal = [line.split(maxsplit=3)[3] for line in self.BEFORE]
+        sent = {1: "ENTER A", 6: "PENALTY 1 B ZFP"}
+        self.assertEqual(lines_back(sent, self.BEFORE, journal, ["A"]),
+                         LinesBackFound([], sent, {}, {1: 1, 6: 6}))
+
+    def test_unseen(self) -> None:
+        """Entry 7 is somebody else's, perhaps about her. Entry 8 was answered just before the office went."""
+        for more in ([], ["FINISH 2 C"]):
+            back = lines_back({8: "FINISH 2 B"}, self.BEFORE, [*self.AFTER, *more, "FINISH 2 B"], ["A"])
+            self.assertEqual((back.numbers, back.lost), ({8: 5 + len(more)}, {}))
+        self.assertEqual(lines_back({8: "FINISH 2 B"}, self.BEFORE, self.AFTER, ["A"]).lost, {8: "FINISH 2 B"})
 
 
 class Offices(helpers.Series):

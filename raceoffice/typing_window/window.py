@@ -2,12 +2,13 @@
 from __future__ import annotations
 
 import contextlib
+import dataclasses
 import os
 import secrets
 import select
 import sys
 import time
-from collections.abc import Callable
+from collections.abc import Callable, Sequence
 
 from raceoffice import system
 from raceoffice.errors import Fault, Gone, NoSeat, NotSent, Trouble
@@ -22,8 +23,9 @@ from raceoffice.session.session import Session
 from raceoffice.terminal import question, say, sentence, visible
 from raceoffice.traces import guarded
 from raceoffice.typing_window.classes import ClassUnclear, choosing, session_meant, greeting
+from raceoffice.typing_window.lines_back import lines_back, taken_out
 from raceoffice.typing_window.watcher import AGAIN, LOOK, News, Watcher, has_no_seat
-from raceoffice.wording import count
+from raceoffice.wording import count, joined
 
 
 class End(Exception):
@@ -37,6 +39,9 @@ class Window:
         self.sessions = [Session(folder, role, name, show, self.ask) for folder in folders]
         self.watcher = Watcher(self.sessions)
         self.present: list[Presence] = []
+        # The boats that had been taken out when an office was linked to, and the journal when it went.
+        self.taken_out: dict[Session, list[str]] = {}
+        self.known: dict[Session, Sequence[str]] = {}
 
     @property
     def several(self) -> bool:
@@ -74,6 +79,7 @@ class Window:
                 session.connect()
             except Trouble as trouble:
                 say(f"Beware: {trouble}, that of {session.folder.name}. The others go on.")
+        self.taken_out[session] = taken_out(session.folder)
         self.log(session, "came")
         self.present.append(Presence(session.folder, TYPING, session.name or session.role.lower()))
 
@@ -283,6 +289,7 @@ class Window:
         """An office has gone. With one class this waits for it; the others go on without."""
         if session.unanswered:
             say(f"No answer came to: {session.unanswered}\nIt may be in the journal, or not.")
+        self.known[session] = session.facts.sheet.journal
         session.disconnect()
         if session.folder.is_closing() and not any(other.link for other in self.sessions):
             raise End("The office is being closed: this window ends.")
@@ -309,22 +316,29 @@ class Window:
                 wait(AGAIN if isinstance(trouble, NoSeat) else LOOK)
 
     def say_back(self, session: Session) -> None:
-        """Says which of this window's lines the office has after a crash."""
+        """Says which of this window's lines the office has after a crash, or after a boat was taken out."""
         journal, line = session.facts.commands, session.unanswered
-        lost = {at: sent for at, sent in session.sent.items()
-                if at > len(journal) or journal[at - 1] != sent}
-        later = journal[max(session.sent, default=0):]
-        session.sent = {at: sent for at, sent in session.sent.items() if at not in lost}
-        session.unanswered = ""
+        before, self.taken_out[session] = self.taken_out[session], taken_out(session.folder)
+        sails = self.taken_out[session][len(before):]
+        back = lines_back(session.sent, self.known.get(session, ()), journal, sails)
+        session.sent, session.unanswered = back.sent, ""
+        if session.done:
+            number = session.done.number
+            session.done = dataclasses.replace(session.done, number=back.numbers.get(number, number))
         say(f"The office{self.of(session)} is back with {count(len(journal), 'entry', 'entries')}.")
-        if lost:
+        if back.sails:
+            say(f"{joined(back.sails)} was taken out meanwhile, with all lines about her: don't type these again. "
+                "Later entries have lower numbers.")
+        if back.lost:
             say("These lines of yours are lost. The office's window lists those of all windows: type "
                 "them again in that order.")
-            say("\n".join(f"   {at:>5}  {sent}" for at, sent in sorted(lost.items())))
-        elif session.sent:
-            at = max(session.sent)
-            say(f"Your last line, OK {at} {session.sent[at]}, is among them.")
-        if line:
+            say("\n".join(f"   {at:>5}  {sent}" for at, sent in sorted(back.lost.items())))
+        elif back.sent:
+            at = max(back.sent)
+            say(f"Your last line, {back.sent[at]}, is entry {at} now." if back.sails else
+                f"Your last line, OK {at} {back.sent[at]}, is among them.")
+        if line and not back.is_taken_out(line):
+            later = journal[max(back.numbers.values(), default=0):]
             say(f"{line} is {'in the journal' if as_kept(line) in later else 'not in the journal'}.")
         self.say_kept([session])
 
