@@ -1,7 +1,9 @@
 """office/places: what was kept is there again, whatever was killed, torn, forged or full."""
 from __future__ import annotations
 
+import contextlib
 import fcntl
+import itertools
 import json
 import os
 import random
@@ -17,10 +19,12 @@ from unittest import mock
 import helpers
 from raceoffice import system
 from raceoffice.errors import NotSent, Trouble
+from raceoffice.office.backups import Backups
 from raceoffice.program.journal import Race
 from raceoffice.series import kept_places
 from raceoffice.series.folder import Folder
-from raceoffice.series.kept_places import History, Note, Places
+from raceoffice.series.kept_places import History, Note, Places, history_of
+from raceoffice.series.remove_boat import Removal, take_out, without
 from raceoffice.session.dialogue import Said
 from raceoffice.session.finishers import keep
 from raceoffice.session.sending import note_answer
@@ -33,6 +37,110 @@ ODD = [b"\0", b"\n", b"\r", b"\xff", b'"', b"\\", b"{", b"}", b"[", b"]", b",", 
        b"1" * 5000]
 VALUES: list[object] = [None, True, -1, 10 ** 400, 1.5, "", "?", "\x1b[2K", "\ud800", [], [1], ["A" * 99], {},
                         "x" * 5000, [[]] * 9]
+
+# Entries 8 to 10 are those of a boat that is taken out. ?1 is kept behind GBR 101, who leaves her place and finishes last.
+ENTRIES = [*(f"ENTER GBR{number}" for number in (101, 7, 1, 2, 3, 4, 5)), "ENTER USA4", "FINISH 2 USA4", "STRIKE 2 USA4",
+           "FINISH 1 GBR101", "FINISH 1 GBR7", "STRIKE 1 GBR101", "FINISH 1 GBR101"]
+
+
+class TakenOut(helpers.Series):
+    """A boat is taken out of a journal while a place is kept, which stays the first of its race."""
+
+    def setUp(self) -> None:
+        super().setUp()
+        self.folder = Folder(os.path.join(self.here, "cup"))
+        self.folder.make_private()
+        lines = [f"- {at} SCORER {line}\n" for at, line in enumerate(ENTRIES, 1)]
+        self.write("REGATTA 2\n" + "".join(lines), "cup", "journal.txt")
+        self.places = Places(self.folder, "Ann")
+        self.assertEqual(self.places.keep(Race(1, [["GBR101"]]), "", 11), "?1")
+        self.assertEqual(self.ahead(), [set()])
+
+    def ahead(self) -> list[object]:
+        """The boats ahead of each place, by the files."""
+        return [unread.ahead for unread in history_of(self.folder).waiting.all]
+
+    def take_out(self) -> None:
+        held = self.folder.parts()[0]
+        about = {at: line for at, line in enumerate(self.folder.kept(), 1) if "USA4" in line}
+        take_out(self.folder, Removal("USA4", held, about, without(held, set(about)), len(self.folder.kept())))
+
+    def killed(self, stop: int) -> bool:
+        """Takes her out in a process that is killed before a step of its own; whether it was."""
+        steps = itertools.count(1)
+
+        def counted(do: Callable[..., object]) -> Callable[..., object]:
+            def done(*given: object) -> object:
+                if next(steps) == stop:
+                    os._exit(9)
+                return do(*given)
+            return done
+        child = os.fork()
+        if not child:
+            with contextlib.ExitStack() as stack:
+                for name in ("write", "fsync", "replace", "open"):
+                    stack.enter_context(mock.patch.object(os, name, counted(getattr(os, name))))
+                self.take_out()
+                os._exit(0)
+            os._exit(1)
+        return os.waitstatus_to_exitcode(os.waitpid(child, 0)[1]) == 9
+
+    def test_place_stays(self) -> None:
+        self.take_out()
+        self.assertEqual(len(self.folder.kept()), len(ENTRIES) - 3)
+        self.assertEqual((self.ahead(), history_of(self.folder).fault), ([set()], ""))
+        # Whoever drops her place and keeps it again has it by its new number.
+        self.places.drop(history_of(self.folder).waiting.all, "undone")
+        self.places.keep_again(1, "?1")
+        self.assertEqual(self.ahead(), [set()])
+        self.assertEqual(json.loads(self.places.lines()[-1])["entries"], 8)
+
+    def test_kills(self) -> None:
+        """After a kill before any step she is in or out, and the place is as it was; also after the next opening, and once
+        she is taken out at last."""
+        before, places = self.text("cup", "journal.txt"), self.places.data()
+        kept: set[int] = set()
+        for stop in itertools.count(1):
+            self.write(before, "cup", "journal.txt")
+            self.write(places.decode(), "cup", "office", "places")
+            was_killed = self.killed(stop)
+            kept.add(len(self.folder.kept()))
+            self.assertEqual(self.ahead(), [set()], stop)
+            Backups(self.folder).note_back()
+            self.assertEqual(self.ahead(), [set()], stop)
+            if len(self.folder.kept()) == len(ENTRIES):
+                self.assertEqual(self.places.read().waiting.all[0].ahead, {"GBR101"})
+                self.take_out()
+                self.assertEqual(self.ahead(), [set()], stop)
+            if not was_killed:
+                break
+        self.assertEqual(kept, {len(ENTRIES), len(ENTRIES) - 3})
+
+    def test_put_back(self) -> None:
+        """Somebody puts the journal with her back, and takes another boat out."""
+        before = self.text("cup", "journal.txt")
+        self.take_out()
+        self.write(before, "cup", "journal.txt")
+        self.assertEqual(self.ahead(), [set()])
+        Backups(self.folder).note_back()
+        self.write(before.replace("USA4", "GBR4"), "cup", "journal.txt")
+        self.assertEqual(self.ahead(), [set()])
+
+    def test_lines_out_of_the_file(self) -> None:
+        """Somebody takes the note of the removal out of the file of an open office."""
+        self.take_out()
+        lines = self.places.lines()
+        self.write(lines[0].decode(), "cup", "office", "places")
+        self.assertEqual(self.ahead(), [{"GBR101", "GBR7"}])
+        self.places.put_in_again(lines)
+        self.assertEqual(self.ahead(), [set()])
+
+    def test_not_noted(self) -> None:
+        """Nothing is taken out if that can't be noted beside the places."""
+        with mock.patch.object(Places, "add_lines", side_effect=OSError(28, "No space left on device")):
+            with self.assertRaisesRegex(Trouble, "can't be written"):
+                self.take_out()
+        self.assertEqual(len(self.folder.kept()), len(ENTRIES))
 
 
 class Files(helpers.Series):

@@ -9,7 +9,7 @@ from raceoffice.program.link import Sheet
 from raceoffice.series import copies
 from raceoffice.series.continuity import first_entries
 from raceoffice.series.folder import VERSION, Folder
-from raceoffice.series.kept_places import Places
+from raceoffice.series.kept_places import Places, command_of
 from raceoffice.series.run_program import replayed
 from raceoffice.series.second_folder import Second, copy_of, places_copy_of
 from raceoffice.terminal import sentence
@@ -76,6 +76,11 @@ class Backups:
         text = copies.places_with(self.folder, self.second, self.folder.parts()[0])
         self.places.put_back(text)
         return bool(text)
+
+    def note_back(self) -> None:
+        """Notes which boats journal.txt has still, or again, that were about to be taken out of it."""
+        with contextlib.suppress(Trouble, NotSent):
+            self.places.note_back([command_of(line) for line in self.folder.kept()])
 
     def guard_places(self) -> str:
         """Puts places in again that somebody has taken out of their file; what is said of that, or nothing.

@@ -69,6 +69,7 @@ class Keeping:
             self.say(text)
         if self.backups.take_up_places():
             self.say("The places of finishers without a sail are taken up from the second folder.")
+        self.backups.note_back()
         self.service.start()
 
     def begin(self) -> None:

@@ -17,7 +17,7 @@ from raceoffice.series.continuity import differences, note_now, parts_of, with_e
 from raceoffice.series.folder import Folder, Lock
 from raceoffice.series.kept_places import Places, command_of
 from raceoffice.series.run_program import Program, replayed
-from raceoffice.series.second_folder import second_of
+from raceoffice.series.second_folder import places_copy_of, second_of
 from raceoffice.terminal import question, say
 from raceoffice.wording import count
 
@@ -100,6 +100,7 @@ def take_out(folder: Folder, found: Removal, by: str = "") -> tuple[str, str]:
     second copy, if there is none. `by` is who does."""
     copy = copies.keep(folder, found.held)
     note_places(folder, by)
+    note_taken_out(folder, found, by)
     fault = replace(folder, found.data)
     copies.keep(folder, found.data)
     note = note_now(folder, found.data)
@@ -115,6 +116,15 @@ def note_places(folder: Folder, by: str) -> None:
     with contextlib.suppress(NotSent, Trouble):
         if places.read(journal).found:
             places.note_found(journal)
+
+
+def note_taken_out(folder: Folder, found: Removal, by: str) -> None:
+    """Notes beside the places which entries go. While journal.txt has them, as after a kill, that doesn't count."""
+    journal = [command_of(line) for line in folder.kept()]
+    try:
+        Places(folder, by).note_taken_out(found.sail, [f"{at} {journal[at - 1]}" for at in found.about], journal)
+    except NotSent as why:
+        raise Trouble(*why.said) from None
 
 
 def without(data: bytes, numbers: set[int]) -> bytes:
@@ -152,5 +162,8 @@ def replace(folder: Folder, data: bytes) -> str:
     """Writes the shorter journal, and its copy on a second disk: why there is none, if there is none."""
     # A link stays, and what it leads to is replaced.
     replace_whole(os.path.realpath(folder.journal), data)
+    with second_of(folder) as second, contextlib.suppress(Trouble):
+        # A copy of the journal without her has to have the places by its numbers.
+        second.ask("save", Places(folder).text(), places_copy_of(second))
     with second_of(folder) as second:
         return second.ask("replace", data.decode("ascii", "replace")).fault
