@@ -18,6 +18,7 @@ from raceoffice.series.continuity import difference, difference_of_places
 from raceoffice.series.copies import newest
 from raceoffice.series.folder import Folder
 from raceoffice.series.kept_places import Places
+from raceoffice.series.second_folder import Second
 
 SEED, FLIPS = 63, 200
 LINES = ["FINISH 1 GBR101", "FINISH 1 GBR7", "TIE 1 NED12 GBR7", "MARK 1 FRA9 DNF", "SCORE 1",
@@ -91,6 +92,26 @@ class Continuity(helpers.Series):
                 self.assertTrue(self.is_seen(flipped(self.data, bit)), bit)
             for name, data in changed_lines(self.data):
                 self.assertTrue(self.is_seen(data), name)
+
+    def test_second_copy(self) -> None:
+        """A folder that is restored whole is older than the copy on the stick."""
+        os.mkdir(os.path.join(self.here, "stick"))
+        self.write(self.text("cup", "series.ini").replace("copy = ", "copy = ../stick"), "cup", "series.ini")
+        folder, copy = Folder(os.path.join(self.here, "cup")), os.path.join(self.here, "stick", "cup-journal.txt")
+        more = b"2 12 SCORER UNSCORE 1\n2 13 SCORER SCORE 1\n"
+        for data, is_asked in [(self.data, False), (self.data[:self.data.rindex(b"\n", 0, -1) + 1], False),
+                               (self.data + more, True), (self.data.replace(b"REGATTA 2\n", b"") + more, True)]:
+            with open(copy, "wb") as file:
+                file.write(data)
+            self.assertEqual(difference(folder) != "", is_asked)
+        self.assertRegex(difference(folder), r"It has 17 entries, and .*/stick/cup-journal\.txt has 19\. 2 of these aren't "
+                         r"in journal\.txt at their place, first entry 18:\n   2 12 SCORER UNSCORE 1   in the copy\n"
+                         r"   nothing   in journal\.txt\n")
+        with mock.patch.object(Second, "answer", return_value=None):
+            self.assertEqual(difference(folder), "")
+        said, status = helpers.run("check", "cup", cwd=self.here)
+        self.assertIn("can be opened if somebody agrees", said)
+        self.assertEqual(status, 1)
 
     def test_words(self) -> None:
         """What differs: how many entries, and the first."""

@@ -38,9 +38,9 @@ ODD = [b"\0", b"\n", b"\r", b"\xff", b'"', b"\\", b"{", b"}", b"[", b"]", b",", 
 VALUES: list[object] = [None, True, -1, 10 ** 400, 1.5, "", "?", "\x1b[2K", "\ud800", [], [1], ["A" * 99], {},
                         "x" * 5000, [[]] * 9]
 
-# Entries 8 to 10 are those of a boat that is taken out. ?1 is kept behind GBR 101, who leaves her place and finishes last.
-ENTRIES = [*(f"ENTER GBR{number}" for number in (101, 7, 1, 2, 3, 4, 5)), "ENTER USA4", "FINISH 2 USA4", "STRIKE 2 USA4",
-           "FINISH 1 GBR101", "FINISH 1 GBR7", "STRIKE 1 GBR101", "FINISH 1 GBR101"]
+# Entries 8 to 10 are those of a boat that is taken out. ?1 is kept behind GBR 101, who is struck and finishes last.
+ENTRIES = [*(f"ENTER GBR{number}" for number in (101, 7, 1, 2, 3, 4, 5)),
+           "ENTER USA4", "FINISH 2 USA4", "STRIKE 2 USA4", "FINISH 1 GBR101", "FINISH 1 GBR7", "STRIKE 1 GBR101", "FINISH 1 GBR101"]
 
 
 class TakenOut(helpers.Series):
@@ -96,8 +96,8 @@ class TakenOut(helpers.Series):
         self.assertEqual(json.loads(self.places.lines()[-1])["entries"], 8)
 
     def test_kills(self) -> None:
-        """After a kill before any step she is in or out, and the place is as it was; also after the next opening, and once
-        she is taken out at last."""
+        """After a kill before any step she is in or out, and the place is as it was; also after the next opening, and
+        once she is taken out at last."""
         before, places = self.text("cup", "journal.txt"), self.places.data()
         kept: set[int] = set()
         for stop in itertools.count(1):

@@ -51,7 +51,8 @@ class LinesBack(unittest.TestCase):
 
     def test_unseen(self) -> None:
         """Entry 7 is somebody else's, perhaps about her. Entry 8 was answered just before the office went."""
-        for more in ([], ["FINISH 2 C"]):
+        some: tuple[list[str], ...] = ([], ["FINISH 2 C"])
+        for more in some:
             back = lines_back({8: "FINISH 2 B"}, self.BEFORE, [*self.AFTER, *more, "FINISH 2 B"], ["A"])
             self.assertEqual((back.numbers, back.lost), ({8: 5 + len(more)}, {}))
         self.assertEqual(lines_back({8: "FINISH 2 B"}, self.BEFORE, self.AFTER, ["A"]).lost, {8: "FINISH 2 B"})

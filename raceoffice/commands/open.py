@@ -7,9 +7,9 @@ its journal (journal.txt): each entry is on the disk before it is answered. This
 to a second folder if series.ini names one, and each hour to kept/. If its window has gone, an office that
 is still open is taken over.
 
-The journal has to go on from the newest copy in kept/ and from the end that was noted at the last closing. If
-it doesn't, this says how many entries differ and which is the first, and asks. So an older file, an edited
-line and a damaged disk are seen. docs/KEEPING.md says what to do then.
+The journal has to go on from the newest copy in kept/ and from the end that was noted at the last closing, and the
+copy in the second folder mustn't go on beyond it. Otherwise this says how many entries differ and which is the first,
+and asks. So an older file or folder, an edited line and a damaged disk are seen. docs/KEEPING.md says what to do then.
 
 The status is 0 after the office was closed, 1 if something was refused or the program ended by itself, and
 130 after Ctrl-C before it was open.

@@ -9,9 +9,10 @@ from dataclasses import dataclass
 
 from raceoffice.errors import Trouble
 from raceoffice.series.copies import Copy, bytes_of, newest
-from raceoffice.series.folder import Folder, shown
+from raceoffice.series.folder import Folder, shown, whole_part
 from raceoffice.series.kept_places import Places
 from raceoffice.series.log import Logged
+from raceoffice.series.second_folder import second_of
 from raceoffice.wording import count
 
 # What the office notes when it is opened or closed, and when a copy becomes the journal again.
@@ -100,7 +101,18 @@ def difference(folder: Folder) -> str:
     if last and not data.startswith(held):
         return from_copy(data, held, last)
     noted = noted_end(folder.logged())
-    return from_note(data, noted) if noted else ""
+    return (from_note(data, noted) if noted else "") or from_second(folder, data)
+
+
+def from_second(folder: Folder, data: bytes) -> str:
+    """How the copy in the second folder goes on beyond a journal, as after an old folder was restored whole; empty if it
+    doesn't, or if that folder doesn't answer."""
+    with second_of(folder) as second:
+        held = whole_part(second.ask("read").text.encode())
+    ours, theirs = parts_of(data)[1], parts_of(held)[1]
+    if len(theirs) <= len(ours) or theirs[:len(ours)] != ours:
+        return ""
+    return from_copy(data, held, Copy(0, 1, second.path))
 
 
 def differences(folder: Folder) -> str:

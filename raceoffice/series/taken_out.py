@@ -39,7 +39,7 @@ class TakenOut:
         return number - bisect.bisect(self.numbers, number)
 
     def is_in(self, journal: Sequence[str]) -> bool:
-        """Whether a journal has her entries at their numbers: nobody has taken her out of it, or it is the same again."""
+        """Whether a journal has her entries at their numbers: she is in it still, or it is the same again."""
         lines = [entry.partition(" ")[2] for entry in self.gone]
         return all(list(map(as_kept, journal[at - 1:at])) == [as_kept(line)] for at, line in zip(self.numbers, lines))
 
