@@ -2,6 +2,7 @@
 flipped bit, a line that was deleted."""
 from __future__ import annotations
 
+import json
 import os
 import random
 import re
@@ -17,7 +18,7 @@ from raceoffice.program.link import Link
 from raceoffice.series.continuity import difference, difference_of_places
 from raceoffice.series.copies import newest
 from raceoffice.series.folder import Folder
-from raceoffice.series.kept_places import Places
+from raceoffice.series.kept_places import Places, command_of
 from raceoffice.series.second_folder import Second
 
 SEED, FLIPS = 63, 200
@@ -335,6 +336,17 @@ class PlacesOfAClosedOffice(helpers.Series):
         self.assertIn("office/places can't be read: it isn't a plain file.", window.rest()[0])
         self.assertEqual([entry.answer[:9] for entry in self.folder.logged() if entry.line == "restored"],
                          ["6 entries"])
+
+    def test_boat_that_stayed(self) -> None:
+        """A kill came after the note that a boat is taken out: the opening notes that she is there still."""
+        journal = [command_of(line) for line in self.folder.kept()]
+        places = Places(self.folder, "Ann")
+        places.note_taken_out("IRL5", [f"{at} {line}" for at, line in enumerate(journal, 1) if line == "ENTER IRL5"],
+                              journal)
+        self.assertNotEqual(places.read().kept, places.read(journal).kept)
+        self.open()
+        self.assertEqual(json.loads(places.lines()[-1])["what"], "back")
+        self.assertEqual(places.read().kept, places.read(journal).kept)
 
     def test_removed_boat(self) -> None:
         """After a boat was taken out, the places are what they were."""

@@ -69,11 +69,11 @@ class Keeping:
             self.say(text)
         if self.backups.take_up_places():
             self.say("The places of finishers without a sail are taken up from the second folder.")
-        self.backups.note_back()
         self.service.start()
 
     def begin(self) -> None:
         """Copies the journal for the first time, and notes that the office is open."""
+        self.backups.note_back()
         self.save(self.service.link.sheet())
         self.keep_dated()
 
