@@ -88,6 +88,17 @@ class Stopped(Windows):
         window.press()
         self.assertEqual(window.rest()[1], 0)
 
+    def test_quit_key_of_a_typist(self) -> None:
+        """Nor does it take a typist's window away."""
+        window = self.copied()
+        typist = self.client("cup", "--role", "finish")
+        typist.press("\x1c")
+        typist.say("finish 8 101", r"OK 8 .*\n> $")
+        typist.type("quit")
+        self.assertEqual(typist.rest()[1], 0)
+        window.press()
+        window.rest()
+
     def test_goes_on(self) -> None:
         """A window that was stopped, as by Ctrl-Z or a lid, goes on: nobody asked it to close."""
         window, entries = self.copied(), 7

@@ -11,6 +11,8 @@ from raceoffice.wording import count, spans
 
 # What the log has in place of an answer that never came.
 UNANSWERED = "no answer"
+# The most entries that a journal holds: a greater number in a log is no answer.
+MOST_ENTRIES = 8192
 
 
 def as_kept(line: str) -> str:
@@ -58,7 +60,7 @@ class Unsaved:
             self.unanswered.clear()
         elif entry.answer == UNANSWERED:
             self.unanswered.append(entry)
-        elif found:
+        elif found and int(found[1]) <= MOST_ENTRIES:
             self.answered[int(found[1])] = entry
 
     def lost(self) -> dict[int, Logged]:
