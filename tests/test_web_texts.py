@@ -27,7 +27,7 @@ MADE = {
     "role.": ["FINISH", "JURY", "SCORER"], "enter.before.": ["finish", "jury", "scorer"],
     "enter.as.": ["finish", "jury", "scorer"], "scorer.tab.": ["races", "results", "links", "office", "times",
                                                                        "settings", "new"],
-    "new.": ["oneFrom", "twoFrom", "threeFrom", "fourFrom"], "new.wrong.": ["title", "zone", "exclude", "scp"],
+    "new.": ["oneFrom", "twoFrom", "threeFrom", "fourFrom"], "new.rounding.": ["half-up", "half-down", "down", "up"], "new.wrong.": ["title", "zone", "exclude", "scp"],
     "times.": ["start", "laps", "distance", "elapsed", "finish", "corrected"], "rules.from.": ["1", "2", "3", "4"],
     "settings.key.": ["title", "class", "club", "zone", "exclude", "absent", "scp", "handicap"],
     "code.": [*OF_COMMITTEE, "ZFP", "SCP"],
