@@ -9,6 +9,7 @@ from dataclasses import dataclass, field
 
 from raceoffice.errors import Fault, Trouble
 from raceoffice.files import PRIVATE
+from raceoffice.remarks import remark, system_remark
 from raceoffice.results.http_answers import Board
 from raceoffice.results.source import need_own_names
 from raceoffice.series.folder import Folder
@@ -133,4 +134,4 @@ def gate_of(folders: list[Folder], name: str, is_secure: bool) -> Gate:
         path = folders[0].file(PRIVATE, "web.json") if folders else ""
         return Gate(path, [name] if name else [], is_secure)
     except OSError as cause:
-        raise Trouble(f"office/web.json can't be used: {cause.strerror}") from None
+        raise Trouble(remark("file-unused", name="office/web.json", why=system_remark(cause))) from None
