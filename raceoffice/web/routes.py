@@ -115,8 +115,9 @@ class Routes:
 
     def news_of_page(self, request: Request) -> Waiting:
         """News of a page of the board, whose address follows `page=` as it is in the browser."""
-        address, texts = address_of(request.query.removeprefix("page=")), self.office.board.texts
-        if address not in texts or not texts[address].kind.startswith("text/html"):
+        name, _, path = request.query.partition("=")
+        address, texts = address_of(path), self.office.board.texts
+        if name != "page" or address not in texts or not texts[address].kind.startswith("text/html"):
             raise Wrong(404, "there is no such page here")
         return Waiting(functools.partial(self.office.board_news.serve, address=address, takes_gzip=request.takes_gzip))
 
