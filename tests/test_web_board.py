@@ -279,6 +279,7 @@ class Slow(unittest.IsolatedAsyncioTestCase):
     async def test_slow(self) -> None:
         """Who doesn't read holds nobody up, isn't sent page after page, and is put off in the end."""
         _, slow = await self.phone()
+        assert isinstance(slow.transport, asyncio.Transport)
         slow.transport.pause_reading()
         held = next(iter(self.news.lookers))
         quick, _ = await self.phone()
