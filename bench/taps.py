@@ -1,13 +1,12 @@
 #!/usr/bin/env python3
 """Measures the office in browsers over the real program.
 
-    bench/taps.py [--watchers N] [--taps T] [--boats B] [--pause SECONDS] [--no-pages] PROGRAM
+    bench/taps.py [--watchers N] [--taps T] [--boats B] [--pause SECONDS] PROGRAM
     bench/taps.py --drops D [--devices N] [--seeds S] PROGRAM
 
-The first form serves a series with B boats to N phones that wait for news of the board, and that get the page
-whenever it is another, unless --no-pages. One device sends T finishes, with a pause between. Printed are how
-long a tap waited for its answer, how soon the phones had the news of it and then the page, and the processor
-time of web and program.
+The first form serves a series with B boats to N phones that look at the board. One device sends T finishes, with a
+pause between. Printed are how long a tap waited for its answer, how soon the phones had the page with it, what else
+they asked for, and the processor time of web and program.
 
 In the second form N devices send 600 taps each over lines that drop D times at random, with each of S
 seeds; the journal has to be the taps.
@@ -16,12 +15,13 @@ from __future__ import annotations
 
 import argparse
 import asyncio
-import concurrent.futures
+import json
 import os
 import statistics
 import sys
 import threading
 import time
+import zlib
 from typing import Any
 
 HERE = os.path.dirname(os.path.abspath(__file__))
@@ -30,46 +30,64 @@ sys.path[1:1] = [os.path.join(os.path.dirname(HERE), "tests"), os.path.join(os.p
 from raceoffice import system  # noqa: E402
 
 TICK = os.sysconf("SC_CLK_TCK")
+MINUTE = 60.0
 
 
 class Phones:
-    """Phones that look at the board: each waits for its news, and then gets the page over a connection that it
-    keeps."""
+    """Phones that look at the board, each as the script of its page does: it waits for news, which has the page when
+    that is another, and asks for what the news leaves out. Once a minute it asks all the same."""
 
-    def __init__(self, port: int, number: int, has_pages: bool = True) -> None:
-        self.port, self.ready, self.has_pages = port, 0, has_pages
+    def __init__(self, port: int, number: int) -> None:
+        self.port, self.ready, self.number = port, 0, number
         system.room_for_files(4 * number + 100)
-        self.news: list[float] = []
         self.pages: list[float] = []
+        self.asked = 0
         self.loop = asyncio.new_event_loop()
         threading.Thread(target=self.loop.run_forever, daemon=True).start()
-        for _ in range(number):
-            asyncio.run_coroutine_threadsafe(self.look(), self.loop).add_done_callback(self.note)
+        # Python forgets a task that nobody holds.
+        self.tasks: set[asyncio.Task[None]] = set()
+        self.loop.call_soon_threadsafe(self.begin)
+
+    def begin(self) -> None:
+        for at in range(self.number):
+            task = self.loop.create_task(self.look(at))
+            self.tasks.add(task)
+            task.add_done_callback(self.note)
 
     @staticmethod
-    def note(done: concurrent.futures.Future[None]) -> None:
+    def note(done: asyncio.Task[None]) -> None:
         """Says why a phone doesn't look any more."""
         if not done.cancelled() and done.exception():
             print(f"a phone has gone: {done.exception()!r}")
 
-    async def look(self) -> None:
-        reader, writer = await asyncio.open_connection("127.0.0.1", self.port)
-        writer.write(b"GET /live HTTP/1.1\r\nHost: 127.0.0.1\r\n\r\n")
+    async def look(self, at: int) -> None:
         pages = await asyncio.open_connection("127.0.0.1", self.port)
+        reader, writer = await asyncio.open_connection("127.0.0.1", self.port)
+        writer.write(b"GET /live?page=/cup/ HTTP/1.1\r\nHost: 127.0.0.1\r\nAccept-Encoding: gzip\r\n\r\n")
         await reader.readuntil(b"\r\n\r\n")
         self.ready += 1
-        is_first = True
-        while line := await reader.readline():
-            if line.startswith(b"data: {") and not is_first:
-                self.news.append(time.monotonic())
-                if self.has_pages:
-                    await self.page(*pages)
+        minute = self.loop.create_task(self.ask_each_minute(pages, MINUTE * (at + 1) / self.number))
+        self.tasks.add(minute)
+        unpacked, text, version = zlib.decompressobj(31), b"", ""
+        while data := await reader.read(1 << 16):
+            *events, text = (text + unpacked.decompress(data)).split(b"\n\n")
+            for event in filter(lambda event: event.startswith(b"data: "), events):
+                now = json.loads(event[6:])
+                if version and now["version"] != version:
+                    if "page" not in now:
+                        await self.ask(*pages, b"/cup/")
                     self.pages.append(time.monotonic())
-            is_first = is_first and not line.startswith(b"data: {")
+                version = now["version"]
 
-    @staticmethod
-    async def page(reader: asyncio.StreamReader, writer: asyncio.StreamWriter) -> None:
-        writer.write(b"GET /cup/ HTTP/1.1\r\nHost: 127.0.0.1\r\nAccept-Encoding: gzip\r\n\r\n")
+    async def ask_each_minute(self, pages: tuple[asyncio.StreamReader, asyncio.StreamWriter], first: float) -> None:
+        await asyncio.sleep(first)
+        while True:
+            await self.ask(*pages, b"/cup/now.json")
+            await asyncio.sleep(MINUTE)
+
+    async def ask(self, reader: asyncio.StreamReader, writer: asyncio.StreamWriter, path: bytes) -> None:
+        self.asked += 1
+        writer.write(b"GET " + path + b" HTTP/1.1\r\nHost: 127.0.0.1\r\nAccept-Encoding: gzip\r\n\r\n")
         head = await reader.readuntil(b"\r\n\r\n")
         size = next(line for line in head.lower().split(b"\r\n") if line.startswith(b"content-length:"))
         await reader.readexactly(int(size.split()[1]))
@@ -112,7 +130,7 @@ def measure(asked: argparse.Namespace) -> None:
     """Taps with phones beside."""
     office = office_of(asked.boats)
     try:
-        phones = Phones(office.port, asked.watchers, not asked.no_pages)
+        phones = Phones(office.port, asked.watchers)
         end = time.monotonic() + 120
         while phones.ready < asked.watchers and time.monotonic() < end:
             time.sleep(0.1)
@@ -135,11 +153,9 @@ def tap_all(asked: argparse.Namespace, office: Any, phones: Phones) -> None:
     """Sends the finishes, and says how long each took."""
     device, last = office.device("finish"), ""
     took: list[float] = []
-    news: list[float] = []
     pages: list[float] = []
     for at in range(asked.taps):
         race, sail = at // asked.boats + 1, f"GBR{at % asked.boats + 1}"
-        phones.news.clear()
         phones.pages.clear()
         start = time.monotonic()
         _, said = device.tap(f"FINISH {race} {sail}", seen=asked.boats, behind=last)
@@ -147,12 +163,11 @@ def tap_all(asked: argparse.Namespace, office: Any, phones: Phones) -> None:
         assert said["outcome"] == "taken", said
         last = "" if sail == f"GBR{asked.boats}" else sail
         time.sleep(max(0.0, start + asked.pause - time.monotonic()))
-        news += [when - start for when in phones.news]
         pages += [when - start for when in phones.pages]
     print(f"{asked.boats} boats, {phones.ready} phones, {asked.taps} taps, load {os.getloadavg()[0]:.1f}")
     print(said_of("a tap to its answer", took))
-    print(said_of("a tap to the news of it on a phone", news))
     print(said_of("a tap to the page on a phone", pages))
+    print(f"requests of phones beside their news: {phones.asked}")
 
 
 def drop(asked: argparse.Namespace) -> None:
@@ -179,7 +194,6 @@ def main() -> None:
     parser.add_argument("--taps", type=int, default=120, metavar="T")
     parser.add_argument("--boats", type=int, default=100, metavar="B")
     parser.add_argument("--pause", type=float, default=1.0, metavar="SECONDS")
-    parser.add_argument("--no-pages", action="store_true")
     parser.add_argument("--drops", type=int, default=0, metavar="D")
     parser.add_argument("--devices", type=int, default=5, metavar="N")
     parser.add_argument("--seeds", type=int, default=10, metavar="S")

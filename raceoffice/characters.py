@@ -87,8 +87,8 @@ def plainly(text: str) -> str:
 
 def unbroken(text: str) -> str:
     """A text in which no line is broken until `with_spaces` gives it back: so no line of what is said begins with
-    words that somebody else chose."""
-    return text.replace(" ", UNBROKEN)
+    words that somebody else chose. What it has that looks like an unbroken space is shown by its number."""
+    return text.replace(UNBROKEN, code_of(UNBROKEN)).replace(" ", UNBROKEN)
 
 
 def with_spaces(text: str) -> str:

@@ -4,6 +4,8 @@ from __future__ import annotations
 import contextlib
 from collections.abc import Iterator
 
+from raceoffice.remarks import Value, remark, system_remark
+
 
 class Explained(Exception):
     """Why something can't be done: one thing or several that are said, each perhaps with its kind and values, which
@@ -14,17 +16,22 @@ class Explained(Exception):
         self.said = said
 
 
+def said_of(cause: Explained) -> str:
+    """What an exception says: the remark itself if it is one alone."""
+    return cause.said[0] if len(cause.said) == 1 else str(cause)
+
+
 class Trouble(Explained):
     """Why something can't be done, in words. It is shown, and nothing stops at one with a page of Python."""
 
 
 @contextlib.contextmanager
-def as_trouble(what: str) -> Iterator[None]:
-    """Makes a Trouble of what the system refuses: what can't be done, and why."""
+def as_trouble(kind: str, /, **values: Value) -> Iterator[None]:
+    """Makes a Trouble of what the system refuses: a remark of this kind, with why."""
     try:
         yield
     except OSError as cause:
-        raise Trouble(f"{what}: {cause.strerror}") from None
+        raise Trouble(remark(kind, why=system_remark(cause), **values)) from None
 
 
 class Gone(Trouble):

@@ -8,6 +8,7 @@ import stat
 
 from raceoffice import system
 from raceoffice.errors import NotThere, Trouble, as_trouble
+from raceoffice.remarks import remark, system_remark
 
 # The folder in that of a series which lets in this account alone.
 PRIVATE = "office"
@@ -36,16 +37,16 @@ def read_whole(path: str, most: int, called: str = "") -> bytes:
     try:
         with open(path, "rb", opener=opened_at_once) as file:
             if not stat.S_ISREG(os.fstat(file.fileno()).st_mode):
-                raise Trouble(f"{called} is no plain file")
+                raise Trouble(remark("file-unplain", name=called))
             data = file.read(most + 1)
     except FileNotFoundError:
-        raise NotThere(f"{called} isn't there") from None
+        raise NotThere(remark("file-gone", name=called)) from None
     except OSError as cause:
-        raise Trouble(f"{called} can't be read: {cause.strerror}") from None
+        raise Trouble(remark("file-unread", name=called, why=system_remark(cause))) from None
     except ValueError:
-        raise Trouble(f"{called!r} can't be the name of a file") from None
+        raise Trouble(remark("file-odd-name", name=called)) from None
     if len(data) > most:
-        raise Trouble(f"{called} is longer than {most:,} bytes")
+        raise Trouble(remark("file-long", name=called, most=f"{most:,}"))
     return data
 
 
@@ -54,7 +55,7 @@ def edited_text(path: str) -> str:
     try:
         return read_whole(path, LARGEST_EDITED).decode("utf-8-sig")
     except UnicodeDecodeError:
-        raise Trouble(f"{path} isn't UTF-8 text: save it as UTF-8") from None
+        raise Trouble(remark("file-not-utf8", name=path)) from None
 
 
 def text_if_any(path: str, most: int = -1) -> str:
@@ -83,7 +84,7 @@ def mode_of(path: str) -> int | None:
     if stat.S_ISLNK(found.st_mode):
         return None
     if not stat.S_ISREG(found.st_mode):
-        raise Trouble(f"{path} can't be written: it is no plain file")
+        raise Trouble(remark("file-unwritten", name=path, why=remark("why-unplain")))
     return stat.S_IMODE(found.st_mode)
 
 
@@ -119,7 +120,7 @@ def replace_whole(path: str, data: bytes, is_public: bool = False) -> None:
     except OSError as cause:
         with contextlib.suppress(OSError):
             os.remove(fresh)
-        raise Trouble(f"{path} can't be written: {cause.strerror}") from None
+        raise Trouble(remark("file-unwritten", name=path, why=system_remark(cause))) from None
 
 
 def is_torn(number: int) -> bool:
@@ -148,9 +149,9 @@ def append_whole(path: str, data: bytes, ended: bytes = b"", called: str = "") -
     """
     called = called or path
     flags = os.O_RDWR | os.O_APPEND | os.O_CREAT | system.NO_LINK | system.AT_ONCE
-    with as_trouble(f"{called} can't be written"), system.opened(path, flags, PRIVATE_MODE) as number:
+    with as_trouble("file-unwritten", name=called), system.opened(path, flags, PRIVATE_MODE) as number:
         if not stat.S_ISREG(os.fstat(number).st_mode):
-            raise Trouble(f"{called} can't be written: it is no plain file")
+            raise Trouble(remark("file-unwritten", name=called, why=remark("why-unplain")))
         # One who has the lock may have been stopped.
         is_alone = system.take_lock(number, PATIENCE)
         write_all(number, (ended if is_torn(number) else b"") + data, is_alone)

@@ -2,8 +2,9 @@
 values. The English words of each kind are made of its values alone. Pages make words of their own of both."""
 from __future__ import annotations
 
+import errno
 from collections.abc import Mapping, Sequence
-from typing import Union
+from typing import Any, Union
 
 from raceoffice.wording import joined, sign
 
@@ -12,8 +13,8 @@ Value = Union[str, int, Sequence[str]]
 # Signs that are named for what they are like on paper, and look like another.
 DASHES, SPACES = "\u2013\u2014", "\u00a0"
 
-# A kind's words; two if it has others for one and for several, by its value `n`.
-ENGLISH: dict[str, str | tuple[str, str]] = {
+# A kind's words; two if it has others for one and for several, by its value `n`, and three if also for none.
+ENGLISH: dict[str, str | tuple[str, str] | tuple[str, str, str]] = {
     # What an office says
     "office-rules": "{words}",
     "office-open": "{time} The office is open.",
@@ -23,6 +24,155 @@ ENGLISH: dict[str, str | tuple[str, str]] = {
     "office-again": "{time} It is tried again in {seconds} seconds.",
     "office-out": "{sail} is taken out: {copy} has the journal with her.",
     "office-no-copy": "No second copy: {why}.",
+    "office-summary": "{title}: {boats}, {races}, {entries}",
+    "some-boats": ("{n} boat", "{n} boats", "no boats"),
+    "some-scored": ("{n} race scored", "{n} races scored", "no races scored"),
+    "some-entries": ("{n} entry", "{n} entries", "no entries"),
+    "some-lines": ("{n} line", "{n} lines", "no lines"),
+    "office-rules-were": "The rules were: {rules}",
+    "office-rules-now": "They are now: {rules}",
+    "office-move": "   {words}",
+    "office-shut": "The office lets nobody in any more. Close it by Ctrl-C, and open it again.",
+    "office-crashed": "The office wasn't closed properly last time. Its old socket has been removed.",
+    "office-places-taken": "The places of finishers without a sail are taken up from the second folder.",
+    "office-gone": "The office has gone.",
+    "office-open-again": "Open it again: {command}",
+    "office-stopped": "The office is stopped without its windows.",
+    "office-still-there": "still there after {seconds} seconds: {names}",
+    "office-still-somebody": "still there after {seconds} seconds: somebody who isn't in office.log",
+    "office-closed": "Closed.",
+    "office-joined": "It is joined.",
+    "office-other-window": "the office is open in another window, since {since} (process {process})",
+    "office-opening-there": "the office is being opened in another window",
+    "office-opened-anew": "the office was opened anew meanwhile",
+    "office-goes-on": "the office goes on without a window",
+    "office-not-opened": "the office can't be opened: {why}",
+    "office-unsaid": "the program ended, and didn't say why",
+    "office-no-socket": "the office doesn't open its socket",
+    "office-folder-gone": "the folder of the office has gone",
+    "office-lets-in": "the office goes on letting clients in",
+    "office-no-end": "the program didn't end in {seconds} seconds",
+    "office-silent": "the office hasn't answered for {seconds} seconds",
+    "office-lost": "the office has gone",
+    "office-full": "all seats of the office are taken",
+    "office-closed-to-all": "the office lets nobody in any more (CLOSED)",
+    "office-none": "no office is open there",
+    "office-left": "no office is open there, and the last one wasn't closed properly",
+    "beware": "Beware: {said}",
+    "program-fault": "raceoffice has a fault, {name}; its trace is in {path}. Send that to whoever gave you raceoffice",
+    "program-fault-untold": "raceoffice has a fault, {name}; its trace couldn't be written. "
+                            "Send that to whoever gave you raceoffice",
+    # What an office has, and what its copies have
+    "journal-has": "journal.txt has {entries}.",
+    "journal-has-so": "journal.txt has {entries}, and so has {copy}.",
+    "journal-has-other": "journal.txt has {entries}, and isn't what the office kept.",
+    "journal-other": "journal.txt isn't what it kept: that is in {copy}.",
+    "journal-changed": "journal.txt isn't what the office keeps: somebody has changed or replaced it",
+    "journal-beside": "The journal of the office is in {copy}. Compare it with journal.txt before you open it again.",
+    "journal-close-it": "Close the office: its journal then goes to kept/, too.",
+    "journal-waits": "The office stays until its journal is in kept/: {why}. Once more Ctrl-C shows it here, and closes "
+                     "the office.",
+    "copy-same-disk": "The second copy, {path}, is on the same disk as journal.txt. Is the stick in?",
+    "copy-none-dated": "No dated copy: {why}",
+    "copy-other-lines": "{path} holds lines that the office doesn't have. It is left as it is",
+    "folder-silent": "{path} doesn't answer",
+    "folder-gone": "{path} isn't there",
+    "places-again": ("Beware: somebody has changed office/places. {n} line that it had is there again.",
+                     "Beware: somebody has changed office/places. {n} lines that it had are there again."),
+    "places-not-again": ("Beware: somebody has changed office/places. {n} line that it had is there again. "
+                         "Not {others}: another finisher is called so by now.",
+                         "Beware: somebody has changed office/places. {n} lines that it had are there again. "
+                         "Not {others}: another finisher is called so by now.",
+                         "Beware: somebody has changed office/places. no lines that it had are there again. "
+                         "Not {others}: another finisher is called so by now."),
+    # What a crash has left
+    "lost-lines": "journal.txt has {entries}. These lines were answered, and are lost. Type them again in this order, "
+                  "before any other:",
+    "lost-missing": "   {numbers}: answered to somebody whose lines aren't in office.log. Ask who typed without a window.",
+    "lost-unanswered": "These lines had no answer. Look whether they are in the journal before you type them again:",
+    "torn-end": "journal.txt ends in a torn line, as after a crash, which isn't counted: {line!r}. "
+                "The office cuts it off when it is opened, and keeps it in journal.txt.cut.",
+    "journal-damaged": "journal.txt is damaged after line {line}. If a crash did that, all that was answered is in the "
+                       "lines up to it. In its folder this keeps those alone:\n"
+                       "   head -n {line} journal.txt > good.txt\n   cp good.txt journal.txt\n"
+                       "Otherwise compare it with the copies in kept/.",
+    "no-journal": "journal.txt is no journal: none of its lines is whole. Compare it with the copies in kept/.",
+    # What keeps an office shut, and what should be known before
+    "folder-odd": "The program takes no path that isn't UTF-8, as {path} isn't: rename that folder.",
+    "journal-unplain": "journal.txt is no plain file.",
+    "journal-linked": "journal.txt has a second name (a hard link), and the office would keep it under one alone. "
+                      "Copy it to another file, and rename that to journal.txt.",
+    "journal-denied": "This account may not write {path}, or its folder.",
+    "journal-lost": "journal.txt is empty or gone, but the series had {entries}.",
+    "journal-lost-copy": "journal.txt is empty or gone, but the series had {entries}. {copy} has {held}.",
+    "disk-full": "The disk is full. Nothing was opened or changed.",
+    "disk-unwritten": "The disk can't be written: {why}. Nothing was opened or changed.",
+    "disk-make-space": "The disk is full: make space.",
+    "disk-no-sockets": "This disk takes no sockets (often a stick). Copy the folder to the computer's own disk.",
+    "boats-left": "On the entry list, but not entered: {boats}. The scorer enters a late boat by ENTER.",
+    "other-journals": "Beside journal.txt there is {names}. Only journal.txt is used. If a cloud folder made the other, "
+                      "move the series out of it.",
+    "places-kept": "Kept without a sail: {places:,}.",
+    "places-of-race": "{marks} in race {race}",
+    "program-gone": "The program isn't at {path}: correct `program` in series.ini.",
+    "program-denied": "The program may not be run: type chmod +x {path}",
+    "program-endless": "{path} isn't regatta: it doesn't end.",
+    "program-foreign": "The program at {path} can't be run: it is made for another system.",
+    "program-other": "{path} isn't regatta: it said {said}.",
+    "journal-taken": "Another office has journal.txt, which wasn't opened here. End that one first.",
+    "journal-fault": "journal.txt can't be opened, or can't be put on the disk. Is the disk full? May this account write "
+                     "the file? It must be a plain file with one name, and nobody else may change, move or remove it "
+                     "while the office is open.",
+    "journal-begun-otherwise": "journal.txt and the journal that the office was to begin with have different entries, "
+                               "first at {entry}.",
+    "journal-forbidden": "This account may not write journal.txt, or a file beside it.",
+    "journal-long": "journal.txt is longer than 1,048,576 bytes.",
+    # How journal.txt and office/places don't go on from what the office had
+    "journal-unknown": "Nobody knows whether journal.txt is what the office had: {why}.",
+    "places-unknown": "Nobody knows whether office/places is what the office had: {why}.",
+    "places-differ": "office/places isn't what the office had. It has {lines}. When the office was {when}, it had {had}. "
+                     "A finisher without a sail may be missing.",
+    "places-differ-same": "office/places isn't what the office had. It has {lines}. When the office was {when}, it had "
+                          "{had}, and these aren't the same. A finisher without a sail may be missing.",
+    "when-opened": "opened", "when-closed": "closed", "when-restored": "restored",
+    "journal-added": "journal.txt has {entries}, {more} more than when the office was closed: it was kept without "
+                     "raceoffice, or somebody has added to it.",
+    "journal-differs": "journal.txt isn't what the office had. It has {entries}, and {copy} has {had}.",
+    "journal-differs-version": "Its first line is {line}, and that of the copy {other}.",
+    "journal-differs-one": "One of these isn't in journal.txt at its place, entry {entry}:",
+    "journal-differs-more": "{n} of these aren't in journal.txt at their place, first entry {entry}:",
+    "journal-in-copy": "   {line}   in the copy", "journal-in-file": "   {line}   in journal.txt",
+    "journal-in-file-none": "   nothing   in journal.txt",
+    "journal-compare": "If nobody meant that, compare the two before you open the office.",
+    "journal-short": "journal.txt isn't what the office had. It has {entries}. When the office was {when}, it had {had}, "
+                     "and no copy in kept/ has the others.",
+    "journal-not-same": "journal.txt isn't what the office had. It has {entries}. When the office was {when}, it had "
+                        "{had}, and these aren't the same. No copy in kept/ shows which differs.",
+    # Why a file can't be read or written
+    "file-unplain": "{name} is no plain file",
+    "file-gone": "{name} isn't there",
+    "file-unread": "{name} can't be read: {why}",
+    "file-unwritten": "{name} can't be written: {why}",
+    "file-unmade": "{name} can't be made: {why}",
+    "file-unused": "{name} can't be used: {why}",
+    "file-stays": "{name} can't be removed: {why}",
+    "folder-unwritten": "nothing can be written in {name}: {why}",
+    "file-odd-name": "{name!r} can't be the name of a file",
+    "file-long": "{name} is longer than {most} bytes",
+    "file-not-utf8": "{name} isn't UTF-8 text: save it as UTF-8",
+    "why-unplain": "it is no plain file",
+    "why-linked": "it has a second name (a hard link)",
+    # What the system says, by its own names
+    "system-EPERM": "Operation not permitted", "system-ENOENT": "No such file or directory",
+    "system-EIO": "Input/output error", "system-ENXIO": "No such device or address",
+    "system-EACCES": "Permission denied", "system-EBUSY": "Device or resource busy",
+    "system-EEXIST": "File exists", "system-ENODEV": "No such device",
+    "system-ENOTDIR": "Not a directory", "system-EISDIR": "Is a directory",
+    "system-ENFILE": "Too many open files in system", "system-EMFILE": "Too many open files",
+    "system-EFBIG": "File too large", "system-ENOSPC": "No space left on device",
+    "system-EROFS": "Read-only file system", "system-ENAMETOOLONG": "File name too long",
+    "system-ELOOP": "Too many levels of symbolic links", "system-ESTALE": "Stale file handle",
+    "system-EDQUOT": "Disk quota exceeded", "system-EHOSTDOWN": "Host is down",
     # Signs, by their names
     "sign-seen": "{name}", "sign-tab": "{name}", "sign-space": "{name}", "sign-dash": "{name}", "sign-unseen": "{name}",
     # What was done to a list that somebody gave
@@ -173,6 +323,8 @@ ENGLISH: dict[str, str | tuple[str, str]] = {
     "start-form": "a race of a series by corrected time has a start: START race 14:05:00",
     "times-form": "a race of a series by corrected time has a sheet: TIMES race",
     "start-wrong": "{written} isn't {wanted}",
+    "finish-wrong": "{written} isn't {wanted}",
+    "finish-changed": "{sail} hasn't {was} in {name} any more: look again",
     "starts-several": "{name} has several starts: change them there",
     "sheet-has": "{sail} has {before} in {name} already: strike or clear her first",
     "reason-needed": "amended results need a reason. Nothing was announced",
@@ -181,6 +333,8 @@ ENGLISH: dict[str, str | tuple[str, str]] = {
     "ini-changed": "somebody else has changed series.ini meanwhile: look again",
     "settings-missing": "the settings are missing",
     "setting-long": "{key} has more than {most} letters",
+    "rounding-wrong": "{written} is no rounding, which are {wanted:or}",
+    "rounding-changed": "somebody else has changed the rounding meanwhile: look again",
     "rules-refused": "the program refuses these rules",
     "list-not-whole": "the list didn't come whole",
     "list-too-long": "the list is longer than {most} bytes",
@@ -208,18 +362,24 @@ class Remark(str):
     kind: str
     values: Mapping[str, Value]
 
+    def in_words(self, text: str) -> Remark:
+        """The same in other English words."""
+        made = Remark(text)
+        made.kind, made.values = self.kind, self.values
+        return made
+
 
 class Several(list[str]):
-    """Some that are named in one value, with `and`, or with the word that the format gives."""
+    """Some that are named in one value, with `and`, with the word that the format gives, or with commas alone."""
 
     def __format__(self, last: str) -> str:
-        return joined(self, last or "and")
+        return ", ".join(self) if last == "," else joined(self, last or "and")
 
 
 def remark(kind: str, /, **values: Value) -> Remark:
     """What is said of these values, with its words."""
     words = ENGLISH[kind]
-    form = words if isinstance(words, str) else words[values["n"] != 1]
+    form = words if isinstance(words, str) else words[2 if values["n"] == 0 and len(words) == 3 else values["n"] != 1]
     made = Remark(form.format(**{name: value if isinstance(value, (str, int)) else Several(value)
                                  for name, value in values.items()}))
     made.kind, made.values = kind, values
@@ -231,3 +391,40 @@ def sign_remark(letter: str) -> Remark:
     kind = ("sign-tab" if letter == "\t" else "sign-space" if letter in SPACES else "sign-dash" if letter in DASHES
             else "sign-seen" if letter.isprintable() else "sign-unseen")
     return remark(kind, name=sign(letter), sign=letter if kind == "sign-seen" else f"U+{ord(letter):04X}")
+
+
+def in_a_row(*said: str) -> Remark:
+    """Several sentences, one after another: remarks, or texts that are the same in every language."""
+    made = Remark(" ".join(said))
+    made.kind, made.values = "sentences", {"said": list(said)}
+    return made
+
+
+def on_lines(*said: str) -> Remark:
+    """Several remarks or texts, each on a line of its own."""
+    made = Remark("\n".join(said))
+    made.kind, made.values = "lines", {"said": list(said)}
+    return made
+
+
+def packed(one: str) -> object:
+    """A remark as it goes to another process; a text without a kind as it is."""
+    if not isinstance(one, Remark):
+        return one
+    return {"kind": one.kind, "text": str(one), "values": {name: packed(value) if isinstance(value, str) else value
+                                                           for name, value in one.values.items()}}
+
+
+def unpacked(held: Any) -> Any:
+    """What another process has packed."""
+    if not isinstance(held, dict):
+        return held
+    made = Remark(held["text"])
+    made.kind, made.values = held["kind"], {name: unpacked(value) for name, value in held["values"].items()}
+    return made
+
+
+def system_remark(cause: OSError) -> str:
+    """What the system says of a fault, which has a kind if it is a usual one."""
+    name = errno.errorcode.get(cause.errno or 0, "")
+    return remark(f"system-{name}") if f"system-{name}" in ENGLISH else str(cause.strerror)

@@ -14,7 +14,8 @@ import unicodedata
 from collections.abc import Callable
 
 from raceoffice.characters import code_of
-from raceoffice.errors import Unheard
+from raceoffice.errors import Explained, Unheard, said_of
+from raceoffice.remarks import Remark
 
 # Control signs, signs of direction and of no width, and ends of lines that an editor doesn't show.
 HIDDEN = {"Cc", "Cf", "Zl", "Zp"}
@@ -166,8 +167,10 @@ def broken(line: str, columns: int) -> str:
 
 
 def sentence(text: object) -> str:
-    """A text with a full stop, unless it has an end."""
-    return str(text) if str(text).endswith((".", "?")) else f"{text}."
+    """A text with a full stop, unless it has an end. A remark stays one."""
+    one = said_of(text) if isinstance(text, Explained) else text
+    words = str(one) if str(one).endswith((".", "?")) else f"{one}."
+    return one.in_words(words) if isinstance(one, Remark) else words
 
 
 def typed(text: str) -> str | None:

@@ -14,6 +14,7 @@ from collections.abc import Iterator
 from raceoffice.characters import utf8
 from raceoffice.errors import Fault, Trouble
 from raceoffice.files import PRIVATE, append_whole
+from raceoffice.remarks import remark
 
 NAME = "faults.txt"
 
@@ -33,9 +34,8 @@ def guarded(folder: str, *passed: type[Exception]) -> Iterator[None]:
 def fault_sentence(folder: str, cause: Exception) -> str:
     """A fault in one sentence, once its trace has been written."""
     path = written(folder, "".join(traceback.format_exception(cause)))
-    where = f"its trace is in {path}" if path else "its trace couldn't be written"
-    return (f"raceoffice has a fault, {type(cause).__name__}; {where}. Send that to whoever gave you "
-            "raceoffice")
+    name = type(cause).__name__
+    return remark("program-fault", name=name, path=path) if path else remark("program-fault-untold", name=name)
 
 
 WRITTEN: dict[str, str] = {}

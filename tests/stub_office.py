@@ -20,8 +20,9 @@ KINDS = {".html": "text/html; charset=utf-8", ".js": "text/javascript", ".css": 
          ".webmanifest": "application/manifest+json"}
 POLICY = ("default-src 'none'; script-src 'self'; style-src 'self'; connect-src 'self'; img-src 'self'; "
           "manifest-src 'self'; worker-src 'self'; base-uri 'none'; form-action 'none'; frame-ancestors 'none'")
-# What the window of an open office says: its series in English words, and when it was opened.
-OFFICE_SAYS = ["Autumn Cup: 24 boats, 1 race scored, 30 entries", remark("office-open", time="13:00")]
+# What the window of an open office says: its series, and when it was opened.
+OFFICE_SAYS = [remark("office-summary", title="Autumn Cup", boats=remark("some-boats", n=24), races=remark("some-scored", n=1),
+                      entries=remark("some-entries", n=30)), remark("office-open", time="13:00")]
 NO_DECISION = remark("decision-line", line=2, why=remark("decision-kind", written="K12", kinds=["PRP", "TLE"]))
 # 28 November 2026, 13:00 in Greenwich
 NOON = 1_795_870_800_000
@@ -94,9 +95,9 @@ def results() -> dict[str, Any]:
     """Final results that have changed since, with all that may be open, and copies of which one is wrong."""
     return {"state": "final", "reason": "The protest time has ended", "since": NOON, "is_changed": True,
             "is_open": True, "open": OPEN,
-            "journal": {"entries": 59, "differs": "journal.txt isn't what the office keeps."},
-            "copies": {"dated": {"count": 14, "fault": "", "name": "kept/2026-11-28-120000Z.txt", "at": NOON, "entries": 58},
-                       "second": {"path": "/media/ann/STICK", "fault": "", "is_same_disk": True, "at": NOON, "entries": 60},
+            "journal": {"entries": 59, "differs": remarks_of([remark("journal-changed")])},
+            "copies": {"dated": {"count": 14, "fault": [], "name": "kept/2026-11-28-120000Z.txt", "at": NOON, "entries": 58},
+                       "second": {"path": "/media/ann/STICK", "fault": [], "is_same_disk": True, "at": NOON, "entries": 60},
                        "chosen": "/media/ann/OTHER STICK", "is_waiting": True,
                        "sticks": [{"path": "/media/ann/STICK", "is_same_disk": True}, {"path": "/media/ann/32 GB", "is_same_disk": False}]}}
 
@@ -169,7 +170,7 @@ class StubOffice:
     def kept() -> dict[str, Any]:
         """The settings of a class, of which the office goes by others."""
         rules = {"exclude": "4", "absent": "a52", "scp": "", "handicap": "no"}
-        return {"wrong": [], "tag": "t", "is_open": True, "is_kept_here": True, "system": "", "waiting": ["exclude", "zone"],
+        return {"wrong": [], "tag": "t", "is_open": True, "is_kept_here": True, "system": "", "rounding": "", "waiting": ["exclude", "zone"],
                 "settings": {**rules, "title": "Autumn Cup", "class": "Dragon", "club": "", "zone": "Europe/Lisbon"},
                 "opened": {**rules, "exclude": "none", "handicap": False}}
 
@@ -177,6 +178,7 @@ class StubOffice:
         """Whom other settings would move."""
         return {"wrong": [], "keys": [], "rules": "", "settings": {"exclude": "4,8", "absent": "a53", "scp": "3", "handicap": True},
                 "at_once": ["title"], "at_opening": ["exclude", "absent", "scp", "handicap"], "moves": self.preview["moves"],
+                "retimed": [{"race": 2, "n": 7}, {"race": 3, "n": 1}], "moved": self.preview["moves"],
                 "stale": [verdict() | {"kept": False, "held": "6.0"}, wrong_shown(NO_DECISION)]}
 
     def handler(self) -> type[http.server.BaseHTTPRequestHandler]:

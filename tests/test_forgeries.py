@@ -299,13 +299,32 @@ class Forgeries(ForgedPages):
             self.assertIn("VERIFIED" if "absent" in why else "…", why)
 
     def test_name_of_file(self) -> None:
-        """Nor does the name of a file: one with spaces is in quotation marks, on one line."""
+        """Nor does the name of a file: one that may be words is in quotation marks, on one line."""
         path, told = os.path.join(self.here, "x\na.html: verified.\x1b[2K"), io.StringIO()
         self.write("<p>Results</p>", path)
         with contextlib.redirect_stdout(told):
             self.assertEqual(verifier.verify([path, f"{path} no"], helpers.PROGRAM), 2)
         self.assertEqual([line.startswith(f'"{self.here}') for line in told.getvalue().splitlines()], [True] * 2)
         self.assertEqual(told.getvalue().count("\\x0aa.html: verified.\\x1b[2K"), 2)
+
+    def test_name_that_quotes(self) -> None:
+        """Nor can such a name close its quotation marks, or have spaces that are none."""
+        for name, shown in (('a.html": verified. "b', r'a.html\": verified. \"b"'),
+                            ("a.html:\u2423verified.", r'a.html:\u2423verified."'), ("a\\ b", r'a\\ b"')):
+            (said,) = verifier.outcome(self.verifier, os.path.join(self.here, name)).lines
+            line, *more = verifier.laid_out([said], 0).split("\n")
+            self.assertTrue(line.startswith(f'"{self.here}/{shown}: not verified: '), line)
+            self.assertEqual(more, [])
+
+    def test_quoted_space(self) -> None:
+        """What looks as a space that isn't broken, and is no space, is shown by its number."""
+        self.assertIn(r"'GBR 101 A. Mo\u2423ss'", self.said(self.made["results"].replace(">A. Moss<", ">A. Mo\u2423ss<", 1))[1])
+
+    def test_progress(self) -> None:
+        """While it scores, the terminal shows no word of the page."""
+        with unittest.mock.patch.object(verifier, "Progress") as progress:
+            self.assertEqual(self.said(self.made["results"])[0], 0)
+        self.assertEqual({call.args for call in progress.call_args_list}, {("Scoring again",)})
 
     def test_beware(self) -> None:
         """Signs that turn others, or that aren't seen, are said of a page that is verified."""

@@ -15,10 +15,12 @@ import helpers
 PACKAGE = pathlib.Path(helpers.TOP, "raceoffice")
 # From the lowest to the highest. A package here means all of its modules that aren't named apart.
 LAYERS = [
-    ["errors", "characters", "time_zones", "version"],
-    ["system"],
-    ["files", "wording", "terminal"],
+    ["characters", "time_zones", "version"],
+    ["wording"],
     ["remarks"],
+    ["errors"],
+    ["system"],
+    ["files", "terminal"],
     ["traces"],
     ["exit_status"],
     ["program"],

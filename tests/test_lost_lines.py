@@ -34,6 +34,12 @@ class Lost(helpers.Series):
         self.assertEqual(self.said(["ENTER A", "FINISH 1 B"], *lines), [])
         self.assertEqual(self.said(["ENTER A", "FINISH 1 A"], *lines)[1:], ["2  FINISH  FINISH 1 B   (Ann)"])
 
+    def test_no_answer(self) -> None:
+        """A number that no journal reaches, as after a bit of the log has changed, is no answer."""
+        lines = [("ENTER A", "OK 1 1 0.0"), ("ENTER B", "OK 8193 1 0.0"), ("ENTER C", "OK 999999999 1 0.0")]
+        self.assertEqual(self.said(["ENTER A"], *lines), [])
+        self.assertEqual(self.said(["ENTER A"], *lines, ("SCORE 1", "OK 8192"))[1], "8192  FINISH  SCORE 1   (Ann)")
+
     def test_one_form(self) -> None:
         """A line is known however it was typed."""
         for typed, kept in [("finish 01 gbr7", "FINISH 1 GBR7"), ("TIME 1 A 000042", "TIME 1 A 42"),

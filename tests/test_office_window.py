@@ -24,6 +24,7 @@ from raceoffice.office import keeping, process as office_process
 from raceoffice.office.window import OfficeWindow
 from raceoffice.program.journal import Race
 from raceoffice.program.link import Link
+from raceoffice.remarks import remark
 from raceoffice.series import second_folder
 from raceoffice.series.copies import newest
 from raceoffice.series.folder import Folder, Lock
@@ -87,6 +88,17 @@ class Stopped(Windows):
         window.press("\x1c")
         window.press()
         self.assertEqual(window.rest()[1], 0)
+
+    def test_quit_key_of_a_typist(self) -> None:
+        """Nor does it take a typist's window away."""
+        window = self.copied()
+        typist = self.client("cup", "--role", "finish")
+        typist.press("\x1c")
+        typist.say("finish 8 101", r"OK 8 .*\n> $")
+        typist.type("quit")
+        self.assertEqual(typist.rest()[1], 0)
+        window.press()
+        window.rest()
 
     def test_goes_on(self) -> None:
         """A window that was stopped, as by Ctrl-Z or a lid, goes on: nobody asked it to close."""
@@ -639,7 +651,7 @@ class Clocks(Windows):
                                             (180, False, 1), (240, True, 1), (300, False, 2)]:
                 self.now, lets_in.return_value = float(seconds), is_open
                 found.look()
-                self.assertEqual(said, [keeping.NOBODY] * times, seconds)
+                self.assertEqual(said, [remark("office-shut")] * times, seconds)
 
     def test_unforeseen(self) -> None:
         """What nobody foresaw is a sentence, also where others type, and the window goes on."""

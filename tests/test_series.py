@@ -226,7 +226,8 @@ class Opening(helpers.Series):
         self.assertFalse(os.path.exists(os.path.join(self.here, "cup", "office", "race.sock")))
 
     def test_closed_properly(self) -> None:
-        """After an orderly end nothing is lost. If somebody has made the journal shorter, it is asked."""
+        """After an orderly end nothing is lost. If somebody has made the journal shorter, it is asked; what
+        was typed before is no answer."""
         window = self.open()
         self.send(*LINES)
         with open(os.path.join(self.here, "cup", "office.log"), "a") as file:
@@ -243,7 +244,9 @@ class Opening(helpers.Series):
                          r"entry 10:\n   2 3 SCORER SCORE 1   in the copy\n   nothing   in journal\.txt\n")
         self.assertEqual(status, 1)
         again = self.window("open", "cup")
-        again.read(r"at its place, entry 10:(.|\n)*Open the office all the same\? \[y/N\] $")
+        again.type("y")
+        again.read(r"at its place, entry 10:(.|\n)*No answer, since it came before the question: y\n"
+                   r"Open the office all the same\? \[y/N\] $")
         said = again.say("y", "The office is open")
         self.addCleanup(self.stop, "cup")
         self.assertNotIn("lost", said)

@@ -4,31 +4,38 @@ from __future__ import annotations
 import asyncio
 import json
 import os
+import secrets
+import socket
 import threading
 import time
 import unittest
+import zlib
 from typing import Any
 from unittest import mock
 
 import helpers
 from raceoffice.program.link import Link
+from raceoffice.results.html import assets
+from raceoffice.results.http_answers import Board
 from raceoffice.series.folder import Folder
 from raceoffice.web.gate import Gate
-from raceoffice.web.hosting import Host, Hub
+from raceoffice.web.hosting import BEHIND, Host, Hub
+from raceoffice.web.page_news import PageNews
 from raceoffice.web.routes import Routes
 from raceoffice.web.taps import Tap
 from raceoffice.web.web_office import WebOffice
 from web_devices import BOATS, SAILS, Device, Web, list_of, new_id
 
 WATCHERS = 300
+# How zlib is told that what it unpacks is gzip
+GZIP = 31
 
 
 class Watchers:
-    """Phones that wait for news of the board, in a thread of their own: each has its last news and when it
-    came."""
+    """Phones that look at the board, in a thread of their own, with the newest version and page that each was sent."""
 
     def __init__(self, port: int, number: int) -> None:
-        self.port, self.heard = port, [(0.0, "")] * number
+        self.port, self.versions, self.pages = port, [""] * number, [""] * number
         self.loop = asyncio.new_event_loop()
         threading.Thread(target=self.loop.run_forever, daemon=True).start()
         # Python forgets a task that nobody holds, also one that waits: its phone would leave.
@@ -36,15 +43,16 @@ class Watchers:
 
     async def watch(self, at: int) -> None:
         reader, writer = await asyncio.open_connection("127.0.0.1", self.port)
-        writer.write(b"GET /live HTTP/1.1\r\nHost: 127.0.0.1\r\n\r\n")
+        writer.write(b"GET /live?page=/cup/ HTTP/1.1\r\nHost: 127.0.0.1\r\nAccept-Encoding: gzip\r\n\r\n")
         await reader.readuntil(b"\r\n\r\n")
-        while line := await reader.readline():
-            if line.startswith(b"data: {"):
-                self.heard[at] = (time.monotonic(), line[6:].decode())
+        unpacked, text = zlib.decompressobj(GZIP), b""
+        while data := await reader.read(1 << 16):
+            *events, text = (text + unpacked.decompress(data)).split(b"\n\n")
+            for event in filter(lambda event: event.startswith(b"data: "), events):
+                said = json.loads(event[6:])
+                self.versions[at] = said["version"]
+                self.pages[at] = said.get("page", self.pages[at])
         writer.close()
-
-    def all_have(self, text: str) -> bool:
-        return all(heard == text for _, heard in self.heard)
 
     def close(self) -> None:
         end(self.loop)
@@ -62,49 +70,98 @@ def end(loop: asyncio.AbstractEventLoop) -> None:
 
 
 class Pushed(Web):
-    def news(self, device: Device) -> dict[str, str]:
-        """The next news of the board, which a device waits for."""
+    def news(self, device: Device) -> str:
+        """The version in the next news of the board, which a device waits for."""
         while line := device.news.readline():
             if line.startswith(b"data: {"):
-                found: dict[str, str] = json.loads(line[6:])
-                return found
+                return str(json.loads(line[6:])["version"])
         raise AssertionError("the news has ended")
+
+    def other(self, device: Device, before: str) -> str:
+        """The next version that is another than that of before."""
+        while (found := self.news(device)) == before:
+            pass
+        return found
 
     def test_page(self) -> None:
         """A finisher is on the board's page when its news comes, without another look at the office; a race
         that counts changes the table. What doesn't change a page is no news of it."""
         finish, scorer, phone = self.device("finish"), self.device("scorer"), Device(self.port, "")
-        phone.wait("/live")
+        status, said = phone.ask("GET", "/cup/now.json")
+        self.assertEqual((status, phone.fields["x-news"]), (200, "/live?page="))
+        phone.wait("/live?page=/cup/")
         before = self.news(phone)
-        self.assertEqual(set(before), {"/", "/cup/"})
-        status, _ = phone.ask("GET", "/cup/now.json")
-        self.assertEqual((status, phone.fields["x-news"]), (200, "/live"))
+        self.assertEqual(before, said["version"])
         finish.tap("FINISH 1 GBR33")
-        after = self.news(phone)
-        self.assertNotEqual(after["/cup/"], before["/cup/"])
+        after = self.other(phone, before)
         self.assertIn("GBR 33", phone.ask("GET", "/cup/race-1.html")[1])
         missing = [sail for sail in SAILS if sail != "GBR33"]
         agreed = [{"kind": "score-missing", "values": {"race": 1, "sails": missing}}]
         self.assertEqual(scorer.tap("SCORE 1", agreed=agreed)[1]["outcome"], "taken")
-        last = self.news(phone)
-        self.assertNotIn(last["/cup/"], (before["/cup/"], after["/cup/"]))
+        last = self.other(phone, after)
         page = phone.ask("GET", "/cup/")[1]
+        self.assertIn(f'data-version="{last}"', page)
         self.assertLess(page.index("Turnstone"), page.index("Kestrel"))
-        # The tag of its news is that by which a browser asks for the page.
-        self.assertEqual(phone.fields["etag"].strip('"'), last["/cup/"])
-        phone.ask("GET", "/cup/", If_None_Match=phone.fields["etag"])
         status, _ = phone.ask("GET", "/cup/", If_None_Match=phone.fields["etag"])
         self.assertEqual(status, 304)
 
     def test_typed_beside(self) -> None:
         """What is typed in a window beside the pages is pushed, too."""
         phone = Device(self.port, "")
-        phone.wait("/live")
+        phone.wait("/live?page=/cup/")
         before = self.news(phone)
         window = self.typist("finish")
         window.say("finish 1 101", "OK 13")
-        self.assertNotEqual(self.news(phone), before)
+        self.other(phone, before)
         self.assertIn("GBR 101", phone.ask("GET", "/cup/race-1.html")[1])
+
+    def test_whole_page(self) -> None:
+        """Whoever can unpack it gets the page itself, as it is served but for its script: at each of its addresses."""
+        finish, phone = self.device("finish"), Device(self.port, "")
+        finish.tap("FINISH 1 GBR33")
+        helpers.until("the race's page", lambda: phone.ask("GET", "/cup/race-1.html")[0] == 200)
+        streams = {address: Stream(self.port, address) for address in ("/", "/cup/", "/cup/race-1.html")}
+        for stream in streams.values():
+            self.addCleanup(stream.link.close)
+            self.assertNotIn("page", stream.next())
+        finish.tap("FINISH 1 GBR101", behind="GBR33")
+        for address, stream in streams.items():
+            while "page" not in (said := stream.next()):
+                pass
+            served = phone.ask("GET", address)[1]
+            self.assertEqual(said["page"], served.replace(f"<script>{assets.script()}</script>", ""), address)
+            self.assertIn(f'data-version="{said["version"]}"', said["page"])
+            self.assertIn("<main", said["page"])
+
+    def test_no_page(self) -> None:
+        """There is news of pages, and of nothing else."""
+        phone = Device(self.port, "")
+        for path in ("/live", "/live?page=", "/live?page=/none/", "/live?page=/cup/results.csv", "/live?/cup/"):
+            self.assertEqual(phone.ask("GET", path)[0], 404, path)
+
+
+class Stream:
+    """Packed news of a page, one event after another."""
+
+    def __init__(self, port: int, address: str) -> None:
+        self.link = socket.create_connection(("127.0.0.1", port), timeout=90)
+        self.link.sendall(f"GET /live?page={address} HTTP/1.1\r\nHost: 127.0.0.1\r\nAccept-Encoding: br, gzip\r\n\r\n".encode())
+        self.file, self.unpacked, self.text = self.link.makefile("rb"), zlib.decompressobj(GZIP), b""
+        while self.file.readline().strip():
+            pass
+
+    def next(self) -> dict[str, str]:
+        while True:
+            event, end, rest = self.text.partition(b"\n\n")
+            if end:
+                self.text = rest
+                if event.startswith(b"data: "):
+                    found: dict[str, str] = json.loads(event[6:])
+                    return found
+            elif data := self.file.read1(1 << 16):
+                self.text += self.unpacked.decompress(data)
+            else:
+                raise AssertionError("the news has ended")
 
 
 class Crowd(helpers.Series):
@@ -148,19 +205,22 @@ class Crowd(helpers.Series):
         helpers.until("the board", lambda: "/cup/" in self.office.board.texts)
         watchers = Watchers(self.port, WATCHERS)
         self.addCleanup(watchers.close)
-        helpers.until("the watchers", lambda: watchers.all_have(self.now()))
+        helpers.until("the watchers", lambda: set(watchers.versions) == {self.version()})
         before = len(self.shown)
         for sail in SAILS[:6]:
             done = self.room.do("FINISH", "Ann", Tap(new_id(), f"FINISH 1 {sail}", 1))
             self.assertEqual(done["outcome"], "taken")
             helpers.until("the finisher", lambda: sail in self.board_order())
-            helpers.until("the watchers", lambda: watchers.all_have(self.now()))
+            helpers.until("the watchers", lambda: set(watchers.pages) == {self.page()})
         # One for each tap, and one for the session's beginning.
         self.assertLessEqual(len(self.shown) - before, 7)
 
-    def now(self) -> str:
-        """The news of the board as it is now."""
-        return self.office.board_versions() + "\n"
+    def version(self) -> str:
+        return str(json.loads(self.office.board.texts["/cup/now.json"].plain)["version"])
+
+    def page(self) -> str:
+        """The page as it is now, without its script."""
+        return self.office.board.texts["/cup/"].plain.decode().replace(f"<script>{assets.script()}</script>", "")
 
     def board_order(self) -> list[str]:
         """The finishers of race 1 as the board has them."""
@@ -187,6 +247,71 @@ class Early(unittest.IsolatedAsyncioTestCase):
         self.assertEqual(said, b"data: new\n\n")
         writer.close()
         server.close()
+
+
+class Slow(unittest.IsolatedAsyncioTestCase):
+    """Phones that don't take what they are sent."""
+
+    async def asyncSetUp(self) -> None:
+        loop = asyncio.get_running_loop()
+        loop.set_exception_handler(lambda *_: None)
+        loop.slow_callback_duration = helpers.PATIENCE
+        self.board = Board()
+        self.put("1", b"")
+        self.news = PageNews(self.board, 0.01)
+        self.server = await asyncio.start_server(
+            lambda reader, writer: self.news.serve(reader, writer, "/cup/", True), "127.0.0.1", 0)
+        self.addCleanup(self.server.close)
+
+    def put(self, version: str, page: bytes) -> None:
+        known = json.dumps({"version": version}).encode() + b"\n"
+        self.board.put({"/cup/": ("text/html; charset=utf-8", page), "/cup/now.json": ("application/json", known)})
+
+    async def phone(self) -> tuple[asyncio.StreamReader, asyncio.StreamWriter]:
+        number = len(self.news.lookers)
+        reader, writer = await asyncio.open_connection(*self.server.sockets[0].getsockname()[:2])
+        self.addCleanup(writer.close)
+        await reader.readuntil(b"\r\n\r\n")
+        while len(self.news.lookers) == number:
+            await asyncio.sleep(0.01)
+        return reader, writer
+
+    async def test_slow(self) -> None:
+        """Who doesn't read holds nobody up, isn't sent page after page, and is put off in the end."""
+        _, slow = await self.phone()
+        assert isinstance(slow.transport, asyncio.Transport)
+        slow.transport.pause_reading()
+        held = next(iter(self.news.lookers))
+        quick, _ = await self.phone()
+        unpacked, text, most = zlib.decompressobj(GZIP), b"", 0
+        # A page has 12,000 bytes, packed.
+        patch = mock.patch("raceoffice.web.hosting.BEHIND", 13_000)
+        patch.start()
+        self.addCleanup(patch.stop)
+        for at in range(2, 1000):
+            page = f"{at}: {secrets.token_hex(12_000)}"
+            self.put(str(at), page.encode())
+            self.news.send_news()
+            while not text.endswith(f'{page}"}}\n\n'.encode()):
+                text += unpacked.decompress(await asyncio.wait_for(quick.read(1 << 16), helpers.PATIENCE))
+            text = b""
+            most = max(most, held.transport.get_write_buffer_size())
+            if held not in self.news.lookers:
+                break
+        self.assertNotIn(held, self.news.lookers)
+        self.assertEqual(len(self.news.lookers), 1)
+        self.assertLess(most, 14_000)
+
+    async def test_long(self) -> None:
+        """A page that a weak line would never be done with is only told of."""
+        reader, _ = await self.phone()
+        unpacked = zlib.decompressobj(GZIP)
+        self.put("2", secrets.token_hex(BEHIND).encode())
+        self.news.send_news()
+        text = b""
+        while b'"2"' not in text:
+            text += unpacked.decompress(await asyncio.wait_for(reader.read(1 << 16), helpers.PATIENCE))
+        self.assertEqual(text.rpartition(b"data: ")[2], b'{"version": "2"}\n\n')
 
 
 if __name__ == "__main__":

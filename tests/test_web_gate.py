@@ -367,7 +367,7 @@ class Shares(unittest.IsolatedAsyncioTestCase):
         self.addCleanup(patch.stop)
 
         async def answer(request: Request) -> Waiting:
-            return Waiting(self.hub)
+            return Waiting(self.hub.serve)
 
         self.host = Host(answer, lambda _: 0, self.fail)
         await self.host.start("127.0.0.1", self.port, None)

@@ -198,7 +198,7 @@ class Declared(Results):
         self.scorer.ask("POST", "/office/scorer/close/cup", {})
         found = self.shown()
         self.assertEqual((found["is_open"], found["open"], found["journal"]),
-                         (False, [], {"entries": 25, "differs": ""}))
+                         (False, [], {"entries": 25, "differs": []}))
         self.assertEqual(self.declared("final")[0], 200)
         self.assertEqual((self.shown()["state"], self.shown()["is_changed"]), ("final", False))
 
@@ -329,29 +329,36 @@ class Copies(Results):
         helpers.until("the second copy", lambda: self.shown()["copies"]["second"]["entries"] == 25)
         copies = self.shown()["copies"]
         # The one of the opening, before the first race: twelve boats.
-        self.assertEqual((copies["dated"]["count"], copies["dated"]["entries"], copies["dated"]["fault"]), (1, 12, ""))
+        self.assertEqual((copies["dated"]["count"], copies["dated"]["entries"], copies["dated"]["fault"]), (1, 12, []))
         self.assertRegex(copies["dated"]["name"], r"^kept/[0-9-]+Z\.txt$")
         second = copies["second"]
         written = int(os.stat(os.path.join(self.stick, "cup-journal.txt")).st_mtime * 1000)
         self.assertEqual((second["path"], second["fault"], second["is_same_disk"], second["at"]),
-                         (self.stick, "", True, written))
-        self.assertEqual(self.shown()["journal"], {"entries": 25, "differs": ""})
+                         (self.stick, [], True, written))
+        self.assertEqual(self.shown()["journal"], {"entries": 25, "differs": []})
         os.rename(self.stick, f"{self.stick}-out")
-        helpers.until("a stick that is out", lambda: "isn't there" in self.shown()["copies"]["second"]["fault"])
+        helpers.until("a stick that is out", lambda: "isn't there" in texts_of(self.shown()["copies"]["second"]["fault"]))
         journal = self.text("cup", "journal.txt")
         self.write(journal.replace("FINISH 1 GBR7\n", "FINISH 1 GBR8\n"), "cup", "journal.txt")
         helpers.until("a changed journal", lambda: self.shown()["journal"]["differs"])
+        # A kind with its values, of which each page makes words of its own.
+        differs, = self.shown()["journal"]["differs"]
+        self.assertEqual(differs["values"]["said"][0]["kind"], "journal-changed")
 
     def test_no_second_folder(self) -> None:
         """A copy that holds other lines is no copy, and a class may have none."""
         self.close()
         self.write("1 1 SCORER ENTER USA1\n", "stick", "cup-journal.txt")
         self.serve()
-        helpers.until("a fault", lambda: "left as it is" in self.shown()["copies"]["second"]["fault"])
+        helpers.until("a fault", lambda: "left as it is" in texts_of(self.shown()["copies"]["second"]["fault"]))
         self.close()
         self.write(settings.filled_in({"title": "Autumn Cup", "program": helpers.PROGRAM}), "cup", "series.ini")
         self.serve()
         self.assertIsNone(self.shown()["copies"]["second"])
+
+
+def texts_of(remarks: list[dict[str, str]]) -> str:
+    return " ".join(one["text"] for one in remarks)
 
 
 if __name__ == "__main__":

@@ -27,7 +27,7 @@ MADE = {
     "role.": ["FINISH", "JURY", "SCORER"], "enter.before.": ["finish", "jury", "scorer"],
     "enter.as.": ["finish", "jury", "scorer"], "scorer.tab.": ["races", "results", "links", "office", "times",
                                                                        "settings", "new"],
-    "new.": ["oneFrom", "twoFrom", "threeFrom", "fourFrom"], "new.wrong.": ["title", "zone", "exclude", "scp"],
+    "new.": ["oneFrom", "twoFrom", "threeFrom", "fourFrom"], "new.rounding.": ["half-up", "half-down", "down", "up"], "new.wrong.": ["title", "zone", "exclude", "scp"],
     "times.": ["start", "laps", "distance", "elapsed", "finish", "corrected"], "rules.from.": ["1", "2", "3", "4"],
     "settings.key.": ["title", "class", "club", "zone", "exclude", "absent", "scp", "handicap"],
     "code.": [*OF_COMMITTEE, "ZFP", "SCP"],
@@ -48,7 +48,7 @@ VARIANTS = ["ask.announce.amended", "ask.announce.provisional", "ask.counts", "a
 
 # What is said in words that the pages have for something else
 SAID_OTHERWISE = {"refused", "moved"}
-REMARKED_OTHERWISE = {"office-rules"}
+REMARKED_OTHERWISE = {"office-rules", "office-move"}
 # Values that the page makes of others
 MADE_OF_OTHERS = {"n", "why"}
 
@@ -94,13 +94,14 @@ def remarks_made() -> dict[str, list[set[str]]]:
             for call in calls:
                 if isinstance(call.func, ast.Name) and call.func.id in MAKERS and call.args:
                     values = {str(one.arg) for one in call.keywords if one.arg}
+                    values |= {"why"} if call.func.id == "as_trouble" else set()
                     for kind in kinds_of(call.args[0]):
                         found.setdefault(kind, []).append(values)
     return found
 
 
 # What makes a remark
-MAKERS = ("remark",)
+MAKERS = ("remark", "as_trouble")
 
 
 def kinds_of(node: ast.expr) -> list[str]:

@@ -92,6 +92,53 @@ class Timed(Web):
         status, said = ann.tap("FINISH 1 FRA9", at=1 << 52)
         self.assertEqual((status, "the clock of this device" in said["words"]), (422, True), said)
 
+    def test_by_hand(self) -> None:
+        """A finish is typed, put in place of just the one that was shown, undone and taken out; elapsed 3,600 s x 0.900,
+        and 3,900 s. No moment of a tap is shown of it."""
+        scorer, first, second = self.device("scorer"), new_id(), new_id()
+        scorer.tap("START 1 14:00")
+        for again in (False, True):
+            done = scorer.tap("FINISH 1 gbr7 15:00:00", first)[1]
+            self.assertEqual((done["outcome"], done["line"], done["again"]), ("taken", "FINISH 1 GBR7 15:00:00", again))
+        self.assertEqual(self.journal(), ["SCORER TIME 1 GBR7 3240"])
+        for line, kind in [("FINISH 1 GBR7 15:05:00", "sheet-has"), ("FINISH 1 GBR7 15:05:00 15:01:00", "finish-changed"),
+                           ("FINISH 1 FRA9 15:05:00 15:01:00", "finish-changed"), ("FINISH 1 FRA9 15:05", "finish-wrong"),
+                           ("FINISH 1 FRA9 25:05:00", "finish-wrong")]:
+            status, said = scorer.tap(line)
+            self.assertEqual((status, said["said"][0]["kind"]), (422, kind), line)
+        self.assertEqual(scorer.tap("FINISH 1 GBR7 15:05:00 15:00:00", second)[1]["outcome"], "taken")
+        self.assertEqual((self.journal()[1:], self.sheet()[2]), (
+            ["SCORER STRIKE 1 GBR7", "SCORER TIME 1 GBR7 3510"], "GBR7,14:00:00,15:05:00,"))
+        self.assertNotIn("GBR7", scorer.state()["races"]["1"]["at"])
+        self.assertEqual(scorer.tap("UNDO", undoes=second)[1]["outcome"], "taken")
+        self.assertEqual(self.sheet()[2], "GBR7,14:00:00,15:00:00,")
+        scorer.tap("STRIKE 1 GBR7")
+        self.assertEqual((self.journal()[-1], self.sheet()[2]), ("SCORER STRIKE 1 GBR7", "GBR7,14:00:00,,"))
+
+    def test_rounding(self) -> None:
+        """2,881 s x 1.250 = 3,601.25 s: rounded up it is 3,602 s. That is shown before it is saved, and not saved over
+        another change."""
+        scorer, ann = self.device("scorer"), self.device("finish")
+        scorer.tap("START 1 14:00")
+        self.finish(ann, "NED12", "14:48:01")
+        self.finish(ann, "GBR101", "15:00:00")
+        kept = scorer.ask("GET", "/office/scorer/rules/cup", None)[1]
+        self.assertEqual((kept["system"], kept["rounding"]), ("tcf", "half-up"))
+        given = {"settings": {}, "rounding": "up", "rounding_was": "half-up", "tag": kept["tag"]}
+        text = self.text("cup", "times", "rules.ini")
+        found = scorer.ask("POST", "/office/scorer/rules/cup", given)[1]
+        self.assertEqual((found["retimed"], self.text("cup", "times", "rules.ini")), ([{"race": 1, "n": 1}], text))
+        for odd, kind in (({"rounding": "off"}, "rounding-wrong"), ({"rounding_was": "down"}, "rounding-changed")):
+            status, said = scorer.ask("POST", "/office/scorer/save/cup", given | odd)
+            self.assertEqual((status, said["said"][0]["kind"]), (422, kind))
+        for _ in range(2):
+            status, saved = scorer.ask("POST", "/office/scorer/save/cup", given)
+            self.assertEqual((status, saved.get("rounding")), (200, "up"), saved)
+        self.assertEqual(self.text("cup", "times", "rules.ini"), text.replace("system", "rounding = up\nsystem"))
+        self.assertEqual(self.journal()[-1], "FINISH TIME 1 GBR101 3600")
+        scorer.tap("TIMES 1")
+        self.assertEqual(self.journal()[-2:], ["SCORER STRIKE 1 NED12", "SCORER TIME 1 NED12 3602"])
+
     def test_starts(self) -> None:
         """Two starts at one line, from the scorer's page: 3,600 s x 1.000 from 14:00, and from 14:10 3,300 s x 0.900. Nothing is sent until TIMES sends it; what isn't of its form isn't written."""
         ann, scorer = self.device("finish"), self.device("scorer")

@@ -256,6 +256,7 @@ def run(asked: argparse.Namespace) -> int:
     refuse_options(asked)
     for number in system.STOPS:
         signal.signal(number, stop)
+    system.pass_over_quit()
     try:
         return status_of(lambda: show(asked), asked.folder[0])
     except Stopped as stopped:

@@ -27,6 +27,7 @@ from __future__ import annotations
 import argparse
 import sys
 
+from raceoffice import system
 from raceoffice.characters import is_utf8
 from raceoffice.errors import Trouble
 from raceoffice.exit_status import status_of
@@ -105,6 +106,7 @@ def type_lines(asked: argparse.Namespace) -> int:
     if not sys.stdin.isatty():
         return send_file(asked)
     folders = [Folder(path) for path in asked.folders]
+    system.pass_over_quit()
     return Window(folders, role_of(asked), asked.name).run()
 
 

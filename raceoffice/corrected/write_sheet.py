@@ -110,11 +110,15 @@ class SheetOfRace:
         for row in self.rows:
             self.put(row, "start", with_seconds("start", text))
 
-    def finish(self, sail: str, text: str) -> None:
-        """Gives a boat her finish. NotSent if she has another one or a code."""
+    def finish(self, sail: str, text: str, was: str = "") -> None:
+        """Gives a boat her finish, or another one than she `was` given. NotSent if she has another one or a code."""
+        if not is_form("finish", text):
+            raise NotSent(remark("finish-wrong", written=text[:20], wanted=FORMS["finish"][1]))
         row = self.row(sail)
         held = [self.cell(row, key) for key in ("finish", "elapsed", "code") if key in self.places]
-        before = [one for one in held if one not in ("", text)]
+        if was and self.cell(row, "finish") not in (was, text):
+            raise NotSent(remark("finish-changed", sail=sail, was=was, name=self.name))
+        before = [one for one in held if one not in ("", text, was)]
         if before:
             raise NotSent(remark("sheet-has", sail=sail, before=before[0], name=self.name))
         if len(self.starts) == 1:

@@ -4,8 +4,9 @@ from __future__ import annotations
 
 import contextlib
 
-from raceoffice.errors import NotSent, Trouble
+from raceoffice.errors import NotSent, Trouble, said_of
 from raceoffice.program.link import Sheet
+from raceoffice.remarks import remark
 from raceoffice.series import copies
 from raceoffice.series.continuity import first_entries
 from raceoffice.series.folder import VERSION, Folder
@@ -13,9 +14,6 @@ from raceoffice.series.kept_places import Places, command_of
 from raceoffice.series.run_program import replayed
 from raceoffice.series.second_folder import Second, copy_of, places_copy_of
 from raceoffice.terminal import sentence
-from raceoffice.wording import count
-
-CHANGED = "journal.txt isn't what the office keeps: somebody has changed or replaced it"
 
 
 class Backups:
@@ -48,7 +46,7 @@ class Backups:
         if self.second.path and (self.copied != (len(sheet.journal), self.places.state()) or self.trouble):
             self.copy(sheet)
         if not self.is_kept():
-            raise Trouble(CHANGED)
+            raise Trouble(remark("journal-changed"))
 
     def take_up_folder(self) -> None:
         """Takes up a second folder that the settings have come to name while the office is open, or leaves one."""
@@ -94,21 +92,18 @@ class Backups:
                 again, others = self.places.put_in_again(self.noted)
             self.noted = self.places.lines()
         except (Trouble, NotSent) as trouble:
-            return f"Beware: {sentence(trouble)}"
+            return remark("beware", said=sentence(trouble))
         self.noted_state = state
         if not again and not others:
             return ""
-        verb, more = ("is" if again == 1 else "are",
-                      f" Not {others}: another finisher is called so by now." if others else "")
-        return (f"Beware: somebody has changed office/places. {count(again, 'line')} that it had {verb} there "
-                f"again.{more}")
+        return remark("places-not-again", n=again, others=others) if others else remark("places-again", n=again)
 
     def copy_places(self) -> str:
         """Copies the places to the second disk; why that failed, or nothing."""
         try:
             text = self.places.text()
         except Trouble as trouble:
-            return str(trouble)
+            return said_of(trouble)
         return self.second.ask("save", text, places_copy_of(self.second)).fault
 
     def is_kept(self) -> bool:
@@ -147,7 +142,7 @@ class Backups:
 
 def same_disk(path: str) -> str:
     """What is said of a copy that breaks with the disk of the journal."""
-    return f"The second copy, {path}, is on the same disk as journal.txt. Is the stick in?"
+    return remark("copy-same-disk", path=path)
 
 
 def as_file(sheet: Sheet) -> str:

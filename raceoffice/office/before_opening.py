@@ -8,6 +8,7 @@ from collections.abc import Callable
 from raceoffice.files import replace_whole
 from raceoffice.program.messages import move_text, moved
 from raceoffice.program.standing import Change
+from raceoffice.remarks import remark
 from raceoffice.series import copies, entry_list
 from raceoffice.series.continuity import differences, note_now
 from raceoffice.series.copies import best_copy, places_with
@@ -16,7 +17,7 @@ from raceoffice.series.health import (changes_of_rules, faults, journal_fault, l
 from raceoffice.series.kept_places import Places
 from raceoffice.series.run_program import rules_of
 from raceoffice.series.second_folder import second_of
-from raceoffice.series.settings import Settings
+from raceoffice.series.settings import Settings, rules_remark
 from raceoffice.session.dialogue import Question
 from raceoffice.session.question_words import question
 
@@ -70,10 +71,12 @@ def is_agreed(folder: Folder, say: Say, ask: Ask) -> bool:
     before = rules_before(folder)
     if not before:
         return True
-    say(f"The rules were: {with_rules(folder, before).in_words()}\nThey are now: {folder.settings.in_words()}")
+    say(remark("office-rules-were", rules=rules_remark(with_rules(folder, before))))
+    say(remark("office-rules-now", rules=rules_remark(folder.settings)))
     names, found = entry_list.read_if_there(folder.entries), changes_of_rules(folder, before)
     for change in found:
-        say(f"   {moved(change, str(names.get(change.after.sail, change.after.sail)))}")
+        words = moved(change, str(names.get(change.after.sail, change.after.sail)))
+        say(remark("office-move", words=words, move=move_text(change)))
     return ask(asked_of_rules(folder, before, found))
 
 

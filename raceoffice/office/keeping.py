@@ -8,10 +8,11 @@ import contextlib
 import time
 from collections.abc import Callable
 
-from raceoffice.errors import Fault, Trouble
+from raceoffice.errors import Fault, Trouble, said_of
 from raceoffice.office.backups import Backups
 from raceoffice.office.process import LEAVE, OfficeProcess
 from raceoffice.program.link import Sheet, remove_socket
+from raceoffice.remarks import in_a_row, remark
 from raceoffice.series.continuity import note_of
 from raceoffice.series.folder import Folder, clock
 from raceoffice.series.health import is_full, remove_fresh, remove_probes
@@ -20,12 +21,10 @@ from raceoffice.series.run_program import Program
 from raceoffice.series.windows import BOARD, TYPING, open_windows
 from raceoffice.terminal import Once, sentence
 from raceoffice.traces import guarded, fault_sentence
-from raceoffice.wording import count
 
 # Seconds between two looks at the journal, at a second folder that has all, at the door, and between two
 # dated copies.
 LOOK, SECOND, DOOR, DATED = 1.0, 10.0, 60.0, 3600.0
-NOBODY = "The office lets nobody in any more. Close it by Ctrl-C, and open it again."
 
 
 class Due:
@@ -64,11 +63,11 @@ class Keeping:
         remove_probes(self.folder)
         remove_fresh(self.folder)
         if remove_socket(self.folder.socket):
-            self.say("The office wasn't closed properly last time. Its old socket has been removed.")
+            self.say(remark("office-crashed"))
         for text in Unsaved.read(self.folder.kept(), self.folder.logged()).in_words():
             self.say(text)
         if self.backups.take_up_places():
-            self.say("The places of finishers without a sail are taken up from the second folder.")
+            self.say(remark("office-places-taken"))
         self.service.start()
 
     def begin(self) -> None:
@@ -113,7 +112,7 @@ class Keeping:
         if self.dated.has_come():
             self.keep_dated()
         if self.door.has_come():
-            self.say_once("door", "" if self.service.lets_in() else NOBODY)
+            self.say_once("door", "" if self.service.lets_in() else remark("office-shut"))
 
     def save(self, sheet: Sheet) -> bool:
         """Copies the journal, and says if that fails; whether journal.txt is what the office keeps."""
@@ -121,10 +120,10 @@ class Keeping:
             self.backups.save(sheet)
             wrong = ""
         except Trouble as trouble:
-            wrong = f"{sentence(trouble)} Close the office: its journal then goes to kept/, too."
+            wrong = in_a_row(sentence(trouble), remark("journal-close-it"))
         self.beware(wrong)
         failed = self.backups.trouble
-        self.say_once("copy", f"No second copy: {failed}." if failed else self.backups.note)
+        self.say_once("copy", remark("office-no-copy", why=failed) if failed else self.backups.note)
         return not wrong
 
     def keep_dated(self) -> None:
@@ -133,12 +132,12 @@ class Keeping:
             self.backups.keep_dated()
             wrong = ""
         except Trouble as trouble:
-            wrong = f"No dated copy: {sentence(trouble)}"
+            wrong = remark("copy-none-dated", why=sentence(trouble))
         self.say_once("dated", wrong)
 
     def beware(self, text: str) -> None:
         """Says what is wrong, also to the windows that type; empty if all is right."""
-        self.say_once("beware", f"Beware: {text}" if text else "")
+        self.say_once("beware", remark("beware", said=text) if text else "")
         if text != self.warned:
             self.folder.set_beware(text)
             self.warned = text
@@ -146,23 +145,23 @@ class Keeping:
     def say_once(self, about: str, text: str) -> None:
         """Says something with the time, and not again until it has changed."""
         if self.once.is_new(about, text):
-            self.say(f"{clock()} {text}")
+            self.say(in_a_row(clock(), text))
 
     def crashed(self) -> int:
         """Says that the program has ended by itself; the status."""
         # On a full disk the program can't write what it says, either.
-        why = ["The disk is full: make space."] if is_full(self.folder) else self.service.fault()
+        why: list[str] = [remark("disk-make-space")] if is_full(self.folder) else self.service.fault()
         self.folder.set_beware("")
-        self.say(" ".join([clock(), "The office has gone.", *why, *self.saved(),
-                           f"Open it again: {self.folder.command('open')}"]))
+        self.say(in_a_row(clock(), remark("office-gone"), *why, *self.saved(),
+                          remark("office-open-again", command=self.folder.command("open"))))
         return 1
 
     def saved(self) -> list[str]:
         """What journal.txt has after a crash. If it isn't what the office had, that goes to kept/."""
         try:
             if not self.backups.is_kept():
-                return [f"journal.txt isn't what it kept: that is in {self.backups.keep_beside()}."]
-            held = f"journal.txt has {count(len(self.folder.kept()), 'entry', 'entries')}."
+                return [remark("journal-other", copy=self.backups.keep_beside())]
+            held = remark("journal-has", entries=remark("some-entries", n=len(self.folder.kept())))
         except Trouble as trouble:
             return [sentence(trouble)]
         with contextlib.suppress(Trouble):
@@ -192,7 +191,7 @@ class Keeping:
         with contextlib.suppress(Trouble):
             beside = beside or self.save_last(self.service.link.sheet())
         self.service.stop()
-        self.say(f"{clock()} {why} The office is stopped without its windows.")
+        self.say(in_a_row(clock(), why, remark("office-stopped")))
         return beside
 
     def wait_for_others(self) -> None:
@@ -201,8 +200,8 @@ class Keeping:
         while self.service.has_others():
             if time.monotonic() > end:
                 windows = list(open_windows(self.folder, TYPING, BOARD).values())
-                raise Trouble(f"still there after {LEAVE:g} seconds: "
-                              + (", ".join(windows) or "somebody who isn't in office.log"))
+                raise Trouble(remark("office-still-there", seconds=f"{LEAVE:g}", names=", ".join(windows)) if windows
+                              else remark("office-still-somebody", seconds=f"{LEAVE:g}"))
             self.save(self.service.link.sheet())
             time.sleep(0.2)
 
@@ -213,12 +212,10 @@ class Keeping:
         while not self.save(sheet):
             try:
                 beside = self.backups.keep_beside()
-                self.say(f"{clock()} The journal of the office is in {beside}. Compare it with journal.txt "
-                             "before you open it again.")
+                self.say(in_a_row(clock(), remark("journal-beside", copy=beside)))
                 return beside
             except Trouble as trouble:
-                self.say_once("last", f"The office stays until its journal is in kept/: {trouble}. Once more "
-                              "Ctrl-C shows it here, and closes the office.")
+                self.say_once("last", remark("journal-waits", why=said_of(trouble)))
             if self.is_hurried():
                 self.say("\n".join(sheet.journal))
                 return ""
@@ -236,22 +233,22 @@ class Keeping:
             self.folder.log("", "", "", "closed", self.note())
         except Trouble as trouble:
             said.append(sentence(trouble))
-        self.say(" ".join([clock(), "Closed.", *said]))
+        self.say(in_a_row(clock(), remark("office-closed"), *said))
         self.say(self.table())
         return 0
 
     def last_copy(self, beside: str) -> str:
         """What journal.txt has at the end, and the copy that is made of it."""
         try:
-            held = f"journal.txt has {count(len(self.folder.kept()), 'entry', 'entries')}"
+            held = remark("some-entries", n=len(self.folder.kept()))
             if beside:
-                return f"{held}, and isn't what the office kept."
+                return remark("journal-has-other", entries=held)
         except Trouble as trouble:
             return sentence(trouble)
         try:
-            return f"{held}, and so has {self.backups.keep_dated()}."
+            return remark("journal-has-so", entries=held, copy=self.backups.keep_dated())
         except Trouble as trouble:
-            return f"{held}. {sentence(trouble)}"
+            return in_a_row(remark("journal-has", entries=held), sentence(trouble))
 
     def table(self) -> str:
         """The table at the end. A program that was stopped hasn't printed one."""

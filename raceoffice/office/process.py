@@ -14,6 +14,7 @@ from raceoffice.errors import Gone, Trouble
 from raceoffice.files import PRIVATE, opened_as_ours, opened_at_once, replace_whole, text_if_any
 from raceoffice.program.link import Link, remove_socket
 from raceoffice.program.messages import cut_note, without_note
+from raceoffice.remarks import remark
 from raceoffice.series.folder import Folder, Lock
 from raceoffice.series.run_program import Program, serve_words
 from raceoffice.series.windows import OFFICE, Presence, open_windows
@@ -57,7 +58,7 @@ class OfficeProcess:
             self.spawn()
         except OSError as cause:
             self.undo_start()
-            raise Trouble(f"the office can't be opened: {cause}") from None
+            raise Trouble(remark("office-not-opened", why=str(cause))) from None
         except BaseException:
             self.undo_start()
             raise
@@ -97,21 +98,21 @@ class OfficeProcess:
         end = time.monotonic() + PATIENCE
         while time.monotonic() < end:
             if self.is_over():
-                raise Trouble("\n".join(self.fault() or ["the program ended, and didn't say why"]))
+                raise Trouble(*(self.fault() or [remark("office-unsaid")]))
             try:
                 return self.folder.link()
             except Gone:
                 time.sleep(0.02)
-        raise Trouble("the office doesn't open its socket")
+        raise Trouble(remark("office-no-socket"))
 
     def take_over(self, ask: Callable[[Question], bool]) -> None:
         """Goes on with a program whose window has gone; a Trouble if it has one, or comes to have one while
         this is asked."""
         number, since = self.without_window()
         if not ask(question("take-over", str, since=since.removeprefix(" since "))):
-            raise Trouble("the office goes on without a window")
+            raise Trouble(remark("office-goes-on"))
         if self.without_window()[0] != number:
-            raise Trouble("the office was opened anew meanwhile")
+            raise Trouble(remark("office-opened-anew"))
         self.number, self.link = number, self.folder.link()
         self.note_pid()
 
@@ -121,13 +122,13 @@ class OfficeProcess:
         number, window, since = self.noted()
         windows = open_windows(self.folder, OFFICE)
         if window in windows:
-            raise Trouble(f"the office is open in another window, since {since} (process {window})")
+            raise Trouble(remark("office-other-window", since=since, process=window))
         if self.is_program(number):
             return number, f" since {since}"
         # Its window may have been killed before it noted the program.
         found = self.programs()
         if windows or not found:
-            raise Trouble("the office is being opened in another window")
+            raise Trouble(remark("office-opening-there"))
         return found[0], ""
 
     def noted(self) -> tuple[int, str, str]:
@@ -198,12 +199,12 @@ class OfficeProcess:
                 Link(self.folder.socket).close()
             except Gone:
                 if not os.path.lexists(self.folder.socket):
-                    raise Trouble("the folder of the office has gone") from None
+                    raise Trouble(remark("office-folder-gone")) from None
                 return
             except Trouble:
                 # The queue at the socket is full for a moment.
                 time.sleep(0.01)
-        raise Trouble("the office goes on letting clients in")
+        raise Trouble(remark("office-lets-in"))
 
     def has_others(self) -> bool:
         """Whether there are clients beside this window."""
@@ -245,7 +246,7 @@ class OfficeProcess:
         end = time.monotonic() + patience
         while not self.is_over():
             if time.monotonic() > end:
-                raise Trouble(f"the program didn't end in {patience:g} seconds")
+                raise Trouble(remark("office-no-end", seconds=f"{patience:g}"))
             time.sleep(0.02)
 
 

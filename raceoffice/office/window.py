@@ -136,7 +136,8 @@ class OfficeWindow(Keeping):
 
 
 def ask(asked: Question) -> bool:
-    """Whether somebody says yes; Enter alone is no."""
+    """Whether somebody says yes; Enter alone is no. What was typed before the question is no answer to it."""
+    forget_typed()
     return question(asked.text)
 
 

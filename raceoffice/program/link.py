@@ -10,6 +10,7 @@ from dataclasses import dataclass
 from raceoffice import system
 from raceoffice.characters import utf8
 from raceoffice.errors import Gone, NoSeat, Trouble, as_trouble
+from raceoffice.remarks import remark
 
 # How long an answer may take, in seconds, and how many bytes of one are read at most. A sheet of
 # 500 boats, 40 races and 8,192 entries has less than a quarter of that.
@@ -27,9 +28,9 @@ class Sheet:
 def unreachable(path: str, cause: OSError) -> Trouble:
     """Why nobody could be reached at the socket."""
     if isinstance(cause, FileNotFoundError):
-        return Gone("no office is open there")
+        return Gone(remark("office-none"))
     if isinstance(cause, ConnectionRefusedError):
-        return Gone("no office is open there, and the last one wasn't closed properly")
+        return Gone(remark("office-left"))
     if isinstance(cause, PermissionError):
         return Trouble(f"this account may not open {path}")
     return Trouble(f"{path} can't be reached: {cause.strerror or cause}")
@@ -67,20 +68,20 @@ class Link:
             try:
                 data = self.socket.recv(65536)
             except TimeoutError:
-                raise Trouble(f"the office hasn't answered for {self.patience:g} seconds") from None
+                raise Trouble(remark("office-silent", seconds=f"{self.patience:g}")) from None
             except OSError:
                 data = b""
             if not data:
-                raise Trouble("the office has gone")
+                raise Trouble(remark("office-lost"))
             *lines, self.rest = (self.rest + data).split(b"\n")
             self.lines.extend(text.decode("ascii", "replace") for text in lines)
             if len(self.rest) > LARGEST:
                 raise Trouble("what answers there is no office: its answer has no end")
         text = self.lines.popleft()
         if text == "BUSY":
-            raise NoSeat("all seats of the office are taken")
+            raise NoSeat(remark("office-full"))
         if text == "CLOSED":
-            raise Trouble("the office lets nobody in any more (CLOSED)")
+            raise Trouble(remark("office-closed-to-all"))
         return text
 
     def ask(self, line: str) -> str:
@@ -151,7 +152,7 @@ def remove_socket(path: str) -> bool:
     if found:
         raise Trouble(f"an office is still there with its last clients: it lets nobody in at {path} "
                       "any more, and ends when they leave. The file stays until then")
-    with as_trouble(f"{path} can't be removed"):
+    with as_trouble("file-stays", name=path):
         os.remove(path)
     return True
 

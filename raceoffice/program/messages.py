@@ -7,6 +7,7 @@ from collections.abc import Mapping
 
 from raceoffice.files import text_if_any
 from raceoffice.program.standing import Change, Row, Score
+from raceoffice.remarks import remark
 from raceoffice.wording import count, ordinal
 
 # What each number of a reply says. The guide's table has these words, and a check compares them.
@@ -52,24 +53,15 @@ LIST = {1: "no column has the heading Sail", 2: "the row ends before the column 
         3: "what is in the column of sails is no sail", 4: "the sail is in an earlier row",
         5: "500 boats were read before"}
 # What the program says of journal.txt, which it keeps.
-DAMAGED = ("journal.txt is damaged after line {0}. If a crash did that, all that was answered is in the "
-           "lines up to it. In its folder this keeps those alone:\n"
-           "   head -n {0} journal.txt > good.txt\n   cp good.txt journal.txt\n"
-           "Otherwise compare it with the copies in kept/.")
-NO_JOURNAL = "journal.txt is no journal: none of its lines is whole. Compare it with the copies in kept/."
 KEPT = {
-    "taken": "Another office has journal.txt, which wasn't opened here. End that one first.",
-    "fault": "journal.txt can't be opened, or can't be put on the disk. Is the disk full? May this "
-             "account write the file? It must be a plain file with one name, and nobody else may change, "
-             "move or remove it while the office is open.",
-    "fault: no space left": "The disk is full: make space.",
-    "fault: no permission": "This account may not write journal.txt, or a file beside it.",
-    "too long": "journal.txt is longer than 1,048,576 bytes.",
-    "damaged after line 0": NO_JOURNAL,
-    r"damaged after line (\d+)": DAMAGED,
-    r"differs at (\d+)": "journal.txt and the journal that the office was to begin with have different "
-                         "entries, first at {}.",
+    "taken": remark("journal-taken"),
+    "fault": remark("journal-fault"),
+    "fault: no space left": remark("disk-make-space"),
+    "fault: no permission": remark("journal-forbidden"),
+    "too long": remark("journal-long"),
+    "damaged after line 0": remark("no-journal"),
 }
+DAMAGED, DIFFERS = "damaged after line ([1-9][0-9]*)", r"differs at (\d+)"
 
 
 def without_note(said: str) -> str:
@@ -91,8 +83,12 @@ def start_fault(said: str, journal: str, entries: str) -> list[str]:
     """What the program said when it didn't start, in words; a line of the journal is shown."""
     said = without_note(said)
     for pattern, text in KEPT.items():
-        if found := re.search(f"^regatta: keep {pattern}$", said, re.MULTILINE):
-            return [text.format(*found.groups())]
+        if re.search(f"^regatta: keep {pattern}$", said, re.MULTILINE):
+            return [text]
+    if found := re.search(f"^regatta: keep {DAMAGED}$", said, re.MULTILINE):
+        return [remark("journal-damaged", line=found[1])]
+    if found := re.search(f"^regatta: keep {DIFFERS}$", said, re.MULTILINE):
+        return [remark("journal-begun-otherwise", entry=found[1])]
     if found := re.search(r"^regatta: rules fault (\d)", said, re.MULTILINE):
         why = RULES.get(int(found[1]), "exclude has to be none, or up to four rising numbers")
         return [f"series.ini: {why}."]

@@ -126,7 +126,7 @@ class Files:
         for address in sorted(texts, key=lambda address: address.endswith("/now.json")):
             self.put(address, texts[address][1])
         for address in self.old_pages(texts):
-            with as_trouble(f"{self.path(address)} can't be removed"):
+            with as_trouble("file-stays", name=self.path(address)):
                 os.remove(self.path(address))
             self.written.pop(address, None)
 
@@ -148,7 +148,7 @@ class Files:
         if self.written.get(address) == data:
             return
         path = self.path(address)
-        with as_trouble(f"{os.path.dirname(path)} can't be made"):
+        with as_trouble("file-unmade", name=os.path.dirname(path)):
             os.makedirs(os.path.dirname(path), exist_ok=True)
         replace_whole(path, data, True)
         self.written[address] = data

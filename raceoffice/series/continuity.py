@@ -7,7 +7,8 @@ import re
 from collections.abc import Sequence
 from dataclasses import dataclass
 
-from raceoffice.errors import Trouble
+from raceoffice.errors import Trouble, said_of
+from raceoffice.remarks import Remark, in_a_row, on_lines, remark
 from raceoffice.series.copies import Copy, bytes_of, newest
 from raceoffice.series.folder import Folder, shown, whole_part
 from raceoffice.series.kept_places import Places
@@ -19,7 +20,6 @@ from raceoffice.wording import count
 NOTING = ("opened", "closed", "restored")
 NOTED = re.compile(r"(no|[0-9]{1,9}) entr(?:y|ies)(?: ([0-9a-f]{16}))?"
                    r"(?:, (no|[0-9]{1,9}) lines? of places ([0-9a-f]{16}))?")
-HINT = "If nobody meant that, compare the two before you open the office."
 
 
 @dataclass(frozen=True)
@@ -97,7 +97,7 @@ def difference(folder: Folder) -> str:
         last = newest(folder)
         held = bytes_of(folder, last) if last else b""
     except Trouble as trouble:
-        return f"Nobody knows whether journal.txt is what the office had: {trouble}."
+        return remark("journal-unknown", why=said_of(trouble))
     if last and not data.startswith(held):
         return from_copy(data, held, last)
     noted = noted_end(folder.logged())
@@ -117,7 +117,8 @@ def from_second(folder: Folder, data: bytes) -> str:
 
 def differences(folder: Folder) -> str:
     """How journal.txt and office/places aren't what the office had; empty if both go on from that."""
-    return "\n".join(filter(None, [difference(folder), difference_of_places(folder)]))
+    found = [text for text in (difference(folder), difference_of_places(folder)) if text]
+    return on_lines(*found) if found else ""
 
 
 def difference_of_places(folder: Folder) -> str:
@@ -128,12 +129,12 @@ def difference_of_places(folder: Folder) -> str:
     try:
         held = Places(folder).lines()
     except Trouble as trouble:
-        return f"Nobody knows whether office/places is what the office had: {trouble}."
+        return remark("places-unknown", why=said_of(trouble))
     if digest_of(b"".join(held[:noted.lines])) == noted.lines_digest:
         return ""
-    same = ", and these aren't the same" if len(held) >= noted.lines else ""
-    return (f"office/places isn't what the office had. It has {count(len(held), 'line')}. When the office was "
-            f"{noted.when}, it had {noted.lines}{same}. A finisher without a sail may be missing.")
+    lines = remark("some-lines", n=len(held))
+    return remark("places-differ-same" if len(held) >= noted.lines else "places-differ", lines=lines,
+                  when=when_remark(noted), had=noted.lines)
 
 
 def added(folder: Folder) -> str:
@@ -142,33 +143,35 @@ def added(folder: Folder) -> str:
     noted, held = noted_end(folder.logged()), len(parts_of(folder.parts()[0])[1])
     if noted is None or noted.when != "closed" or held <= noted.entries:
         return ""
-    return (f"journal.txt has {count(held, 'entry', 'entries')}, {held - noted.entries} more than when the "
-            "office was closed: it was kept without raceoffice, or somebody has added to it.")
+    return remark("journal-added", entries=remark("some-entries", n=held), more=held - noted.entries)
 
 
-def from_copy(data: bytes, held: bytes, copy: Copy) -> str:
+def when_remark(noted: Noted) -> Remark:
+    """What was done to the office when this was noted."""
+    return remark(f"when-{noted.when}")
+
+
+def from_copy(data: bytes, held: bytes, copy: Copy) -> Remark:
     """How a journal doesn't begin with the newest copy."""
     (version, ours), (other, theirs) = parts_of(data), parts_of(held)
-    sizes = (f"journal.txt isn't what the office had. It has {count(len(ours), 'entry', 'entries')}, and "
-             f"{copy.name} has {len(theirs)}.")
+    sizes = remark("journal-differs", entries=remark("some-entries", n=len(ours)), copy=copy.name, had=len(theirs))
     places = [at for at, line in enumerate(theirs, 1) if ours[at - 1:at] != [line]]
+    compare = remark("journal-compare")
     if not places:
-        return f"{sizes} Its first line is {shown(version)}, and that of the copy {shown(other)}. {HINT}"
+        return in_a_row(sizes, remark("journal-differs-version", line=shown(version), other=shown(other)), compare)
     at = places[0]
-    now = shown(ours[at - 1]) if at <= len(ours) else "nothing"
-    many = (f"{len(places)} of these aren't in journal.txt at their place, first" if len(places) > 1 else
-            "One of these isn't in journal.txt at its place,")
-    return (f"{sizes} {many} entry {at}:\n"
-            f"   {shown(theirs[at - 1])}   in the copy\n   {now}   in journal.txt\n{HINT}")
+    first = (remark("journal-differs-more", n=len(places), entry=at) if len(places) > 1 else
+             remark("journal-differs-one", entry=at))
+    now = (remark("journal-in-file", line=shown(ours[at - 1])) if at <= len(ours) else remark("journal-in-file-none"))
+    return on_lines(in_a_row(sizes, first), remark("journal-in-copy", line=shown(theirs[at - 1])), now, compare)
 
 
 def from_note(data: bytes, noted: Noted) -> str:
     """How a journal doesn't begin with what the log notes; empty if it does."""
     held = len(parts_of(data)[1])
-    had = (f"journal.txt isn't what the office had. It has {count(held, 'entry', 'entries')}. When the "
-           f"office was {noted.when}, it had {noted.entries}")
+    entries, when = remark("some-entries", n=held), when_remark(noted)
     if held < noted.entries:
-        return f"{had}, and no copy in kept/ has the others."
+        return remark("journal-short", entries=entries, when=when, had=noted.entries)
     if noted.digest and digest_of(first_entries(data, noted.entries)) != noted.digest:
-        return f"{had}, and these aren't the same. No copy in kept/ shows which differs."
+        return remark("journal-not-same", entries=entries, when=when, had=noted.entries)
     return ""

@@ -43,7 +43,7 @@ def copy_named(name: str) -> Copy | None:
 def dated(folder: Folder) -> list[Copy]:
     """The dated copies, the newest last."""
     names: list[str] = []
-    with as_trouble("kept/ can't be read"), contextlib.suppress(FileNotFoundError, NotADirectoryError):
+    with as_trouble("file-unread", name="kept/"), contextlib.suppress(FileNotFoundError, NotADirectoryError):
         names = os.listdir(folder.file(KEPT))
     return sorted(copy for name in names if (copy := copy_named(name)))
 
@@ -60,7 +60,7 @@ def bytes_of(folder: Folder, copy: Copy) -> bytes:
 
 def keep(folder: Folder, data: bytes, more: str = "") -> str:
     """Makes a copy that is the newest, whatever the clock says; its name."""
-    with as_trouble("kept/ can't be made"):
+    with as_trouble("file-unmade", name="kept/"):
         os.makedirs(folder.file(KEPT), mode=0o700, exist_ok=True)
     last, second, number = newest(folder), int(time.time()), 1
     if last and last.second >= second:

@@ -119,7 +119,7 @@ def boats_in_words(boats: list[entry_list.Boat]) -> str:
 
 
 def make_folder(folder: str) -> None:
-    with as_trouble(f"{folder} can't be made"):
+    with as_trouble("file-unmade", name=folder):
         os.makedirs(folder, mode=0o755, exist_ok=True)
 
 
@@ -132,7 +132,7 @@ def try_folder(folder: str) -> None:
         path = os.path.dirname(path)
     make_folder(folder)
     try:
-        with as_trouble(f"nothing can be written in {folder}"):
+        with as_trouble("folder-unwritten", name=folder):
             tempfile.TemporaryFile(dir=folder).close()
     finally:
         for made in missing:

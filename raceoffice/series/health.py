@@ -15,6 +15,7 @@ from raceoffice.errors import Trouble
 from raceoffice.files import PRIVATE
 from raceoffice.program.journal import Series
 from raceoffice.program.standing import Change, changes
+from raceoffice.remarks import remark, system_remark
 from raceoffice.series import entry_list
 from raceoffice.series.continuity import added
 from raceoffice.series.copies import best_copy
@@ -24,7 +25,6 @@ from raceoffice.series.read_list import bytes_of
 from raceoffice.series.run_program import Program, replayed
 from raceoffice.series.second_folder import second_of
 from raceoffice.terminal import sentence
-from raceoffice.wording import count, joined
 
 # The journal, what the program cuts off it, and what it may leave of an opening.
 OURS = ("journal.txt", "journal.txt.cut", "journal.txt.opening")
@@ -54,7 +54,7 @@ def path_fault(folder: Folder) -> str:
     """Which path the program wouldn't take; empty if it takes both."""
     for path in (os.path.abspath(folder.program), folder.journal):
         if not is_utf8(path):
-            return f"The program takes no path that isn't UTF-8, as {path} isn't: rename that folder."
+            return remark("folder-odd", path=path)
     return ""
 
 
@@ -64,17 +64,16 @@ def journal_fault(folder: Folder) -> str:
     try:
         held = os.stat(path)
         if not stat.S_ISREG(held.st_mode):
-            return "journal.txt is no plain file."
+            return remark("journal-unplain")
         if held.st_nlink > 1:
-            return ("journal.txt has a second name (a hard link), and the office would keep it under one "
-                    "alone. Copy it to another file, and rename that to journal.txt.")
+            return remark("journal-linked")
         if not os.access(path, os.R_OK | os.W_OK) or not os.access(os.path.dirname(path), os.W_OK):
-            return f"This account may not write {path}, or its folder."
+            return remark("journal-denied", path=path)
         folder.parts()
     except FileNotFoundError:
         return ""
     except OSError as cause:
-        return f"journal.txt can't be read: {cause.strerror}."
+        return sentence(remark("file-unread", name="journal.txt", why=system_remark(cause)))
     except Trouble as trouble:
         return sentence(trouble)
     return ""
@@ -85,7 +84,7 @@ def list_faults(folder: Folder) -> list[str]:
     try:
         return [*entry_list.problems(bytes_of(folder.entries), folder.entries)]
     except Trouble as trouble:
-        return [f"{trouble}."]
+        return [sentence(trouble)]
 
 
 def list_notes(folder: Folder) -> list[str]:
@@ -106,22 +105,22 @@ def lost_journal(folder: Folder) -> str:
     had = max([held, *logged])
     if not had:
         return ""
-    copy = f" {os.path.relpath(path, folder.path)} has {held}." if path else ""
-    return f"journal.txt is empty or gone, but the series had {count(had, 'entry', 'entries')}.{copy}"
+    entries = remark("some-entries", n=had)
+    return (remark("journal-lost-copy", entries=entries, copy=os.path.relpath(path, folder.path), held=held) if path else
+            remark("journal-lost", entries=entries))
 
 
 def disk_fault(folder: Folder) -> str:
     """Why the folder can't hold a journal and a socket; empty if it can."""
     if cause := room_fault(folder):
-        why = "is full" if cause.errno == errno.ENOSPC else f"can't be written: {cause.strerror}"
-        return f"The disk {why}. Nothing was opened or changed."
+        return (remark("disk-full") if cause.errno == errno.ENOSPC else
+                remark("disk-unwritten", why=system_remark(cause)))
     path = probe_of(folder)
     try:
         with system.socket_of_office() as made, system.short_name(path) as name:
             made.bind(name)
     except OSError:
-        return ("This disk takes no sockets (often a stick). Copy the folder to the computer's own "
-                "disk.")
+        return remark("disk-no-sockets")
     finally:
         remove_probe(path)
     return ""
@@ -194,8 +193,7 @@ def boats_left(folder: Folder) -> str:
             if sail not in entered]
     if not entered or not left:
         return ""
-    return (f"On the entry list, but not entered: {joined(left)}. The scorer enters a late boat by "
-            "ENTER.")
+    return remark("boats-left", boats=left)
 
 
 def other_journals(folder: Folder) -> str:
@@ -204,16 +202,15 @@ def other_journals(folder: Folder) -> str:
                    if os.path.basename(path) not in OURS and not path.endswith(".new"))
     if not names:
         return ""
-    return (f"Beside journal.txt there is {joined(names)}. Only journal.txt is used. If a cloud "
-            "folder made the other, move the series out of it.")
+    return remark("other-journals", names=names)
 
 
 def summary(folder: Folder) -> str:
     """The series in one line, from journal and table."""
     standing = Program(folder).standing(folder.settings.options())
-    races = count(len(standing.races), "race")
-    held = count(len(folder.kept()) or len(standing.rows), "entry", "entries")
-    return (f"{folder.settings.title}: {count(len(standing.rows), 'boat')}, {races} scored, {held}")
+    return remark("office-summary", title=folder.settings.title, boats=remark("some-boats", n=len(standing.rows)),
+                  races=remark("some-scored", n=len(standing.races)),
+                  entries=remark("some-entries", n=len(folder.kept()) or len(standing.rows)))
 
 
 def rules_before(folder: Folder) -> list[str]:

@@ -6,11 +6,14 @@ import re
 from dataclasses import dataclass, field
 from decimal import Decimal
 
+from raceoffice.remarks import remark
 from raceoffice.series.log import Logged
-from raceoffice.wording import count, spans
+from raceoffice.wording import spans
 
 # What the log has in place of an answer that never came.
 UNANSWERED = "no answer"
+# The most entries that a journal holds: a greater number in a log is no answer.
+MOST_ENTRIES = 8192
 
 
 def as_kept(line: str) -> str:
@@ -58,7 +61,7 @@ class Unsaved:
             self.unanswered.clear()
         elif entry.answer == UNANSWERED:
             self.unanswered.append(entry)
-        elif found:
+        elif found and int(found[1]) <= MOST_ENTRIES:
             self.answered[int(found[1])] = entry
 
     def lost(self) -> dict[int, Logged]:
@@ -73,17 +76,14 @@ class Unsaved:
 
     def in_words(self) -> list[str]:
         """The lines that have to be typed again, in their order; empty if nothing is lost."""
-        said = []
+        said: list[str] = []
         if lost := self.lost():
-            said = [f"journal.txt has {count(len(self.journal), 'entry', 'entries')}. These lines were "
-                    "answered, and are lost. Type them again in this order, before any other:"]
+            said = [remark("lost-lines", entries=remark("some-entries", n=len(self.journal)))]
             said += [f"   {number:>5}  {shown(entry)}" for number, entry in lost.items()]
         if missing := self.missing():
-            said.append(f"   {spans(missing)}: answered to somebody whose lines aren't in office.log. "
-                        "Ask who typed without a window.")
+            said.append(remark("lost-missing", numbers=spans(missing)))
         if self.unanswered:
-            said.append("These lines had no answer. Look whether they are in the journal before you "
-                        "type them again:")
+            said.append(remark("lost-unanswered"))
             said += [f"          {shown(entry)}" for entry in self.unanswered]
         return said
 

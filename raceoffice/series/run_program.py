@@ -11,6 +11,7 @@ from raceoffice.program.link import Sheet
 from raceoffice.program.messages import start_fault
 from raceoffice.program.replay import printed, ran, sheet_of
 from raceoffice.program.standing import Standing
+from raceoffice.remarks import remark
 from raceoffice.series.entry_list import given
 from raceoffice.series.folder import Folder
 from raceoffice.terminal import sentence
@@ -29,7 +30,7 @@ class Program:
         except Trouble as trouble:
             return why_not_run(self.path, trouble)
         if tried.stdout != "TABLE 0 RACES\n":
-            return f"{self.path} isn't regatta: it said {tried.stderr[:200]!r}."
+            return remark("program-other", path=self.path, said=repr(tried.stderr[:200]))
         return ""
 
     def replay(self, options: list[str]) -> subprocess.CompletedProcess[str]:
@@ -75,13 +76,13 @@ def why_not_run(path: str, trouble: Trouble) -> str:
     """Why a program couldn't be run, and what to do."""
     match trouble.__cause__:
         case FileNotFoundError():
-            return f"The program isn't at {path}: correct `program` in series.ini."
+            return remark("program-gone", path=path)
         case PermissionError():
-            return f"The program may not be run: type chmod +x {path}"
+            return remark("program-denied", path=path)
         case subprocess.TimeoutExpired():
-            return f"{path} isn't regatta: it doesn't end."
+            return remark("program-endless", path=path)
         case OSError(errno=errno.ENOEXEC):
-            return f"The program at {path} can't be run: it is made for another system."
+            return remark("program-foreign", path=path)
     return sentence(trouble)
 
 

@@ -16,8 +16,9 @@ import time
 from collections.abc import Iterator
 from dataclasses import dataclass
 
-from raceoffice.errors import NotThere, Trouble
+from raceoffice.errors import NotThere, Trouble, said_of
 from raceoffice.files import read_whole, replace_whole
+from raceoffice.remarks import packed, remark, unpacked
 from raceoffice.series.folder import LARGEST, VERSION, Folder
 
 MODULE = "raceoffice.series.second_folder"
@@ -77,7 +78,7 @@ class Second:
         return False
 
     def silence(self) -> Answer:
-        return Answer(f"{os.path.dirname(self.path)} doesn't answer")
+        return Answer(remark("folder-silent", path=os.path.dirname(self.path)))
 
     def start(self) -> socket.socket:
         """The line to the process, which is started if it isn't there. Ctrl-C doesn't reach it."""
@@ -107,7 +108,7 @@ class Second:
             self.rest += data
         text, _, self.rest = self.rest.partition(b"\n")
         self.asked_at = 0.0
-        return Answer(**json.loads(text))
+        return Answer(**{name: unpacked(value) for name, value in json.loads(text).items()})
 
     def received(self) -> bytes:
         """What has come from the process; nothing if it has ended."""
@@ -168,7 +169,7 @@ def save_to(path: str, text: str) -> None:
     """Makes a file hold a journal, or places, that go on where the file ends."""
     held = text_of_copy(path)
     if not text.removeprefix(VERSION).startswith(held.removeprefix(VERSION)):
-        raise Trouble(f"{path} holds lines that the office doesn't have. It is left as it is")
+        raise Trouble(remark("copy-other-lines", path=path))
     if text != held:
         replace_whole(path, text.encode())
 
@@ -177,7 +178,7 @@ def answered(what: str, path: str, text: str) -> Answer:
     """Does what is asked of the second folder."""
     place = os.path.dirname(path)
     if not os.path.isdir(place):
-        return Answer(f"{place} isn't there")
+        return Answer(remark("folder-gone", path=place))
     found = ""
     try:
         if what == "save":
@@ -187,7 +188,9 @@ def answered(what: str, path: str, text: str) -> Answer:
         elif what == "read":
             found = text_of_copy(path)
         return Answer(device=os.stat(place).st_dev, text=found, written=written_at(path))
-    except (Trouble, OSError) as cause:
+    except Trouble as trouble:
+        return Answer(said_of(trouble))
+    except OSError as cause:
         return Answer(str(cause))
 
 
@@ -202,7 +205,7 @@ def main() -> None:
     print(json.dumps({}), flush=True)
     for line in sys.stdin:
         answer = answered(**json.loads(line))
-        print(json.dumps(answer.__dict__), flush=True)
+        print(json.dumps({**answer.__dict__, "fault": packed(answer.fault)}), flush=True)
 
 
 if __name__ == "__main__":

@@ -266,3 +266,9 @@ def with_value(text: str, section: str, key: str, value: str) -> str:
     if problems(changed) or values_of(changed) != {**values_of(text), key: value}:
         raise Trouble(f"{NAME} can't be changed here: write {key} = {value} into it below [{section}]")
     return changed
+
+
+def rules_remark(held: Settings) -> Remark:
+    """The rules of a series in one line."""
+    return remark("office-rules", words=held.in_words(), exclude=held.exclude, absent=held.absent, scp=held.scp,
+                  handicap="yes" if held.handicap else "no")

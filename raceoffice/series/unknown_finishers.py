@@ -10,7 +10,7 @@ from dataclasses import dataclass
 from raceoffice.errors import NotSent
 from raceoffice.program.journal import Race
 from raceoffice.remarks import remark
-from raceoffice.wording import joined, ordinal
+from raceoffice.wording import ordinal
 
 # How one is called until she is known: ?1, or what was typed of her sail as 101?, and 101?2 for another.
 MARK = re.compile(r"([A-Z0-9-]{0,12})\?([1-9][0-9]{0,3})?")
@@ -143,6 +143,11 @@ class Waiting:
 
 def marks_by_race(waiting: Sequence[Unread]) -> str:
     """`?1 and 101? in race 3, ?1 in race 4`."""
+    return ", ".join(places_by_race(waiting))
+
+
+def places_by_race(waiting: Sequence[Unread]) -> list[str]:
+    """The places of each race."""
     races = sorted({unread.race for unread in waiting})
-    return ", ".join(f"{joined([unread.mark for unread in waiting if unread.race == race])} in race {race}"
-                     for race in races)
+    return [remark("places-of-race", marks=[unread.mark for unread in waiting if unread.race == race], race=race)
+            for race in races]

@@ -36,6 +36,7 @@ from raceoffice.wording import count
 CONFIRMED = re.compile('<!DOCTYPE html>\n<html lang="en" data-live="(?:yes|no)" data-every="[0-9]{1,4}" '
                        'data-checked="([0-9T:+-]{0,40})" data-office="([a-z0-9:,]{0,500})" ')
 LARGEST = 64 << 20
+PLAIN_NAME = re.compile(r"[\w./~+-]+")
 # Signs of a message about what differs. A page that is longer than the right one by this many isn't taken
 # apart to find the first cell that differs.
 MESSAGE, LONGER = 400, 1 << 16
@@ -93,17 +94,16 @@ class Verifier:
         found = self.decided(options, journal, text)
         is_excluded = any(score.excluded for row in standing.rows for score in row.scores)
         totals = nets_before_exclusion(self.program, options, journal) if is_excluded else {}
-        course = self.course(carried.name, options, journal, standing) if with_course else ()
+        course = self.course(options, journal, standing) if with_course else ()
         changed = moment_of(carried.stamp.changed)
         assert changed is not None
         return Snapshot(carried.name, shown, labelled(standing, found.labels),
                     Series.read(list(sheet.journal)), carried.names(), totals, changed, None,
                     carried.journal, found, carried.program, course, carried.stamp.when)
 
-    def course(self, name: str, options: list[str], journal: list[str],
-               standing: Standing) -> tuple[Standing, ...]:
-        """The standing after each race."""
-        progress = Progress(characters.shortly(name))
+    def course(self, options: list[str], journal: list[str], standing: Standing) -> tuple[Standing, ...]:
+        """The standing after each race. Meanwhile the terminal shows no word of the page."""
+        progress = Progress("Scoring again")
         try:
             return developed(self.program, options, journal, standing.races, progress)
         finally:
@@ -288,8 +288,10 @@ class Outcome:
 
 
 def name_shown(path: str) -> str:
-    """The name of a file, in quotation marks and on one line if it has spaces: it may be words that somebody chose."""
-    return unbroken(f'"{path}"') if " " in path else path
+    """The name of a file. It may be words that somebody chose: so it is on one line, and in quotation marks that it can't
+    close if it has more than letters, digits and what most names have."""
+    escaped = path.replace("\\", "\\\\").replace('"', '\\"')
+    return path if PLAIN_NAME.fullmatch(path) else unbroken(f'"{escaped}"')
 
 
 def outcome(verifier: Verifier, path: str) -> Outcome:

@@ -11,7 +11,7 @@ from raceoffice.series.continuity import difference
 from raceoffice.series.folder import Folder, entries_of
 from raceoffice.series.second_folder import Second, copy_of
 from raceoffice.terminal import sentence
-from raceoffice.web.states import Values
+from raceoffice.web.states import Values, remarks_of
 
 # Seconds until the copies are read again.
 AGAIN = 3.0
@@ -35,7 +35,7 @@ class CopiesShown:
                 self.looked_at = time.monotonic()
             second = self.found["second"]
             if trouble and isinstance(second, dict) and not second["fault"]:
-                return {**self.found, "second": {**second, "fault": sentence(trouble)}}
+                return {**self.found, "second": {**second, "fault": remarks_of([sentence(trouble)])}}
             return self.found
 
     def look_again(self) -> None:
@@ -47,12 +47,12 @@ class CopiesShown:
         try:
             found = copies.dated(self.folder)
             if not found:
-                return {"count": 0, "fault": ""}
+                return {"count": 0, "fault": []}
             last = found[-1]
             held = len(entries_of(copies.bytes_of(self.folder, last)))
         except Trouble as trouble:
-            return {"count": 0, "fault": sentence(trouble)}
-        return {"count": len(found), "fault": "", "name": last.name, "at": last.second * 1000, "entries": held}
+            return {"count": 0, "fault": remarks_of([sentence(trouble)])}
+        return {"count": len(found), "fault": [], "name": last.name, "at": last.second * 1000, "entries": held}
 
     def second_copy(self) -> Values | None:
         """The copy in the second folder; None if the settings name none."""
@@ -62,7 +62,7 @@ class CopiesShown:
         if not self.second.path:
             return None
         answer = self.second.ask("read")
-        return {"path": os.path.dirname(self.second.path), "fault": answer.fault and sentence(answer.fault),
+        return {"path": os.path.dirname(self.second.path), "fault": remarks_of([sentence(answer.fault)] if answer.fault else []),
                 "is_same_disk": self.second.is_on_our_disk(answer), "at": int(answer.written * 1000),
                 "entries": len(entries_of(answer.text.encode()))}
 
@@ -71,10 +71,11 @@ class CopiesShown:
             self.second.close()
 
 
-def journal_shown(folder: Folder, is_open: bool) -> Values:
-    """How many entries journal.txt has, and how it isn't what the office keeps, or had; in words."""
+def journal_shown(folder: Folder, is_open: bool, warned: str) -> Values:
+    """How many entries journal.txt has, and how it isn't what the office keeps, or had. `warned` is what this process
+    says of an office that it keeps; that of another window is in a file, in English alone."""
     try:
-        held, wrong = len(folder.kept()), folder.beware() if is_open else difference(folder)
+        held, wrong = len(folder.kept()), (warned or folder.beware()) if is_open else difference(folder)
     except Trouble as trouble:
-        return {"entries": 0, "differs": sentence(trouble)}
-    return {"entries": held, "differs": wrong}
+        return {"entries": 0, "differs": remarks_of([sentence(trouble)])}
+    return {"entries": held, "differs": remarks_of([wrong] if wrong else [])}

@@ -58,7 +58,7 @@ class Declarations:
                 "since": int(since.timestamp() * 1000) if since else 0,
                 "is_changed": is_changed_since(logged, notice.state, sheet.table),
                 "open": points_of(announce.open_points(self.folder, sheet)),
-                "is_open": is_open, "journal": journal_shown(self.folder, is_open),
+                "is_open": is_open, "journal": journal_shown(self.folder, is_open, self.office.warned()),
                 "copies": self.copies.look(self.office.second_trouble()) | sticks_shown(self.folder)}
 
     def sheet(self) -> Sheet:

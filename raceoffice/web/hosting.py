@@ -13,7 +13,7 @@ import itertools
 import socket
 import ssl
 import traceback
-from collections.abc import Awaitable, Callable
+from collections.abc import Awaitable, Callable, Mapping
 from dataclasses import dataclass
 
 from raceoffice import system
@@ -27,6 +27,8 @@ from raceoffice.web.requests import (HEAD, SAFE, Reply, Request, Wrong, bytes_of
 SLOW, HANDSHAKE, BEAT = 20.0, 10.0, 5.0
 # The most bytes that somebody who waits for news may not have taken yet.
 BEHIND = 64 << 10
+# After how many milliseconds a browser comes again whose connection has ended.
+RETRY = "retry: 1500\n\n"
 # How many connections this process may have, if its system allows that, and how many files are left to the
 # rest of it. One address may have so many, and leaves at least some to the others.
 ROOM, SPARE, CROWD, OTHERS = 8192, 64, 2000, 256
@@ -41,19 +43,21 @@ WAITING, TOGETHER = 1024, 16
 MOMENT = 1.0
 
 
-class Hub:
-    """Those who wait for the same news (server-sent events): the newest text whenever it is another, and a sign
-    of life in between. Of several pieces of news within `pause` seconds they learn at once. `is_known` says of the
-    name of one who waits whether it is still let in."""
+class News:
+    """What some wait for (server-sent events): news, and a sign of life in between. Of several pieces of news
+    within `pause` seconds they learn at once."""
 
-    def __init__(self, text: Callable[[], str], pause: float,
-                 is_known: Callable[[str], bool] = lambda name: True) -> None:
-        self.text, self.pause, self.is_known = text, pause, is_known
-        # Those who wait, with their names.
-        self.waiting: dict[asyncio.StreamWriter, str] = {}
-        self.sent = ""
-        self.is_due = False
+    def __init__(self, pause: float) -> None:
+        self.pause, self.is_due = pause, False
         self.loop: asyncio.AbstractEventLoop | None = None
+
+    def send_news(self) -> None:
+        """Sends what is new."""
+        raise NotImplementedError
+
+    def send_life(self) -> None:
+        """Sends a sign of life."""
+        raise NotImplementedError
 
     def start(self) -> None:
         """Begins to send, in the thread of all connections. Who waits already may have missed something."""
@@ -68,6 +72,33 @@ class Hub:
             with contextlib.suppress(RuntimeError):
                 self.loop.call_soon_threadsafe(self.take_news)
 
+    def take_news(self) -> None:
+        if self.loop and not self.is_due:
+            self.is_due = True
+            self.loop.call_later(self.pause, self.send_due)
+
+    def send_due(self) -> None:
+        self.is_due = False
+        self.send_news()
+
+    def beat(self) -> None:
+        self.send_life()
+        if self.loop:
+            self.loop.call_later(BEAT, self.beat)
+
+
+class Hub(News):
+    """Those who wait for the same news: the newest text whenever it is another. `is_known` says of the name of one
+    who waits whether it is still let in."""
+
+    def __init__(self, text: Callable[[], str], pause: float,
+                 is_known: Callable[[str], bool] = lambda name: True) -> None:
+        super().__init__(pause)
+        self.text, self.is_known = text, is_known
+        # Those who wait, with their names.
+        self.waiting: dict[asyncio.StreamWriter, str] = {}
+        self.sent = ""
+
     def put_out(self) -> None:
         """Ends what those get who aren't let in any more; from any thread."""
         if self.loop:
@@ -79,56 +110,58 @@ class Hub:
             if not self.is_known(name):
                 writer.close()
 
-    def take_news(self) -> None:
-        if self.loop and not self.is_due:
-            self.is_due = True
-            self.loop.call_later(self.pause, self.send_due)
-
-    def send_due(self) -> None:
-        self.is_due = False
-        self.send_news()
-
     def send_news(self) -> None:
         if (text := self.text()) != self.sent:
             self.sent = text
             self.send(f"data: {text}\n\n")
 
-    def beat(self) -> None:
+    def send_life(self) -> None:
         self.end_unknown()
         self.send("event: beat\ndata: \n\n")
-        if self.loop:
-            self.loop.call_later(BEAT, self.beat)
 
     def send(self, text: str) -> None:
-        """Sends a text to all, and cuts off those who don't take what comes."""
+        """Sends a text to all."""
         data = text.encode()
         for writer in list(self.waiting):
-            if writer.transport.get_write_buffer_size() > BEHIND:
-                writer.transport.abort()
-            elif not writer.transport.is_closing():
-                writer.write(data)
+            send_or_cut(writer, data)
 
-    async def serve(self, reader: asyncio.StreamReader, writer: asyncio.StreamWriter, name: str) -> None:
+    async def serve(self, reader: asyncio.StreamReader, writer: asyncio.StreamWriter, name: str = "") -> None:
         """Sends news to one more until the connection ends, or until who has this name isn't let in any more."""
-        fields = {**SAFE, "Content-Type": "text/event-stream", "Cache-Control": "no-store",
-                  "Connection": "close", "X-Accel-Buffering": "no"}
-        head = "".join(f"{name}: {value}\r\n" for name, value in fields.items())
         # All have the same: those who wait already get it now, too.
         self.send_news()
-        writer.write(f"HTTP/1.1 200 OK\r\n{head}\r\nretry: 1500\n\ndata: {self.sent}\n\n".encode())
+        writer.write(news_head({}) + f"{RETRY}data: {self.sent}\n\n".encode())
         self.waiting[writer] = name
         try:
-            # Nothing is expected: this waits for the end.
-            while await reader.read(HEAD):
-                pass
+            await end_of(reader)
         finally:
             self.waiting.pop(writer, None)
 
 
+def news_head(more: Mapping[str, str]) -> bytes:
+    """The head of an answer that goes on."""
+    fields = {**SAFE, "Content-Type": "text/event-stream", "Cache-Control": "no-store", "Connection": "close",
+              "X-Accel-Buffering": "no", **more}
+    return "\r\n".join(["HTTP/1.1 200 OK", *(f"{name}: {value}" for name, value in fields.items()), "", ""]).encode()
+
+
+async def end_of(reader: asyncio.StreamReader) -> None:
+    """Waits for the end of a connection on which nothing is expected any more."""
+    while await reader.read(HEAD):
+        pass
+
+
+def send_or_cut(writer: asyncio.StreamWriter, data: bytes) -> None:
+    """Sends something to one who waits, or cuts off one who doesn't take what comes."""
+    if writer.transport.get_write_buffer_size() > BEHIND:
+        writer.transport.abort()
+    elif not writer.transport.is_closing():
+        writer.write(data)
+
+
 @dataclass(frozen=True)
 class Waiting:
-    """The news for one who waits, by its name."""
-    hub: Hub
+    """What sends news to one who waits, and the name of that one."""
+    serve: Callable[[asyncio.StreamReader, asyncio.StreamWriter], Awaitable[None]]
     name: str = ""
 
 
@@ -264,7 +297,7 @@ class Host:
             return
         self.watching[name] += 1
         try:
-            await reply.hub.serve(reader, writer, reply.name)
+            await reply.serve(reader, writer)
         finally:
             self.watching[name] -= 1
             if not self.watching[name]:

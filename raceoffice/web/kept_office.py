@@ -12,7 +12,7 @@ from raceoffice.errors import Fault, NotSent, Trouble
 from raceoffice.office.before_opening import Ask, is_meant, is_right, mend, question_of_rules
 from raceoffice.office.keeping import Keeping
 from raceoffice.program.messages import move_text
-from raceoffice.remarks import Remark, remark
+from raceoffice.remarks import Remark, in_a_row, remark
 from raceoffice.series import settings
 from raceoffice.series.folder import Folder, Lock, clock
 from raceoffice.series.health import disk_fault, faults, notes, summary
@@ -62,6 +62,11 @@ class KeptOffice:
         keeping = self.keeping
         return keeping.backups.trouble if keeping else ""
 
+    def warned(self) -> str:
+        """What is wrong with the journal of an office that this process keeps; empty if nothing is."""
+        keeping = self.keeping
+        return keeping.warned if keeping else ""
+
     # Opening
 
     def open(self, ask: Ask) -> bool:
@@ -106,7 +111,7 @@ class KeptOffice:
             try:
                 keeping.service.take_over(is_yes)
             except Trouble as trouble:
-                self.say(f"{sentence(trouble)} It is joined.")
+                self.say(in_a_row(sentence(trouble), remark("office-joined")))
                 return False
             self.folder.set_closing(False)
             self.folder.set_beware("")
@@ -120,7 +125,7 @@ class KeptOffice:
         for text in notes(self.folder):
             self.say(text)
         keeping.note_opened()
-        self.say(summary(self.folder), rules_remark(self.folder.settings), remark("office-open", time=clock()))
+        self.say(summary(self.folder), settings.rules_remark(self.folder.settings), remark("office-open", time=clock()))
         return True
 
     def keep(self, keeping: Keeping) -> None:
@@ -247,12 +252,6 @@ class KeptOffice:
             ask(asked)
         self.close()
         return self.open(ask)
-
-
-def rules_remark(held: settings.Settings) -> Remark:
-    """The rules of a series in one line."""
-    return remark("office-rules", words=held.in_words(), exclude=held.exclude, absent=held.absent, scp=held.scp,
-                  handicap="yes" if held.handicap else "no")
 
 
 def question_of_removal(folder: Folder, sail: str) -> Question:

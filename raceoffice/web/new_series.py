@@ -116,7 +116,7 @@ def folder_made(parent: str, values: Mapping[str, Any]) -> str:
             if not is_same(fresh, path):
                 raise NotSent(remark("folder-there", name=name))
         else:
-            with as_trouble(f"{path} can't be made"):
+            with as_trouble("file-unmade", name=path):
                 os.rename(fresh, path)
                 system.sync_folder(parent)
     except Trouble as trouble:

@@ -3,6 +3,7 @@ from __future__ import annotations
 
 import asyncio
 import contextlib
+import dataclasses
 import functools
 import gzip
 import hashlib
@@ -69,6 +70,7 @@ class Request:
     fields: Mapping[str, str]
     address: str
     body: bytes = b""
+    query: str = ""
 
     def values(self) -> dict[str, Any]:
         """The body's values."""
@@ -87,6 +89,10 @@ class Request:
     def cookie(self, name: str) -> str:
         pairs = (part.strip().partition("=") for part in self.fields.get("cookie", "").split(";"))
         return next((value for key, _, value in pairs if key == name), "")
+
+    @property
+    def takes_gzip(self) -> bool:
+        return "gzip" in self.fields.get("accept-encoding", "").replace(" ", "").split(",")
 
     @property
     def parts(self) -> list[str]:
@@ -125,8 +131,7 @@ def tagged(request: Request, kind: str, data: bytes, is_part: bool = False) -> R
 def packed(request: Request, reply: Reply) -> Reply:
     """The same with fewer bytes, for those who can unpack it. No secret is in the same text as what a request
     may choose: only states and files are this long."""
-    offered = request.fields.get("accept-encoding", "").replace(" ", "").split(",")
-    if len(reply.data) < LEAST_PACKED or "gzip" not in offered or reply.is_ready:
+    if len(reply.data) < LEAST_PACKED or not request.takes_gzip or reply.is_ready:
         return reply
     fields = {**reply.fields, "Content-Encoding": "gzip", "Vary": "Accept-Encoding"}
     level = SMALLEST if reply.is_part else QUICK
@@ -196,7 +201,8 @@ def request_of(head: bytes, address: str) -> Request:
         fields[key] = value.strip()
     if "transfer-encoding" in fields:
         raise Wrong(400, "the body needs its length")
-    return Request(words[0], words[1].partition("?")[0], fields, address)
+    path, _, query = words[1].partition("?")
+    return Request(words[0], path, fields, address, query=query)
 
 
 async def with_body(reader: asyncio.StreamReader, request: Request, most: int) -> Request:
@@ -212,4 +218,4 @@ async def with_body(reader: asyncio.StreamReader, request: Request, most: int) -
         body = await asyncio.wait_for(reader.readexactly(int(size)), BODY_TIME)
     except asyncio.TimeoutError:
         raise Wrong(408) from None
-    return Request(request.method, request.path, request.fields, request.address, body)
+    return dataclasses.replace(request, body=body)

@@ -24,7 +24,7 @@ from raceoffice.web.finish_order import line_in_order
 from raceoffice.web.states import (Values, boats_of, moves_of, races_of, rules_of, said_of, standing_of, unlisted)
 from raceoffice.web.tap_session import DROPPED, TapSession
 from raceoffice.web.taps import PLACED, Register, Sent, Tap, number_of
-from raceoffice.web.timed_taps import TimedTap, is_timed_tap, sheets_shown, timed_undo
+from raceoffice.web.timed_taps import TimedTap, is_timed_tap, sheets_shown, timed_undo, with_typed_times
 
 # Seconds between two looks at whether the journal has grown, and between two tries at an office that isn't
 # open, or has no seat: each of those uses up one of its sessions.
@@ -324,9 +324,10 @@ class Room:
             return tap.line
         if tap.undoes and not self.is_undoable(tap):
             raise NotSent(remark("undo-nothing"))
-        line = session.line(tap.line)
+        typed, times = with_typed_times(self.folder, tap.line)
+        line = session.line(typed)
         if is_timed_tap(self.folder, line):
-            return line
+            return f"{line} {times}".rstrip()
         if line.startswith("FINISH "):
             moments = self.register.moments(self.facts.sheet.journal)
             line = line_in_order(session.facts, moments, tap, line)
@@ -355,7 +356,7 @@ class Room:
 def held_alone(folder: Folder) -> int:
     """The file that says that a web serves this class. Two would not know of each other's taps."""
     path = folder.file(PRIVATE, "web.lock")
-    with as_trouble(f"{path} can't be used"):
+    with as_trouble("file-unused", name=path):
         file = os.open(path, os.O_RDWR | os.O_CREAT | system.NO_LINK, PRIVATE_MODE)
     if not system.take_lock(file):
         os.close(file)

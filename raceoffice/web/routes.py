@@ -3,6 +3,7 @@ from __future__ import annotations
 
 import asyncio
 import concurrent.futures
+import functools
 import json
 import os
 import time
@@ -102,7 +103,7 @@ class Routes:
         if request.method not in ("GET", "HEAD"):
             raise Wrong(405)
         if request.path == "/live":
-            return Waiting(self.office.board_news)
+            return self.news_of_page(request)
         if request.path == "/" and not self.office.classes:
             return Reply(301, "text/plain", b"", {"Location": "/office/"})
         address, texts = address_of(request.path), self.office.board.texts
@@ -111,6 +112,14 @@ class Routes:
         if f"{address}/" in texts:
             return Reply(301, "text/plain", b"", {"Location": f"{address}/"})
         raise Wrong(404, "there is no such page here")
+
+    def news_of_page(self, request: Request) -> Waiting:
+        """News of a page of the board, whose address follows `page=` as it is in the browser."""
+        name, _, path = request.query.partition("=")
+        address, texts = address_of(path), self.office.board.texts
+        if name != "page" or address not in texts or not texts[address].kind.startswith("text/html"):
+            raise Wrong(404, "there is no such page here")
+        return Waiting(functools.partial(self.office.board_news.serve, address=address, takes_gzip=request.takes_gzip))
 
     def enter(self, request: Request) -> Reply:
         """A device shows the secret of its link, and gets a cookie."""
@@ -158,7 +167,7 @@ class Routes:
             case ["me"]:
                 return reply_of(self.me(request, role, device))
             case ["live"]:
-                return Waiting(self.office.news, device.mark)
+                return Waiting(functools.partial(self.office.news.serve, name=device.mark), device.mark)
             case ["state", name]:
                 return await self.in_thread(self.state, request, role, self.room(name))
             case ["rulings", name] if role == "JURY":
@@ -460,10 +469,10 @@ def shorter(kind: str, data: bytes) -> bytes:
 
 def of_text(request: Request, text: Text) -> Reply:
     """A text of the board, packed already, with its own policy."""
-    is_packed = "gzip" in request.fields.get("accept-encoding", "").replace(" ", "").split(",")
+    is_packed = request.takes_gzip
     tag = f'"{text.tag}{"-z" if is_packed else ""}"'
     fields = {"ETag": tag, "Cache-Control": "no-cache", "Vary": "Accept-Encoding",
-              "Content-Security-Policy": text.policy, "X-News": "/live"}
+              "Content-Security-Policy": text.policy, "X-News": "/live?page="}
     if tag in request.fields.get("if-none-match", ""):
         return Reply(304, text.kind, b"", fields, True)
     if is_packed:

@@ -5,6 +5,7 @@ opened again.
 """
 from __future__ import annotations
 
+import contextlib
 import dataclasses
 import hashlib
 import os
@@ -12,10 +13,11 @@ from collections.abc import Mapping
 from typing import Any
 
 from raceoffice.characters import utf8
-from raceoffice.corrected.times import RULES, SHEETS, Rules
-from raceoffice.corrected.write_sheet import rules_text, with_rule, write_rules
+from raceoffice.corrected.times import ROUNDINGS, RULES, SHEETS, Rules, Sheets
+from raceoffice.corrected.write_sheet import races_with_sheet, rules_text, with_rule, write_rules
 from raceoffice.errors import NotSent, NotThere, Trouble
 from raceoffice.files import edited_text, replace_whole
+from raceoffice.program.replay import Line
 from raceoffice.remarks import remark
 from raceoffice.series import settings
 from raceoffice.series.folder import Folder
@@ -51,7 +53,7 @@ def settings_kept(folder: Folder, office: KeptOffice) -> Values:
     values, is_open = settings.values_of(text), office.is_there()
     kept, opened = settings.settings_of(values), preview.opened_settings(folder)
     return {"wrong": [], "tag": tag_of(text), "is_open": is_open, "is_kept_here": office.keeping is not None,
-            "settings": {key: (settings.DEFAULTS | values)[key] for key in GIVEN}, "system": system_of(folder),
+            "settings": {key: (settings.DEFAULTS | values)[key] for key in GIVEN}, **times_rules(folder),
             "opened": rules_of(opened),
             "waiting": waiting(folder, kept, opened) if is_open else []}
 
@@ -62,15 +64,27 @@ def waiting(folder: Folder, kept: settings.Settings, opened: settings.Settings) 
     return found + (["zone"] if kept.zone != folder.settings.zone else [])
 
 
-def system_of(folder: Folder) -> str:
-    """The rating system of a class by corrected time; empty if it has none yet, or if its rules can't be
-    read."""
-    if not os.path.exists(folder.file(SHEETS, RULES)):
+def times_rules(folder: Folder) -> Values:
+    """The rating system and the rounding of a class by corrected time; empty if it has none yet, or if its rules
+    can't be read."""
+    if os.path.exists(folder.file(SHEETS, RULES)):
+        with contextlib.suppress(Trouble):
+            found = Rules.read(folder)
+            return {"system": found.system, "rounding": found.rounding}
+    return {"system": "", "rounding": ""}
+
+
+def rounding_given(folder: Folder, values: Mapping[str, Any]) -> str:
+    """The rounding that a page gives to a class that has one; empty if that is the one it has. NotSent if it is none,
+    or if the class has come to have another than the page showed."""
+    wanted, held = str(values.get("rounding") or ""), str(times_rules(folder)["rounding"])
+    if not wanted or not held or not folder.settings.handicap or wanted == held:
         return ""
-    try:
-        return Rules.read(folder).system
-    except Trouble:
-        return ""
+    if wanted not in ROUNDINGS:
+        raise NotSent(remark("rounding-wrong", written=wanted[:20], wanted=list(ROUNDINGS)))
+    if values.get("rounding_was", held) != held:
+        raise NotSent(remark("rounding-changed"))
+    return wanted
 
 
 # What others would do
@@ -95,7 +109,28 @@ def effect(folder: Folder, facts: Facts, values: Mapping[str, Any]) -> Values:
     found: Values = {"wrong": [], "keys": [], "rules": wanted.in_words(), "settings": rules_of(wanted),
                      "at_once": [key for key in AT_ONCE if given.get(key, before[key]) != before[key]],
                      "at_opening": waiting(folder, wanted, opened)}
-    return found | preview.effect_of_rules(folder, facts, wanted.options())
+    return found | preview.effect_of_rules(folder, facts, wanted.options()) | effect_of_rounding(folder, facts, values)
+
+
+def effect_of_rounding(folder: Folder, facts: Facts, values: Mapping[str, Any]) -> Values:
+    """The races of which the sheets give other times with another rounding, with how many boats have another, and whom
+    that moves by the rules of the office; or why it can't be said."""
+    rounding = rounding_given(folder, values)
+    if not rounding:
+        return {"retimed": [], "moved": []}
+    sheets = Sheets(folder)
+    sheets.rules = dataclasses.replace(sheets.rules, rounding=rounding)
+    lines: list[Line] = []
+    retimed: list[Values] = []
+    try:
+        for race in races_with_sheet(folder):
+            found = [Line("SCORER", line) for line in sheets.beside(race, facts.sheet.journal).lines]
+            retimed += [{"race": race, "n": len({line.text.split()[2] for line in found})}] if found else []
+            lines += found
+    except Trouble as trouble:
+        raise NotSent(*trouble.said) from None
+    after = preview.preview(folder, facts, lines) if lines else {"moves": []}
+    return {"retimed": retimed, "moved": after.get("moves", [])}
 
 
 # How they are saved
@@ -113,18 +148,26 @@ def save(folder: Folder, facts: Facts, values: Mapping[str, Any], name: str) -> 
     if effect(folder, facts, values).get("refused"):
         raise NotSent(remark("rules-refused"))
     rules = rules_to_write(folder, text, values)
-    changed = text_with(text, given)
+    changed, said = text_with(text, given), what_changes(text, given, values)
     # The program has taken its time.
     text_shown(folder, values)
+    if said:
+        log_once(folder, name, "settings", "; ".join(said))
     if rules:
         # These hold for a class by corrected time alone, so they come first: it never is one without them.
         write_rules(folder.path, rules)
     if changed != text:
-        before = settings.DEFAULTS | settings.values_of(text)
-        said = [f"{key} = {value}" for key, value in given.items() if value != before[key]]
-        log_once(folder, name, "settings", "; ".join(said))
         replace_whole(folder.file(settings.NAME), utf8(changed))
     show_names(folder, changed)
+
+
+def what_changes(text: str, given: Mapping[str, str], values: Mapping[str, Any]) -> list[str]:
+    """The settings that are others than before, as office.log has them. If the web died between the two files, the
+    rounding is in its file already."""
+    before = settings.DEFAULTS | settings.values_of(text)
+    wanted, was = str(values.get("rounding") or ""), str(values.get("rounding_was") or "")
+    rounding = [f"rounding = {wanted}"] if wanted and was and wanted != was else []
+    return rounding + [f"{key} = {value}" for key, value in given.items() if value != before[key]]
 
 
 def is_as_given(folder: Folder, values: Mapping[str, Any]) -> bool:
@@ -169,8 +212,10 @@ def text_with(text: str, given: Mapping[str, str]) -> str:
 
 
 def rules_to_write(folder: Folder, text: str, values: Mapping[str, Any]) -> bytes:
-    """times/rules.ini of a class that comes to be one by corrected time; nothing if it has these rules already. A
-    class that is one keeps those that it has."""
+    """times/rules.ini of a class that comes to be one by corrected time, or that gets another rounding; nothing if it
+    has these rules already. A class that is one keeps its system."""
+    if rounding := rounding_given(folder, values):
+        return with_rounding(folder, rounding)
     is_needed = given_of(values).get("handicap") == "yes" and values.get("system")
     is_there, path = os.path.exists(folder.file(SHEETS, RULES)), folder.file(SHEETS, RULES)
     if not is_needed or is_there and settings.values_of(text).get("handicap") == "yes":
@@ -180,7 +225,16 @@ def rules_to_write(folder: Folder, text: str, values: Mapping[str, Any]) -> byte
         if not is_there:
             return fresh
         before = edited_text(path)
-        changed = with_rule(before, "system", str(values["system"]))
+        changed = with_rule(with_rule(before, "system", str(values["system"])), "rounding",
+                            str(values.get("rounding") or times_rules(folder)["rounding"] or "half-up"))
         return b"" if changed == before else utf8(changed)
+    except Trouble as trouble:
+        raise NotSent(*trouble.said) from None
+
+
+def with_rounding(folder: Folder, rounding: str) -> bytes:
+    """times/rules.ini with another rounding."""
+    try:
+        return utf8(with_rule(edited_text(folder.file(SHEETS, RULES)), "rounding", rounding))
     except Trouble as trouble:
         raise NotSent(*trouble.said) from None

@@ -90,7 +90,8 @@ def value_shown(value: Value) -> object:
 
 def question_of(asked: Question) -> Values:
     """A question as a page gets it."""
-    return {"kind": asked.kind, "values": asked.values, "text": asked.text}
+    remarks = {name: remarks_of([value])[0] for name, value in asked.values.items() if isinstance(value, Remark)}
+    return {"kind": asked.kind, "values": asked.values, "text": asked.text, **({"remarks": remarks} if remarks else {})}
 
 
 def said_of(said: Sequence[Said]) -> list[Values]:

@@ -2,6 +2,7 @@
 of that goes to the office as lines."""
 from __future__ import annotations
 
+import dataclasses
 import datetime
 import functools
 import zoneinfo
@@ -44,6 +45,9 @@ class TimedTap:
         self.session, (self.command, number, *self.rest) = session, line.split()
         self.folder, self.race = session.folder, session.facts.race(number)
         self.sail = self.rest[0] if self.rest and self.command != "START" else ""
+        if self.command == "FINISH" and self.rest[1:]:
+            # It was typed, so that nobody saw her at the moment of the tap.
+            session.tap = dataclasses.replace(session.tap, at=0)
         self.is_begun, self.is_written = session.is_begun, session.are_lines_noted
         # The lines that the journal has from an earlier try.
         self.taken = session.lines_taken() if self.is_begun else []
@@ -66,9 +70,10 @@ class TimedTap:
 
     def likely_line(self) -> str:
         """A line as the tap may send it."""
-        command = self.command if self.command in ("MARK", "CLEAR") else "STRIKE"
         sail = self.sail or next(iter(self.session.facts.boats), "")
-        return " ".join([command, str(self.race.number), sail, *self.rest[1:]])
+        if self.command in ("MARK", "CLEAR"):
+            return " ".join([self.command, str(self.race.number), sail, *self.rest[1:]])
+        return f"STRIKE {self.race.number} {sail}"
 
     def change(self, sheet: SheetOfRace) -> None:
         """Changes the sheet as it was tapped; NotSent if that can't be."""
@@ -79,7 +84,7 @@ class TimedTap:
         elif self.command == "TIMES" and not sheet.rows:
             raise NotSent(remark("no-sheet", race=self.race.number))
         elif self.command == "FINISH":
-            sheet.finish(self.sail, clock_text(self.folder, self.session.tap.at))
+            sheet.finish(self.sail, *(self.rest[1:] or [clock_text(self.folder, self.session.tap.at)]))
         elif self.command == "STRIKE":
             if not (sheet.take_finish(self.sail) or self.sail in self.race.times or self.is_begun):
                 raise NotSent(remark("no-finish", boat=self.session.facts.called(self.sail), race=self.race.number))
@@ -115,6 +120,16 @@ def write(sheet: SheetOfRace) -> None:
         raise NotNow(*trouble.said) from None
 
 
+def with_typed_times(folder: Folder, typed: str) -> tuple[str, str]:
+    """A finish that is typed by hand, without its time and with it alone: `FINISH 3 GBR7 15:07:31`, and after that the
+    time that she had, if this is another. Any other line stays as it is."""
+    words = typed.split()
+    times = [word for word in words[3:5] if ":" in word]
+    if not folder.settings.handicap or words[:1] != ["FINISH"] or not times or len(words) != 3 + len(times):
+        return typed, ""
+    return " ".join(words[:3]), " ".join(times)
+
+
 def timed_undo(sent: Sent | None) -> str:
     """The line that takes back what a tap did to a sheet; empty if it did nothing to one."""
     words = sent.line.split() if sent and sent.answer.startswith(("OK ", "NOTED")) else [""]
@@ -122,6 +137,9 @@ def timed_undo(sent: Sent | None) -> str:
         raise NotSent(remark("start-again", race=words[1]))
     if words[0] == "TIMES":
         raise NotSent(remark("times-again", race=words[1]))
+    if words[0] == "FINISH" and len(words) == 5:
+        # It put one finish in place of another.
+        return " ".join([*words[:3], words[4], words[3]])
     opposite = {"FINISH": "STRIKE", "MARK": "CLEAR"}.get(words[0], "")
     return f"{opposite} {words[1]} {words[2]}" if opposite else ""
 

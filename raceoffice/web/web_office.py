@@ -9,6 +9,7 @@ from dataclasses import dataclass, field
 
 from raceoffice.errors import Fault, Trouble
 from raceoffice.files import PRIVATE
+from raceoffice.remarks import remark, system_remark
 from raceoffice.results.http_answers import Board
 from raceoffice.results.source import need_own_names
 from raceoffice.series.folder import Folder
@@ -18,6 +19,7 @@ from raceoffice.web.gate import Gate
 from raceoffice.web.hosting import Hub
 from raceoffice.web.kept_office import KeptOffice
 from raceoffice.web.live_board import TICK, LiveBoard
+from raceoffice.web.page_news import PageNews
 from raceoffice.web.room import Room
 
 # Seconds within which pages learn of several pieces of news together, and phones that look at the board.
@@ -48,18 +50,13 @@ class WebOffice:
     is_ending: threading.Event = field(default_factory=threading.Event)
 
     def __post_init__(self) -> None:
-        self.news, self.board_news = Hub(self.versions, AT_ONCE, self.gate.lets_in), Hub(self.board_versions, SOON)
+        self.news, self.board_news = Hub(self.versions, AT_ONCE, self.gate.lets_in), PageNews(self.board, SOON)
         self.gate.told_out = self.news.put_out
         self.lock = threading.Lock()
 
     def versions(self) -> str:
         """The version of each class, for the pages of the office."""
         return json.dumps({name: one.room.version for name, one in self.classes.items()})
-
-    def board_versions(self) -> str:
-        """What is another whenever a page of the board is, by its address."""
-        return json.dumps({address: text.tag for address, text in self.board.texts.items()
-                           if address.endswith("/")})
 
     def add(self, folder: Folder) -> Class:
         """One more class. The first one's folder keeps who may write."""
@@ -133,4 +130,4 @@ def gate_of(folders: list[Folder], name: str, is_secure: bool) -> Gate:
         path = folders[0].file(PRIVATE, "web.json") if folders else ""
         return Gate(path, [name] if name else [], is_secure)
     except OSError as cause:
-        raise Trouble(f"office/web.json can't be used: {cause.strerror}") from None
+        raise Trouble(remark("file-unused", name="office/web.json", why=system_remark(cause))) from None

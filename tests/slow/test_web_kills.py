@@ -378,7 +378,6 @@ class Time(Trial):
         self.asked([sheet, Sent("SCORER", ("line", "cup"), tap_of(1, "TIMES 1"))])
         self.assertEqual(lines_of(self.files())[-2:], ["SCORER STRIKE 1 GBR7", "SCORER TIME 1 GBR7 2970"])
 
-
     def test_taps(self) -> None:
         """A code for a boat that has a time takes two lines; strike, clear and undo take what isn't there once it was
         taken. Each is done whole, once, and answered so."""
@@ -392,6 +391,26 @@ class Time(Trial):
         self.each_step(Sent("FINISH", ("line", "cup"), tap_of(3, "CLEAR 1 GBR7")), wanted=(sheet, "journal.txt"))
         undone = Sent("FINISH", ("line", "cup"), tap_of(4, "UNDO", undoes=tap_of(1)["id"]))
         self.each_step(undone, wanted=(sheet, "journal.txt"))
+
+    def test_by_hand(self) -> None:
+        """A finish is typed in place of another: 3,900 s x 0.900 before, and 4,200 s x 0.900 then; a code for a boat that
+        has no time, and another rounding."""
+        self.serving()
+        self.typed("FINISH TIME 1 GBR101 3600", "FINISH TIME 1 GBR7 3510")
+        finish = Sent("SCORER", ("line", "cup"), tap_of(1, "FINISH 1 GBR7 15:10:00 15:05:00"))
+        self.each_step(finish, wanted=("times/race-1.csv", "journal.txt"))
+        code = Sent("SCORER", ("line", "cup"), tap_of(2, "MARK 1 NED12 DNF"))
+        self.each_step(code, wanted=("times/race-1.csv", "journal.txt"))
+        self.asked([finish, code])
+        self.assertEqual(lines_of(self.files())[-3:], ["SCORER STRIKE 1 GBR7", "SCORER TIME 1 GBR7 3780", "SCORER MARK 1 NED12 DNF"])
+
+    def test_rounding(self) -> None:
+        """Another rounding is saved beside a setting: both come to be there."""
+        self.serving()
+        text = self.files()["series.ini"].decode()
+        values = {"settings": {"club": "Sailing Club"}, "rounding": "up", "rounding_was": "half-up", "tag": tag_of(text)}
+        self.each_step(Sent("SCORER", ("save", "cup"), values), victims=("web",),
+                       wanted=("series.ini", "times/rules.ini", "office.log"))
 
 
 class Fresh(helpers.Series):

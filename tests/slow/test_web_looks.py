@@ -269,6 +269,10 @@ class Looking(unittest.TestCase):
         device.click("#tab-times")
         device.until("document.querySelectorAll('#times-table tbody tr').length > 7")
         yield "times"
+        device.click("button[data-hand]")
+        device.until(OPEN)
+        yield "a finish by hand"
+        device.click("dialog[open] button")
         self.office.classes = ["cup"]
         device.open(self.office.address("/office/scorer/"))
         device.until("!!document.querySelector('#tab-new')")
@@ -343,12 +347,15 @@ OF_REMARKS: dict[str, RemarkValue] = {
     "mark": "?77", "marks": ["?77", "?78"], "command": "BEFORE", "form": "BEFORE race sail other", "typed": "101",
     "names": ["GBR 101 Ann", "NED 101 Bea"], "lines": ["STRIKE 40 GBR101", "CLEAR 40 GBR101"], "role": "jury", "by": "the jury",
     "boat": "GBR 101 Ann", "time": "13:00", "times": 4,
-    "minutes": "10", "seconds": "60", "copy": "kept/2026-11-28-120000Z.txt"}
+    "minutes": "10", "seconds": "60", "copy": "kept/2026-11-28-120000Z.txt",
+    "boats": "300 boats", "entries": "8192 entries", "rules": "RRS A5.2", "since": "13:00", "process": "12345", "path": "/media/ann",
+    "held": 12, "others": "101?", "numbers": "12\u201314", "had": 12, "more": 2, "entry": 12,
+    "places": ["?1 in race 3", "?1 in race 4"]}
 PLACED: dict[str, RemarkValue] = {"name": "series.ini", "line": 12}
 # Remarks that are alike in some languages
-ALIKE = {"takes-limit", "wanted-handicap", "wanted-absent", "wanted-state", "key-club", "key-rating"}
+ALIKE = {"office-summary", "journal-in-file", "takes-limit", "wanted-handicap", "wanted-absent", "wanted-state", "key-club", "key-rating"}
 # Remarks within others
-WITHIN = {"fault": "sail-none", "place": "ini-place", "wanted": "wanted-scp", "why": "barred-alone"}
+WITHIN = {"fault": "sail-none", "when": "when-closed", "place": "ini-place", "wanted": "wanted-scp", "why": "barred-alone"}
 
 
 def all_remarks() -> list[Remark]:

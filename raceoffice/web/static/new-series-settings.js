@@ -6,6 +6,7 @@ import {remarkSentences} from "./remark-words.js";
 
 // Rating systems as times/rules.ini has them
 const SYSTEMS = [["tcf", "TCF"], ["py", "PY"], ["tod", "TOD"]];
+const ROUNDINGS = ["half-up", "half-down", "down", "up"];
 const MOST_RACES = 40, MOST_PLACES = 99;
 // The fields of numbers of races from which one more score is excluded
 const EXCLUDED = ["one", "two", "three", "four"];
@@ -32,7 +33,7 @@ function exclusions(exclude) {
 }
 
 // The settings as they are. The rating system can be chosen until the series is by corrected time, and has one.
-export function instructionsStep({exclude, absent, scp, handicap} = USUAL, system = "") {
+export function instructionsStep({exclude, absent, scp, handicap} = USUAL, system = "", rounding = "") {
   return [exclusions(exclude),
     group("new.absent", choice("absent", "a52", "new.a52", absent === "a52", "new.a52Means"), choice("absent", "a53", "new.a53", absent === "a53", "new.a53Means")),
     group("new.scp", choice("scp", "usual", "new.scpUsual", !scp), choice("scp", "points", "new.scpPoints", Boolean(scp)),
@@ -40,7 +41,9 @@ export function instructionsStep({exclude, absent, scp, handicap} = USUAL, syste
         element("input", {type: "number", name: "points", min: 1, max: MOST_PLACES, value: scp || null, inputmode: "numeric"})))),
     group("new.placesBy", choice("handicap", "no", "new.byOrder", handicap === "no"), choice("handicap", "yes", "new.byCorrectedTime", handicap === "yes", "new.correctedMeans"),
       element("div", {class: "numbers"}, element("label", {class: "number"}, text("new.system"),
-        element("select", {name: "system", disabled: handicap === "yes" && system !== ""}, SYSTEMS.map(([value, name]) => element("option", {value, selected: value === system}, name))))))];
+        element("select", {name: "system", disabled: handicap === "yes" && system !== ""}, SYSTEMS.map(([value, name]) => element("option", {value, selected: value === system}, name))))),
+      element("label", {class: "field"}, text("new.rounding"), element("select", {name: "rounding", id: "rounding"},
+        ROUNDINGS.map(value => element("option", {value, selected: value === rounding}, text(`new.rounding.${value}`))))))];
 }
 
 // The settings as series.ini has them, from what was chosen

@@ -124,7 +124,7 @@ export function newSeries(done) {
     const form = new FormData(event.target);
     make.disabled = true;
     wrong.textContent = "";
-    const made = await ask("new", {name: form.get("short"), text: list.found.text, settings: settingsOf(form), system: form.get("system")}, OPENING);
+    const made = await ask("new", {name: form.get("short"), text: list.found.text, settings: settingsOf(form), system: form.get("system"), rounding: form.get("rounding")}, OPENING);
     make.disabled = false;
     if (made.status === 200 && made.open) {
       say(text("new.isMade", {title: form.get("title")}));

@@ -6,7 +6,7 @@ import {ask, me, newId} from "./office.js";
 import {here, path, state} from "./desk.js";
 import {choose, say} from "./dialogs.js";
 import {agreedOf, wordsOf} from "./questions.js";
-import {troubleWords} from "./remark-words.js";
+import {remarkSentences, troubleWords} from "./remark-words.js";
 import {spaced} from "./sails.js";
 
 const STATES = ["provisional", "final", "amended"];
@@ -150,22 +150,23 @@ function filesStep(found) {
 
 const fact = (title, ...inside) => [element("dt", {}, title), element("dd", {}, ...inside)];
 const wrong = words => words ? element("p", {class: "wrong"}, words) : null;
+const wrongOf = remarks => remarks.length ? wrong(remarkSentences(remarks).join("\n")) : null;
 
 function journalWords({journal, is_open: isOpen}) {
-  if (journal.differs) return [`${entries(journal.entries)}. `, wrong(text("results.differs")), wrong(journal.differs)];
+  if (journal.differs.length) return [`${entries(journal.entries)}. `, wrong(text("results.differs")), wrongOf(journal.differs)];
   return `${entries(journal.entries)}, ${text(isOpen ? "results.asKept" : "results.asLeft")}`;
 }
 
 function datedWords({count, fault, at, entries: held}) {
   const newest = count ? `, ${text("results.newest", {when: moment(at), entries: entries(held)})}` : "";
-  return [text("results.copies", {n: count}), newest, wrong(fault)];
+  return [text("results.copies", {n: count}), newest, wrongOf(fault)];
 }
 
 function secondWords(second) {
   if (!second) return wrong(text("results.noSecond"));
   const {path: folder, fault, is_same_disk: isSameDisk, at, entries: held} = second;
   return [element("span", {class: "mono"}, folder), at ? `: ${text("results.written", {when: moment(at), entries: entries(held)})}` : "",
-    fault ? [wrong(text("results.noCopy")), wrong(fault)] : isSameDisk ? wrong(text("results.sameDisk")) : null];
+    fault.length ? [wrong(text("results.noCopy")), wrongOf(fault)] : isSameDisk ? wrong(text("results.sameDisk")) : null];
 }
 
 // Makes the folder of a stick the second folder, or none ("").

@@ -18,6 +18,13 @@ const at = (what, name) => `${what}/${encodeURIComponent(name)}`;
 const named = keys => list(keys.map(key => text(`settings.key.${key}`)));
 const step = (title, ...inside) => element("section", {class: "step"}, element("h2", {}, title), inside);
 
+// The races that get other times, and whom that moves
+function retimedParts({retimed = [], moved = []}) {
+  if (!retimed.length) return null;
+  return [element("ul", {class: "waits", id: "retimed"}, retimed.map(one => element("li", {}, text("settings.retimed", one)))),
+    element("ul", {class: "moves"}, moveRows(moved))];
+}
+
 // Whom the settings would move, and when each holds
 function effectParts(found) {
   if (found.status !== 200) return element("p", {class: "wrong"}, troubleWords(found));
@@ -28,7 +35,7 @@ function effectParts(found) {
     found.at_opening.length ? element("p", {class: "waits"}, text("settings.atOpening", {what: named(found.at_opening)})) : null,
     refused ? element("p", {class: "wrong"}, text("settings.refused", {why: refused.map(remarkWords).join("; ")})) : null,
     refused ? null : element("h4", {}, moves.length ? text("jury.wouldChange", {n: moves.length}) : text("jury.noChange")),
-    element("ul", {class: "moves"}, moveRows(moves)),
+    element("ul", {class: "moves"}, moveRows(moves)), retimedParts(found),
     stale.length ? [element("p", {class: "waits"}, text("settings.stale")), element("ul", {}, stale.map(one => element("li", {}, one.kind ? verdictWords(one) : remarkSentences(one.wrong).join("\n"))))] : null];
 }
 
@@ -40,7 +47,7 @@ class SettingsForm {
     this.button = element("button", {class: "main", id: "save", disabled: true}, text("settings.save"));
     this.node = element("form", {class: "steps", onsubmit: event => { event.preventDefault(); this.save(); }, oninput: () => this.lookSoon()},
       step(text("settings.names"), this.nameFields()),
-      step(text("new.instructions"), instructionsStep(found.settings, found.system)),
+      step(text("new.instructions"), instructionsStep(found.settings, found.system, found.rounding)),
       element("section", {class: "step"}, element("h2", {}, text("new.meaning")), element("div", {class: "meaning"}, this.effect)), this.button);
     this.look();
   }
@@ -54,7 +61,8 @@ class SettingsForm {
 
   get values() {
     const form = new FormData(this.node);
-    return {settings: {...settingsOf(form), zone: String(form.get("zone")).trim()}, system: form.get("system"), tag: this.found.tag};
+    return {settings: {...settingsOf(form), zone: String(form.get("zone")).trim()}, system: form.get("system"), rounding: form.get("rounding"), rounding_was: this.found.rounding,
+      tag: this.found.tag};
   }
 
   lookSoon() {
@@ -67,6 +75,7 @@ class SettingsForm {
     const mine = ++this.asked, found = await ask(at("rules", this.name), this.values, LONG);
     if (mine !== this.asked) return;
     fill(this.effect, effectParts(found));
+    this.retimed = found.retimed ?? [];
     this.button.disabled = found.status !== 200 || found.wrong.length > 0 || Boolean(found.refused);
   }
 
@@ -80,6 +89,7 @@ class SettingsForm {
       return;
     }
     say(text("settings.saved"));
+    for (const {race} of this.retimed) await sendLine(this.name, `TIMES ${race}`, state()?.entries ?? 0);
     await comeIn();
     this.again(done);
   }

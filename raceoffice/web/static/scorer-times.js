@@ -1,14 +1,14 @@
 'use strict';
-// A race's sheet of times: each boat's start, her laps or distance, an elapsed time instead of a finish; and what came
-// of it.
+// A race's sheet of times: each boat's start, her laps or distance, an elapsed time instead of a finish, a finish or a
+// code by hand; and what came of it.
 import {element} from "./elements.js";
 import {text} from "./texts.js";
 import {ask} from "./office.js";
-import {say} from "./dialogs.js";
-import {troubleWords} from "./remark-words.js";
+import {choose, say} from "./dialogs.js";
+import {remarkSentences, troubleWords} from "./remark-words.js";
 import {saidWords} from "./said-words.js";
 import {sendLine} from "./sending.js";
-import {spaced} from "./sails.js";
+import {CODES, spaced} from "./sails.js";
 import {state} from "./desk.js";
 
 const RACES = 40;
@@ -22,6 +22,41 @@ function duration(seconds) {
   if (seconds === undefined || seconds === null) return "";
   const two = value => String(value).padStart(2, "0");
   return `${Math.floor(seconds / HOUR)}:${two(Math.floor(seconds % HOUR / MINUTE))}:${two(seconds % MINUTE)}`;
+}
+
+// A time of the clock as it is typed: 150731, 15.07.31 or 15:07:31
+function clockOf(typed) {
+  const digits = typed.replace(/[.,\s]/g, ":");
+  return /^\d{6}$/.test(digits) ? digits.replace(/(..)(..)(..)/, "$1:$2:$3") : digits;
+}
+
+// The lines that give a boat a finish or a code, correct what she has, or take it out
+function linesFor(race, row, {finish, code}) {
+  const lines = [], of = `${race} ${row.sail}`;
+  if (code) return code === row.code ? [] : [`MARK ${of} ${code}`];
+  if (row.code) lines.push(`CLEAR ${of}`);
+  if (!finish && (row.finish || row.elapsed)) lines.push(`STRIKE ${of}`);
+  if (finish && row.elapsed) lines.push(`STRIKE ${of}`);
+  if (finish && finish !== row.finish) lines.push(["FINISH", of, finish, row.finish].filter(Boolean).join(" "));
+  return lines;
+}
+
+// Asks for the finish or the code of a boat, and sends what follows; whether anything was sent.
+async function correctByHand(name, race, row) {
+  const finish = element("input", {id: "hand-finish", value: row.finish, autocomplete: "off", inputmode: "text", placeholder: "15:07:31"});
+  const code = element("select", {id: "hand-code"}, ["", ...CODES].map(one =>
+    element("option", {value: one, selected: one === row.code}, one || text("times.noCode"))));
+  const done = await choose(`${spaced(row.sail)}: ${text("times.byHand")}`, [text("times.handMeans"),
+    element("label", {class: "field"}, text("times.clock"), finish), element("label", {class: "field"}, text("times.code"), code)],
+  [{value: "", label: text("common.cancel")}, {value: "out", label: text("times.takeOut"), look: "bad"}, {value: "save", label: text("times.handSave"), look: "main"}]);
+  if (!done) return false;
+  const given = done === "out" ? {finish: "", code: ""} : {finish: clockOf(finish.value.trim()), code: code.value};
+  for (const line of linesFor(race, row, given)) {
+    const sent = await sendLine(name, line, state()?.entries ?? 0);
+    if (!sent || sent.outcome === "refused") break;
+    say(saidWords(sent.said).slice(0, 3).join("\n") || text("times.saved"));
+  }
+  return true;
 }
 
 // The sheet of one race in a form
@@ -39,7 +74,7 @@ class Sheet {
         element("div", {class: "numbers"}, this.forAll.map(key => element("label", {class: "number"}, text(`times.${key}`), this.all[key]))),
         element("div", {class: "acts"}, element("button", {type: "button", id: "put-in", onclick: () => this.putIn()}, text("times.putIn")))),
       element("div", {class: "options"}, element("label", {}, this.night, element("span", {}, text("times.overnight")))),
-      element("p", {class: "soft"}, text("times.rounding", {rounding: found.rounding})),
+      element("p", {class: "soft"}, text("times.rounding", {rounding: text(`new.rounding.${found.rounding}`)})),
       element("div", {class: "acts"}, element("button", {class: "main", id: "send-times"}, text("times.save"))));
   }
 
@@ -61,8 +96,14 @@ class Sheet {
   row(row) {
     const fields = this.fields.get(row.sail);
     return element("tr", {"data-sail": row.sail}, element("td", {}, fields.tick), element("th", {scope: "row"}, spaced(row.sail)),
-      this.columns.map(key => element("td", {}, fields[key])), element("td", {}, row.code || row.finish),
+      this.columns.map(key => element("td", {}, fields[key])), element("td", {}, this.byHand(row)),
       element("td", {class: "corrected"}, this.corrected(row.sail)));
+  }
+
+  // Her finish or her code, which a press corrects
+  byHand(row) {
+    return element("button", {type: "button", class: "quiet", "data-hand": row.sail, "aria-label": `${spaced(row.sail)}: ${text("times.byHand")}`,
+      onclick: async () => { if (await correctByHand(this.name, this.found.race, row)) this.again(); }}, row.code || row.finish || "–");
   }
 
   corrected(sail) {
@@ -107,7 +148,7 @@ function raceField(again) {
 
 async function show(page, name) {
   const found = await ask(at(name, `/${number}`)), again = () => show(page, name);
-  const wrong = found.status !== 200 ? troubleWords(found) : found.wrong.join("\n");
+  const wrong = found.status !== 200 ? troubleWords(found) : remarkSentences(found.wrong).join("\n");
   shown = wrong ? null : new Sheet(name, found, again);
   page.replaceChildren(raceField(again), shown?.node ?? element("p", {class: "step wrong"}, wrong));
 }

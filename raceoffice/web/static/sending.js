@@ -5,9 +5,8 @@ import {text} from "./texts.js";
 import {ask, newId, now} from "./office.js";
 import {choose, say} from "./dialogs.js";
 import {agreedOf, refusalOf, wordsOf} from "./questions.js";
-import {troubleWords} from "./remark-words.js";
+import {moveOf, remarkSentences, troubleWords} from "./remark-words.js";
 import {saidWords} from "./said-words.js";
-import {moveWords} from "./moves.js";
 import {rulesWords} from "./rules-words.js";
 
 const TRIES = 6;
@@ -15,24 +14,20 @@ const TRIES = 6;
 const PAUSE = 700;
 const LONG = 9000;
 
-// How a boat would move, as a question has it: "GBR7 3 2 25.0 4.0"
-function moveOf(words) {
-  const [sail, was, rank, before, net] = words.split(" ");
-  return {sail, was: Number(was), rank: Number(rank), net_before: before, net};
-}
-
-// A question with its rules in words
-function withRules(question) {
-  const inWords = ([exclude, absent, scp, handicap]) => rulesWords({exclude, absent, scp, handicap: handicap === "yes"});
-  const {before, now} = question.values;
-  return Array.isArray(now) ? {...question, values: {...question.values, before: inWords(before), now: inWords(now)}} : question;
+// A question with its rules, and with what is said in it, in words
+function inWords(question) {
+  const rules = ([exclude, absent, scp, handicap]) => rulesWords({exclude, absent, scp, handicap: handicap === "yes"});
+  const {before, now} = question.values, values = {...question.values};
+  if (Array.isArray(now)) Object.assign(values, {before: rules(before), now: rules(now)});
+  for (const [name, remark] of Object.entries(question.remarks ?? {})) [values[name]] = remarkSentences([remark]);
+  return {...question, values};
 }
 
 // Asks a question of the office; "yes" if somebody agrees.
 export function agrees(question, said = []) {
   const {lines = [], moves = []} = question.kind === "line-of-several" ? {} : question.values;
-  const more = lines.length || moves.length ? moves.map(moveOf).map(one => moveWords(one)).join("\n") : saidWords(said).join("\n");
-  return choose(text("common.isThatRight"), [wordsOf(withRules(question)), lines.length ? element("p", {class: "mono"}, lines.join("\n")) : null, more],
+  const more = lines.length || moves.length ? moves.map(moveOf).join("\n") : saidWords(said).join("\n");
+  return choose(text("common.isThatRight"), [wordsOf(inWords(question)), lines.length ? element("p", {class: "mono"}, lines.join("\n")) : null, more],
     [{value: "", label: text("common.no")}, {value: "yes", label: text("common.yes"), look: "main"}]);
 }
 
