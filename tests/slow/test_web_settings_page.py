@@ -124,7 +124,7 @@ class TimesPage(WebTrial):
         scorer.until("!!document.querySelector('#tab-times')")
         scorer.click("#tab-times")
         scorer.until("document.querySelectorAll('#times-table tbody tr').length === 2")
-        self.assertIn("half-up", scorer.run("document.querySelector('#page').textContent"))
+        self.assertIn("Rounding: to the nearest second", scorer.run("document.querySelector('#page').textContent"))
         scorer.click("#overnight")
         scorer.type("tr[data-sail=GBR7] input[name=elapsed]", "1:05:00")
         scorer.click("#send-times")
