@@ -327,7 +327,7 @@ class Disks(Windows):
         self.assertEqual(status, 0)
 
     def test_hanging_opening(self) -> None:
-        """A series whose second folder hangs can be checked, opened and closed."""
+        """A series whose second folder hangs can be checked, opened, closed and opened again."""
         os.mkdir(os.path.join(self.here, "stick"))
         self.make("copied", copy="../stick")
         Hanging(self).begin(os.path.join(self.here, "stick"))
@@ -338,6 +338,8 @@ class Disks(Windows):
         said, status = window.rest()
         self.assertRegex(said, r"Closed\. journal\.txt has 7 entries, and so has kept/")
         self.assertEqual(status, 0)
+        # Now there is a journal which a copy could go on beyond.
+        self.window("open", "copied", waits=HANGS).read("The office is open")
 
     def test_same_disk(self) -> None:
         """The folder of a stick that isn't in is on the disk of the series."""

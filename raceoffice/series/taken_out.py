@@ -35,7 +35,7 @@ class TakenOut:
         return [int(entry.split()[0]) for entry in self.gone]
 
     def lowered(self, number: int) -> int:
-        """How many of so many entries are left."""
+        """How many of this number of entries are left."""
         return number - bisect.bisect(self.numbers, number)
 
     def is_in(self, journal: Sequence[str]) -> bool:
