@@ -333,7 +333,7 @@ ENGLISH: dict[str, str | tuple[str, str] | tuple[str, str, str]] = {
     "ini-changed": "somebody else has changed series.ini meanwhile: look again",
     "settings-missing": "the settings are missing",
     "setting-long": "{key} has more than {most} letters",
-    "rounding-wrong": "{written} is no rounding, which are {wanted:or}",
+    "rounding-wrong": "{written} is no rounding, which are {roundings:or}",
     "rounding-changed": "somebody else has changed the rounding meanwhile: look again",
     "rules-refused": "the program refuses these rules",
     "list-not-whole": "the list didn't come whole",

@@ -81,7 +81,7 @@ def rounding_given(folder: Folder, values: Mapping[str, Any]) -> str:
     if not wanted or not held or not folder.settings.handicap or wanted == held:
         return ""
     if wanted not in ROUNDINGS:
-        raise NotSent(remark("rounding-wrong", written=wanted[:20], wanted=list(ROUNDINGS)))
+        raise NotSent(remark("rounding-wrong", written=wanted[:20], roundings=list(ROUNDINGS)))
     if values.get("rounding_was", held) != held:
         raise NotSent(remark("rounding-changed"))
     return wanted
