@@ -9,8 +9,7 @@ import zlib
 from collections.abc import Mapping
 from dataclasses import dataclass
 
-from raceoffice.results.html import assets
-from raceoffice.results.html.markup import raw
+from raceoffice.results.html.page import script
 from raceoffice.results.http_answers import Board, Text
 from raceoffice.web.hosting import BEHIND, RETRY, News, end_of, news_head, send_or_cut
 
@@ -24,7 +23,7 @@ UNSENT = 16 << 10
 # How many of the last events are kept.
 KEPT = 32
 # The script of a page stays as it is, and needn't come again.
-SCRIPT = str(raw("script", assets.script()))
+SCRIPT = script().html
 
 
 @dataclass

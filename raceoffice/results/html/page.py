@@ -183,6 +183,11 @@ def without_scripts(now: str) -> tuple[Markup, Markup]:
     return together(refresh, "\n"), together(beware, "\n")
 
 
+def script() -> Markup:
+    """The script of a page, which is the same on all."""
+    return raw("script", assets.script())
+
+
 def framed(title: str, live: str, every: int, version: str, now: str, body: Markup, style: str = "",
            table: str = "table") -> str:
     """A page. `now` is where its script asks whether it is out of date; none, if it never is. `table` is
@@ -198,7 +203,7 @@ def framed(title: str, live: str, every: int, version: str, now: str, body: Mark
     parts = separated([
         "", tag("a", "To the table", class_="skip", href=f"#{table}"), alarm,
         tag("p", class_="once", id="once", hidden=True), together(beware, body),
-        raw("script", assets.script()), ""], "\n")
+        script(), ""], "\n")
     return document(tag(
         "html", "\n", tag("head", head), "\n", tag("body", parts), "\n", lang="en", data_live=live,
         data_every=every, **UNCONFIRMED, data_version=version, data_now=now))
