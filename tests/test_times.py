@@ -252,6 +252,20 @@ class Times(helpers.Series):
         self.rules(RULES)
         self.assertEqual(times.Rules.read(folder).program, helpers.TIMES)
 
+    def test_path(self) -> None:
+        """The PATH is looked through, but for folders that aren't named whole: a page may have come into those with a
+        program of its own."""
+        program = os.path.join(self.here, "bin", "regatta-times")
+        os.mkdir(os.path.dirname(program))
+        self.write("#!/bin/sh\n", program)
+        os.chmod(program, 0o755)
+        here = os.getcwd()
+        self.addCleanup(os.chdir, here)
+        os.chdir(os.path.dirname(program))
+        for folders, found in ((f"/nowhere:{self.here}/bin", program), (".:/nowhere", ""), (f"../bin::{self.here}", "")):
+            with mock.patch.dict("os.environ", PATH=folders), mock.patch("os.path.isfile", return_value=False):
+                self.assertEqual(found_program("times"), found, folders)
+
     def test_no_times(self) -> None:
         """A program that can't be run, or is another, is said in a sentence."""
         for script, wanted in [("exit 0", "doesn't show sums: is it times?"), ("echo x", "is it times?"),
