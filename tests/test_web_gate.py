@@ -20,6 +20,8 @@ from raceoffice.web.gate import Gate
 from raceoffice.web.hosting import Host, Hub, Waiting
 from raceoffice.web.rates import Rate
 from raceoffice.web.requests import Reply, Request, Wrong
+from raceoffice.web.routes import Routes
+from raceoffice.web.web_office import WebOffice
 from web_devices import BOATS, Device, Web, list_of, new_id
 
 LINE = "/office/finish/line/cup"
@@ -426,6 +428,21 @@ class Shares(unittest.IsolatedAsyncioTestCase):
             while len(self.hub.waiting) > 5:
                 await asyncio.sleep(0.01)
             self.assertEqual(await self.news("127.0.0.2"), b"HTTP/1.1 200 OK")
+
+
+class Begin(unittest.TestCase):
+    def test_to_come(self) -> None:
+        """A class that is still being opened is asked for again; one that nobody serves isn't there."""
+        with tempfile.TemporaryDirectory() as parent:
+            office = WebOffice(Gate(""), parent, "http://127.0.0.1/", print, to_come={"cup", "fleet"})
+            routes = Routes(office)
+            for ask, status in ((lambda: routes.one("fleet"), 503), (lambda: routes.one("spring"), 404),
+                                (routes.need_a_class, 503)):
+                with self.assertRaises(Wrong) as found:
+                    ask()
+                self.assertEqual(found.exception.status, status)
+            office.to_come.clear()
+            routes.need_a_class()
 
 
 class Again(Web):

@@ -281,6 +281,20 @@ class Renumbered(unittest.TestCase):
         register = self.opened()
         self.assertEqual(register.found(register.sent[again], self.JOURNAL[:3]), 3)
 
+    def test_rotten_line(self) -> None:
+        """A tap of which a bit has changed the race has no moment; its entry stays known, and the others have theirs."""
+        register = self.opened()
+        for at in (4, 6):
+            id = self.begun(register, self.JOURNAL[at - 1].split(maxsplit=3)[3], at - 1)
+            register.end(id, f"OK {at} 1 1.0")
+        register.learn(self.JOURNAL)
+        both = register.moments(self.JOURNAL)
+        self.assertEqual(len(both), 2)
+        first, second = list(register.sent.values())
+        for line in (first.line.replace(" 1 ", " q "), first.line.replace(" 1 ", " 1`"), first.line.split()[0]):
+            with mock.patch.object(first, "line", line):
+                self.assertEqual(list(register.moments(self.JOURNAL)), list(both)[1:], line)
+
 
 class Stopped(helpers.Series):
     def test_full_disk(self) -> None:

@@ -47,6 +47,11 @@ WORKERS = 24
 OWN = {"UNDO", "ABANDON"}
 
 
+def being_opened() -> Wrong:
+    """What a class answers before its office is there: whoever asks comes again."""
+    return Wrong(503, "this class is being opened")
+
+
 class Routes:
     """Answers requests. What is under /office/ROLE/ needs a device of that role."""
 
@@ -105,6 +110,7 @@ class Routes:
         if request.path == "/live":
             return self.news_of_page(request)
         if request.path == "/" and not self.office.classes:
+            self.need_a_class()
             return Reply(301, "text/plain", b"", {"Location": "/office/"})
         address, texts = address_of(request.path), self.office.board.texts
         if address in texts:
@@ -165,6 +171,7 @@ class Routes:
         self.gate.asking.take(device.mark)
         match rest:
             case ["me"]:
+                self.need_a_class()
                 return reply_of(self.me(request, role, device))
             case ["live"]:
                 return Waiting(functools.partial(self.office.news.serve, name=device.mark), device.mark)
@@ -194,9 +201,14 @@ class Routes:
         return {"role": role, "name": device.name, "token": self.gate.token(request, role), "now": now(),
                 "may": sorted(MAY[role]), "classes": classes}
 
+    def need_a_class(self) -> None:
+        """While the first class is being opened, whoever asks for all comes again."""
+        if self.office.to_come and not self.office.classes:
+            raise being_opened()
+
     def one(self, name: str) -> Class:
         if name not in self.office.classes:
-            raise Wrong(404, "there is no such class")
+            raise being_opened() if name in self.office.to_come else Wrong(404, "there is no such class")
         return self.office.classes[name]
 
     def room(self, name: str) -> Room:

@@ -226,8 +226,9 @@ def rules_to_write(folder: Folder, text: str, values: Mapping[str, Any]) -> byte
         if not is_there:
             return fresh
         before = edited_text(path)
-        changed = with_rule(with_rule(before, "system", str(values["system"])), "rounding",
-                            str(values.get("rounding") or times_rules(folder)["rounding"] or "half-up"))
+        changed = with_rule(before, "system", str(values["system"]))
+        if (wanted := str(values.get("rounding") or "")) and wanted != times_rules(folder)["rounding"]:
+            changed = with_rule(changed, "rounding", wanted)
         return b"" if changed == before else utf8(changed)
     except Trouble as trouble:
         raise NotSent(*trouble.said) from None

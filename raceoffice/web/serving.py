@@ -58,7 +58,7 @@ class Web:
         scheme = "https" if asked.certificate else "http"
         gate = gate_of(folders, asked.name, bool(asked.certificate))
         address = f"{scheme}://{asked.name or addresses()[0]}:{asked.port}/"
-        self.office = WebOffice(gate, parent, address, self.tell)
+        self.office = WebOffice(gate, parent, address, self.tell, to_come={folder.name for folder in folders})
         self.folders = folders
         self.routes = Routes(self.office)
 

@@ -39,7 +39,7 @@ class Class:
 @dataclass
 class WebOffice:
     """The classes by the names of their folders. `address` is what devices open, `parent` the folder in which
-    a new series is made, `tell` hears what happens."""
+    a new series is made, `tell` hears what happens. The classes `to_come` are being opened, one after another."""
     gate: Gate
     parent: str
     address: str
@@ -48,6 +48,7 @@ class WebOffice:
     board: Board = field(default_factory=Board)
     live_board: LiveBoard | None = None
     is_ending: threading.Event = field(default_factory=threading.Event)
+    to_come: set[str] = field(default_factory=set)
 
     def __post_init__(self) -> None:
         self.news, self.board_news = Hub(self.versions, AT_ONCE, self.gate.lets_in), PageNews(self.board, SOON)
@@ -70,6 +71,7 @@ class WebOffice:
             if not self.classes and not self.gate.path:
                 self.gate.move(folder.file(PRIVATE, "web.json"))
             self.classes = {**self.classes, folder.name: found}
+            self.to_come.discard(folder.name)
             rooms = [one.room for one in self.classes.values()]
             old, self.live_board = self.live_board, LiveBoard(rooms, self.board, self.board_news.wake, self.tell)
             if old:
