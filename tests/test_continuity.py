@@ -341,8 +341,7 @@ class PlacesOfAClosedOffice(helpers.Series):
         """A kill came after the note that a boat is taken out: the opening notes that she is there still."""
         journal = [command_of(line) for line in self.folder.kept()]
         places = Places(self.folder, "Ann")
-        places.note_taken_out("IRL5", [f"{at} {line}" for at, line in enumerate(journal, 1) if line == "ENTER IRL5"],
-                              journal)
+        places.note_taken_out("IRL5", [journal.index("ENTER IRL5") + 1], journal, len(journal))
         self.assertNotEqual(places.read().kept, places.read(journal).kept)
         self.open()
         self.assertEqual(json.loads(places.lines()[-1])["what"], "back")

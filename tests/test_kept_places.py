@@ -22,9 +22,11 @@ from raceoffice.errors import NotSent, Trouble
 from raceoffice.office.backups import Backups
 from raceoffice.program.journal import Race
 from raceoffice.series import kept_places
+from raceoffice.series.continuity import note_now
 from raceoffice.series.folder import Folder
-from raceoffice.series.kept_places import History, Note, Places, history_of
+from raceoffice.series.kept_places import History, Note, Places, command_of, history_of
 from raceoffice.series.remove_boat import Removal, take_out, without
+from raceoffice.series.taken_out import those_that_count
 from raceoffice.session.dialogue import Said
 from raceoffice.session.finishers import keep
 from raceoffice.session.sending import note_answer
@@ -41,29 +43,37 @@ VALUES: list[object] = [None, True, -1, 10 ** 400, 1.5, "", "?", "\x1b[2K", "\ud
 # Entries 8 to 10 are those of a boat that is taken out. ?1 is kept behind GBR 101, who is struck and finishes last.
 ENTRIES = [*(f"ENTER GBR{number}" for number in (101, 7, 1, 2, 3, 4, 5)),
            "ENTER USA4", "FINISH 2 USA4", "STRIKE 2 USA4", "FINISH 1 GBR101", "FINISH 1 GBR7", "STRIKE 1 GBR101", "FINISH 1 GBR101"]
+# Here the entries of such a boat are the last, so that the same lines make the same journal. ?1 is kept behind her.
+HERS = ["ENTER USA4", "FINISH 1 USA4"]
+AT_THE_END = ["ENTER GBR101", "ENTER GBR7", "FINISH 1 GBR101", *HERS]
 
 
-class TakenOut(helpers.Series):
-    """A boat is taken out of a journal while a place is kept, which stays the first of its race."""
+class Removals(helpers.Series):
+    """A series in which a place is kept, and a boat is taken out."""
 
     def setUp(self) -> None:
         super().setUp()
         self.folder = Folder(os.path.join(self.here, "cup"))
         self.folder.make_private()
-        lines = [f"- {at} SCORER {line}\n" for at, line in enumerate(ENTRIES, 1)]
-        self.write("REGATTA 2\n" + "".join(lines), "cup", "journal.txt")
         self.places = Places(self.folder, "Ann")
-        self.assertEqual(self.places.keep(Race(1, [["GBR101"]]), "", 11), "?1")
-        self.assertEqual(self.ahead(), [set()])
+
+    def put(self, entries: list[str]) -> None:
+        lines = [f"- {at} SCORER {line}\n" for at, line in enumerate(entries, 1)]
+        self.write("REGATTA 2\n" + "".join(lines), "cup", "journal.txt")
 
     def ahead(self) -> list[object]:
         """The boats ahead of each place, by the files."""
         return [unread.ahead for unread in history_of(self.folder).waiting.all]
 
-    def take_out(self) -> None:
+    def noted(self) -> list[str]:
+        """What is noted of the removals that count, by the files."""
+        journal = [command_of(line) for line in self.folder.kept()]
+        return [out.what for _, out in those_that_count(self.places.read().removals, journal)]
+
+    def take_out(self, sail: str = "USA4") -> None:
         held = self.folder.parts()[0]
-        about = {at: line for at, line in enumerate(self.folder.kept(), 1) if "USA4" in line}
-        take_out(self.folder, Removal("USA4", held, about, without(held, set(about)), len(self.folder.kept())))
+        about = {at: line for at, line in enumerate(self.folder.kept(), 1) if line.endswith(f" {sail}")}
+        take_out(self.folder, Removal(sail, held, about, without(held, set(about)), len(self.folder.kept())))
 
     def killed(self, stop: int) -> bool:
         """Takes her out in a process that is killed before a step of its own; whether it was."""
@@ -84,6 +94,16 @@ class TakenOut(helpers.Series):
                 os._exit(0)
             os._exit(1)
         return os.waitstatus_to_exitcode(os.waitpid(child, 0)[1]) == 9
+
+
+class TakenOut(Removals):
+    """A boat is taken out of a journal while a place is kept, which stays the first of its race."""
+
+    def setUp(self) -> None:
+        super().setUp()
+        self.put(ENTRIES)
+        self.assertEqual(self.places.keep(Race(1, [["GBR101"]]), "", 11), "?1")
+        self.assertEqual(self.ahead(), [set()])
 
     def test_place_stays(self) -> None:
         self.take_out()
@@ -106,7 +126,7 @@ class TakenOut(helpers.Series):
             was_killed = self.killed(stop)
             kept.add(len(self.folder.kept()))
             self.assertEqual(self.ahead(), [set()], stop)
-            Backups(self.folder).note_back()
+            Backups(self.folder).note_removals()
             self.assertEqual(self.ahead(), [set()], stop)
             if len(self.folder.kept()) == len(ENTRIES):
                 self.assertEqual(self.places.read().waiting.all[0].ahead, {"GBR101"})
@@ -122,7 +142,7 @@ class TakenOut(helpers.Series):
         self.take_out()
         self.write(before, "cup", "journal.txt")
         self.assertEqual(self.ahead(), [set()])
-        Backups(self.folder).note_back()
+        Backups(self.folder).note_removals()
         self.write(before.replace("USA4", "GBR4"), "cup", "journal.txt")
         self.assertEqual(self.ahead(), [set()])
 
@@ -130,10 +150,12 @@ class TakenOut(helpers.Series):
         """Somebody takes the note of the removal out of the file of an open office."""
         self.take_out()
         lines = self.places.lines()
-        self.write(lines[0].decode(), "cup", "office", "places")
-        self.assertEqual(self.ahead(), [{"GBR101", "GBR7"}])
-        self.places.put_in_again(lines)
-        self.assertEqual(self.ahead(), [set()])
+        for at in range(len(lines)):
+            for left in ([*lines[:at], *lines[at + 1:]], lines[:at]):
+                self.write(b"".join(left).decode(), "cup", "office", "places")
+                self.places.put_in_again(lines)
+                self.assertEqual(self.ahead(), [set()], at)
+                self.assertEqual(self.noted(), ["out"], at)
 
     def test_not_noted(self) -> None:
         """Nothing is taken out if that can't be noted beside the places."""
@@ -141,6 +163,72 @@ class TakenOut(helpers.Series):
             with self.assertRaisesRegex(Trouble, "can't be written"):
                 self.take_out()
         self.assertEqual(len(self.folder.kept()), len(ENTRIES))
+
+
+class EnteredAgain(Removals):
+    """A boat was taken out, comes after all, and finishes behind the place."""
+
+    def setUp(self) -> None:
+        super().setUp()
+        self.put(AT_THE_END)
+        self.folder.log("", "", "", "closed", note_now(self.folder, self.folder.parts()[0]))
+        self.assertEqual(self.places.keep(Race(1, [["GBR101"], ["USA4"]]), "", 5), "?1")
+
+    def begin(self) -> None:
+        """What an opening does with the notes."""
+        Backups(self.folder).note_removals()
+        self.note("opened")
+
+    def note(self, what: str) -> None:
+        self.folder.log("", "", "", what, note_now(self.folder, self.folder.parts()[0]))
+
+    def test_same_lines(self) -> None:
+        """After a kill at each step of the removal, and after further openings, closed before or not."""
+        names = (["journal.txt"], ["office", "places"], ["office.log"])
+        texts, is_killed, kept = [self.text("cup", *name) for name in names], True, set[int]()
+        for stop in itertools.takewhile(lambda _: is_killed, itertools.count(1)):
+            self.write(texts[0], "cup", *names[0])
+            self.write(texts[1], "cup", *names[1])
+            self.write(texts[2], "cup", *names[2])
+            is_killed = self.killed(stop)
+            self.begin()
+            kept.add(len(self.folder.kept()))
+            self.assertEqual(self.ahead(), [{"GBR101", "USA4"}], stop)
+            if len(self.folder.kept()) < len(AT_THE_END):
+                self.check_typed_again(stop)
+        self.assertEqual(kept, {3, len(AT_THE_END)})
+
+    def check_typed_again(self, stop: int) -> None:
+        self.put([*AT_THE_END[:3], HERS[0]])
+        self.places.keep_ahead(history_of(self.folder).waiting.all[0], Race(1, [["GBR101"]]), 4)
+        self.put(AT_THE_END)
+        for closes in (False, True, True):
+            self.assertEqual((self.ahead(), self.noted()), ([{"GBR101"}], ["out"]), stop)
+            if closes:
+                self.note("closed")
+            self.begin()
+
+    def test_put_back(self) -> None:
+        """Somebody puts the journal with her back while the office is closed: the next opening notes it."""
+        before = self.text("cup", "journal.txt")
+        self.take_out()
+        for more in ("", "- 4 SCORER FINISH 1 GBR7\n- 5 SCORER STRIKE 1 GBR7\n- 6 SCORER ENTER GBR5\n"):
+            self.write(self.text("cup", "journal.txt") + more, "cup", "journal.txt")
+            self.note("closed")
+            self.write(before, "cup", "journal.txt")
+            self.begin()
+            self.assertEqual((self.ahead(), self.noted()), ([{"GBR101", "USA4"}], []))
+            self.take_out()
+
+    def test_another_after_her(self) -> None:
+        """Her same lines are found by her old numbers, once a boat before her is taken out."""
+        self.take_out()
+        self.begin()
+        self.put([*AT_THE_END[:3], "FINISH 2 GBR101", *HERS])
+        self.places.keep_ahead(history_of(self.folder).waiting.all[0], Race(1, [["GBR101"]]), 5)
+        self.take_out("GBR7")
+        self.assertEqual([command_of(line) for line in self.folder.kept()[3:]], HERS)
+        self.assertEqual((self.ahead(), self.noted()), ([{"GBR101"}], ["out", "out"]))
 
 
 class Files(helpers.Series):

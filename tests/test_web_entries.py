@@ -250,14 +250,14 @@ class OutAlone(helpers.Series):
         opener = threading.Thread(target=office.open, args=(lambda _: True,))
         replace = remove_boat.replace
 
-        def replaced(journal: Folder, data: bytes) -> str:
+        def replaced(journal: Folder, data: bytes, by: str) -> str:
             window = Lock(journal)
             taken.append(window.is_taken())
             window.leave()
             opener.start()
             opener.join(0.3)
             taken.append(opener.is_alive())
-            return replace(journal, data)
+            return replace(journal, data, by)
         with mock.patch.object(remove_boat, "replace", replaced):
             office.take_out("XXX1", "Bea", lambda _: True)
         opener.join(helpers.PATIENCE)

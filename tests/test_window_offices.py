@@ -252,5 +252,78 @@ class Watching(helpers.Series):
         self.assertFalse(watcher.at_prompt)
 
 
+class EnteredAgain(helpers.Series):
+    """A boat was entered by mistake, and taken out while a place is kept behind her. Then she comes after all, and
+    finishes after it."""
+
+    def taken_out(self, *lines: str) -> helpers.Terminal:
+        """A scorer's window after these lines, the removal of USA 4, and a new opening."""
+        self.type_lines(self.open(), *lines)
+        said, status = helpers.run("remove", "cup", "USA4", lines="y\n", cwd=self.here)
+        self.assertEqual(status, 0, said)
+        self.open()
+        window = self.typist("scorer")
+        window.say("at 1", "1> $")
+        return window
+
+    def type_lines(self, office: helpers.Terminal, *lines: str) -> None:
+        """Types these lines for race 1 in a window of its own, and closes the office."""
+        window = self.typist("scorer")
+        for line in ("at 1", *lines):
+            if window.say(line, r"(> |\] )$").endswith("] "):
+                window.say("y", "> $")
+        window.type("quit")
+        window.rest()
+        office.process.send_signal(signal.SIGTERM)
+        office.rest()
+
+    def test_same_lines(self) -> None:
+        """The same lines typed again make the journal what it was: the place is ahead of her all the same, also after
+        the next opening."""
+        window = self.taken_out("101", "enter usa 4", "usa 4", "?")
+        self.play(window, """
+> enter usa 4
+[y/N]
+> y
+OK 9
+> usa 4
+USA4 was ahead of ?1 until she was struck. Has she finished after ?1 now? [y/N]
+> y
+OK 10   3rd in race 1
+> race 1
+     1  GBR 101 Kestrel
+    ?1  2nd on the water
+""")
+        window.type("quit")
+        window.rest()
+        self.stop("cup")
+        self.open()
+        self.play(self.typist("scorer"), """
+> at 1
+> ?1 fra 9
+BEFORE 1 FRA9 USA4
+""")
+
+    def test_only_boat(self) -> None:
+        """Nothing is left of a race whose only boat was taken out: the question comes all the same."""
+        window = self.taken_out("enter usa 4", "usa 4", "?")
+        self.play(window, """
+> enter swe 9
+[y/N]
+> y
+OK 8
+> enter usa 4
+[y/N]
+> y
+OK 9
+> usa 4
+USA4 was ahead of ?1 until she was struck. Has she finished after ?1 now? [y/N]
+> y
+OK 10   2nd in race 1
+> ?1 fra 9
+BEFORE 1 FRA9 USA4
+""")
+
+
 if __name__ == "__main__":
     unittest.main()

@@ -8,7 +8,7 @@ from raceoffice.errors import NotSent, Trouble, said_of
 from raceoffice.program.link import Sheet
 from raceoffice.remarks import remark
 from raceoffice.series import copies
-from raceoffice.series.continuity import first_entries
+from raceoffice.series.continuity import first_entries, own_entries
 from raceoffice.series.folder import VERSION, Folder
 from raceoffice.series.kept_places import Places, command_of
 from raceoffice.series.run_program import replayed
@@ -75,10 +75,11 @@ class Backups:
         self.places.put_back(text)
         return bool(text)
 
-    def note_back(self) -> None:
-        """Notes which boats journal.txt has still, or again, that were about to be taken out of it."""
+    def note_removals(self) -> None:
+        """Notes which boats are out of journal.txt, and which it has still, or again, that were about to be taken out
+        of it."""
         with contextlib.suppress(Trouble, NotSent):
-            self.places.note_back([command_of(line) for line in self.folder.kept()])
+            self.places.note_removals([command_of(line) for line in self.folder.kept()], own_entries(self.folder))
 
     def guard_places(self) -> str:
         """Puts places in again that somebody has taken out of their file; what is said of that, or nothing.

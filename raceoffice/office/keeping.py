@@ -72,7 +72,7 @@ class Keeping:
 
     def begin(self) -> None:
         """Copies the journal for the first time, and notes that the office is open."""
-        self.backups.note_back()
+        self.backups.note_removals()
         self.save(self.service.link.sheet())
         self.keep_dated()
 

@@ -146,6 +146,15 @@ def added(folder: Folder) -> str:
     return remark("journal-added", entries=remark("some-entries", n=held), more=held - noted.entries)
 
 
+def own_entries(folder: Folder) -> int:
+    """How many entries of journal.txt, from the first, the office has written. If it wasn't closed, or if nothing is
+    noted, that is all; if the journal doesn't go on from what it had, none is known to be."""
+    data, noted = folder.parts()[0], noted_end(folder.logged())
+    if noted and from_note(data, noted):
+        return 0
+    return noted.entries if noted and noted.when == "closed" else len(parts_of(data)[1])
+
+
 def when_remark(noted: Noted) -> Remark:
     """What was done to the office when this was noted."""
     return remark(f"when-{noted.when}")

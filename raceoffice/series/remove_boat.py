@@ -13,7 +13,7 @@ from raceoffice.program.replay import ran
 from raceoffice.program.standing import Change, Standing, changes
 from raceoffice.remarks import Remark, remark
 from raceoffice.series import copies, entry_list
-from raceoffice.series.continuity import differences, note_now, parts_of, with_entries
+from raceoffice.series.continuity import differences, note_now, own_entries, parts_of, with_entries
 from raceoffice.series.folder import Folder, Lock
 from raceoffice.series.kept_places import Places, command_of
 from raceoffice.series.race_sheets import take_out_of_sheets
@@ -102,7 +102,7 @@ def take_out(folder: Folder, found: Removal, by: str = "") -> tuple[str, str]:
     copy = copies.keep(folder, found.held)
     note_places(folder, by)
     note_taken_out(folder, found, by)
-    fault = replace(folder, found.data)
+    fault = replace(folder, found.data, by)
     # After a kill just before, the sheets have a row of a boat that isn't entered, which is left out.
     take_out_of_sheets(folder, found.sail)
     copies.keep(folder, found.data)
@@ -125,9 +125,17 @@ def note_taken_out(folder: Folder, found: Removal, by: str) -> None:
     """Notes beside the places which entries go. While journal.txt has them, as after a kill, that doesn't count."""
     journal = [command_of(line) for line in folder.kept()]
     try:
-        Places(folder, by).note_taken_out(found.sail, [f"{at} {journal[at - 1]}" for at in found.about], journal)
+        Places(folder, by).note_taken_out(found.sail, [*found.about], journal, own_entries(folder))
     except NotSent as why:
         raise Trouble(*why.said) from None
+
+
+def note_out(folder: Folder, by: str) -> None:
+    """Notes beside the places that the entries are gone, before anybody can type the same again. If that fails, the
+    next opening does it."""
+    journal = [command_of(line) for line in folder.kept()]
+    with contextlib.suppress(NotSent, Trouble):
+        Places(folder, by).note_removals(journal, len(journal))
 
 
 def without(data: bytes, numbers: set[int]) -> bytes:
@@ -161,10 +169,11 @@ def why_refused(said: str, data: bytes) -> Remark:
     return remark("removal-line", line=line, answer=answer, why=refusal(answer))
 
 
-def replace(folder: Folder, data: bytes) -> str:
+def replace(folder: Folder, data: bytes, by: str) -> str:
     """Writes the shorter journal, and its copy on a second disk: why there is none, if there is none."""
     # A link stays, and what it leads to is replaced.
     replace_whole(os.path.realpath(folder.journal), data)
+    note_out(folder, by)
     with second_of(folder) as second, contextlib.suppress(Trouble):
         # A copy of the journal without her has to have the places by its numbers.
         second.ask("save", Places(folder).text(), places_copy_of(second))

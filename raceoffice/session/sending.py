@@ -11,7 +11,7 @@ from raceoffice.series.unknown_finishers import Unread
 from raceoffice.session.answers import answer_said, changes_said, outcome, race_said
 from raceoffice.session.confirm import questions
 from raceoffice.session.dialogue import ANSWER, WARNING, Said
-from raceoffice.session.parse import MAY
+from raceoffice.session.parse import MAY, race_number
 from raceoffice.session.seat import Done, Seat
 
 
@@ -24,11 +24,14 @@ def send(seat: Seat, line: str) -> bool:
 
 
 def keep_ahead(seat: Seat, line: str) -> None:
-    """Asks of a boat that was struck, and that finishes again, whether she is behind now those who were behind
-    her. If so, their places are ahead of her."""
+    """Asks of a boat that was struck or taken out, and that finishes again, whether she is behind now those who were
+    behind her. If so, their places are ahead of her."""
     command, *rest = line.split()
-    race = seat.facts.race_of(line)
-    if command != "FINISH" or len(rest) != 2 or race is None or race.is_in_order(rest[1]):
+    if command != "FINISH" or len(rest) != 2:
+        return
+    # Nothing may be left of a race whose only boat was taken out.
+    race = seat.facts.race_of(line) or Race(race_number(rest[0]))
+    if race.is_in_order(rest[1]):
         return
     for unread in seat.unread.of(race.number):
         # Otherwise somebody who finished after her stands between.
