@@ -24,9 +24,10 @@ from raceoffice.program.journal import Race
 from raceoffice.series import kept_places
 from raceoffice.series.continuity import note_now
 from raceoffice.series.folder import Folder
-from raceoffice.series.kept_places import History, Note, Places, command_of, history_of
+from raceoffice.series.kept_places import History, Note, Places, Twin, command_of, history_of
 from raceoffice.series.remove_boat import Removal, take_out, without
 from raceoffice.series.taken_out import those_that_count
+from raceoffice.series.twins import Twins
 from raceoffice.session.dialogue import Said
 from raceoffice.session.finishers import keep
 from raceoffice.session.sending import note_answer
@@ -229,6 +230,69 @@ class EnteredAgain(Removals):
         self.take_out("GBR7")
         self.assertEqual([command_of(line) for line in self.folder.kept()[3:]], HERS)
         self.assertEqual((self.ahead(), self.noted()), ([{"GBR101"}], ["out", "out"]))
+
+
+class SaidToBeHer(Removals):
+    """A place is kept behind GBR 101, and said to be a boat that is taken out then: the place is kept again."""
+
+    def setUp(self) -> None:
+        super().setUp()
+        self.put(["ENTER GBR101", "FINISH 1 GBR101", HERS[0], HERS[1], "FINISH 1 GBR101"])
+        self.make("fleet", entries="Sail\nNED 80\n")
+        self.fleet = Folder(os.path.join(self.here, "fleet"))
+        self.fleet.make_private()
+        self.places.keep(Race(1, [["GBR101"]]), "4", 2, Twin("0123456789abcdef", ("../fleet",)))
+        fleet = Places(self.fleet, "Ann")
+        fleet.keep(Race(1), "4", 0, Twin("0123456789abcdef", ("../cup",)))
+        self.resolve()
+        fleet.drop_known(fleet.read().kept[1, "4?"], "she is known in cup")
+
+    def resolve(self, entry: int = 4) -> None:
+        waiting = self.places.read().waiting.all[0]
+        self.places.note_sent(waiting, HERS[1], entry - 1, None)
+        self.places.note_answer(waiting, HERS[1], f"OK {entry}")
+
+    def marks(self) -> tuple[list[str], list[str]]:
+        cup, fleet = (history_of(folder).waiting.marks(1) for folder in (self.folder, self.fleet))
+        return cup, fleet
+
+    def test_kept_again(self) -> None:
+        self.assertEqual(self.marks(), ([], []))
+        self.take_out()
+        self.assertEqual((self.marks(), self.ahead()), ((["4?"], ["4?"]), [{"GBR101"}]))
+        # She is entered again, and finishes by a line that isn't for the place.
+        before = [command_of(line) for line in self.folder.kept()]
+        self.put([*before, *HERS])
+        self.assertEqual(self.marks(), (["4?"], ["4?"]))
+        # Afterwards somebody says so again.
+        self.put([*before, HERS[0]])
+        self.resolve(len(before) + 2)
+        self.put([*before, *HERS])
+        self.assertEqual(self.marks()[0], [])
+
+    def test_kills(self) -> None:
+        """After a kill before any step either the boat is in and the place is hers, or it is kept again."""
+        names = [("cup", "journal.txt"), ("cup", "office", "places"), ("fleet", "office", "places")]
+        texts, is_killed, kept = [self.text(*name) for name in names], True, set[int]()
+        for stop in itertools.takewhile(lambda _: is_killed, itertools.count(1)):
+            for text, name in zip(texts, names):
+                self.write(text, *name)
+            is_killed = self.killed(stop)
+            Backups(self.folder).note_removals()
+            entries = len(self.folder.kept())
+            kept.add(entries)
+            Twins(self.folder).follow(history_of(self.folder), "Bea")
+            again = [] if entries == 5 else ["4?"]
+            self.assertEqual(self.marks(), (again, again), stop)
+        self.assertEqual(kept, {3, 5})
+
+    def test_another_boat(self) -> None:
+        """A boat that is taken out earlier in the journal leaves the place to her."""
+        self.put(["ENTER GBR101", "ENTER GBR7", HERS[0], HERS[1], "FINISH 1 GBR101"])
+        self.take_out("GBR7")
+        self.assertEqual(self.marks(), ([], []))
+        self.take_out()
+        self.assertEqual(self.marks(), (["4?"], ["4?"]))
 
 
 class Files(helpers.Series):

@@ -15,10 +15,11 @@ from raceoffice.remarks import Remark, remark
 from raceoffice.series import copies, entry_list
 from raceoffice.series.continuity import differences, note_now, own_entries, parts_of, with_entries
 from raceoffice.series.folder import Folder, Lock
-from raceoffice.series.kept_places import Places, command_of
+from raceoffice.series.kept_places import Places, command_of, history_of, kept_in_words
 from raceoffice.series.race_sheets import take_out_of_sheets
 from raceoffice.series.run_program import Program, replayed
 from raceoffice.series.second_folder import places_copy_of, second_of
+from raceoffice.series.twins import Twins
 from raceoffice.terminal import question, say
 from raceoffice.wording import count
 
@@ -93,6 +94,8 @@ def remove(path: str, words: list[str]) -> int:
         say(f"No second copy: {fault}.")
     left = count(found.entries - len(found.about), "entry", "entries")
     say(f"{sail} is taken out. journal.txt has {left}; {copy} has all {found.entries}.")
+    if text := kept_in_words(folder):
+        say(text)
     return 0
 
 
@@ -109,6 +112,9 @@ def take_out(folder: Folder, found: Removal, by: str = "") -> tuple[str, str]:
     note = note_now(folder, found.data)
     folder.log(by, "", "", f"removed {found.sail}", note)
     folder.log("", "", "", "closed", note)
+    with contextlib.suppress(Trouble):
+        # A finisher who was said to be that boat is kept again, in all her classes.
+        Twins(folder).follow(history_of(folder), by)
     return copy, fault
 
 
