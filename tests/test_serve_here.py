@@ -44,6 +44,15 @@ class Here(helpers.Series):
         window.press()
         window.rest()
 
+    def test_slip(self) -> None:
+        """A series whose settings can't be read isn't left out without a word: nothing is opened."""
+        self.write("[series]\ntitel = Cup\n", "cup", "series.ini")
+        said, status = helpers.run("serve", "--http", str(helpers.free_port(self)), cwd=self.here)
+        self.assertEqual(status, 1, said)
+        self.assertIn("cup: series.ini, line 2: [series] has no key 'titel'", said)
+        self.assertIn("Put that right, or name the folders that are to be opened.", said)
+        self.assertNotIn("http://", said)
+
 
 if __name__ == "__main__":
     unittest.main()

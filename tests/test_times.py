@@ -14,6 +14,7 @@ from raceoffice.corrected import times
 from raceoffice.errors import Trouble
 from raceoffice.program.find import found_program
 from raceoffice.program.link import Link
+from raceoffice.program.replay import Line
 from raceoffice.series.folder import Folder
 
 RATED = """\
@@ -101,17 +102,25 @@ class Times(helpers.Series):
         self.assertEqual(window.rest(), ("Somebody else has typed meanwhile. Nothing was sent: send again.\n", 1))
         self.assertEqual(self.held("club"), 5)
 
-    def test_refused(self) -> None:
-        """A line that the office refuses stops the rest."""
+    def test_left_out(self) -> None:
+        """A row of a boat that isn't entered is left out, whether or not she is in the list, and the rest is sent."""
         self.write(RATED + "Curlew,IRL 5,1000,1000\n", "club", "entries.csv")
         self.journal()
         self.open("club")
-        self.sheet(1, "Sail,Elapsed\nGBR 7,3600\nIRL 5,3700\nNED 12,3800\n")
-        said = self.said("1", "--send", lines="y\n", status=1)
-        for line in ["IRL5 .*not entered", "TIME 1 GBR7 3655 +OK ",
-                     "Stopped at TIME 1 IRL5 3700: .*a boat that is named isn't entered",
-                     "not sent: TIME 1 NED12 3304"]:
+        self.sheet(1, "Sail,Elapsed\nIRL 6,DNF\nGBR 7,3600\nIRL 5,3700\nNED 12,3800\nIRL 7,3900\n")
+        said = self.said("1", "--send", lines="y\n")
+        for line in [*(f"{sail} +- +not entered: her row is left out" for sail in ("IRL5", "IRL6", "IRL7")), "5 boats, 2 lines",
+                     "TIME 1 GBR7 3655 +OK 5 ", "TIME 1 NED12 3304 +OK 6 "]:
             self.assertRegex(said, line)
+
+    def test_refused(self) -> None:
+        """A line that the office refuses stops the rest."""
+        self.open("club")
+        with contextlib.closing(times.Times(os.path.join(self.here, "club"))) as series, \
+                mock.patch("raceoffice.series.sender.say") as say:
+            lines = [Line("SCORER", f"TIME 1 {sail} 3600") for sail in ("GBR7", "IRL5", "NED12")]
+            self.assertEqual(series.send(lines), lines[1:])
+        self.assertIn("a boat that is named isn't entered", say.call_args[0][0])
 
     def test_all_races(self) -> None:
         """All sheets are taken, each with the ratings that hold in its race."""
@@ -251,6 +260,20 @@ class Times(helpers.Series):
             self.assertEqual(times.Rules.read(folder).program, beside)
         self.rules(RULES)
         self.assertEqual(times.Rules.read(folder).program, helpers.TIMES)
+
+    def test_path(self) -> None:
+        """The PATH is looked through, but for folders that aren't named whole: a page may have come into those with a
+        program of its own."""
+        program = os.path.join(self.here, "bin", "regatta-times")
+        os.mkdir(os.path.dirname(program))
+        self.write("#!/bin/sh\n", program)
+        os.chmod(program, 0o755)
+        here = os.getcwd()
+        self.addCleanup(os.chdir, here)
+        os.chdir(os.path.dirname(program))
+        for folders, found in ((f"/nowhere:{self.here}/bin", program), (".:/nowhere", ""), (f"../bin::{self.here}", "")):
+            with mock.patch.dict("os.environ", PATH=folders), mock.patch("os.path.isfile", return_value=False):
+                self.assertEqual(found_program("times"), found, folders)
 
     def test_no_times(self) -> None:
         """A program that can't be run, or is another, is said in a sentence."""

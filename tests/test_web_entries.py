@@ -217,6 +217,25 @@ class Out(Web):
         self.assertEqual((self.device("jury").ask("POST", "/office/scorer/remove/cup", {"sail": "GBR33"})[0],
                           self.text("cup", "journal.txt")), (401, before))
 
+    def test_typing_window(self) -> None:
+        """Somebody types meanwhile: that window waits for an office that is opened again at once, and says so. It ends when
+        the office is closed for good."""
+        self.scorer.tap("ENTER USA4", agreed=[{"kind": "enter-unlisted", "values": {"sail": "USA4"}}])
+        window = self.client("cup", "--role", "finish")
+        window.say("finish 1 101", "OK 14 .*\n> $")
+        away = ("Beware: the office is being closed, and opened again at once. Waiting for the office; Ctrl-C ends this window.\n")
+        self.assertEqual(self.remove("USA4", self.remove()[1]["question"])[0], 200)
+        said = window.read("> $")
+        self.assertIn(f"{away}The office is back with 13 entries.\nUSA4 was taken out meanwhile", said)
+        window.say("finish 1 7", "OK 14 .*\n> $")
+        self.assertEqual(self.scorer.again().ask("POST", "/office/scorer/reopen/cup", {})[0], 200)
+        self.assertIn(f"{away}The office is back with 14 entries.\n", window.read("> $"))
+        window.say("finish 1 12", "OK 15 .*\n> $")
+        self.scorer.again().ask("POST", "/office/scorer/close/cup", {})
+        said, status = window.rest()
+        self.assertIn("The office is being closed: this window ends.", said)
+        self.assertEqual(status, 0)
+
 
 class OutAlone(helpers.Series):
     def test_nobody_opens(self) -> None:

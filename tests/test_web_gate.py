@@ -436,11 +436,13 @@ class Begin(unittest.TestCase):
         with tempfile.TemporaryDirectory() as parent:
             office = WebOffice(Gate(""), parent, "http://127.0.0.1/", print, to_come={"cup", "fleet"})
             routes = Routes(office)
-            for ask, status in ((lambda: routes.one("fleet"), 503), (lambda: routes.one("spring"), 404),
-                                (routes.need_a_class, 503)):
+            for name, status in (("fleet", 503), ("spring", 404)):
                 with self.assertRaises(Wrong) as found:
-                    ask()
+                    routes.one(name)
                 self.assertEqual(found.exception.status, status)
+            with self.assertRaises(Wrong) as found:
+                routes.need_a_class()
+            self.assertEqual(found.exception.status, 503)
             office.to_come.clear()
             routes.need_a_class()
 

@@ -6,12 +6,15 @@ import datetime
 import os
 import unittest
 from typing import Any
+from unittest import mock
 
 import helpers
 from raceoffice.corrected.write_sheet import SheetOfRace
 from raceoffice.errors import NotSent, Trouble
 from raceoffice.series import settings
 from raceoffice.series.folder import Folder
+from raceoffice.series.race_sheets import take_out_of_sheets
+from raceoffice.web.timed_taps import TimedTap
 from web_devices import Device, Web, new_id
 
 ENTRIES = "Sail,Boat,TCF\nGBR 101,Kestrel,1.000\nGBR 7,Sea Pink,0.900\nNED 12,Windhover,1.250\nFRA 9,Plover,0.8\n"
@@ -295,6 +298,66 @@ class Timed(Web):
         self.assertEqual((done["outcome"], done["entry"]), ("taken", 5))
         self.assertEqual(self.journal(), ["FINISH TIME 1 GBR101 3600"])
 
+    def take_out(self, scorer: Device, sail: str) -> int:
+        """Takes a boat out by the scorer's page, with yes to its question."""
+        agreed: list[Any] = []
+        for _ in range(3):
+            status, said = scorer.again().ask("POST", "/office/scorer/remove/cup", {"sail": sail, "agreed": agreed})
+            agreed.append(said.get("question"))
+            if status != 409:
+                return status
+        return 409
+
+    def test_taken_out(self) -> None:
+        """A late boat without a rating finishes, and is taken out as entered by mistake: the sheet has her row no more, and
+        whoever finished meanwhile or finishes later has a line. 3,900 s x 0.900 and 2,881 s x 1.250."""
+        ann, scorer = self.device("finish"), self.device("scorer")
+        ann.tap("START 1 14:00")
+        self.finish(ann, "GBR101", "15:00:00")
+        scorer.tap("ENTER USA4", agreed=[{"kind": "enter-unlisted", "values": {"sail": "USA4"}}])
+        self.finish(ann, "USA4", "15:01:00")
+        self.assertEqual(self.finish(ann, "GBR7", "15:05:00")["outcome"], "noted")
+        self.assertEqual(self.take_out(scorer, "USA4"), 200)
+        self.assertEqual(self.sheet(), ["Sail,Start,Finish,Code", "GBR101,14:00:00,15:00:00,", "GBR7,14:00:00,15:05:00,",
+                                        "NED12,14:00:00,,", "FRA9,14:00:00,,"])
+        done = self.finish(ann.again(), "NED12", "14:48:01")
+        self.assertEqual((done["outcome"], done["answer"]), ("taken", "OK 7 1= 0.0"), done)
+        self.assertEqual(self.journal(), ["FINISH TIME 1 GBR101 3600", "FINISH TIME 1 GBR7 3510", "FINISH TIME 1 NED12 3601"])
+
+    def test_left_out(self) -> None:
+        """A row of a boat that isn't entered holds up nobody, wherever it stands, and the scorer hears of it once."""
+        ann, scorer = self.device("finish"), self.device("scorer")
+        ann.tap("START 1 14:00")
+        self.write("Sail,Start,Finish,Code\nUSA4,14:00:00,15:01:00,\nGBR101,,,\nUSA5,14:00:00,,DNF\n", "cup", "times", "race-1.csv")
+        done = self.finish(ann, "GBR101", "15:00:00")
+        self.assertEqual((done["outcome"], [one["what"] for one in done["said"]].count("row-left-out")), ("taken", 0), done)
+        self.assertEqual(self.journal(), ["FINISH TIME 1 GBR101 3600"])
+        for wanted in (["USA4", "USA5"], []):
+            said = scorer.tap("TIMES 1")[1]
+            self.assertEqual(said["outcome"], "noted", said)
+            self.assertEqual([one["values"]["sail"] for one in said["said"] if one["what"] == "row-left-out"], wanted)
+        self.assertEqual(len(self.journal()), 1)
+
+
+class Lines(unittest.TestCase):
+    """The lines of a tap, of which one is refused."""
+
+    def test_refused(self) -> None:
+        """A refusal stops the lines about that boat alone, and the answer is that to the boat of the tap."""
+        answers = {"STRIKE 1 A": "NO 7", "TIME 1 B 20": "OK 8", "TIME 1 C 30": "OK 9"}
+        for sail, answer in (("B", "OK 8"), ("A", "NO 7"), ("", "NO 7"), ("C", "OK 9"), ("D", "before")):
+            session, sent = mock.Mock(answer="before"), []
+
+            def transmit(seat: Any, line: str) -> bool:
+                sent.append(line)
+                seat.answer = answers[line]
+                return answers[line].startswith("OK ")
+            tap = TimedTap.__new__(TimedTap)
+            tap.session, tap.sail = session, sail
+            with mock.patch("raceoffice.web.timed_taps.transmit", transmit):
+                is_taken = tap.are_taken(["STRIKE 1 A", "TIME 1 A 10", "TIME 1 B 20", "TIME 1 C 30"])
+            self.assertEqual((sent, session.answer, is_taken), ([*answers], answer, answer != "NO 7"))
+
 
 class Sheets(unittest.TestCase):
     """The sheet alone."""
@@ -346,6 +409,28 @@ class Sheets(unittest.TestCase):
         sheet.finish("NED12", "15:20:00")
         self.assertEqual(self.written(sheet)[2], "NED12,14:05,15:20:00,")
         self.assertRaises(Trouble, self.sheet, "Boat,Time\nx,1\n")
+
+    def test_row_taken(self) -> None:
+        """A boat's row goes, and those below keep what they have from it; a sheet without rows goes, too."""
+        for text, wanted in [
+                ("Segel;Start;Ziel;Distanz;Notiz\nGBR 7;14:00;15:00:00;12,5;a\nUSA 4;14:10;15:00:00;9,5\nNED 12;;15:20:00;;b;c\n",
+                 "Segel,Start,Ziel,Distanz,Notiz\nGBR 7,14:00,15:00:00,12.5,a\nNED 12,14:10,15:20:00,9.5,b,c\n"),
+                ("Sail,Start,Elapsed\nGBR7,14:00,3600\nUSA4,DNS,\nNED12,,3700\n", "Sail,Start,Elapsed\nGBR7,14:00,3600\nNED12,,3700\n"),
+                ("Sail,Elapsed\r\nGBR7,3600\r\n", "Sail,Elapsed\r\nGBR7,3600\r\n"),
+                ("Boat,Elapsed\nUSA4,3600\n", "Boat,Elapsed\nUSA4,3600\n"),
+                ("Sail,Elapsed\nUSA4,3600\n", "")]:
+            folder = self.folder_made()
+            path = os.path.join(folder, "times", "race-3.csv")
+            os.mkdir(os.path.dirname(path))
+            with open(path, "w", encoding="utf-8", newline="") as file:
+                file.write(text)
+            with open(os.path.join(folder, "series.ini"), "w", encoding="utf-8") as ini:
+                ini.write(settings.filled_in({"title": "Autumn Cup", "handicap": "yes"}))
+            take_out_of_sheets(self.series(folder), "USA4")
+            self.assertEqual(os.path.exists(path), bool(wanted), text)
+            if wanted:
+                with open(path, encoding="utf-8", newline="") as found:
+                    self.assertEqual(found.read(), wanted)
 
 
 if __name__ == "__main__":

@@ -261,7 +261,7 @@ class EnteredAgain(helpers.Series):
         self.type_lines(self.open(), *lines)
         said, status = helpers.run("remove", "cup", "USA4", lines="y\n", cwd=self.here)
         self.assertEqual(status, 0, said)
-        self.open()
+        self.office = self.open()
         window = self.typist("scorer")
         window.say("at 1", "1> $")
         return window
@@ -296,7 +296,8 @@ OK 10   3rd in race 1
 """)
         window.type("quit")
         window.rest()
-        self.stop("cup")
+        self.office.process.send_signal(signal.SIGTERM)
+        self.office.rest()
         self.open()
         self.play(self.typist("scorer"), """
 > at 1

@@ -3,7 +3,7 @@
     raceoffice remove FOLDER SAIL
 
 The office has to be closed. The entries that go and whom that moves are shown, and then it asks. Before
-journal.txt is replaced, a dated copy goes to kept/.
+journal.txt is replaced, a dated copy goes to kept/. Her rows in times/ go, too.
 
 The status is 0 if she was taken out, 1 if not, and 130 after Ctrl-C.
 

@@ -34,7 +34,7 @@ from raceoffice.errors import Trouble
 from raceoffice.exit_status import status_of
 from raceoffice.files import PRIVATE
 from raceoffice.series import settings
-from raceoffice.terminal import question
+from raceoffice.terminal import question, sentence
 from raceoffice.web.serving import Asked, serve
 from raceoffice.wording import joined
 
@@ -54,19 +54,18 @@ def arguments(parser: argparse.ArgumentParser) -> None:
                         help="a new link for a role; the old one and its devices are out")
 
 
-def is_going_on(name: str) -> bool:
-    """Whether a folder has a series whose results aren't final."""
-    if not os.path.isfile(os.path.join(name, settings.NAME)):
-        return False
-    try:
-        return settings.read(name).state == "provisional"
-    except Trouble:
-        return False
-
-
 def series_here() -> list[str]:
-    """The series of this folder whose results aren't final; the one that knows the devices comes first."""
-    found = [name for name in sorted(os.listdir()) if is_going_on(name)]
+    """The series of this folder whose results aren't final; the one that knows the devices comes first. One of which
+    the settings can't be read isn't left out without a word: a Trouble."""
+    found, faults = [], []
+    for name in sorted(os.listdir()):
+        if os.path.isfile(os.path.join(name, settings.NAME)):
+            try:
+                found += [name] if settings.read(name).state == "provisional" else []
+            except Trouble as trouble:
+                faults.append(f"{name}: {sentence(trouble)}")
+    if faults:
+        raise Trouble("\n".join([*faults, "Put that right, or name the folders that are to be opened"]))
     return sorted(found, key=lambda name: not os.path.exists(os.path.join(name, PRIVATE, "web.json")))
 
 

@@ -11,14 +11,13 @@ from dataclasses import dataclass
 from raceoffice.program.codes import CODES
 from raceoffice.series.entry_list import fault_of, plain
 from raceoffice.series.headings import SHEET, columns
+from raceoffice.series.race_sheets import CARRIED
 from raceoffice.series.read_list import Table, as_csv, table_of, wrong_form
 
 # What the program reads of a sheet, in this order.
 HEADS = {"sail": "Sail", "start": "Start", "finish": "Finish", "elapsed": "Elapsed", "laps": "Laps",
          "distance": "Distance"}
 TIMES = ("start", "finish", "elapsed")
-# An empty one is that of the boat above.
-CARRIED = ("start", "laps", "distance")
 CLOCK = "([01]?[0-9]|2[0-3]):[0-5][0-9]"
 # What each column takes, and how that is called.
 FORMS = {

@@ -21,13 +21,14 @@ from raceoffice.program.replay import Line, not_run
 from raceoffice.series import entry_list
 from raceoffice.series.folder import Folder
 from raceoffice.series.headings import rating_columns
+from raceoffice.series.race_sheets import SHEETS, sheet_name
 from raceoffice.series.read_list import as_csv, bytes_of, name_of, table_of
 from raceoffice.series.sender import Sender
 from raceoffice.series.settings import lines_of
 from raceoffice.terminal import question, say
 from raceoffice.wording import count, duration
 
-SHEETS, RULES = "times", "rules.ini"
+RULES = "rules.ini"
 KEYS = {"times": {"system": "", "rounding": "half-up", "overnight": "", "program": ""}}
 SYSTEMS = {"tcf": "time on time", "py": "Portsmouth Yardstick", "tod": "time on distance"}
 ROUNDINGS = {"half-up": "to the nearest second, halves up", "half-down": "to the nearest second, halves down",
@@ -38,7 +39,7 @@ FAULT = re.compile(r"times: (ratings|sheet) fault \d+ row (\d+): (.*)")
 NUMBER = "[0-9]{1,12}"
 SUM = re.compile(f"([A-Z0-9-]{{1,12}}) ({NUMBER}(?: [-+*/] {NUMBER})*) -> ([0-9]{{1,6}})")
 # The note of a boat that the office doesn't know.
-STRANGER = "not entered: the office refuses her line"
+STRANGER = "not entered: her row is left out"
 
 
 @dataclass(frozen=True)
@@ -140,11 +141,6 @@ def program_fault(fault: str, sheet: str, ratings: str, rows: dict[str, Sequence
     return f"{name}, row {row}: {said}"
 
 
-def sheet_name(race: int) -> str:
-    """The file of a race's sheet, as seen from the series' folder."""
-    return f"{SHEETS}/race-{race}.csv"
-
-
 class Sheets:
     """The sheets of times of a series, and what the program makes of them."""
 
@@ -192,13 +188,14 @@ class Sheets:
         except (OSError, subprocess.TimeoutExpired) as cause:
             raise not_run(self.rules.program, cause) from cause
 
-
     def beside(self, race: int, journal: Sequence[str]) -> Compared:
-        """A race beside the journal."""
+        """A race beside the journal. A row of a boat that isn't entered holds up no other."""
+        boats = Series.read(list(journal)).boats
         rows = self.rows(race)
-        timed = [entry for entry in rows if entry.is_timed]
-        others = [entry for entry in rows if not entry.is_timed]
-        return compared(race, self.times(race, timed), journal, others)
+        timed = [entry for entry in rows if entry.is_timed and entry.sail in boats]
+        others = [entry for entry in rows if not entry.is_timed and entry.sail in boats]
+        strangers = [entry.sail for entry in rows if entry.sail not in boats]
+        return compared(race, self.times(race, timed), journal, others, strangers)
 
 
 class Times(Sender, Sheets):
@@ -214,10 +211,12 @@ class Times(Sender, Sheets):
 
 @dataclass(frozen=True)
 class Compared:
-    """A race beside the journal: what is shown of each boat, and the lines that differ."""
+    """A race beside the journal: what is shown of each boat, the lines that differ, and the boats of the sheet that
+    aren't entered."""
     shown: tuple[str, ...]
     lines: tuple[str, ...]
     counts: bool
+    strangers: tuple[str, ...]
 
 
 @dataclass(frozen=True)
@@ -260,19 +259,19 @@ def code_beside(record: Race, entry: Entry) -> Beside:
 
 
 def compared(race: int, times: list[Time], journal: Sequence[str],
-             others: Sequence[Entry] = ()) -> Compared:
-    """The corrected times and codes beside those of the journal. `others` are rows without a time."""
-    series = Series.read(list(journal))
-    record = series.race(race)
+             others: Sequence[Entry] = (), strangers: Sequence[str] = ()) -> Compared:
+    """The corrected times and codes beside those of the journal. `others` are rows without a time, and `strangers`
+    the boats that aren't entered."""
+    record = Series.read(list(journal)).race(race)
     rows = [(time.sail, time_text(time), time_beside(record, time)) for time in times]
     rows += [(entry.sail, f"{entry.code or '-':<36}", code_beside(record, entry)) for entry in others]
-    shown = [f"   {sail:<12} {text} {found.note if sail in series.boats else STRANGER}"
-             for sail, text, found in rows]
+    shown = [f"   {sail:<12} {text} {found.note}" for sail, text, found in rows]
+    shown += [f"   {sail:<12} {'-':<36} {STRANGER}" for sail in strangers]
     named = {time.sail for time in times} | {entry.sail for entry in others}
     left = [f"   {sail:<12} isn't in the sheet, and stands as {record.times[sail]}"
             for sail in sorted(set(record.times) - named)]
     return Compared((*shown, *left), tuple(line for _, _, found in rows for line in found.lines),
-                    record.counts)
+                    record.counts, tuple(strangers))
 
 
 def time_text(time: Time) -> str:

@@ -8,13 +8,14 @@ from collections.abc import Sequence
 
 from raceoffice.corrected.sheets import DECIDED, FORMS, TIMES, entries_of, with_seconds
 from raceoffice.corrected.sheets import HEADS as COLUMNS
-from raceoffice.corrected.times import KEYS, ROUNDINGS, RULES, SHEETS, SYSTEMS, sheet_name
+from raceoffice.corrected.times import KEYS, ROUNDINGS, RULES, SYSTEMS
 from raceoffice.errors import NotSent, NotThere, Trouble
 from raceoffice.files import replace_whole
 from raceoffice.remarks import remark
 from raceoffice.series.entry_list import plain
 from raceoffice.series.folder import Folder
 from raceoffice.series.headings import SHEET, columns
+from raceoffice.series.race_sheets import SHEETS, sheet_name
 from raceoffice.series.read_list import as_csv, bytes_of, table_of, wrong_form
 from raceoffice.series.settings import head_of, lines_of, rows_of
 from raceoffice.wording import joined
@@ -203,10 +204,3 @@ def is_form(key: str, text: str) -> bool:
 def is_for_sheet(code: str) -> bool:
     """Whether a sheet may have a code: what is decided elsewhere isn't in one."""
     return code not in DECIDED
-
-
-def races_with_sheet(folder: Folder) -> list[int]:
-    """The races that have a sheet of times."""
-    if not os.path.isdir(folder.file(SHEETS)):
-        return []
-    return [race for race in range(1, 41) if os.path.exists(folder.file(sheet_name(race)))]

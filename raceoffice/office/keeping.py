@@ -170,10 +170,11 @@ class Keeping:
 
     # Closing
 
-    def close(self) -> int:
-        """Lets everybody leave, so that the program ends by itself, and shows its table."""
+    def close(self, comes_back: bool = False) -> int:
+        """Lets everybody leave, so that the program ends by itself, and shows its table. Windows wait for an office that
+        comes back at once."""
         beside = ""
-        self.folder.set_closing(True)
+        self.folder.set_closing(True, comes_back)
         try:
             self.service.use_up()
             self.wait_for_others()

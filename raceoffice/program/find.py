@@ -17,6 +17,12 @@ def beside_the_command() -> list[str]:
     return [os.path.dirname(os.path.realpath(sys.argv[0]))] if os.path.isfile(sys.argv[0]) else []
 
 
+def whole_path() -> str:
+    """The folders of the PATH that are named whole: `.` and the like are the current folder, which nobody means."""
+    folders = os.environ.get("PATH", os.defpath).split(os.pathsep)
+    return os.pathsep.join(folder for folder in folders if os.path.isabs(folder))
+
+
 def program_at(named: str) -> str:
     """The file of a program that somebody names: by its path, or by its name alone. What lies in the current
     folder isn't meant by a name alone: it may have come with what is looked at."""
@@ -31,5 +37,5 @@ def found_program(name: str, *near: str) -> str:
     paths = [os.path.join(place, file) for place in places for file in names]
     found = [path for path in paths if os.path.isfile(path)]
     may_run = [path for path in found if os.access(path, os.X_OK)]
-    on_path = [shutil.which(file) for file in names]
+    on_path = [shutil.which(file, path=whole_path()) for file in names]
     return next((path for path in [*may_run, *on_path, *found] if path), "")

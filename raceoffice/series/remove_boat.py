@@ -16,6 +16,7 @@ from raceoffice.series import copies, entry_list
 from raceoffice.series.continuity import differences, note_now, own_entries, parts_of, with_entries
 from raceoffice.series.folder import Folder, Lock
 from raceoffice.series.kept_places import Places, command_of
+from raceoffice.series.race_sheets import take_out_of_sheets
 from raceoffice.series.run_program import Program, replayed
 from raceoffice.series.second_folder import places_copy_of, second_of
 from raceoffice.terminal import question, say
@@ -102,6 +103,8 @@ def take_out(folder: Folder, found: Removal, by: str = "") -> tuple[str, str]:
     note_places(folder, by)
     note_taken_out(folder, found, by)
     fault = replace(folder, found.data, by)
+    # After a kill just before, the sheets have a row of a boat that isn't entered, which is left out.
+    take_out_of_sheets(folder, found.sail)
     copies.keep(folder, found.data)
     note = note_now(folder, found.data)
     folder.log(by, "", "", f"removed {found.sail}", note)

@@ -224,6 +224,10 @@ def of_sheet(words: SaidWords) -> str:
     return f"   In the sheet, and not in the journal yet: {words.text('fault')}"
 
 
+def of_row(words: SaidWords) -> str:
+    return f"   {words.text('sail')} isn't entered: her row in {words.text('name')} is left out"
+
+
 WORDS: dict[str, Callable[[SaidWords], str]] = {
     "refused": of_refused, "entered": of_entered, "counts": of_counts, "counts-no-longer": of_counting_no_longer,
     "struck": of_struck, "finished": of_finished, "coded": of_coded, "out-again": of_out_again, "held": of_held,
@@ -235,7 +239,7 @@ WORDS: dict[str, Callable[[SaidWords], str]] = {
     "nothing-there": of_nothing_there, "plan": of_plan, "plan-places": of_plan_places, "plan-stays": of_plan_stays,
     "plan-resailed": of_resailing, "plan-jury": of_plan_jury, "taken-away": of_taken_away, "stopped": of_stop,
     "race-state": of_race, "race-unread": of_race_unread, "race-missing": of_race_missing,
-    "digits": of_digits, "not-sent": of_nothing_sent, "log-fault": of_log, "sheet-waits": of_sheet,
+    "digits": of_digits, "not-sent": of_nothing_sent, "log-fault": of_log, "sheet-waits": of_sheet, "row-left-out": of_row,
 }
 
 

@@ -272,7 +272,8 @@ class Window:
         """Leaves the offices that are being closed; the window ends with the last."""
         for session in self.sessions:
             if session.link and session.folder.is_closing():
-                self.lost(session, Trouble("the office is being closed"))
+                again = ", and opened again at once" if session.folder.is_coming_back() else ""
+                self.lost(session, Trouble(f"the office is being closed{again}"))
 
     def try_again(self, session: Session) -> None:
         """Uses an office that has come back."""
@@ -291,7 +292,7 @@ class Window:
             say(f"No answer came to: {session.unanswered}\nIt may be in the journal, or not.")
         self.known[session] = session.facts.sheet.journal
         session.disconnect()
-        if session.folder.is_closing() and not any(other.link for other in self.sessions):
+        if session.folder.is_closing_for_good() and not any(other.link for other in self.sessions):
             raise End("The office is being closed: this window ends.")
         if self.several:
             say(f"Beware: {trouble}, that of {session.folder.name}. The others go on.")
@@ -305,6 +306,8 @@ class Window:
         """Links to an office, for which it waits."""
         while True:
             try:
+                if session.folder.is_coming_back():
+                    raise Trouble("the office is being closed, and opened again at once")
                 if has_no_seat(session.folder):
                     raise NoSeat("all seats of the office are taken")
                 session.connect()

@@ -6,7 +6,7 @@ import re
 from collections.abc import Mapping
 from typing import Any
 
-from raceoffice.corrected.times import RULES, SHEETS, Rules
+from raceoffice.corrected.times import RULES, Rules
 from raceoffice.errors import NotSent, Trouble
 from raceoffice.files import replace_whole
 from raceoffice.remarks import remark
@@ -14,6 +14,7 @@ from raceoffice.results.spreadsheet import harmless
 from raceoffice.series.entry_list import RAISED, plain, problems
 from raceoffice.series.folder import Folder
 from raceoffice.series.headings import ENTRIES, columns, rating_columns
+from raceoffice.series.race_sheets import SHEETS
 from raceoffice.series.read_list import bytes_of, name_of, table_of
 from raceoffice.series.write_list import with_boat
 from raceoffice.session.facts import Facts

@@ -42,6 +42,8 @@ class KeptOffice:
         self.keeping: Keeping | None = None
         self.opened: list[float] = []
         self.is_asked_to_close, self.is_hurried, self.is_ended = False, False, threading.Event()
+        # Whether an office that is asked to close is opened again at once.
+        self.comes_back = False
         self.is_ended.set()
         # Whether nobody wants this process to open it by itself any more.
         self.is_left = threading.Event()
@@ -150,7 +152,7 @@ class KeptOffice:
                 if is_gone:
                     keeping.crashed()
                 else:
-                    keeping.close()
+                    keeping.close(self.comes_back)
         except Trouble as trouble:
             self.say(sentence(trouble))
         finally:
@@ -194,12 +196,13 @@ class KeptOffice:
 
     # Closing
 
-    def close(self) -> bool:
+    def close(self, comes_back: bool = False) -> bool:
         """Closes the office, which lets everybody leave first; whether it was this process that kept it. One
         that a window keeps stays open."""
         self.is_left.set()
         if not self.keeping:
             return False
+        self.comes_back = comes_back
         self.is_asked_to_close = True
         self.is_ended.wait()
         return True
@@ -212,7 +215,7 @@ class KeptOffice:
             ask(asked)
         wanted = question_of_removal(fresh, sail)
         ask(wanted)
-        was_open = self.close()
+        was_open = self.close(comes_back=True)
         try:
             copy, fault = self.taken_out(fresh, sail, by, wanted)
         finally:
@@ -250,7 +253,7 @@ class KeptOffice:
             raise NotSent(*wrong)
         if asked := question_of_rules(fresh):
             ask(asked)
-        self.close()
+        self.close(comes_back=True)
         return self.open(ask)
 
 

@@ -13,7 +13,7 @@ from collections.abc import Mapping, Sequence
 from typing import Any
 
 from raceoffice import system
-from raceoffice.corrected.times import RULES, SHEETS
+from raceoffice.corrected.times import RULES
 from raceoffice.corrected.write_sheet import rules_text, write_rules
 from raceoffice.errors import NotSent, NotThere, Trouble, as_trouble
 from raceoffice.files import read_whole
@@ -22,6 +22,7 @@ from raceoffice.series import settings
 from raceoffice.series.create import make
 from raceoffice.series.entry_list import rating_note
 from raceoffice.series.mend_list import NAME, mended
+from raceoffice.series.race_sheets import SHEETS
 from raceoffice.series.read_list import LARGEST
 from raceoffice.web.states import Values, remarks_of, rules_of
 

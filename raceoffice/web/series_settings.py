@@ -13,14 +13,15 @@ from collections.abc import Mapping
 from typing import Any
 
 from raceoffice.characters import utf8
-from raceoffice.corrected.times import ROUNDINGS, RULES, SHEETS, Rules, Sheets
-from raceoffice.corrected.write_sheet import races_with_sheet, rules_text, with_rule, write_rules
+from raceoffice.corrected.times import ROUNDINGS, RULES, Rules, Sheets
+from raceoffice.corrected.write_sheet import rules_text, with_rule, write_rules
 from raceoffice.errors import NotSent, NotThere, Trouble
 from raceoffice.files import edited_text, replace_whole
 from raceoffice.program.replay import Line
 from raceoffice.remarks import remark
 from raceoffice.series import settings
 from raceoffice.series.folder import Folder
+from raceoffice.series.race_sheets import SHEETS, races_with_sheet
 from raceoffice.session.facts import Facts
 from raceoffice.web import preview
 from raceoffice.web.kept_office import KeptOffice

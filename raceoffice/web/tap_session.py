@@ -21,6 +21,7 @@ from raceoffice.session.finishers import keep_or_send, send_or_place
 from raceoffice.session.seat import Done
 from raceoffice.session.session import Session
 from raceoffice.session.undo import undo
+from raceoffice.terminal import Once
 from raceoffice.web.taps import Register, Sent, Tap, last_numbers, number_of
 
 # How the register has a place that was dropped, or kept again.
@@ -49,6 +50,8 @@ class TapSession(Session):
         self.tap, self.lines, self.mark, self.answer = Tap("", ""), 0, "", ""
         # Whether a tap may take several lines, each of which has a note of its own.
         self.is_of_several = False
+        # The boats that aren't entered, whose rows in sheets of times were said to be left out.
+        self.left_out = Once()
         super().__init__(folder, role, "", self.said.append, self.is_agreed)
 
     def connect(self) -> None:

@@ -6,14 +6,16 @@ import dataclasses
 import datetime
 import functools
 import zoneinfo
+from collections.abc import Sequence
 
 from raceoffice.corrected.sheets import Entry, entries_of, with_seconds
-from raceoffice.corrected.times import Rules, Sheets, sheet_name
-from raceoffice.corrected.write_sheet import SheetOfRace, is_for_sheet, races_with_sheet
+from raceoffice.corrected.times import Rules, Sheets
+from raceoffice.corrected.write_sheet import SheetOfRace, is_for_sheet
 from raceoffice.errors import NotNow, NotSent, NotThere, Trouble
 from raceoffice.program.codes import OF_JURY
 from raceoffice.remarks import remark
 from raceoffice.series.folder import Folder
+from raceoffice.series.race_sheets import races_with_sheet, sheet_name
 from raceoffice.series.read_list import bytes_of
 from raceoffice.session.sending import is_meant, transmit
 from raceoffice.terminal import sentence
@@ -71,7 +73,22 @@ class TimedTap:
         if not self.is_written:
             self.session.note_lines(lines)
         self.session.is_of_several = True
-        return all(transmit(self.session, line) for line in lines)
+        return self.are_taken(lines)
+
+    def are_taken(self, lines: Sequence[str]) -> bool:
+        """Sends lines; whether all that the tap is about were taken. After a refusal no more is sent of that boat, and
+        the others go on. The answer of a tap is that to its own boat."""
+        before, answers, stopped = self.session.answer, list[tuple[str, str]](), set[str]()
+        for sail, line in [(line.split()[2], line) for line in lines]:
+            if sail in stopped:
+                continue
+            if not transmit(self.session, line):
+                stopped.add(sail)
+            answers.append((sail, self.session.answer))
+        own = [answer for sail, answer in answers if self.sail in ("", sail)]
+        refused = [answer for answer in own if answer.startswith("NO ")]
+        self.session.answer = next(iter(refused or own[-1:]), before)
+        return not refused
 
     def likely_line(self) -> str:
         """A line as the tap may send it."""
@@ -110,7 +127,15 @@ class TimedTap:
         except Trouble as trouble:
             self.session.say_of("sheet-waits", fault=sentence(trouble))
             return own
+        if self.session.role == "SCORER":
+            self.say_left_out(found.strangers)
         return own + [line for line in found.lines if line not in own]
+
+    def say_left_out(self, sails: Sequence[str]) -> None:
+        """Says whose rows are left out, until they are others once."""
+        if self.session.left_out.is_new(str(self.race.number), " ".join(sails)):
+            for sail in sails:
+                self.session.say_of("row-left-out", sail=sail, name=sheet_name(self.race.number))
 
     def own_lines(self) -> list[str]:
         """The lines that aren't those of a finish or a code in the sheet. What somebody else has taken away since an

@@ -1,0 +1,75 @@
+"""The files of the sheets of times, by their races, and how a boat's row is taken out of them."""
+from __future__ import annotations
+
+import contextlib
+import os
+from collections.abc import Mapping, Sequence
+
+from raceoffice.errors import Trouble
+from raceoffice.files import replace_whole
+from raceoffice.series.entry_list import plain
+from raceoffice.series.folder import Folder
+from raceoffice.series.headings import SHEET, columns
+from raceoffice.series.read_list import as_csv, bytes_of, table_of
+
+SHEETS = "times"
+# An empty one is that of the boat above.
+CARRIED = ("start", "laps", "distance")
+
+
+def sheet_name(race: int) -> str:
+    """The file of a race's sheet, as seen from the series' folder."""
+    return f"{SHEETS}/race-{race}.csv"
+
+
+def races_with_sheet(folder: Folder) -> list[int]:
+    """The races that have a sheet of times."""
+    if not os.path.isdir(folder.file(SHEETS)):
+        return []
+    return [race for race in range(1, 41) if os.path.exists(folder.file(sheet_name(race)))]
+
+
+def take_out_of_sheets(folder: Folder, sail: str) -> None:
+    """Takes a boat's row out of all sheets. One that can't be read or written keeps it: a row of a boat that isn't
+    entered is left out wherever a sheet is read."""
+    for race in races_with_sheet(folder) if folder.settings.handicap else []:
+        with contextlib.suppress(Trouble, OSError):
+            take_row(folder.file(sheet_name(race)), sail)
+
+
+def take_row(path: str, sail: str) -> None:
+    """Takes a boat's row out of a sheet. A sheet without a row is none: the file goes then."""
+    held = table_of(bytes_of(path))
+    rows = rows_without([held.heads, *(row for _, row in held.rows)], sail, held.separator != ",")
+    if len(rows) == len(held.rows) + 1:
+        return
+    if rows[1:]:
+        replace_whole(path, as_csv(rows))
+    else:
+        os.remove(path)
+
+
+def rows_without(rows: Sequence[Sequence[str]], sail: str, has_commas: bool) -> list[list[str]]:
+    """The rows of a sheet, the headings first, without a boat's. What the boat below hers has from her stays the same.
+    `has_commas` says whether a number may have a comma for a dot: in the new text only commas part the columns."""
+    places = columns(rows[0], SHEET)
+    left, owed = [list(rows[0])], dict[int, str]()
+    for row in rows[1:]:
+        cells = [cell.replace(",", ".") if has_commas and at == places.get("distance") else cell for at, cell in enumerate(row)]
+        cells += [""] * (len(rows[0]) - len(cells))
+        if "sail" in places and plain(cells[places["sail"]]) == sail:
+            owed |= carried(cells, [places[key] for key in CARRIED if key in places])
+        else:
+            left.append(filled(cells, owed))
+            owed = {}
+    return left
+
+
+def carried(cells: Sequence[str], places: Sequence[int]) -> dict[int, str]:
+    """What a row has that one below may take from it. A code in place of a time isn't taken."""
+    return {at: cells[at].strip() for at in places if cells[at].strip() and not cells[at].strip().isalpha()}
+
+
+def filled(cells: Sequence[str], owed: Mapping[int, str]) -> list[str]:
+    """A row with these cells where it has none. A code that stands for a start stays."""
+    return [cell if cell.strip() else owed.get(at, cell) for at, cell in enumerate(cells)]
