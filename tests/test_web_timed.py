@@ -118,6 +118,51 @@ class Timed(Web):
         scorer.tap("STRIKE 1 GBR7")
         self.assertEqual((self.journal()[-1], self.sheet()[2]), ("SCORER STRIKE 1 GBR7", "GBR7,14:00:00,,"))
 
+    def test_undone(self) -> None:
+        """What a tap took out of the sheet goes back into it, and not the moment of the undo: the finish of a boat who
+        was struck, also one with a code, an elapsed time, and a code that another replaced. Page and line agree."""
+        ann, scorer = self.device("finish"), self.device("scorer")
+        ann.tap("START 1 14:00")
+        for sail in ("GBR101", "GBR7"):
+            self.finish(ann, sail, "15:00:00")
+        for number, line in enumerate(("UNDO", "FINISH 1 GBR101")):
+            id = new_id()
+            ann.tap("STRIKE 1 GBR101", id)
+            for _ in range(2):
+                done = ann.tap(line, f"{number:032x}", undoes=id)[1]
+                self.assertEqual((done.get("outcome"), done.get("line")), ("taken", "FINISH 1 GBR101 15:00:00"), done)
+            self.assertEqual((self.journal()[-1], self.sheet()[1]), ("FINISH TIME 1 GBR101 3600", "GBR101,14:00:00,15:00:00,"))
+        # The undo of an undo strikes her; what somebody has done since stays.
+        self.assertEqual(ann.tap("UNDO", undoes=f"{1:032x}")[1]["line"], "STRIKE 1 GBR101")
+        scorer.tap("FINISH 1 GBR101 15:01:00")
+        self.assertEqual((ann.tap("UNDO", undoes=id)[0], self.sheet()[1]), (422, "GBR101,14:00:00,15:01:00,"))
+        self.check_codes_undone(ann)
+        tag = self.times_sheet(scorer)["tag"]
+        scorer.ask("POST", "/office/scorer/sheet/cup", {"race": 1, "rows": {"NED12": {"elapsed": "1:05:00"}}, "tag": tag})
+        ann.tap("STRIKE 1 NED12", id := new_id())
+        self.assertEqual(self.sheet()[3], "NED12,14:00:00,,,")
+        done = ann.tap("UNDO", undoes=id)[1]
+        self.assertEqual((done.get("outcome"), self.sheet()[3]), ("taken", "NED12,14:00:00,,,1:05:00"), done)
+        self.assertEqual(self.journal()[-1], "FINISH TIME 1 NED12 4875")
+
+    def check_codes_undone(self, ann: Device) -> None:
+        """A code in place of another, one that was cleared, one beside a penalty; a finish beside a code."""
+        row = "GBR7,14:00:00,15:00:00,"
+        for first, line, wanted, held in (
+                ("MARK 1 GBR7 OCS", "MARK 1 GBR7 DNF", "MARK 1 GBR7 OCS", row + "OCS"),
+                ("MARK 1 GBR7 RET", "CLEAR 1 GBR7", "MARK 1 GBR7 RET", row + "RET"),
+                ("MARK 1 GBR7 RET", "STRIKE 1 GBR7", "FINISH 1 GBR7 15:00:00", row + "RET"),
+                ("CLEAR 1 GBR7", "MARK 1 GBR7 RET", "CLEAR 1 GBR7", row),
+                ("PENALTY 1 GBR7 ZFP", "CLEAR 1 GBR7", "PENALTY 1 GBR7 ZFP", row)):
+            ann.tap(first)
+            ann.tap(line, id := new_id())
+            done = ann.tap("UNDO", undoes=id)[1]
+            self.assertEqual((done.get("line"), self.sheet()[2]), (wanted, held), done)
+        ann.tap("MARK 1 GBR7 DNF", id := new_id())
+        status, said = ann.tap("UNDO", undoes=id)
+        self.assertEqual((status, said["said"][0]["values"]["lines"], self.sheet()[2]),
+                         (422, ["CLEAR 1 GBR7", "PENALTY 1 GBR7 ZFP"], row + "DNF"), said)
+
     def test_rounding(self) -> None:
         """2,881 s x 1.250 = 3,601.25 s: rounded up it is 3,602 s. That is shown before it is saved, and not saved over
         another change."""

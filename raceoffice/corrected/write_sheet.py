@@ -79,6 +79,14 @@ class SheetOfRace:
         at = self.places[key]
         return row[at].strip() if at < len(row) else ""
 
+    def cells(self, sail: str) -> dict[str, str]:
+        """A boat's finish, elapsed time and code, wherever in her row the code stands."""
+        row = next((row for row in self.rows if plain(row[self.places["sail"]]) == sail), list[str]())
+        held = {key: self.cell(row, key) if key in self.places else "" for key in (*TIMES, "code")}
+        codes = [held[key] for key in (*TIMES, "code") if held[key].isalpha()] + [held["code"]]
+        times = {key: "" if held[key].isalpha() else held[key] for key in ("finish", "elapsed")}
+        return {**times, "code": codes[0].upper()}
+
     def put(self, row: list[str], key: str, text: str) -> None:
         row += [""] * (len(self.heads) - len(row))
         row[self.places[key]] = text
@@ -125,6 +133,16 @@ class SheetOfRace:
         if len(self.starts) == 1:
             self.put(row, "start", self.starts[0])
         self.put(row, "finish", text)
+
+    def give_back(self, sail: str, finish: str, elapsed: str = "") -> None:
+        """Gives a boat back the finish and the elapsed time that she had. NotSent if she has another one by now."""
+        held, wanted = self.cells(sail), {"finish": finish, "elapsed": elapsed}
+        other = [held[key] for key, text in wanted.items() if held[key] not in ("", text)]
+        if other:
+            raise NotSent(remark("sheet-has", sail=sail, before=other[0], name=self.name))
+        row = self.row(sail)
+        for key in [key for key, text in wanted.items() if text]:
+            self.put(row, key, wanted[key])
 
     def take_finish(self, sail: str) -> bool:
         """Takes a boat's finish away, or her elapsed time; whether she had one."""

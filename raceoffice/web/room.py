@@ -24,7 +24,8 @@ from raceoffice.web.finish_order import line_in_order
 from raceoffice.web.states import (Values, boats_of, moves_of, races_of, rules_of, said_of, standing_of, unlisted)
 from raceoffice.web.tap_session import DROPPED, TapSession
 from raceoffice.web.taps import PLACED, Register, Sent, Tap, number_of
-from raceoffice.web.timed_taps import TimedTap, is_timed_tap, sheets_shown, timed_undo, with_typed_times
+from raceoffice.web.timed_taps import TimedTap, is_timed_tap, sheets_shown, with_typed_times
+from raceoffice.web.timed_undo import timed_undo
 
 # Seconds between two looks at whether the journal has grown, and between two tries at an office that isn't
 # open, or has no seat: each of those uses up one of its sessions.
@@ -310,8 +311,9 @@ class Room:
     def line_of(self, session: TapSession, tap: Tap) -> str:
         """The line of a tap, of which it is clear that it is meant, and where a finisher belongs."""
         first, *rest = tap.line.split() or [""]
-        if first == "UNDO" and self.folder.settings.handicap:
-            return timed_undo(self.register.sent.get(tap.undoes)) or tap.line
+        if tap.undoes and self.folder.settings.handicap and (line := self.line_of_undo(session, tap)):
+            # Only the register has what goes back into the sheet, whatever line the page has for it.
+            return line
         if first == "START":
             if not self.folder.settings.handicap or not 1 <= len(rest) <= 2:
                 raise NotSent(remark("start-form"))
@@ -333,6 +335,11 @@ class Room:
             line = line_in_order(session.facts, moments, tap, line)
         self.ask_again(session, tap, line)
         return line
+
+    def line_of_undo(self, session: TapSession, tap: Tap) -> str:
+        """The line that undoes a tap for a sheet of times; empty if it was none for one."""
+        sent = self.register.sent.get(tap.undoes)
+        return timed_undo(session, sent) if sent and is_timed_tap(self.folder, sent.line) else ""
 
     def is_undoable(self, tap: Tap) -> bool:
         """Whether a tap that is to be undone has put an entry into the journal, or kept a place."""

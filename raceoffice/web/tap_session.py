@@ -143,6 +143,15 @@ class TapSession(Session):
         """Notes the lines of a tap of several, before the first is sent."""
         self.register.decide(f"{self.tap.id}/0", [Line(self.role, line) for line in lines])
 
+    def note_back(self, lines: Sequence[str]) -> None:
+        """Notes by which lines this tap is undone, before anything is taken away."""
+        if lines:
+            self.register.decide(f"{self.tap.id}/back", [Line(self.role, line) for line in lines])
+
+    def lines_back(self, id: str) -> list[Line]:
+        """The lines that put back what a tap took away."""
+        return self.register.decisions.get(f"{id}/back", [])
+
     def lines_taken(self) -> list[str]:
         """The lines of a tap of several that the journal has from an earlier try. The next line is numbered after
         them."""

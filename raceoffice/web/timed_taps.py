@@ -21,12 +21,12 @@ from raceoffice.session.sending import is_meant, transmit
 from raceoffice.terminal import sentence
 from raceoffice.web.states import Values
 from raceoffice.web.tap_session import TapSession
-from raceoffice.web.taps import Sent
+from raceoffice.web.timed_undo import lines_back
 
 # Seconds of a day.
 DAY = 86400
 # What a tap of such a class may begin with that is done here. Any other line is sent as it is.
-TIMED = ("START", "TIMES", "FINISH", "STRIKE", "MARK", "CLEAR")
+TIMED = ("START", "TIMES", "FINISH", "ELAPSED", "STRIKE", "MARK", "CLEAR")
 
 
 def is_timed_tap(folder: Folder, line: str) -> bool:
@@ -50,6 +50,7 @@ class TimedTap:
         if self.command == "FINISH" and self.rest[1:]:
             # It was typed, so that nobody saw her at the moment of the tap.
             session.tap = dataclasses.replace(session.tap, at=0)
+        self.is_given_back = bool(session.lines_back(session.tap.undoes)) and len(self.rest) == 2
         self.is_begun, self.is_written = session.is_begun, session.are_lines_noted
         # The lines that the journal has from an earlier try.
         self.taken = session.lines_taken() if self.is_begun else []
@@ -58,10 +59,14 @@ class TimedTap:
         """Writes what was tapped into the sheet, and sends the lines that differ; whether all were taken."""
         if not self.is_written:
             sheet = SheetOfRace(self.folder, self.race.number)
+            before = sheet.cells(self.sail)
             self.change(sheet)
             # All lines of a tap are about one race: what is asked of one is asked of all.
             if not is_meant(self.session, self.likely_line()):
                 return self.session.not_sent()
+            if not self.is_begun or before != sheet.cells(self.sail):
+                # Otherwise the sheet was written at an earlier try.
+                self.session.note_back(lines_back(self.command, self.race, self.sail, before))
             self.session.note_begin(self.session.tap.id, " ".join([self.command, str(self.race.number), *self.rest]))
             write(sheet)
         lines = self.lines()
@@ -100,6 +105,10 @@ class TimedTap:
             sheet.start(text, self.session.facts.boats)
         elif self.command == "TIMES" and not sheet.rows:
             raise NotSent(remark("no-sheet", race=self.race.number))
+        elif self.command == "ELAPSED":
+            sheet.give_back(self.sail, " ".join(self.rest[2:]), self.rest[1])
+        elif self.command == "FINISH" and self.is_given_back:
+            sheet.give_back(self.sail, self.rest[1])
         elif self.command == "FINISH":
             sheet.finish(self.sail, *(self.rest[1:] or [clock_text(self.folder, self.session.tap.at)]))
         elif self.command == "STRIKE":
@@ -153,20 +162,6 @@ def with_typed_times(folder: Folder, typed: str) -> tuple[str, str]:
     if not folder.settings.handicap or words[:1] != ["FINISH"] or not times or len(words) != 3 + len(times):
         return typed, ""
     return " ".join(words[:3]), " ".join(times)
-
-
-def timed_undo(sent: Sent | None) -> str:
-    """The line that takes back what a tap did to a sheet; empty if it did nothing to one."""
-    words = sent.line.split() if sent and sent.answer.startswith(("OK ", "NOTED")) else [""]
-    if words[0] == "START":
-        raise NotSent(remark("start-again", race=words[1]))
-    if words[0] == "TIMES":
-        raise NotSent(remark("times-again", race=words[1]))
-    if words[0] == "FINISH" and len(words) == 5:
-        # It put one finish in place of another.
-        return " ".join([*words[:3], words[4], words[3]])
-    opposite = {"FINISH": "STRIKE", "MARK": "CLEAR"}.get(words[0], "")
-    return f"{opposite} {words[1]} {words[2]}" if opposite else ""
 
 
 def clock_text(folder: Folder, at: int) -> str:

@@ -306,6 +306,31 @@ class Timed(WebTrial):
         self.assertEqual(ann.count("#level"), 0)
         self.need_no_faults()
 
+    def test_strike_is_undone(self) -> None:
+        """Strike and Undo on the page leave the finish that she had, whatever the time is by then."""
+        ann = self.phone()
+        ann.click("#start")
+        ann.type("dialog input", "00:00:00")
+        ann.choose("at")
+        ann.until("document.querySelector('#start').textContent === '00:00:00'")
+        for sail in ("GBR101", "NED12"):
+            ann.tap(sail)
+            self.settle(ann)
+        held = self.text("cup", "times", "race-1.csv")
+        for at, sail in enumerate(("GBR101", "NED12")):
+            ann.run(f"document.querySelectorAll('#list li button')[{at}].click()")
+            ann.choose("strike")
+            self.settle(ann)
+            self.assertNotEqual(self.text("cup", "times", "race-1.csv"), held)
+            # The clock of the page is another second by now.
+            moment = ann.run("new Date().getSeconds()")
+            ann.until(f"new Date().getSeconds() !== {moment}")
+            ann.click("#undo")
+            self.settle(ann)
+            self.assertEqual(self.text("cup", "times", "race-1.csv"), held, sail)
+            ann.until("document.querySelectorAll('#list li').length === 2")
+        self.need_no_faults()
+
 
 def seconds_of(clock: str) -> int:
     hours, minutes, seconds = map(int, clock.split(":"))

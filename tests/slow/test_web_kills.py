@@ -392,6 +392,29 @@ class Time(Trial):
         undone = Sent("FINISH", ("line", "cup"), tap_of(4, "UNDO", undoes=tap_of(1)["id"]))
         self.each_step(undone, wanted=(sheet, "journal.txt"))
 
+    def test_strike_undone(self) -> None:
+        """A strike that is killed at each step notes the finish that it takes away, and its undo puts back just that."""
+        self.serving()
+        self.typed("FINISH TIME 1 GBR101 3600", "FINISH TIME 1 GBR7 3510")
+        sheet, struck = "times/race-1.csv", Sent("FINISH", ("line", "cup"), tap_of(1, "STRIKE 1 GBR7"))
+        undone = Sent("FINISH", ("line", "cup"), tap_of(2, "UNDO", undoes=tap_of(1)["id"]))
+        self.settle()
+        before = self.files()
+        _, steps = self.asked([struck])
+        for stop, step in enumerate(steps, 1):
+            with self.subTest(stop=stop, step=step):
+                self.restore(before)
+                self.asked([struck], stop, "web")
+                self.settle()
+                self.assertEqual(outcomes_of(self.asked([struck, undone])[0]), ["taken", "taken"])
+                self.assertEqual(self.files()[sheet], before[sheet])
+        self.restore(before)
+        self.asked([struck])
+        self.each_step(undone, wanted=(sheet, "journal.txt"))
+        self.asked([undone])
+        self.assertIn(b"GBR7,14:00:00,15:05:00,", self.files()[sheet])
+        self.assertEqual(lines_of(self.files())[-2:], ["FINISH STRIKE 1 GBR7", "FINISH TIME 1 GBR7 3510"])
+
     def test_by_hand(self) -> None:
         """A finish is typed in place of another: 3,900 s x 0.900 before, and 4,200 s x 0.900 then; a code for a boat that
         has no time, and another rounding."""

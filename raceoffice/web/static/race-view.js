@@ -83,6 +83,8 @@ function removeBoat(race, sail) {
 export function lineThatUndoes(line, race) {
   const [command, number, sail] = line.split(" ");
   if (PLACED.includes(command)) return `STRIKE ${number} ${sail}`;
+  // By corrected time a boat gets back what the sheet had, which the office alone knows.
+  if (race.elapsed) return "";
   if (command === "STRIKE") return lineThatPutsBack(race, number, sail);
   const holds = heldBy(race, sail).length > 0 || race.redress[sail] !== undefined;
   if (command === "MARK" && race.codes[sail]) return `MARK ${number} ${sail} ${race.codes[sail]}`;

@@ -1,0 +1,75 @@
+"""How a tap for a sheet of times is undone: the sheet gets back just what the tap took out of it, as the register has
+noted it."""
+from __future__ import annotations
+
+from collections.abc import Mapping
+
+from raceoffice.errors import NotSent
+from raceoffice.program.journal import Race
+from raceoffice.remarks import remark
+from raceoffice.session.undo import later_entry, lines_held
+from raceoffice.web.tap_session import TapSession
+from raceoffice.web.taps import Sent, number_of
+
+# What undoes a tap that took nothing out of a sheet.
+OPPOSITES = {"FINISH": "STRIKE", "ELAPSED": "STRIKE", "MARK": "CLEAR"}
+# Taps that may take something away of a boat.
+TAKING = ("STRIKE", "MARK", "CLEAR")
+
+
+def lines_back(command: str, race: Race, sail: str, cells: Mapping[str, str]) -> list[str]:
+    """The lines that put back what a tap takes away: `cells` are what the sheet has of the boat before it."""
+    code = [f"MARK {race.number} {sail} {cells['code']}"] if cells["code"] else []
+    if command == "CLEAR":
+        held = lines_held(race, sail)
+        return code + [line for line in held if not (code and line.startswith("MARK "))]
+    if command == "MARK":
+        return code
+    if command == "STRIKE" and cells["elapsed"]:
+        return [f"ELAPSED {race.number} {sail} {cells['elapsed']} {cells['finish']}".rstrip()]
+    return [f"FINISH {race.number} {sail} {cells['finish']}"] if command == "STRIKE" and cells["finish"] else []
+
+
+def timed_undo(session: TapSession, sent: Sent | None) -> str:
+    """The line that takes back what a tap did to a sheet; empty if it did nothing to one. NotSent if none does."""
+    words = sent.line.split() if sent and sent.answer.startswith(("OK ", "NOTED")) else [""]
+    if words[0] == "START":
+        raise NotSent(remark("start-again", race=words[1]))
+    if words[0] == "TIMES":
+        raise NotSent(remark("times-again", race=words[1]))
+    if words[0] == "FINISH" and len(words) == 5:
+        # It put one finish in place of another.
+        return " ".join([*words[:3], words[4], words[3]])
+    if sent and words[0] in TAKING and (line := line_back(session, sent)):
+        return line
+    opposite = OPPOSITES.get(words[0], "")
+    return f"{opposite} {words[1]} {words[2]}" if opposite else ""
+
+
+def line_back(session: TapSession, sent: Sent) -> str:
+    """The line that puts back what a tap took away; empty if it took nothing. NotSent if no one line does, or if
+    something was done about the same since."""
+    lines = [line.text for line in session.lines_back(sent.id)]
+    command, number, sail, *_ = sent.line.split()
+    if session.is_begun:
+        # What was asked then isn't asked again.
+        return next(iter(lines), "")
+    need_last(session, sent)
+    if command == "MARK":
+        others = [line for line in lines_held(session.facts.race(number), sail) if not line.startswith("MARK ")]
+        lines = lines or ([f"CLEAR {number} {sail}", *others] if others else [])
+    if len(lines) > 1:
+        raise NotSent(remark("undo-lines", lines=lines))
+    if not lines and command != "MARK" and not sent.entry:
+        raise NotSent(remark("undo-nothing"))
+    return next(iter(lines), "")
+
+
+def need_last(session: TapSession, sent: Sent) -> None:
+    """NotSent if something was recorded about the same boat and race since a tap."""
+    parts, at = session.register.sent, 1
+    while (part := parts.get(f"{sent.id}/{at}")) and part.line != sent.line:
+        at += 1
+    number = number_of(part, session.facts.sheet.journal) if part else 0
+    if number and (later := later_entry(session.facts, number)):
+        raise NotSent(later)
