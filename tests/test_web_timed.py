@@ -118,6 +118,21 @@ class Timed(Web):
         scorer.tap("STRIKE 1 GBR7")
         self.assertEqual((self.journal()[-1], self.sheet()[2]), ("SCORER STRIKE 1 GBR7", "GBR7,14:00:00,,"))
 
+    def test_without_a_rating(self) -> None:
+        """A boat without a rating waits alone: the others' times are sent, hers is noted and answered so, and sent as soon
+        as the rating is saved: 2,881 s x 1.250."""
+        self.write(ENTRIES.replace("1.250", ""), "cup", "entries.csv")
+        ann, scorer = self.device("finish"), self.device("scorer")
+        ann.tap("START 1 14:00")
+        done = self.finish(ann, "NED12", "14:48:01")
+        self.assertEqual((done["outcome"], done["said"][0]["what"]), ("noted", "sheet-waits"), done)
+        done = self.finish(ann, "GBR101", "15:00:00")
+        self.assertEqual((done["outcome"], self.journal()), ("taken", ["FINISH TIME 1 GBR101 3600"]), done)
+        rated = {"sail": "NED 12", "name": "", "helm": "", "club": "", "rating": "1.250"}
+        for _ in range(2):
+            self.assertEqual(scorer.ask("POST", "/office/scorer/listed/cup", rated)[0], 200)
+            self.assertEqual(self.journal(), ["FINISH TIME 1 GBR101 3600", "SCORER TIME 1 NED12 3601"])
+
     def test_undone(self) -> None:
         """What a tap took out of the sheet goes back into it, and not the moment of the undo: the finish of a boat who
         was struck, also one with a code, an elapsed time, and a code that another replaced. Page and line agree."""
@@ -316,7 +331,7 @@ class Timed(Web):
         self.finish(ann, "GBR101", "15:00:00")
         scorer.tap("ENTER USA4", agreed=[{"kind": "enter-unlisted", "values": {"sail": "USA4"}}])
         self.finish(ann, "USA4", "15:01:00")
-        self.assertEqual(self.finish(ann, "GBR7", "15:05:00")["outcome"], "noted")
+        self.assertEqual(self.finish(ann, "GBR7", "15:05:00")["outcome"], "taken")
         self.assertEqual(self.take_out(scorer, "USA4"), 200)
         self.assertEqual(self.sheet(), ["Sail,Start,Finish,Code", "GBR101,14:00:00,15:00:00,", "GBR7,14:00:00,15:05:00,",
                                         "NED12,14:00:00,,", "FRA9,14:00:00,,"])

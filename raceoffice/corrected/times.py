@@ -19,6 +19,7 @@ from raceoffice.program.find import found_program
 from raceoffice.program.journal import Race, Series
 from raceoffice.program.replay import Line, not_run
 from raceoffice.series import entry_list
+from raceoffice.series.entry_list import plain
 from raceoffice.series.folder import Folder
 from raceoffice.series.headings import rating_columns
 from raceoffice.series.race_sheets import SHEETS, sheet_name
@@ -109,6 +110,8 @@ class Rated:
     """The ratings of a race, as the program reads them, and the rows of the list that they are from."""
     data: bytes
     rows: tuple[int, ...]
+    # The boats that have one.
+    sails: frozenset[str]
 
 
 def rated(data: bytes, path: str, race: int, system: str) -> Rated:
@@ -124,7 +127,8 @@ def rated(data: bytes, path: str, race: int, system: str) -> Rated:
     at = begins[max(begins)]
     sails = list(entry_list.boats_of(table))
     rows = [[sail, table.number(row, at)] for sail, (_, row) in zip(sails, table.rows)]
-    return Rated(as_csv([["Sail", "Rating"], *rows]), tuple(number for number, _ in table.rows))
+    return Rated(as_csv([["Sail", "Rating"], *rows]), tuple(number for number, _ in table.rows),
+                 frozenset(plain(sail) for sail, rating in rows if rating.strip()))
 
 
 def program_fault(fault: str, sheet: str, ratings: str, rows: dict[str, Sequence[int]]) -> str:
@@ -188,10 +192,19 @@ class Sheets:
         except (OSError, subprocess.TimeoutExpired) as cause:
             raise not_run(self.rules.program, cause) from cause
 
-    def beside(self, race: int, journal: Sequence[str]) -> Compared:
-        """A race beside the journal. A row of a boat that isn't entered holds up no other."""
+    def unrated(self, race: int, journal: Sequence[str]) -> list[Entry]:
+        """The rows of boats that are entered and have a time, and no rating."""
         boats = Series.read(list(journal)).boats
-        rows = self.rows(race)
+        timed = [entry for entry in self.rows(race) if entry.is_timed and entry.sail in boats]
+        if not timed:
+            return []
+        has = rated(bytes_of(self.folder.entries), self.folder.entries, race, self.rules.system).sails
+        return [entry for entry in timed if entry.sail not in has]
+
+    def beside(self, race: int, journal: Sequence[str], but: Sequence[str] = ()) -> Compared:
+        """A race beside the journal, but for some boats. A row of a boat that isn't entered holds up no other."""
+        boats = Series.read(list(journal)).boats
+        rows = [entry for entry in self.rows(race) if entry.sail not in but]
         timed = [entry for entry in rows if entry.is_timed and entry.sail in boats]
         others = [entry for entry in rows if not entry.is_timed and entry.sail in boats]
         strangers = [entry.sail for entry in rows if entry.sail not in boats]

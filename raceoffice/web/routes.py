@@ -3,9 +3,11 @@ from __future__ import annotations
 
 import asyncio
 import concurrent.futures
+import contextlib
 import functools
 import json
 import os
+import secrets
 import time
 from collections.abc import Callable
 from typing import Any
@@ -34,6 +36,7 @@ from raceoffice.web.rulings import one_line
 from raceoffice.web.states import Values, question_of, remarks_of, said_of
 from raceoffice.web.tap_session import Asked
 from raceoffice.web.taps import LATEST, NoTap, Tap, agreed_in
+from raceoffice.web.timed_taps import races_waiting
 from raceoffice.web.web_office import Class, WebOffice
 
 STATIC = os.path.join(os.path.dirname(os.path.abspath(__file__)), "static")
@@ -392,6 +395,8 @@ class Routes:
             session.look()
             is_another = boat_names.name_boat(room.folder, room.facts, request.values(), device.name)
             session.look()
+        if request.values().get("rating"):
+            send_waiting(room, device.name, plain(boat_names.text_given(request.values(), "sail")))
         return reply_of({"changed": is_another, "version": room.version})
 
     def remove_boat(self, request: Request, device: Device, one: Class) -> Reply:
@@ -477,6 +482,14 @@ def shorter(kind: str, data: bytes) -> bytes:
         return data
     lines = [line.strip() for line in data.splitlines()]
     return b"\n".join(line for line in lines if not line.startswith(b"//")) + b"\n"
+
+
+def send_waiting(room: Room, by: str, sail: str) -> None:
+    """Sends the times that have waited for a boat's rating. What can't be sent, or has to be asked, goes on waiting: the
+    scorer's page shows it."""
+    for race in races_waiting(room.folder, room.facts, sail):
+        with contextlib.suppress(Trouble, NotSent, Asked):
+            room.do("SCORER", by, Tap(secrets.token_hex(16), f"TIMES {race}", now()))
 
 
 def of_text(request: Request, text: Text) -> Reply:

@@ -18,6 +18,7 @@ from raceoffice.series.folder import Folder
 from raceoffice.series.race_sheets import races_with_sheet, sheet_name
 from raceoffice.series.read_list import bytes_of
 from raceoffice.session.sending import is_meant, transmit
+from raceoffice.session.facts import Facts
 from raceoffice.terminal import sentence
 from raceoffice.web.states import Values
 from raceoffice.web.tap_session import TapSession
@@ -123,10 +124,16 @@ class TimedTap:
         """The lines after which the journal is as the sheet says. Without a start there are none yet."""
         own = [line for line in self.own_lines() if line not in self.taken]
         try:
-            found = Sheets(self.folder).beside(self.race.number, self.session.facts.sheet.journal)
+            sheets, journal = Sheets(self.folder), self.session.facts.sheet.journal
+            unrated = sheets.unrated(self.race.number, journal)
+            found = sheets.beside(self.race.number, journal, [entry.sail for entry in unrated])
         except Trouble as trouble:
             self.session.say_of("sheet-waits", fault=sentence(trouble))
             return own
+        for entry in [entry for entry in unrated if self.sail in ("", entry.sail)]:
+            # She alone waits for her rating.
+            fault = f"{sheet_name(self.race.number)}, row {entry.number}: {entry.sail} has no rating"
+            self.session.say_of("sheet-waits", fault=fault)
         if self.session.role == "SCORER":
             self.say_left_out(found.strangers)
         return own + [line for line in found.lines if line not in own]
@@ -186,6 +193,14 @@ def sheets_shown(folder: Folder) -> dict[int, Values]:
         found[race] = {"start": starts[0] if len(starts) == 1 else "", "wrong": wrong,
                        "rows": {row.sail: row_shown(row, race in nights) for row in rows if row.is_timed or row.code}}
     return found
+
+
+def races_waiting(folder: Folder, facts: Facts, sail: str) -> list[int]:
+    """The races whose sheets have a time of a boat that the journal lacks, and that don't count yet."""
+    rows = {number: sheet["rows"] for number, sheet in sheets_shown(folder).items()}
+    times = {number: held.get(sail) for number, held in rows.items() if isinstance(held, dict)}
+    races = {number: facts.race(str(number)) for number, row in times.items() if row and not row["code"]}
+    return [number for number, race in races.items() if sail not in race.times and not race.counts]
 
 
 def nights_of(folder: Folder) -> tuple[int, ...]:

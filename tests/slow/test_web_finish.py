@@ -306,6 +306,23 @@ class Timed(WebTrial):
         self.assertEqual(ann.count("#level"), 0)
         self.need_no_faults()
 
+    def test_a_boat_without_a_rating(self) -> None:
+        """A tick is for what is in the journal. A boat without a rating is in the sheet only, and the scorer's page says so."""
+        self.write(self.classes["cup"].replace("1.250", ""), "cup", "entries.csv")
+        ann, sue = self.phone(), self.device("scorer", "Sue")
+        ann.click("#start")
+        ann.type("dialog input", "00:00:00")
+        ann.choose("at")
+        ann.until("document.querySelector('#start').textContent === '00:00:00'")
+        for sail in ("NED12", "GBR101"):
+            ann.tap(sail)
+            self.settle(ann)
+        for sail, sign in (("NED12", "in the sheet only"), ("GBR101", "✓")):
+            ann.until(f"document.querySelector('#list li[data-sail={sail}] .end i')?.textContent === '{sign}'")
+        self.assertEqual([line.split()[3] for line in self.journal()], ["GBR101"])
+        sue.until("[...document.querySelectorAll('.waits')].some(one => one.textContent.endsWith('in the journal yet: NED 12'))")
+        self.need_no_faults()
+
     def test_strike_is_undone(self) -> None:
         """Strike and Undo on the page leave the finish that she had, whatever the time is by then."""
         ann = self.phone()

@@ -57,7 +57,7 @@ function boatRow(one, place, race, row) {
       element("span", {class: "place", "aria-label": row.place ? ordinal(row.place) : text("finish.noPlace")},
         row.place || "–", row.isTied && row.place ? element("sup", {}, "=") : null),
       element("span", {class: "sail"}, spaced(sail)), element("span", {class: "name"}, names, codes),
-      element("span", {class: "end"}, element("b", {}, timeWords(race, row)), progress(state, race.by[sail]))));
+      element("span", {class: "end"}, element("b", {}, timeWords(race, row)), progress(state, race.by[sail], race.waiting?.includes(sail)))));
 }
 
 // Her elapsed time where that is known, or else the time of day
@@ -67,10 +67,11 @@ function timeWords(race, row) {
 }
 
 // How far a tap has come
-function progress(state, by) {
+function progress(state, by, isWaiting) {
   if (state === "asked") return element("i", {}, text("finish.answerHere"));
   if (state === "unsent") return element("i", {}, text("finish.unsent"));
   if (state === "way") return element("i", {}, "…");
+  if (isWaiting || state === "noted") return element("i", {}, text("finish.inSheet"));
   if (by && by !== me?.name) return element("i", {}, by);
   return element("i", {}, element("span", {role: "img", "aria-label": text("finish.recorded")}, "✓"));
 }

@@ -31,6 +31,8 @@ export const isWaiting = item => item.state === "unsent" || item.state === "send
 
 // An item's state as it is shown: done, refused, asked, unsent, or on its way.
 export function stateOf(item) {
+  // By corrected time a finish may be in the sheet, and its line not be in the journal yet.
+  if (item.state === "done" && item.answer === "NOTED" && isTimed(item.class)) return "noted";
   if (!isWaiting(item)) return item.state;
   return page.link !== "live" || now() - item.at > LATE ? "unsent" : "way";
 }

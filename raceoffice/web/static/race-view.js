@@ -22,9 +22,15 @@ export function atTheLine(race) {
   const rows = Object.entries(race?.sheet?.rows ?? {}), finished = rows.filter(([, row]) => row.finish);
   const time = row => row.elapsed ?? row.finish;
   finished.sort(([, one], [, other]) => time(one) < time(other) ? -1 : 1);
-  return {...emptyRace(), ...race, order: finished.map(([sail]) => [sail]), start: race?.sheet?.start ?? "",
+  return {...emptyRace(), ...race, order: finished.map(([sail]) => [sail]), start: race?.sheet?.start ?? "", waiting: waitingIn(race),
     codes: {...race?.codes, ...Object.fromEntries(rows.filter(([, row]) => row.code).map(([sail, row]) => [sail, row.code]))},
     elapsed: Object.fromEntries(finished.map(([sail, row]) => [sail, row.elapsed]))};
+}
+
+// The boats whose finishes or codes are in the sheet of a race, and not in the journal
+export function waitingIn(race) {
+  const isThere = (sail, row) => row.code ? race.codes?.[sail] : race.times?.[sail] !== undefined || race.codes?.[sail];
+  return Object.entries(race?.sheet?.rows ?? {}).filter(([sail, row]) => !isThere(sail, row)).map(([sail]) => sail);
 }
 
 // Seconds as 1:06:45

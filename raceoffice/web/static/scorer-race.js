@@ -4,7 +4,7 @@ import {byId, element} from "./elements.js";
 import {ordinal, text, timeOfDay} from "./texts.js";
 import {kindOf, spaced} from "./sails.js";
 import {boatOf, called, heldIn, missingFrom, raceNumbered} from "./desk.js";
-import {finishers} from "./race-view.js";
+import {finishers, waitingIn} from "./race-view.js";
 import {addFinisher, correct, line, resolve, toOtherRace} from "./scorer-corrections.js";
 import {correctNames, enterLate, takeOut, unlistedPart} from "./scorer-late.js";
 
@@ -57,8 +57,9 @@ function comparedLine(race, number) {
 
 // What is still to be done before a race counts
 function missingParts(race, away) {
+  const waiting = waitingIn(race).map(spaced);
   const unread = race.unread.map(gap => gap.mark), onlyPenalty = away.filter(sail => race.penalties[sail]?.length);
-  return [unread.length ? text("scorer.stillUnread", {n: unread.length, marks: unread}) : "",
+  return [waiting.length ? text("said.sheet-waits", {fault: waiting.join(", ")}) : "", unread.length ? text("scorer.stillUnread", {n: unread.length, marks: unread}) : "",
     onlyPenalty.length ? text("scorer.penaltyWithoutPlace", {n: onlyPenalty.length, sails: onlyPenalty.map(spaced)}) : ""].filter(Boolean)
     .map(words => element("p", {class: "waits"}, words));
 }
