@@ -22,8 +22,9 @@ class Backups:
     the journal.
 
     While the office is open, only the program writes journal.txt: a rename over it would break the
-    keeping. The copy is replaced only by a journal that goes on where it ends. So an office that was
-    opened with an older journal never costs the entries that were copied.
+    keeping. The copy is replaced only by a journal that goes on where it ends, or that lacks
+    nothing of it except boats that were taken out since. So an office that was opened with an older journal
+    never costs the entries that were copied.
     """
 
     def __init__(self, folder: Folder) -> None:

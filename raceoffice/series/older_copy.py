@@ -1,4 +1,5 @@
-"""Whether a copy of a journal is from before a boat was taken out: then it has her lines still, and nothing that is missing."""
+"""Whether a copy of a journal is from before a boat was taken out: then it has her lines still, and nothing else that the
+journal lacks."""
 from __future__ import annotations
 
 import contextlib
@@ -13,8 +14,8 @@ TIME = "%Y-%m-%dT%H:%M:%S%z"
 
 
 def is_from_before(logged: Sequence[Logged], theirs: Sequence[bytes], written: float, ours: Sequence[bytes]) -> bool:
-    """Whether the entries of a copy that was written at a moment are the first of a journal, but for those of boats that
-    were taken out later by the log."""
+    """Whether the entries of a copy that was written at a moment are the first of a journal, except for those of boats
+    that were taken out later by the log."""
     sails = set(taken_out_since(logged, written))
     left = [line for line in theirs if not sails.intersection(sails_of(line.decode("ascii", "replace"))[:1])]
     return len(left) < len(theirs) and [*ours[:len(left)]] == left
