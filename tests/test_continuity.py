@@ -7,14 +7,16 @@ import os
 import random
 import re
 import shutil
+import time
 import unittest
 from collections.abc import Iterator
 from unittest import mock
 
 import helpers
 from raceoffice.errors import Trouble
+from raceoffice.office.backups import Backups
 from raceoffice.program.journal import Race
-from raceoffice.program.link import Link
+from raceoffice.program.link import Link, Sheet
 from raceoffice.series.continuity import difference, difference_of_places
 from raceoffice.series.copies import newest
 from raceoffice.series.folder import Folder
@@ -113,6 +115,29 @@ class Continuity(helpers.Series):
         said, status = helpers.run("check", "cup", cwd=self.here)
         self.assertIn("can be opened if somebody agrees", said)
         self.assertEqual(status, 1)
+
+    def test_boat_taken_out_without_the_stick(self) -> None:
+        """A stick that was out meanwhile has that boat's lines still: nobody is asked, and it gets the shorter journal.
+        One that has more, or was written later, stays as it is."""
+        os.mkdir(os.path.join(self.here, "stick"))
+        self.write(self.text("cup", "series.ini").replace("copy = ", "copy = ../stick"), "cup", "series.ini")
+        folder, copy = Folder(os.path.join(self.here, "cup")), os.path.join(self.here, "stick", "cup-journal.txt")
+        hers, more, now = b"2 12 SCORER ENTER USA4\n", b"2 13 SCORER FINISH 3 GBR7\n", time.time()
+        early = self.data.replace(b"2 1 SCORER", hers + b"2 1 SCORER")
+        folder.log("", "", "", "removed USA4", "17 entries")
+        sheet = Sheet(tuple(self.data.decode().splitlines()[1:]), ())
+        for data, written, is_older in [(self.data + hers, now - 60, True), (early, now - 60, True),
+                                        (self.data + hers, now + 60, False), (self.data + hers + more, now - 60, False),
+                                        (self.data + more, now - 60, False)]:
+            with open(copy, "wb") as file:
+                file.write(data)
+            os.utime(copy, (written, written))
+            self.assertEqual(difference(folder) == "", is_older)
+            backups = Backups(folder)
+            backups.copy(sheet)
+            backups.second.close()
+            with open(copy, "rb") as file:
+                self.assertEqual((file.read(), backups.trouble == ""), (self.data if is_older else data, is_older))
 
     def test_words(self) -> None:
         """What differs: how many entries, and the first."""

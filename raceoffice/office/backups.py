@@ -8,9 +8,10 @@ from raceoffice.errors import NotSent, Trouble, said_of
 from raceoffice.program.link import Sheet
 from raceoffice.remarks import remark
 from raceoffice.series import copies
-from raceoffice.series.continuity import first_entries, own_entries
+from raceoffice.series.continuity import first_entries, own_entries, parts_of
 from raceoffice.series.folder import VERSION, Folder
 from raceoffice.series.kept_places import Places, command_of
+from raceoffice.series.older_copy import is_from_before
 from raceoffice.series.run_program import replayed
 from raceoffice.series.second_folder import Second, copy_of, places_copy_of
 from raceoffice.terminal import sentence
@@ -21,8 +22,9 @@ class Backups:
     the journal.
 
     While the office is open, only the program writes journal.txt: a rename over it would break the
-    keeping. The copy is replaced only by a journal that goes on where it ends. So an office that was
-    opened with an older journal never costs the entries that were copied.
+    keeping. The copy is replaced only by a journal that goes on where it ends, or that lacks
+    nothing of it except boats that were taken out since. So an office that was opened with an older journal
+    never costs the entries that were copied.
     """
 
     def __init__(self, folder: Folder) -> None:
@@ -63,8 +65,20 @@ class Backups:
         # What is noted meanwhile is copied next time.
         state = self.places.state()
         answer = self.second.ask("save", as_file(sheet))
+        if answer.fault and self.is_copy_from_before(sheet):
+            # The copy of the places comes first, since it has the numbers of the shorter journal.
+            self.copy_places()
+            answer = self.second.ask("replace", as_file(sheet))
         self.trouble, self.copied = answer.fault or self.copy_places(), (len(sheet.journal), state)
         self.note = same_disk(self.second.path) if self.second.is_on_our_disk(answer) else ""
+
+    def is_copy_from_before(self, sheet: Sheet) -> bool:
+        """Whether all that the copy has beyond the journal is of boats that were taken out while it wasn't there."""
+        with contextlib.suppress(Trouble):
+            held = self.second.ask("read")
+            theirs, ours = (parts_of(text.encode())[1] for text in (held.text, as_file(sheet)))
+            return not held.fault and is_from_before(self.folder.logged(), theirs, held.written, ours)
+        return False
 
     def take_up_places(self) -> bool:
         """Takes up the places that the second folder has with this journal, if none is noted here: somebody

@@ -13,6 +13,7 @@ from raceoffice.series.copies import Copy, bytes_of, newest
 from raceoffice.series.folder import Folder, shown, whole_part
 from raceoffice.series.kept_places import Places
 from raceoffice.series.log import Logged
+from raceoffice.series.older_copy import is_from_before
 from raceoffice.series.second_folder import second_of
 from raceoffice.wording import count
 
@@ -106,11 +107,14 @@ def difference(folder: Folder) -> str:
 
 def from_second(folder: Folder, data: bytes) -> str:
     """How the copy in the second folder goes on beyond a journal, as after an old folder was restored whole; empty if it
-    doesn't, or if that folder doesn't answer."""
+    doesn't, if all that it has beyond is of boats that were taken out since, or if that folder doesn't answer."""
     with second_of(folder) as second:
-        held = whole_part(second.ask("read").text.encode())
+        answer = second.ask("read")
+    held = whole_part(answer.text.encode())
     ours, theirs = parts_of(data)[1], parts_of(held)[1]
     if len(theirs) <= len(ours) or theirs[:len(ours)] != ours:
+        return ""
+    if is_from_before(folder.logged(), theirs, answer.written, ours):
         return ""
     return from_copy(data, held, Copy(0, 1, second.path))
 

@@ -178,3 +178,15 @@ def near(sail: str, boats: list[str]) -> list[str]:
         swapped = a[:at] + a[at + 1:at + 2] + a[at:at + 1] + a[at + 2:]
         return a != b and (a[at + 1:] == b[at + 1:] or swapped == b)
     return [boat for boat in boats if is_slip(sail, boat)]
+
+
+def sails_of(line: str) -> list[str]:
+    """The sails that an entry of a journal names, the boat that it is about first."""
+    match plain_words(line)[3:]:
+        case ["ENTER", sail]:
+            return [sail]
+        case ["TIE" | "BEFORE", _, sail, other]:
+            return [sail, other]
+        case [_, _, sail, *_]:
+            return [sail]
+    return []

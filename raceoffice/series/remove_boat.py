@@ -24,23 +24,11 @@ from raceoffice.terminal import question, say
 from raceoffice.wording import count
 
 
-def sails_of(line: str) -> list[str]:
-    """The sails that an entry of a journal names, the boat that it is about first."""
-    match entry_list.plain_words(line)[3:]:
-        case ["ENTER", sail]:
-            return [sail]
-        case ["TIE" | "BEFORE", _, sail, other]:
-            return [sail, other]
-        case [_, _, sail, *_]:
-            return [sail]
-    return []
-
-
 def lines_about(journal: list[str], sail: str) -> dict[int, str]:
     """The lines about a boat by their numbers; a Trouble if another boat's place hangs on hers."""
-    named = {at: line for at, line in enumerate(journal, 1) if sail in sails_of(line)}
+    named = {at: line for at, line in enumerate(journal, 1) if sail in entry_list.sails_of(line)}
     for at, line in named.items():
-        if sails_of(line)[0] != sail:
+        if entry_list.sails_of(line)[0] != sail:
             raise Trouble(remark("removal-beside", sail=sail, number=at, line=" ".join(line.split()[3:])))
     if not named:
         raise Trouble(remark("removal-absent", sail=sail))

@@ -10,7 +10,7 @@ from dataclasses import dataclass, field
 from raceoffice.errors import Trouble
 from raceoffice.series.folder import Folder
 from raceoffice.series.kept_places import command_of
-from raceoffice.series.remove_boat import sails_of
+from raceoffice.series.entry_list import sails_of
 
 
 @dataclass

@@ -7,6 +7,7 @@ import time
 import unittest
 
 import helpers
+import web_devices
 from devices import PATIENCE
 from stub_office import StubOffice
 from web_office import BOATS, FOLKBOATS, WebTrial, entries_of, finishes
@@ -115,6 +116,27 @@ class Finish(WebTrial):
         self.settle(ann)
         self.assertEqual(self.journal(), finishes("GBR101", "GBR7", "NED12", "FRA9", "GBR33", "IRL5", "DEN61"))
         self.assertEqual(ann.texts("#list li .place"), [str(place) for place in range(1, 8)])
+
+    def test_nothing_waits_any_more(self) -> None:
+        """The answer to the last tap comes after the news of it: the office hears all the same that the phone has sent
+        everything."""
+        ann, scorer = self.phone(), web_devices.Device(self.port, "scorer").come(self.links["scorer"], "Bea")
+        ann.run("""(() => {
+            const quick = window.fetch;
+            window.fetch = async (path, more) => {
+                const answer = await quick(path, more);
+                if (path.includes("/line/")) await new Promise(done => setTimeout(done, 3000));
+                return answer;
+            };
+        })()""")
+
+        def unsent() -> list[int]:
+            found = scorer.again().ask("GET", "/office/scorer/devices")[1]["devices"]
+            return [one["unsent"] for one in found if one["role"] == "FINISH"]
+        ann.tap("GBR101")
+        helpers.until("a tap that waits", lambda: unsent() == [1])
+        self.settle(ann)
+        helpers.until("the end of what waits", lambda: unsent() == [0])
 
     def test_an_answer_that_is_lost(self) -> None:
         """The office has taken a finish, and the answer never arrives: the tap is sent again, and done once. If
