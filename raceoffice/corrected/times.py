@@ -202,7 +202,7 @@ class Sheets:
         return [entry for entry in timed if entry.sail not in has]
 
     def beside(self, race: int, journal: Sequence[str], but: Sequence[str] = ()) -> Compared:
-        """A race beside the journal, but for some boats. A row of a boat that isn't entered holds up no other."""
+        """A race beside the journal, except for some boats. A row of a boat that isn't entered holds up no other."""
         boats = Series.read(list(journal)).boats
         rows = [entry for entry in self.rows(race) if entry.sail not in but]
         timed = [entry for entry in rows if entry.is_timed and entry.sail in boats]
