@@ -41,6 +41,9 @@ ASKS, QUIET = re.compile(r"(> |[\]):?] )$"), 0.1
 SHOWN_PORT = "8080"
 # What a window in which somebody types prints once the office is back after a crash, up to its prompt.
 BACK = re.compile(r"The office is back with (?:.|\n)*> $")
+# What a board prints once its office is closed.
+GONE = re.compile(r"no office is open\.\n")
+NOTHING = re.compile("")
 
 
 class Wrong(Exception):
@@ -53,8 +56,9 @@ class Window:
     def __init__(self, folder: str, port: str, command: list[str]) -> None:
         self.folder, self.port, self.command = folder, port, command
         self.terminal: helpers.Terminal | None = None
-        # Whether somebody types here, and whether the office was killed since the last box.
-        self.types = self.is_away = False
+        # What runs here, and what it prints before its next box if the office has ended since the last one.
+        self.tool = ""
+        self.awaits = NOTHING
 
     def start(self, command: str) -> None:
         if self.terminal:
@@ -62,7 +66,7 @@ class Window:
         if not COMMAND.match(command):
             raise Wrong(f"the guide needs no other command than raceoffice: {command}")
         words = shlex.split(command[2:].replace(SHOWN_PORT, self.port))
-        self.types = words[1] == "type"
+        self.tool = words[1]
         # No other program is found, so that what is printed is the same on each computer.
         self.terminal = helpers.Terminal(*self.command, *words[1:], cwd=self.folder, PATH="/nowhere",
                                          PYTHONPATH=self.folder)
@@ -103,7 +107,7 @@ class Box:
         """What was typed and printed, up to the end of the tool or of what is shown."""
         if self.shown[:1] == ["..."]:
             self.skip()
-        self.window.is_away = False
+        self.window.awaits = NOTHING
         if self.shown[:1] and self.shown[0].startswith("$ "):
             self.window.start(self.shown[0])
             self.note(self.shown[0])
@@ -115,11 +119,12 @@ class Box:
         return self.went
 
     def skip(self) -> None:
-        """Leaves out what was printed since the last box. After a crash that has the office's return."""
+        """Leaves out what was printed since the last box. After a crash that has the office's return, and of a board
+        that its office has closed."""
         self.note("...")
-        while self.window.is_away and not BACK.search(self.window.running.text):
+        while not self.window.awaits.search(self.window.running.text):
             if not self.window.running.more(helpers.PATIENCE):
-                raise Wrong("the office didn't come back in this window")
+                raise Wrong("this window doesn't say what became of the office")
         while self.window.running.more(QUIET):
             pass
         self.window.lines()
@@ -252,15 +257,23 @@ class Play:
                 return body
             case ["window", name] | ["window", name, "stays"]:
                 window = self.windows.setdefault(name, Window(self.folder, self.port, self.command))
-                return played(window, body, len(words) == 3, self.fill)
+                went = played(window, body, len(words) == 3, self.fill)
+                if window.tool == "open" and not window.terminal:
+                    self.expect("board", GONE)
+                return went
         raise Wrong("a box has to be a file or a window")
 
     def kill(self, series: str) -> None:
         """Kills the office of a series."""
         with open(os.path.join(self.folder, series, "office", "pid"), encoding="ascii") as file:
             os.kill(int(file.read().split()[0]), signal.SIGKILL)
+        self.expect("type", BACK)
+
+    def expect(self, tool: str, text: re.Pattern[str]) -> None:
+        """What the windows of a tool print before their next boxes."""
         for window in self.windows.values():
-            window.is_away = window.types and window.terminal is not None
+            if window.tool == tool and window.terminal:
+                window.awaits = text
 
     def close(self) -> None:
         """Ends what is left, offices too."""
