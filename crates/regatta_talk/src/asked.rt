@@ -57,17 +57,17 @@ pub enum AskedLine {
 }
 
 impl AskedLine {
-    /// What this line asks for. No other function sorts the lines of a session.
+    /// What a line asks for.
     pub fn of(line: Result<Line, LineFault>) -> AskedLine
         ensures { result ≡ asked_line line }
     {
-        match line {
-            Ok(Line::Do(command)) => AskedLine::Desk(DeskLine::Do(command)),
-            Ok(Line::Rank(sail)) => AskedLine::Desk(DeskLine::Rank(sail)),
+        match &line {
+            Ok(Line::Do(command)) => AskedLine::Desk(DeskLine::Do(*command)),
+            Ok(Line::Rank(sail)) => AskedLine::Desk(DeskLine::Rank(*sail)),
             Ok(Line::Show) => AskedLine::Show,
-            Ok(Line::SetRole(next)) => AskedLine::Apart(ApartLine::SetRole(next)),
+            Ok(Line::SetRole(next)) => AskedLine::Apart(ApartLine::SetRole(*next)),
             Ok(Line::Quit) => AskedLine::Apart(ApartLine::Quit),
-            Err(fault) => AskedLine::Apart(ApartLine::Fault(fault)),
+            Err(fault) => AskedLine::Apart(ApartLine::Fault(*fault)),
         }
     }
 }
