@@ -2,13 +2,50 @@
 
 ghost use Rattle.std.specs.Prelude.{◌≡◌, ◌≤◌, ◌++◌, ◌+◌, length, take};
 ghost use Rattle.regatta_terms.specs.Entries.{points_text};
+ghost use Rattle.regatta_scores.specs.Abbreviations.{abbrev_text};
 ghost use Rattle.regatta_tables.specs.TableTexts.{cell_text, mark_text};
 
-use crate::page::{put, put_piece, put_points};
+use crate::page::{put, put_points};
 use regatta_scores::{Abbrev, Cell};
 
 /// The most bytes of a score.
 pub(crate) const CELL_ROOM: usize = 12;
+
+/// The letters of an abbreviation that isn't a code.
+// Not inlined, since nearly all are codes.
+#[inline(never)]
+fn other_letters(mark: Abbrev) -> &'static [u8]
+    ensures text { result.now ≡ abbrev_text mark }
+    ensures three { length result.now ≡ 3 }
+{
+    mark.text().as_bytes()
+}
+
+/// The letters of an abbreviation.
+#[inline(always)]
+fn letters(mark: Abbrev) -> &'static [u8]
+    ensures text { result.now ≡ abbrev_text mark }
+    ensures three { length result.now ≡ 3 }
+{
+    match mark {
+        Abbrev::Code(code) => code.text().as_bytes(),
+        Abbrev::Zfp | Abbrev::Scp | Abbrev::Rdg => other_letters(mark),
+    }
+}
+
+/// Puts three letters.
+fn put_letters(page: &mut [u8], at: usize, letters: &[u8]) -> usize
+    requires three { length letters.now ≡ 3 }
+    requires room { at + 3 ≤ length page.old }
+    ensures text { take result page.new ≡ take at page.old ++ letters.now }
+    ensures end { result ≡ at + 3 }
+    ensures same { length page.new ≡ length page.old }
+{
+    let (first, second, third) = (letters[0], letters[1], letters[2]);
+    let at = put(page, at, first);
+    let at = put(page, at, second);
+    put(page, at, third)
+}
 
 /// Puts a slash and the abbreviation, if there is one.
 fn put_mark(page: &mut [u8], at: usize, mark: Option<Abbrev>) -> usize
@@ -20,7 +57,7 @@ fn put_mark(page: &mut [u8], at: usize, mark: Option<Abbrev>) -> usize
     match mark {
         Some(mark) => {
             let at = put(page, at, b'/');
-            put_piece(page, at, mark.text().as_bytes())
+            put_letters(page, at, letters(mark))
         }
         None => at,
     }

@@ -82,7 +82,7 @@ fn next_place(page: &[u8], at: usize, out: &mut Vec<u8>) -> Result<usize, AllocE
     ensures room { vec_capacity out.old ≤ vec_capacity out.new }
     ensures full { OnErr result (vec_capacity out.old < vec_len out.old + at) }
 {
-    if NEXT_ROOM <= page.len() - at {
+    if at <= PAGE_ROOM - NEXT_ROOM {
         return Ok(at);
     }
     out.extend_from_slice(&page[..at])?;
