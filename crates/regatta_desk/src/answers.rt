@@ -85,10 +85,13 @@ impl<N: OfficeName, R: Wait + Drop> Desk<N, R> {
             AskedLine::Desk(line) => {
                 let reply = self.reply(rt, pass, role, line);
                 write_fitting(&reply, out);
+                Ok(())
             }
-            AskedLine::Show | AskedLine::Apart(_) => self.cover(pass),
+            AskedLine::Show | AskedLine::Apart(_) => {
+                self.cover(pass);
+                Ok(())
+            }
         }
-        Ok(())
     }
 }
 
