@@ -44,6 +44,8 @@ MOUNTS, MOUNT = "/proc/self/mountinfo", re.compile(r"^\d+ \d+ (\d+):(\d+) \S+ (\
 STICKS = ("/media", "/run/media")
 # An address of this computer in the kernel's table of networks.
 LOCAL = re.compile(r"\|-- (\S+)\s+/32 host LOCAL")
+# What the kernel calls the time since the computer was started.
+BOOT = "/proc/sys/kernel/random/boot_id"
 # Seconds without a sign after which what was typed has ended, and how much of it is taken at most.
 PAUSE, MOST_TYPED = 0.05, 65536
 # The signals that end a window.
@@ -216,6 +218,20 @@ def addresses_in_networks() -> list[str]:
     with contextlib.suppress(OSError), open("/proc/net/fib_trie", encoding="ascii") as file:
         return LOCAL.findall(file.read())
     return []
+
+
+# The computer
+
+def uptime() -> float:
+    """Seconds since the computer was started, in which it may have slept. Nobody sets them."""
+    return time.clock_gettime(time.CLOCK_BOOTTIME) if LINUX else time.monotonic()
+
+
+def boot() -> str:
+    """What is another each time the computer is started; empty if nobody knows."""
+    with contextlib.suppress(OSError), open(BOOT, encoding="ascii") as file:
+        return file.read().strip()
+    return ""
 
 
 # Processes

@@ -3,6 +3,7 @@ from __future__ import annotations
 
 import os
 import subprocess
+import time
 import unittest
 from unittest import mock
 from collections.abc import Callable
@@ -26,6 +27,20 @@ class Survey(helpers.Series):
         before = sorted(os.listdir(folder.file("office")))
         self.assertEqual(health.disk_fault(folder), "")
         self.assertEqual(sorted(os.listdir(folder.file("office"))), before)
+
+    def test_left_by_a_kill(self) -> None:
+        """A file that was about to replace another goes an hour after its process was killed; nothing else does."""
+        folder = self.folder()
+        old, name = time.time() - 3700, ".0123456789abcdef.new"
+        names = [name, os.path.join("office", name), ".fedcba9876543210.new", ".notes.new", "race.new"]
+        for at in names:
+            self.write("x", "cup", at)
+            if at != names[2]:
+                os.utime(folder.file(at), (old, old))
+        os.symlink("entries.csv", folder.file("office", ".0000000000000000.new"))
+        health.remove_fresh(folder)
+        self.assertEqual([at for at in names if os.path.exists(folder.file(at))], names[2:])
+        self.assertTrue(os.path.lexists(folder.file("office", ".0000000000000000.new")))
 
     def test_names_in_the_way(self) -> None:
         """The file with which the disk is tried is a new one: it spoils no other, and waits for nobody."""

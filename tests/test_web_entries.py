@@ -14,9 +14,12 @@ from unittest import mock
 
 import helpers
 from raceoffice.errors import NotSent
+from raceoffice.program.journal import Race
 from raceoffice.series import remove_boat, settings
 from raceoffice.series.folder import Folder, Lock
+from raceoffice.series.kept_places import Places, history_of
 from raceoffice.series.read_list import table_of
+from raceoffice.series.unknown_finishers import Unread
 from raceoffice.series.write_list import with_boat
 from raceoffice.web.kept_office import KeptOffice
 from web_devices import BOATS, Device, Web, list_of
@@ -243,6 +246,23 @@ class OutAlone(helpers.Series):
         self.assertEqual(self.answer(folder, "FINISH", "FINISH 1 GBR7")[:3], "OK ")
         self.assertIn("FINISH FINISH 1 GBR7", self.text("cup", "journal.txt"))
         self.assertNotIn("XXX1", self.text("cup", "journal.txt"))
+
+    def test_place(self) -> None:
+        """A boat was put into a kept place, and the crash came before that was noted: it is known also once another boat is
+        taken out, whose entries were before hers."""
+        folder, by = Folder(os.path.join(self.here, "cup")), Unread("?1", 1, frozenset())
+        folder.make_private()
+        lines = ["1 1 SCORER ENTER USA4", "1 2 SCORER ENTER GBR7", "2 1 FINISH FINISH 1 USA4", "2 2 FINISH FINISH 1 GBR7"]
+        self.write("\n".join(["REGATTA 2", *lines, ""]), "cup", "journal.txt")
+        places = Places(folder, "Ann")
+        self.assertEqual(places.keep(Race(1, [["USA4"]]), "", 3), "?1")
+        places.note_sent(by, "FINISH 1 GBR7", 3, None)
+        with open(folder.journal, "rb") as file:
+            held = file.read()
+        about = {1: lines[0], 3: lines[2]}
+        remove_boat.take_out(folder, remove_boat.Removal("USA4", held, about, remove_boat.without(held, {1, 3}), 4))
+        self.assertEqual(folder.kept(), [lines[1], lines[3]])
+        self.assertEqual(history_of(folder).waiting.all, ())
 
     def answer(self, folder: Folder, role: str, line: str) -> str:
         with contextlib.closing(folder.link()) as link:

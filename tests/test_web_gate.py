@@ -8,6 +8,7 @@ import os
 import socket
 import ssl
 import subprocess
+import tempfile
 import time
 import unittest
 from contextlib import closing, suppress
@@ -26,6 +27,8 @@ LINE = "/office/finish/line/cup"
 WRITING = {"jury": ("ruling/cup", "decide/cup"),
            "scorer": ("key", "revoke", "open/cup", "close/cup", "list", "settings", "new", "rules/cup", "save/cup", "reopen/cup",
                       "sheet/cup", "listed/cup", "second/cup", "serve")}
+# Seconds
+DAY = 86400.0
 RACES, SOURCES = iter(range(1, 41)), iter(range(2, 200))
 
 
@@ -589,6 +592,62 @@ class Secure(helpers.Series):
     def test_wrong_certificate(self) -> None:
         said, status = helpers.run("serve", "cup", "--certificate", "none.pem", cwd=self.here)
         self.assertEqual((said, status), ("the certificate or its key can't be used: No such file or directory.\n", 1))
+
+
+class Ages(unittest.TestCase):
+    """How long a device is known: 14 days, whatever the computer's clock is set to."""
+
+    def setUp(self) -> None:
+        holder = tempfile.TemporaryDirectory()
+        self.addCleanup(holder.cleanup)
+        self.uptime, self.clock, self.boot = 5000.0, 1.8e9, "one"
+        for name, call in (("raceoffice.system.uptime", lambda: self.uptime), ("raceoffice.system.boot", lambda: self.boot),
+                           ("time.time", lambda: self.clock)):
+            patch = mock.patch(name, call)
+            patch.start()
+            self.addCleanup(patch.stop)
+        self.path = os.path.join(holder.name, "web.json")
+        self.gate = Gate(self.path)
+        key = self.gate.new_key("FINISH")
+        cookie, _ = self.gate.enter(Request("POST", "/", {}, "127.0.0.1"), "FINISH", key, "Ann")
+        self.request = Request("GET", "/", {"cookie": cookie.partition(";")[0]}, "127.0.0.1")
+
+    def known(self) -> list[bool]:
+        """Whether the device is known to the web, and to one that is started now."""
+        return [gate.known(self.request, "FINISH") is not None for gate in (self.gate, Gate(self.path))]
+
+    def test_clock_set(self) -> None:
+        """A clock that is set puts nobody out, and makes nobody younger."""
+        for days in (15, -15, -4000, 8000):
+            self.clock += days * DAY
+            self.assertEqual(self.known(), [True, True], days)
+        self.uptime += 14 * DAY - 1
+        self.assertEqual(self.known(), [True, True])
+        self.clock -= 30 * DAY
+        self.uptime += 2
+        self.assertEqual(self.known(), [False, False])
+
+    def test_started_again(self) -> None:
+        """Since the computer was started again only its clock says how long it was off; a clock that was set back then
+        says nothing."""
+        self.uptime += 3 * DAY
+        self.gate.device(self.request, "FINISH")
+        self.gate.write()
+        self.uptime, self.boot = 20.0, "two"
+        for days, is_known in ((-30, True), (30, True), (10, True), (2, False)):
+            self.clock += days * DAY
+            self.assertEqual(self.known()[1], is_known, days)
+
+    def test_older_file(self) -> None:
+        """A file of an older package has the ages by the computer's clock."""
+        with open(self.path, encoding="utf-8") as file:
+            held = json.load(file)
+        del held["clock"]
+        with open(self.path, "w", encoding="utf-8") as file:
+            json.dump(held, file)
+        self.assertEqual(self.known()[1], True)
+        self.clock += 15 * DAY
+        self.assertEqual(self.known()[1], False)
 
 
 if __name__ == "__main__":

@@ -2,6 +2,7 @@
 from __future__ import annotations
 
 import concurrent.futures
+import errno
 import fcntl
 import http.client
 import json
@@ -16,10 +17,14 @@ from typing import Any
 from unittest import mock
 
 import helpers
-from raceoffice.errors import Trouble
+from raceoffice.errors import NotNow, Trouble
+from raceoffice.program.journal import Race
+from raceoffice.program.replay import Line
+from raceoffice.series.folder import Folder
 from raceoffice.web.gate import Gate
 from raceoffice.web.room import held_alone, outcome_of
-from raceoffice.web.taps import Register, Sent
+from raceoffice.web.tap_session import TapSession
+from raceoffice.web.taps import Register, Sent, Tap, last_numbers, number_of
 from web_devices import SAILS, Device, Web, new_id
 
 # The register of taps.
@@ -180,7 +185,8 @@ class Damaged(unittest.TestCase):
         """Whichever bit of the register rots, the others of its taps are known, and nothing goes wrong."""
         journal, ids = ["1 1 SCORER ENTER GBR7", "1 2 FINISH FINISH 1 GBR7"], [new_id(), new_id()]
         register = Register(self.path)
-        register.begin(Sent(ids[0], "FINISH", "FINISH 1 GBR7", 5, "Ann", 1, 9))
+        register.begin(Sent(ids[0], "FINISH", "FINISH 1 GBR7", 5, "Ann", 1, 9, numbers={"1": 1}))
+        register.learn(journal)
         register.end(ids[0], "OK 2 1= 0.0", "", [["OK 2", "answer", "finished", {"entry": 2}]])
         register.begin(Sent(ids[1], "FINISH", "? 1", 6, "Ann", 2, 9))
         register.end(ids[1], "NOTED", "?1")
@@ -219,6 +225,97 @@ class Damaged(unittest.TestCase):
             with open(self.path, "w", encoding="ascii") as file:
                 file.write(text)
             self.assertEqual(Gate(self.path).devices, {})
+
+
+class Renumbered(unittest.TestCase):
+    """The register, when entries have other numbers than those with which they were answered."""
+    JOURNAL = ["1 1 SCORER ENTER GBR7", "1 2 SCORER ENTER USA4", "2 1 FINISH PENALTY 1 GBR7 ZFP", "2 2 FINISH FINISH 1 USA4",
+               "2 3 FINISH PENALTY 1 GBR7 ZFP", "3 1 FINISH FINISH 1 GBR7"]
+
+    def setUp(self) -> None:
+        holder = tempfile.TemporaryDirectory()
+        self.addCleanup(holder.cleanup)
+        self.path = os.path.join(holder.name, "web.taps")
+
+    def opened(self) -> Register:
+        """The register as a web has it that has just come."""
+        register = Register(self.path)
+        self.addCleanup(register.close)
+        return register
+
+    def begun(self, register: Register, line: str, held: int) -> str:
+        """The id of a tap that was begun when the journal had so many entries."""
+        journal, id = self.JOURNAL[:held], new_id()
+        register.begin(Sent(id, "FINISH", line, 5, "Ann", held, 9, numbers=last_numbers(journal)))
+        return id
+
+    def test_taken_out(self) -> None:
+        """A boat is taken out after taps were taken of which the register has no answer: each knows its own entry, and
+        one that was never taken has none."""
+        register = self.opened()
+        first = self.begun(register, "PENALTY 1 GBR7 ZFP", 2)
+        register.end(first, "OK 3 1 0.0")
+        register.learn(self.JOURNAL[:3])
+        second, finished = self.begun(register, "PENALTY 01 GBR7 ZFP", 4), self.begun(register, "FINISH 1 GBR7", 5)
+        never = self.begun(register, "PENALTY 1 GBR7 ZFP", 6)
+        register.end(first, "OK 3 1 0.0")
+        left, register = [line for line in self.JOURNAL if "USA4" not in line], self.opened()
+        sent = register.sent
+        self.assertEqual([register.found(sent[id], left) for id in (second, finished, never)], [3, 4, 0])
+        register.end(finished, "OK 4")
+        for again in (register, self.opened()):
+            self.assertEqual([number_of(again.sent[id], left) for id in (first, finished)], [2, 4])
+            self.assertEqual(again.moments(left), {(1, "GBR7"): (5, "Ann")})
+        # Without her finish the tap has no entry any more.
+        self.assertEqual(outcome_of(sent[finished], True, left[:3])["entry"], 0)
+
+    def test_older_journal(self) -> None:
+        """An older journal was put in the place of a newer one: an entry that looks like one of a tap that was answered
+        before is that of the tap that was begun since."""
+        register = self.opened()
+        lost = self.begun(register, "PENALTY 1 GBR7 ZFP", 2)
+        register.end(lost, "OK 3")
+        register.learn(self.JOURNAL)
+        register.end(lost, "OK 3")
+        again = self.begun(register, "PENALTY 1 GBR7 ZFP", 2)
+        register = self.opened()
+        self.assertEqual(register.found(register.sent[again], self.JOURNAL[:3]), 3)
+
+
+class Stopped(helpers.Series):
+    def test_full_disk(self) -> None:
+        """A tap that can't be noted waits until there is room, and leaves the office alone: one that is found anew for
+        each try would soon have no sessions left. The file is as it was."""
+        path, id = os.path.join(self.here, "web.taps"), new_id()
+        register = Register(path)
+        self.addCleanup(register.close)
+        sent, write = Sent(id, "FINISH", "? 1", 5, "Ann", 0), os.write
+
+        def write_half(number: int, data: bytes) -> int:
+            if len(data) < 20:
+                raise OSError(errno.ENOSPC, "No space left on device")
+            return write(number, data[:len(data) // 2])
+        with mock.patch("os.write", write_half):
+            for note in (lambda: register.begin(sent), lambda: register.decide(id, [Line("FINISH", "STRIKE 1 GBR7")])):
+                self.assertRaises(NotNow, note)
+        self.assertEqual((os.path.getsize(path), register.sent, register.decisions), (0, {}, {}))
+
+    def test_places(self) -> None:
+        """While a window that was stopped holds the file of places, a tap waits two seconds in all, and not for each of
+        its steps: its page waits for eight, and the taps of others for it."""
+        folder, waited = Folder(os.path.join(self.here, "cup")), [0.0]
+        folder.make_private()
+
+        def take_lock(number: int, patience: float) -> bool:
+            waited[0] += patience
+            return False
+        session = TapSession(folder, "FINISH", mock.Mock(), mock.Mock())
+        with mock.patch("raceoffice.system.take_lock", take_lock), mock.patch("time.monotonic", lambda: waited[0]):
+            session.begin(Tap(new_id(), "?1 1 GBR7"), "Ann")
+            for step in (lambda: session.places.note_found([]), lambda: session.places.keep_again(1, "?1"),
+                         lambda: session.places.drop([], "none"), lambda: session.places.keep(Race(1), "", 0)):
+                self.assertRaises(NotNow, step)
+        self.assertLessEqual(waited[0], 2.0)
 
 
 class Elsewhere(Web):
@@ -275,6 +372,27 @@ class Crashes(Web):
         # Nothing was swallowed by the torn line. What was never sent is noted once more.
         self.assertEqual([line["id"] for line in self.lines() if "line" in line],
                          [done, points, lost, lost, torn])
+
+    def test_taken_out(self) -> None:
+        """The web dies between lines and their answers, and a boat is taken out at a terminal before it comes back: each
+        tap is known by its entry, whatever number that has now."""
+        finish, scorer, penalty, finished = self.device("finish"), self.device("scorer"), new_id(), new_id()
+        scorer.tap("ENTER USA4", agreed=[{"kind": "enter-unlisted", "values": {"sail": "USA4"}}])
+        finish.tap("FINISH 1 USA4")
+        taps = {"PENALTY 1 GBR7 ZFP": penalty, "FINISH 1 GBR101": finished}
+        for line, id in taps.items():
+            finish.tap(line, id)
+        self.kill()
+        self.kill_program()
+        kept = [line for line in self.lines() if "line" in line or line["id"] not in taps.values()]
+        self.write("".join(json.dumps(line) + "\n" for line in kept), *TAPS)
+        said, status = helpers.run("remove", "cup", "USA4", lines="y\n", cwd=self.here)
+        self.assertEqual(status, 0, said)
+        self.serve()
+        for number, (line, id) in enumerate(taps.items(), len(SAILS) + 1):
+            done = finish.again().tap(line, id)[1]
+            self.assertEqual((done["outcome"], done["again"], done["entry"]), ("taken", True, number), done)
+        self.assertEqual(self.journal(), [f"FINISH {line}" for line in taps])
 
     def test_between_place_and_answer(self) -> None:
         """The web dies when a place was kept or dropped, and the register doesn't know."""

@@ -199,7 +199,8 @@ class Timed(Web):
         kept = [line for line in self.text(*path).splitlines() if id not in line or '"line"' in line]
         self.write("\n".join(kept) + "\n", *path)
         self.serve()
-        self.assertEqual(self.finish(ann.again(), "GBR101", "15:00:00", id)["outcome"], "noted")
+        done = self.finish(ann.again(), "GBR101", "15:00:00", id)
+        self.assertEqual((done["outcome"], done["entry"]), ("taken", 5))
         self.assertEqual(self.journal(), ["FINISH TIME 1 GBR101 3600"])
 
 

@@ -14,7 +14,7 @@ from raceoffice.office.process import LEAVE, OfficeProcess
 from raceoffice.program.link import Sheet, remove_socket
 from raceoffice.series.continuity import note_of
 from raceoffice.series.folder import Folder, clock
-from raceoffice.series.health import is_full, remove_probes
+from raceoffice.series.health import is_full, remove_fresh, remove_probes
 from raceoffice.series.lost_lines import Unsaved
 from raceoffice.series.run_program import Program
 from raceoffice.series.windows import BOARD, TYPING, open_windows
@@ -62,6 +62,7 @@ class Keeping:
         self.folder.set_closing(False)
         self.folder.set_beware("")
         remove_probes(self.folder)
+        remove_fresh(self.folder)
         if remove_socket(self.folder.socket):
             self.say("The office wasn't closed properly last time. Its old socket has been removed.")
         for text in Unsaved.read(self.folder.kept(), self.folder.logged()).in_words():

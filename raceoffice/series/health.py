@@ -5,7 +5,9 @@ import contextlib
 import errno
 import glob
 import os
+import re
 import stat
+import time
 
 from raceoffice import system
 from raceoffice.characters import is_utf8
@@ -26,6 +28,9 @@ from raceoffice.wording import count, joined
 
 # The journal, what the program cuts off it, and what it may leave of an opening.
 OURS = ("journal.txt", "journal.txt.cut", "journal.txt.opening")
+# How a file is called that is about to replace another, the folders that may have one beside that of the office, and
+# seconds after which nobody is about to do that any more.
+FRESH, HOLDERS, LONG_AGO = re.compile(r"\.[0-9a-f]{16}\.new"), ("kept", "times"), 3600.0
 # Bytes that have to be free on the disk beside what the journal has already.
 ROOM = 64 << 10
 
@@ -160,6 +165,18 @@ def remove_probes(folder: Folder) -> None:
     """Removes what openings have left that were killed."""
     for path in glob.glob(glob.escape(folder.file(PRIVATE, "probe")) + "*"):
         remove_probe(path)
+
+
+def remove_fresh(folder: Folder) -> None:
+    """Removes what was about to replace a file when its process was killed."""
+    paths = [path for place in ("", PRIVATE, *HOLDERS) for path in
+             glob.glob(os.path.join(glob.escape(folder.file(place)), ".*.new"))]
+    for path in paths:
+        with contextlib.suppress(OSError):
+            held = os.lstat(path)
+            is_left = stat.S_ISREG(held.st_mode) and held.st_mtime < time.time() - LONG_AGO
+            if is_left and FRESH.fullmatch(os.path.basename(path)):
+                os.remove(path)
 
 
 def notes(folder: Folder) -> list[str]:

@@ -1,11 +1,12 @@
 """How a boat that should never have been entered is taken out of a journal: no line does that."""
 from __future__ import annotations
 
+import contextlib
 import os
 import re
 from dataclasses import dataclass
 
-from raceoffice.errors import Trouble
+from raceoffice.errors import NotSent, Trouble
 from raceoffice.files import replace_whole
 from raceoffice.program.messages import moved, refusal
 from raceoffice.program.replay import ran
@@ -14,6 +15,7 @@ from raceoffice.remarks import Remark, remark
 from raceoffice.series import copies, entry_list
 from raceoffice.series.continuity import differences, note_now, parts_of, with_entries
 from raceoffice.series.folder import Folder, Lock
+from raceoffice.series.kept_places import Places, command_of
 from raceoffice.series.run_program import Program, replayed
 from raceoffice.series.second_folder import second_of
 from raceoffice.terminal import question, say
@@ -97,12 +99,22 @@ def take_out(folder: Folder, found: Removal, by: str = "") -> tuple[str, str]:
     """Takes a boat out of the journal of a closed office: the dated copy that has her still, and why there is no
     second copy, if there is none. `by` is who does."""
     copy = copies.keep(folder, found.held)
+    note_places(folder, by)
     fault = replace(folder, found.data)
     copies.keep(folder, found.data)
     note = note_now(folder, found.data)
     folder.log(by, "", "", f"removed {found.sail}", note)
     folder.log("", "", "", "closed", note)
     return copy, fault
+
+
+def note_places(folder: Folder, by: str) -> None:
+    """Notes which lines for kept places the journal has and nobody has noted yet, as after a crash: nobody would look for
+    them at other numbers."""
+    places, journal = Places(folder, by), [command_of(line) for line in folder.kept()]
+    with contextlib.suppress(NotSent, Trouble):
+        if places.read(journal).found:
+            places.note_found(journal)
 
 
 def without(data: bytes, numbers: set[int]) -> bytes:

@@ -46,6 +46,8 @@ class Twins:
 
     def __init__(self, folder: Folder) -> None:
         self.folder = folder
+        # Until when it waits for others who write, as `Places` has it.
+        self.end: float | None = None
         # Those whose places have ended and agree, and the folders in which something was done.
         self.settled: set[str] = set()
         self.changed: set[str] = set()
@@ -95,7 +97,7 @@ class Twins:
 
     def is_noted(self, place: Place, known: Place | None, by: str) -> bool:
         """Ends a place, or keeps it again; whether that is noted now. Whoever looks next tries again."""
-        notes = Places(place.folder, by)
+        notes = Places(place.folder, by, self.end)
         try:
             if known:
                 notes.drop_known(place.kept, f"she is known in {known.folder.name}")

@@ -22,6 +22,7 @@ from typing import Any
 from raceoffice.errors import NotThere, Trouble
 from raceoffice.files import read_whole, replace_whole
 from raceoffice.results.http_answers import addresses
+from raceoffice.web.own_clock import OwnClock
 from raceoffice.web.rates import Rate
 from raceoffice.web.requests import Request, Wrong
 
@@ -79,6 +80,7 @@ class Gate:
                       f"{own}.local"}
         self.keys: dict[str, str] = {}
         self.devices: dict[str, Device] = {}
+        self.clock = OwnClock()
         self.written, self.is_heard = time.monotonic(), False
         # Tries at a secret by address; lines and questions by device.
         self.entering, self.writing, self.asking = Rate(10, 0.2), Rate(60, 12), Rate(400, 60)
@@ -95,6 +97,8 @@ class Gate:
             held: dict[str, Any] = json.loads(read_whole(self.path, LARGEST))
             self.keys = {role: str(held["keys"][role]) for role in ROLES if role in held["keys"]}
             self.devices = {mark: device_of(values) for mark, values in held["devices"].items()}
+            if "clock" in held:
+                self.clock.go_on(held["clock"])
         except NotThere:
             return
         except (ValueError, LookupError, TypeError, AttributeError, RecursionError):
@@ -105,7 +109,8 @@ class Gate:
         self.written = time.monotonic()
         if not self.path:
             return
-        held = {"keys": self.keys, "devices": {mark: asdict(device) for mark, device in self.devices.items()}}
+        held = {"keys": self.keys, "devices": {mark: asdict(device) for mark, device in self.devices.items()},
+                "clock": self.clock.values()}
         replace_whole(self.path, json.dumps(held).encode())
         os.chmod(self.path, 0o600)
 
@@ -145,7 +150,7 @@ class Gate:
         held = self.keys.get(role, "")
         if not held or not same(held, hashed(secret)):
             raise Wrong(403, "this link isn't valid any more: ask for a new one", "link-ended")
-        cookie, now = secrets.token_urlsafe(32), time.time()
+        cookie, now = secrets.token_urlsafe(32), self.clock.now()
         with self.lock:
             if before := self.known(request, role):
                 # It comes again.
@@ -176,16 +181,16 @@ class Gate:
         return device if device and device.role == role and self.lets_in(device.mark) else None
 
     def lets_in(self, mark: str) -> bool:
-        """Whether a device is known, and hasn't been for too long."""
+        """Whether a device is known, and hasn't been for too long, whatever the computer's clock was set to since."""
         device = self.devices.get(mark)
-        return device is not None and time.time() - device.since <= LONG
+        return device is not None and self.clock.now() - device.since <= LONG
 
     def device(self, request: Request, role: str) -> Device:
         """The device that a request comes from; 401 if it isn't one of this role."""
         device = self.known(request, role)
         if device is None:
             raise Wrong(401, "this device isn't known here: open the link of your role again")
-        device.heard, device.address = time.time(), request.address
+        device.heard, device.address = self.clock.now(), request.address
         unsent = request.fields.get("x-unsent", "")
         if unsent.isascii() and unsent.isdecimal():
             device.unsent = min(int(unsent[:6]), 9999)

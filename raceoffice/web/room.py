@@ -6,7 +6,7 @@ import copy
 import os
 import threading
 import time
-from collections.abc import Callable
+from collections.abc import Callable, Sequence
 
 from raceoffice import system
 from raceoffice.errors import NoSeat, NotSent, Trouble, as_trouble
@@ -23,14 +23,14 @@ from raceoffice.traces import guarded
 from raceoffice.web.finish_order import line_in_order
 from raceoffice.web.states import (Values, boats_of, moves_of, races_of, rules_of, said_of, standing_of, unlisted)
 from raceoffice.web.tap_session import DROPPED, TapSession
-from raceoffice.web.taps import PLACED, Register, Sent, Tap
+from raceoffice.web.taps import PLACED, Register, Sent, Tap, number_of
 from raceoffice.web.timed_taps import TimedTap, is_timed_tap, sheets_shown, timed_undo
 
 # Seconds between two looks at whether the journal has grown, and between two tries at an office that isn't
 # open, or has no seat: each of those uses up one of its sessions.
 LOOK, AGAIN, LATER = 0.1, 1.0, 5.0
-# Seconds that a tap waits for another of its class.
-PATIENCE = 8.0
+# Seconds that a tap waits for another of its class: a page waits for its answer a little longer.
+PATIENCE = 5.0
 # Entries of the journal that are shown.
 SHOWN = 60
 
@@ -92,6 +92,7 @@ class Room:
             fresh = copy.copy(before)
         fresh.read(sheet)
         self.facts, self.trouble = fresh, ""
+        self.register.learn(sheet.journal)
         moves = moves_of(before.standing, fresh.standing, fresh) if was_open else []
         if moves:
             _, _, role, line = sheet.journal[-1].split(maxsplit=3)
@@ -257,7 +258,7 @@ class Room:
             if not answer:
                 return None
             self.register.end(sent.id, answer, mark)
-        return outcome_of(sent, True)
+        return outcome_of(sent, True, self.facts.sheet.journal)
 
     def settle(self) -> None:
         """Notes what came of each tap that was begun and never ended, as the journal has it now."""
@@ -271,6 +272,9 @@ class Room:
         """The answer to something that was begun and never ended, by the journal or by the places that are
         kept; and the place that it is about. Empty if nothing came of it."""
         first, *rest = sent.line.split()
+        if "/" not in sent.id and is_timed_tap(self.folder, sent.line):
+            # It may take several lines, each of which has a note of its own: what is left of them is still to be done.
+            return "", ""
         if "?" not in first:
             entry = self.register.found(sent, self.facts.sheet.journal)
             return (f"OK {entry}" if entry else "", "")
@@ -301,7 +305,7 @@ class Room:
         with self.looking:
             self.look_at_places()
         self.news()
-        return outcome_of(sent, False)
+        return outcome_of(sent, False, self.facts.sheet.journal)
 
     def line_of(self, session: TapSession, tap: Tap) -> str:
         """The line of a tap, of which it is clear that it is meant, and where a finisher belongs."""
@@ -373,10 +377,11 @@ def heard(link: Link) -> bytes | None:
             link.socket.settimeout(link.patience)
 
 
-def outcome_of(sent: Sent, is_again: bool) -> Values:
-    """What came of a tap, as its device is told."""
+def outcome_of(sent: Sent, is_again: bool, journal: Sequence[str] = ()) -> Values:
+    """What came of a tap, as its device is told. Its entry has another number once a boat was taken out before it."""
     first = sent.answer.split()[0]
     outcome = {"NO": "refused", "NOTED": "noted"}.get(first, "taken")
     said = [Said(*one) for one in sent.said]
-    return {"outcome": outcome, "answer": sent.answer, "line": sent.line, "entry": sent.entry,
+    entry = number_of(sent, journal) if sent.own and journal else sent.entry
+    return {"outcome": outcome, "answer": sent.answer, "line": sent.line, "entry": entry,
             "mark": sent.mark, "said": said_of(said), "again": is_again}

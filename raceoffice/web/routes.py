@@ -208,7 +208,7 @@ class Routes:
 
     def devices(self, mine: Device) -> Reply:
         """The devices that came, and what the offices said."""
-        at = time.time()
+        at = self.gate.clock.now()
         shown = [{"mark": device.mark[:MARK], "role": device.role, "name": device.name,
                   "heard": int(at - device.heard), "unsent": device.unsent, "mine": device is mine}
                  for device in sorted(self.gate.devices.values(), key=lambda device: -device.heard)]

@@ -2,11 +2,13 @@
 from __future__ import annotations
 
 import os
+import time
 from collections.abc import Callable, Sequence
 
 from raceoffice.errors import NotSent, Trouble
 from raceoffice.program.journal import Race
 from raceoffice.program.link import Link
+from raceoffice.program.replay import Line
 from raceoffice.remarks import remark
 from raceoffice.series.folder import Folder
 from raceoffice.series.kept_places import Places, Twin
@@ -19,10 +21,12 @@ from raceoffice.session.finishers import keep_or_send, send_or_place
 from raceoffice.session.seat import Done
 from raceoffice.session.session import Session
 from raceoffice.session.undo import undo
-from raceoffice.web.taps import Register, Sent, Tap
+from raceoffice.web.taps import Register, Sent, Tap, last_numbers, number_of
 
 # How the register has a place that was dropped, or kept again.
 DROPPED, KEPT_AGAIN = "NONE", "AGAIN"
+# Seconds for which a tap waits, in all, for windows that write places: one may have been stopped. Others wait for the tap.
+PLACES = 2.0
 # What isn't asked of somebody who taps Undo.
 MEANT_BY_UNDO = ("undo", "drop-place", "keep-place-again")
 
@@ -74,7 +78,8 @@ class TapSession(Session):
         """Begins with a tap of a device."""
         self.tap, self.name, self.lines, self.mark, self.answer, self.at = tap, name, 0, "", "", None
         self.is_of_several = tap.line.startswith("ABANDON ")
-        self.places = Places(self.folder, name)
+        self.twins.end = time.monotonic() + PLACES
+        self.places = Places(self.folder, name, self.twins.end)
         self.said.clear()
 
     def is_tap_taken(self, line: str) -> bool:
@@ -108,17 +113,45 @@ class TapSession(Session):
         unread = Unread(sent.mark, self.facts.race(rest[0]).number, frozenset()) if sent.mark else None
         if not sent.entry:
             return Done(unread=unread, what="dropped" if rest[1:] == [DROPPED] else "kept")
-        now = self.facts.commands[sent.entry - 1:sent.entry]
-        if now != [as_kept(sent.line)]:
+        number = number_of(sent, self.facts.sheet.journal)
+        if not number:
             raise NotSent(remark("undo-gone", line=sent.line))
-        return Done(now[0], sent.entry, unread)
+        return Done(self.facts.commands[number - 1], number, unread)
 
     # What is noted in the register before it is done
 
     def note_begin(self, id: str, line: str) -> None:
         """Notes, on the disk, that a line is about to be sent, or something else to be done."""
-        self.register.begin(Sent(id, self.role, line, self.tap.at, self.name, len(self.facts.sheet.journal),
-                                 os.getpid()))
+        journal = self.facts.sheet.journal
+        self.register.begin(Sent(id, self.role, line, self.tap.at, self.name, len(journal), os.getpid(),
+                                 numbers=last_numbers(journal)))
+
+    @property
+    def is_begun(self) -> bool:
+        """Whether this tap came before, and was begun then."""
+        return self.tap.id in self.register.sent
+
+    @property
+    def are_lines_noted(self) -> bool:
+        """Whether the lines of this tap are noted: what comes before them was done then."""
+        return f"{self.tap.id}/0" in self.register.decisions
+
+    def note_lines(self, lines: Sequence[str]) -> None:
+        """Notes the lines of a tap of several, before the first is sent."""
+        self.register.decide(f"{self.tap.id}/0", [Line(self.role, line) for line in lines])
+
+    def lines_taken(self) -> list[str]:
+        """The lines of a tap of several that the journal has from an earlier try. The next line is numbered after
+        them."""
+        taken = []
+        while part := self.register.sent.get(f"{self.tap.id}/{self.lines + 1}"):
+            if not part.answer and (number := self.register.found(part, self.facts.sheet.journal)):
+                self.register.end(part.id, f"OK {number}")
+            if not part.answer:
+                break
+            self.lines, self.answer = self.lines + 1, part.answer
+            taken += [as_kept(part.line)] if part.entry else []
+        return taken
 
     def exchange(self, line: str, unread: Unread | None = None) -> str:
         """The office's answer to a line, which is noted before it is sent."""

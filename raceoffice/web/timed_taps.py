@@ -9,7 +9,7 @@ import zoneinfo
 from raceoffice.corrected.sheets import Entry, entries_of, with_seconds
 from raceoffice.corrected.times import Rules, Sheets, sheet_name
 from raceoffice.corrected.write_sheet import SheetOfRace, is_for_sheet, races_with_sheet
-from raceoffice.errors import NotSent, NotThere, Trouble
+from raceoffice.errors import NotNow, NotSent, NotThere, Trouble
 from raceoffice.program.codes import OF_JURY
 from raceoffice.remarks import remark
 from raceoffice.series.folder import Folder
@@ -33,24 +33,36 @@ def is_timed_tap(folder: Folder, line: str) -> bool:
 
 
 class TimedTap:
-    """One tap for the sheet of its race."""
+    """One tap for the sheet of its race.
+
+    The web may die between any two steps. The register has the tap before the sheet is written, its lines once it
+    was, and each line before it is sent. So the same tap again doesn't write a sheet that has it already, and sends
+    what is left.
+    """
 
     def __init__(self, session: TapSession, line: str) -> None:
         self.session, (self.command, number, *self.rest) = session, line.split()
         self.folder, self.race = session.folder, session.facts.race(number)
         self.sail = self.rest[0] if self.rest and self.command != "START" else ""
+        self.is_begun, self.is_written = session.is_begun, session.are_lines_noted
+        # The lines that the journal has from an earlier try.
+        self.taken = session.lines_taken() if self.is_begun else []
 
     def is_taken(self) -> bool:
         """Writes what was tapped into the sheet, and sends the lines that differ; whether all were taken."""
-        sheet = SheetOfRace(self.folder, self.race.number)
-        self.change(sheet)
-        # All lines of a tap are about one race: what is asked of one is asked of all.
-        if not is_meant(self.session, self.likely_line()):
-            return self.session.not_sent()
-        self.session.note_begin(self.session.tap.id, " ".join([self.command, str(self.race.number), *self.rest]))
+        if not self.is_written:
+            sheet = SheetOfRace(self.folder, self.race.number)
+            self.change(sheet)
+            # All lines of a tap are about one race: what is asked of one is asked of all.
+            if not is_meant(self.session, self.likely_line()):
+                return self.session.not_sent()
+            self.session.note_begin(self.session.tap.id, " ".join([self.command, str(self.race.number), *self.rest]))
+            write(sheet)
+        lines = self.lines()
+        if not self.is_written:
+            self.session.note_lines(lines)
         self.session.is_of_several = True
-        sheet.write()
-        return all(transmit(self.session, line) for line in self.lines())
+        return all(transmit(self.session, line) for line in lines)
 
     def likely_line(self) -> str:
         """A line as the tap may send it."""
@@ -69,7 +81,7 @@ class TimedTap:
         elif self.command == "FINISH":
             sheet.finish(self.sail, clock_text(self.folder, self.session.tap.at))
         elif self.command == "STRIKE":
-            if not sheet.take_finish(self.sail) and self.sail not in self.race.times:
+            if not (sheet.take_finish(self.sail) or self.sail in self.race.times or self.is_begun):
                 raise NotSent(remark("no-finish", boat=self.session.facts.called(self.sail), race=self.race.number))
         elif self.command == "MARK" and is_for_sheet(self.rest[-1]):
             sheet.code(self.sail, self.rest[-1])
@@ -78,17 +90,29 @@ class TimedTap:
 
     def lines(self) -> list[str]:
         """The lines after which the journal is as the sheet says. Without a start there are none yet."""
-        own = []
-        if self.command == "STRIKE" and self.sail in self.race.times:
-            own = [f"STRIKE {self.race.number} {self.sail}"]
-        if self.command == "CLEAR":
-            own = [f"CLEAR {self.race.number} {self.sail}"]
+        own = [line for line in self.own_lines() if line not in self.taken]
         try:
             found = Sheets(self.folder).beside(self.race.number, self.session.facts.sheet.journal)
         except Trouble as trouble:
             self.session.say_of("sheet-waits", fault=sentence(trouble))
             return own
         return own + [line for line in found.lines if line not in own]
+
+    def own_lines(self) -> list[str]:
+        """The lines that aren't those of a finish or a code in the sheet. What somebody else has taken away since an
+        earlier try isn't taken away again."""
+        is_held = bool(self.race.held(self.sail)) or not self.is_begun
+        if self.command == "STRIKE" and self.sail in self.race.times or self.command == "CLEAR" and is_held:
+            return [f"{self.command} {self.race.number} {self.sail}"]
+        return []
+
+
+def write(sheet: SheetOfRace) -> None:
+    """Puts a sheet on the disk. If that has no room, nothing is wrong with the office: the tap waits."""
+    try:
+        sheet.write()
+    except Trouble as trouble:
+        raise NotNow(*trouble.said) from None
 
 
 def timed_undo(sent: Sent | None) -> str:

@@ -4,7 +4,6 @@ from __future__ import annotations
 import contextlib
 import json
 import threading
-import time
 from collections.abc import Callable
 from dataclasses import dataclass, field
 
@@ -67,6 +66,8 @@ class WebOffice:
         with self.lock:
             need_own_names([*self.classes, folder.name])
             room = Room(folder, self.news.wake)
+            # A version is never lower than before the web was started again, also if the clock was set back.
+            room.version = max(room.version, int(self.gate.clock.now() * 1000))
             office = KeptOffice(folder, lambda text: self.tell_of(folder.name, text))
             found = Class(room, office, Declarations(room, office))
             if not self.classes and not self.gate.path:
@@ -99,7 +100,7 @@ class WebOffice:
         if not any(one.office.keeping for one in self.classes.values()):
             return []
         return [f"{device.name} ({device.role.lower()})" for device in self.gate.devices.values()
-                if device.heard > time.time() - RECENT]
+                if device.heard > self.gate.clock.now() - RECENT]
 
     def close(self) -> None:
         """Closes the offices that this process keeps, side by side, and leaves the others."""

@@ -177,7 +177,7 @@ class Trial(Served):
         before = self.files()
         answers, steps = self.asked(some)
         self.assertEqual({status for status, _ in answers}, {200}, answers)
-        after = self.files()
+        after, outcomes = self.files(), outcomes_of(answers)
         changed = [name for name in FILES[:-2] if before.get(name) != after.get(name)]
         changed += ["office.log"] if deeds(before) != deeds(after) else []
         self.assertEqual(changed, list(wanted))
@@ -187,15 +187,17 @@ class Trial(Served):
             for stop, step in list(enumerate(steps, 1))[reading:]:
                 if victim == "web" or step in ("sendall", "recv"):
                     with self.subTest(victim=victim, stop=stop, step=step):
-                        self.trial(some, stop, victim, before, after)
+                        self.trial(some, stop, victim, before, after, outcomes)
                 if victim == "web" and step == "write":
                     with self.subTest(victim="torn", stop=stop):
-                        self.trial(some, stop, "torn", before, after)
+                        self.trial(some, stop, "torn", before, after, outcomes)
         self.restore(before)
         return steps
 
-    def trial(self, some: Sequence[Sent], stop: int, victim: str, before: Held, after: Held) -> None:
-        """Kills before this step, and looks at what is left, and at what the next try makes of it."""
+    def trial(self, some: Sequence[Sent], stop: int, victim: str, before: Held, after: Held,
+              wanted: Sequence[str] = ()) -> None:
+        """Kills before this step, and looks at what is left, and at what the next try makes of it. `wanted` are the
+        outcomes of the taps."""
         self.restore(before)
         program = self.serving()
         answers, _ = self.asked(some, stop, victim)
@@ -211,6 +213,7 @@ class Trial(Served):
         self.assertEqual(lines_of(after)[:len(lines)], lines)
         answers, _ = self.asked(some)
         self.assertEqual([status for status, _ in answers], [200] * len(some), answers)
+        self.assertEqual(outcomes_of(answers), wanted)
         self.same(self.files(), after)
 
     def same(self, found: Held, after: Held) -> None:
@@ -240,6 +243,11 @@ def answer_to(routes: Routes, sent: Sent) -> tuple[int, Any]:
         return 503, str(trouble)
     is_text = reply.kind == "application/json"
     return reply.status, json.loads(reply.data) if is_text else reply.data.decode("utf-8", "replace")
+
+
+def outcomes_of(answers: Sequence[Any]) -> list[str]:
+    """What came of each of some taps, in a word."""
+    return [values.get("outcome", "") if isinstance(values, dict) else "" for _, values in answers]
 
 
 def lines_of(held: Held) -> list[str]:
@@ -369,6 +377,21 @@ class Time(Trial):
                        wanted=("times/rules.ini", "times/race-1.csv", "journal.txt"))
         self.asked([sheet, Sent("SCORER", ("line", "cup"), tap_of(1, "TIMES 1"))])
         self.assertEqual(lines_of(self.files())[-2:], ["SCORER STRIKE 1 GBR7", "SCORER TIME 1 GBR7 2970"])
+
+
+    def test_taps(self) -> None:
+        """A code for a boat that has a time takes two lines; strike, clear and undo take what isn't there once it was
+        taken. Each is done whole, once, and answered so."""
+        self.serving()
+        self.typed("FINISH TIME 1 GBR101 3600", "FINISH TIME 1 GBR7 3510")
+        sheet, marked = "times/race-1.csv", Sent("FINISH", ("line", "cup"), tap_of(1, "MARK 1 GBR7 RET"))
+        self.each_step(marked, wanted=(sheet, "journal.txt"))
+        self.each_step(Sent("FINISH", ("line", "cup"), tap_of(2, "STRIKE 1 GBR101")), wanted=(sheet, "journal.txt"))
+        self.asked([marked])
+        self.assertEqual(lines_of(self.files())[-2:], ["FINISH MARK 1 GBR7 RET", "FINISH STRIKE 1 GBR7"])
+        self.each_step(Sent("FINISH", ("line", "cup"), tap_of(3, "CLEAR 1 GBR7")), wanted=(sheet, "journal.txt"))
+        undone = Sent("FINISH", ("line", "cup"), tap_of(4, "UNDO", undoes=tap_of(1)["id"]))
+        self.each_step(undone, wanted=(sheet, "journal.txt"))
 
 
 class Fresh(helpers.Series):

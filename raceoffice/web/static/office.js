@@ -10,7 +10,7 @@ export let me = null;
 // the clock is learnt; and after how long without a sign of life a connection is taken for dead.
 const PATIENCE = 8000, SLOWER = 50, SILENT = 12000, LOOK = 3000;
 
-let clockAhead = 0, quickest = Infinity, unsentCount = () => 0;
+let clockAhead = 0, quickest = Infinity, unsentCount = () => 0, unsentHeard = 0;
 
 // The time by the office's clock: taps of several devices are compared by it.
 export function now() {
@@ -33,19 +33,25 @@ function learnClock(officeTime, askedAt) {
   clockAhead = Math.round(officeTime - (askedAt + took / 2));
 }
 
-function fieldsOf(body) {
-  const fields = {"X-Unsent": String(unsentCount())};
+// Says how many taps wait, if the office has last heard of another number.
+function tellUnsent() {
+  if (unsentHeard !== unsentCount()) ask("me");
+}
+
+function fieldsOf(body, unsent) {
+  const fields = {"X-Unsent": String(unsent)};
   return body === undefined ? fields : {...fields, "Content-Type": "application/json", "X-Token": me?.token ?? ""};
 }
 
 // Asks the office, and gives {status, ..values}. Status 0: nobody answered.
 export async function ask(path, body, patience = PATIENCE) {
-  const askedAt = Date.now(), stop = new AbortController();
+  const askedAt = Date.now(), stop = new AbortController(), unsent = unsentCount();
   const timer = setTimeout(() => stop.abort(), patience);
   try {
     const answer = await fetch(path.startsWith("/") ? path : `/office/${role}/${path}`, {
-      method: body === undefined ? "GET" : "POST", headers: fieldsOf(body), signal: stop.signal, cache: "no-cache",
+      method: body === undefined ? "GET" : "POST", headers: fieldsOf(body, unsent), signal: stop.signal, cache: "no-cache",
       body: body === undefined ? undefined : JSON.stringify(body)});
+    unsentHeard = unsent;
     const values = await answer.json();
     learnClock(values.now, askedAt);
     return Array.isArray(values) ? {list: values, status: answer.status} : {...values, status: answer.status};
@@ -84,7 +90,7 @@ export function followNews(seen, told) {
     source = new EventSource(`/office/${role}/live`);
     heard = Date.now();
     source.onmessage = event => { alive(); seen(JSON.parse(event.data)); };
-    source.addEventListener("beat", alive);
+    source.addEventListener("beat", () => { alive(); tellUnsent(); });
     source.onerror = failed;
   };
   const lookAgain = () => {
