@@ -26,7 +26,7 @@ from pathlib import Path
 
 CRATES = Path("crates")
 # Crates that are there for tests alone. Modules of tests aren't counted in any crate.
-FOR_TESTS = {"regatta_fixtures", "regatta_trials"}
+FOR_TESTS = {"regatta_trials"}
 TESTS = {"tests", "tests.rt"}
 DECIDED = "Command Line AskedLine DeskLine Step Change Revision NewScores Reply".split()
 
