@@ -6,10 +6,10 @@ ghost use Rattle.regatta_times.specs.Sheets.{elapsed_at, from_start, handicap_at
 ghost use Rattle.regatta_times.specs.Sheets.{laps_above, laps_at, laps_given, laps_of, rating_at};
 ghost use Rattle.regatta_times.specs.Sheets.{start_above, start_at};
 
-use crate::clock::{ClockFault, TimeOfDay, between};
+use crate::clock::{ClockFault, between};
 use crate::digits::number_within;
 use crate::fault::SheetFault;
-use crate::numbers::{Distance, Elapsed};
+use crate::numbers::{Distance, Elapsed, TimeOfDay};
 use crate::rating::Rating;
 use crate::ratings::{Rated, handicap_for};
 use crate::reading::{read_distance, read_elapsed, read_time_of_day};

@@ -26,13 +26,13 @@ mod sheet;
 mod system;
 mod timing;
 
-pub use clock::{ClockFault, TimeOfDay, between};
+pub use clock::{ClockFault, between};
 pub use correcting::{TimesFault, corrected};
 pub use fault::SheetFault;
 pub use fraction::Rounding;
 pub use laps::Laps;
 pub use names::{read_race, read_rounding, read_system};
-pub use numbers::{Allowance, Distance, Elapsed, Factor, PortsmouthNumber};
+pub use numbers::{Allowance, Decimal, Distance, Elapsed, Factor, PortsmouthNumber, TimeOfDay};
 pub use printing::{rounding_text, write_lines, write_sums};
 pub use rating::Rating;
 pub use ratings::{Rated, read_handicap, read_ratings};

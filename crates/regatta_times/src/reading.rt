@@ -2,15 +2,28 @@
 
 ghost use Rattle.std.specs.Prelude.{◌≡◌, ◌≤◌, ◌<◌, ◌+◌, ◌*◌, ◌^◌, ◌∷◌, IfSome};
 ghost use Rattle.std.specs.List.{slice_split};
-ghost use Rattle.std.specs.Option.{ForSome};
+ghost use Rattle.std.specs.Option.{ForSome, option_and_then};
+ghost use Rattle.regatta_terms.specs.Numbers.{within};
 ghost use Rattle.regatta_times.specs.Texts.{sixty_of, with_sixtieths, seconds_of_parts};
 ghost use Rattle.regatta_times.specs.Texts.{clock_of_parts, is_colon, elapsed_of, time_of_day_of};
 ghost use Rattle.regatta_times.specs.Texts.{with_decimals, decimal_of, factor_of, portsmouth_of};
 ghost use Rattle.regatta_times.specs.Texts.{allowance_of, distance_of};
 
-use crate::clock::TimeOfDay;
 use crate::digits::{cut, decimals, number, number_within, units};
-use crate::numbers::{Allowance, Distance, Elapsed, Factor, PortsmouthNumber};
+use crate::numbers::{Allowance, Decimal, Distance, Elapsed, Factor, PortsmouthNumber, TimeOfDay};
+
+/// The number of so many units; `None` where they aren't in its range.
+fn in_range<const PLACES: usize, const LEAST: u32, const MOST: u32>(
+    units: u64,
+) -> Option<Decimal<PLACES, LEAST, MOST>>
+    ensures { result ≡ within LEAST MOST units }
+{
+    if units <= u64::from(MOST) {
+        Decimal::new(units as u32)
+    } else {
+        None
+    }
+}
 
 /// Hours followed by minutes, or minutes followed by seconds: two digits from 00 to 59.
 fn with_sixtieth(whole: Option<u64>, part: &[u8]) -> Option<u64>
@@ -48,11 +61,7 @@ pub fn read_elapsed(text: &[u8]) -> Option<Elapsed>
     ensures { result ≡ elapsed_of text.now }
 {
     let seconds = seconds(text)?;
-    if seconds <= 999_999 {
-        Elapsed::new(seconds as u32)
-    } else {
-        None
-    }
+    in_range(seconds)
 }
 
 /// The seconds past midnight that `H:MM:SS` writes, with one or two digits for the hours.
@@ -78,11 +87,7 @@ pub fn read_time_of_day(text: &[u8]) -> Option<TimeOfDay>
     ensures { result ≡ time_of_day_of text.now }
 {
     let seconds = clock(text)?;
-    if seconds <= 86_399 {
-        TimeOfDay::new(seconds as u32)
-    } else {
-        None
-    }
+    in_range(seconds)
 }
 
 /// The decimal number that a word writes, in units of the last of these places: up to three digits,
@@ -103,17 +108,23 @@ fn decimal(places: usize, word: &[u8]) -> Option<u64>
     }
 }
 
+/// The decimal number that a word writes, if it is in range.
+fn decimal_in<const PLACES: usize, const LEAST: u32, const MOST: u32>(
+    word: &[u8],
+) -> Option<Decimal<PLACES, LEAST, MOST>>
+    requires { PLACES ≤ 4 }
+    ensures { result ≡ option_and_then (within LEAST MOST) (decimal_of PLACES word.now) }
+{
+    let units = decimal(PLACES, word)?;
+    in_range(units)
+}
+
 /// The time-correction factor that a word writes, as `0.985` or `1.0345`: from 0.0001 to 9.9999,
 /// with up to four decimals; `None` for every other word.
 pub fn read_factor(word: &[u8]) -> Option<Factor>
     ensures { result ≡ factor_of word.now }
 {
-    let parts = decimal(4, word)?;
-    if parts <= 99_999 {
-        Factor::new(parts as u32)
-    } else {
-        None
-    }
+    decimal_in(word)
 }
 
 /// The Portsmouth number that a word of one to four digits writes, from 1 to 9,999; `None` for
@@ -122,7 +133,7 @@ pub fn read_portsmouth(word: &[u8]) -> Option<PortsmouthNumber>
     ensures { result ≡ portsmouth_of word.now }
 {
     let number = number(1, 4, word)?;
-    PortsmouthNumber::new(number as u32)
+    in_range(number)
 }
 
 /// The seconds a mile that a word writes, as `120.5`: from 0 to 999.99, with up to two decimals;
@@ -130,12 +141,7 @@ pub fn read_portsmouth(word: &[u8]) -> Option<PortsmouthNumber>
 pub fn read_allowance(word: &[u8]) -> Option<Allowance>
     ensures { result ≡ allowance_of word.now }
 {
-    let hundredths = decimal(2, word)?;
-    if hundredths <= 99_999 {
-        Allowance::new(hundredths as u32)
-    } else {
-        None
-    }
+    decimal_in(word)
 }
 
 /// The miles that a word writes, as `6.25`: from 0.01 to 999.99, with up to two decimals; `None`
@@ -143,10 +149,5 @@ pub fn read_allowance(word: &[u8]) -> Option<Allowance>
 pub fn read_distance(word: &[u8]) -> Option<Distance>
     ensures { result ≡ distance_of word.now }
 {
-    let hundredths = decimal(2, word)?;
-    if hundredths <= 99_999 {
-        Distance::new(hundredths as u32)
-    } else {
-        None
-    }
+    decimal_in(word)
 }

@@ -9,10 +9,9 @@ ghost use Rattle.regatta_times.specs.Sheets.{boat_added, boat_of, boat_with, boa
 ghost use Rattle.regatta_times.specs.Sheets.{boats_of_text, boats_under};
 
 use crate::cells::{distance_at, elapsed_at, handicap_at, laps_at, rating_at, start_at};
-use crate::clock::TimeOfDay;
 use crate::columns::{Columns, columns_of};
 use crate::fault::SheetFault;
-use crate::numbers::{Distance, Elapsed};
+use crate::numbers::{Distance, Elapsed, TimeOfDay};
 use crate::rating::Rating;
 use crate::ratings::{Rated, check_sails};
 use crate::records::{Field, cell, plain_fields, titles_of};
