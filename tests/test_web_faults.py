@@ -85,8 +85,8 @@ class Faults(helpers.Series):
         office, is_closed, may_end = self.opened(), threading.Event(), threading.Event()
         close = Keeping.close
 
-        def closed_slowly(keeping: Keeping) -> None:
-            close(keeping)
+        def closed_slowly(keeping: Keeping, comes_back: bool = False) -> None:
+            close(keeping, comes_back)
             is_closed.set()
             may_end.wait(helpers.PATIENCE)
 
