@@ -262,7 +262,7 @@ class Times(helpers.Series):
         self.assertEqual(times.Rules.read(folder).program, helpers.TIMES)
 
     def test_path(self) -> None:
-        """The PATH is looked through, but for folders that aren't named whole: a page may have come into those with a
+        """The PATH is looked through, except for folders that aren't named whole: a page may have come into those with a
         program of its own."""
         program = os.path.join(self.here, "bin", "regatta-times")
         os.mkdir(os.path.dirname(program))

@@ -116,7 +116,7 @@ class Pushed(Web):
         self.assertIn("GBR 101", phone.ask("GET", "/cup/race-1.html")[1])
 
     def test_whole_page(self) -> None:
-        """Whoever can unpack it gets the page itself, as it is served but for its script: at each of its addresses."""
+        """Whoever can unpack it gets the page itself, as it is served, without its script: at each of its addresses."""
         finish, phone = self.device("finish"), Device(self.port, "")
         finish.tap("FINISH 1 GBR33")
         helpers.until("the race's page", lambda: phone.ask("GET", "/cup/race-1.html")[0] == 200)

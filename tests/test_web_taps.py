@@ -186,7 +186,8 @@ class Damaged(unittest.TestCase):
         journal, ids = ["1 1 SCORER ENTER GBR7", "1 2 FINISH FINISH 1 GBR7"], [new_id(), new_id()]
         register = Register(self.path)
         register.begin(Sent(ids[0], "FINISH", "FINISH 1 GBR7", 5, "Ann", 1, 9, numbers={"1": 1}))
-        register.learn(journal)
+        # After a crash its entry is looked for, and noted.
+        self.assertEqual(register.found(register.sent[ids[0]], journal), 2)
         register.end(ids[0], "OK 2 1= 0.0", "", [["OK 2", "answer", "finished", {"entry": 2}]])
         register.begin(Sent(ids[1], "FINISH", "? 1", 6, "Ann", 2, 9))
         register.end(ids[1], "NOTED", "?1")
@@ -244,13 +245,13 @@ class Renumbered(unittest.TestCase):
         return register
 
     def begun(self, register: Register, line: str, held: int) -> str:
-        """The id of a tap that was begun when the journal had so many entries."""
+        """The id of a tap that was begun when the journal had `held` entries."""
         journal, id = self.JOURNAL[:held], new_id()
         register.begin(Sent(id, "FINISH", line, 5, "Ann", held, 9, numbers=last_numbers(journal)))
         return id
 
     def test_taken_out(self) -> None:
-        """A boat is taken out after taps were taken of which the register has no answer: each knows its own entry, and
+        """A boat is taken out after taps were taken whose answers the register lacks: each knows its own entry, and
         one that was never taken has none."""
         register = self.opened()
         first = self.begun(register, "PENALTY 1 GBR7 ZFP", 2)
@@ -270,7 +271,7 @@ class Renumbered(unittest.TestCase):
         self.assertEqual(outcome_of(sent[finished], True, left[:3])["entry"], 0)
 
     def test_older_journal(self) -> None:
-        """An older journal was put in the place of a newer one: an entry that looks like one of a tap that was answered
+        """An older journal was put in place of a newer one: an entry that looks like one of a tap that was answered
         before is that of the tap that was begun since."""
         register = self.opened()
         lost = self.begun(register, "PENALTY 1 GBR7 ZFP", 2)
@@ -282,7 +283,7 @@ class Renumbered(unittest.TestCase):
         self.assertEqual(register.found(register.sent[again], self.JOURNAL[:3]), 3)
 
     def test_rotten_line(self) -> None:
-        """A tap of which a bit has changed the race has no moment; its entry stays known, and the others have theirs."""
+        """A tap whose race has a rotten bit has no moment; its entry stays known, and the others have theirs."""
         register = self.opened()
         for at in (4, 6):
             id = self.begun(register, self.JOURNAL[at - 1].split(maxsplit=3)[3], at - 1)

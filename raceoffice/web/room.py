@@ -386,7 +386,7 @@ def heard(link: Link) -> bytes | None:
 
 
 def outcome_of(sent: Sent, is_again: bool, journal: Sequence[str] = ()) -> Values:
-    """What came of a tap, as its device is told. Its entry has another number once a boat was taken out before it."""
+    """What came of a tap, for its device. Its entry has another number once a boat was taken out before it."""
     first = sent.answer.split()[0]
     outcome = {"NO": "refused", "NOTED": "noted"}.get(first, "taken")
     said = [Said(*one) for one in sent.said]

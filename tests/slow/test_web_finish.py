@@ -8,7 +8,7 @@ import unittest
 
 import helpers
 import web_devices
-from devices import PATIENCE
+from devices import PATIENCE, Device
 from stub_office import StubOffice
 from web_office import BOATS, FOLKBOATS, WebTrial, entries_of, finishes
 
@@ -298,14 +298,19 @@ class Timed(WebTrial):
         self.write(f"[times]\nsystem = tcf\nprogram = {helpers.TIMES}\n", "cup", "times", "rules.ini")
         super().start()
 
-    def test_times_are_taken(self) -> None:
-        """A start and three taps: the page shows elapsed times, the journal has them by the ratings, and a code
-        takes a time away."""
+    def started(self) -> Device:
+        """A phone, after a start at midnight."""
         ann = self.phone()
         ann.click("#start")
         ann.type("dialog input", "00:00:00")
         ann.choose("at")
         ann.until("document.querySelector('#start').textContent === '00:00:00'")
+        return ann
+
+    def test_times_are_taken(self) -> None:
+        """A start and three taps: the page shows elapsed times, the journal has them by the ratings, and a code
+        takes a time away."""
+        ann = self.started()
         for sail in ("GBR101", "GBR7", "NED12"):
             ann.tap(sail)
         self.settle(ann)
@@ -331,11 +336,7 @@ class Timed(WebTrial):
     def test_a_boat_without_a_rating(self) -> None:
         """A tick is for what is in the journal. A boat without a rating is in the sheet only, and the scorer's page says so."""
         self.write(self.classes["cup"].replace("1.250", ""), "cup", "entries.csv")
-        ann, sue = self.phone(), self.device("scorer", "Sue")
-        ann.click("#start")
-        ann.type("dialog input", "00:00:00")
-        ann.choose("at")
-        ann.until("document.querySelector('#start').textContent === '00:00:00'")
+        ann, sue = self.started(), self.device("scorer", "Sue")
         for sail in ("NED12", "GBR101"):
             ann.tap(sail)
             self.settle(ann)
@@ -347,11 +348,7 @@ class Timed(WebTrial):
 
     def test_strike_is_undone(self) -> None:
         """Strike and Undo on the page leave the finish that she had, whatever the time is by then."""
-        ann = self.phone()
-        ann.click("#start")
-        ann.type("dialog input", "00:00:00")
-        ann.choose("at")
-        ann.until("document.querySelector('#start').textContent === '00:00:00'")
+        ann = self.started()
         for sail in ("GBR101", "NED12"):
             ann.tap(sail)
             self.settle(ann)
