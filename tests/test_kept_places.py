@@ -21,12 +21,12 @@ from raceoffice import system
 from raceoffice.errors import NotSent, Trouble
 from raceoffice.office.backups import Backups
 from raceoffice.program.journal import Race
-from raceoffice.series import kept_places
+from raceoffice.series import kept_places, taken_out
 from raceoffice.series.continuity import note_now
 from raceoffice.series.folder import Folder
 from raceoffice.series.kept_places import History, Note, Places, Twin, command_of, history_of
 from raceoffice.series.remove_boat import Removal, also_changed, take_out, without
-from raceoffice.series.taken_out import TakenOut, digest_of, those_that_count
+from raceoffice.series.taken_out import digest_of, those_that_count
 from raceoffice.series.twins import Twins
 from raceoffice.session.dialogue import Said
 from raceoffice.session.finishers import keep
@@ -399,7 +399,8 @@ class Files(helpers.Series):
                 Note("kept", 1, "?4", finisher="0123456789abcdef", also=("../fleet",)),
                 Note("leaving", 1, "101?", line="STRIKE 1 A", entries=3)]
         journal = ["FINISH 1 A"] * 5
-        out = TakenOut("removed", "USA4", ("2 ENTER USA4", "4 FINISH 1 USA4"), 5, digest_of(journal), "Sue", 7, "12:00")
+        out = taken_out.TakenOut("removed", "USA4", ("2 ENTER USA4", "4 FINISH 1 USA4"), 5, digest_of(journal), "Sue", 7,
+                                 "12:00")
         lines = [*(note.text() for note in good), out.text(), out.noted("out").text()]
         for _ in range(1200):
             at = dice.randrange(len(lines))
@@ -407,8 +408,7 @@ class Files(helpers.Series):
             self.put(b"".join(mixed))
             history = self.places.read(journal)
             marks = {unread.mark for unread in history.waiting.all if unread.race == 1}
-            others = {note.place for note in good[:at] + good[at + 1:] if note.place != "101?"
-                      and note is not good[at]}
+            others = {note.place for note in good[:at] + good[at + 1:] if note.place != "101?"}
             self.assertLessEqual(others, marks, mixed[at])
             for key in history.ended:
                 history.end(*key)
