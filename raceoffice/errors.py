@@ -43,6 +43,10 @@ class Gone(Trouble):
     """Nobody serves at the socket."""
 
 
+class Served(Trouble):
+    """Another process serves the series to browsers."""
+
+
 class NoSeat(Trouble):
     """All seats of the office are taken."""
 

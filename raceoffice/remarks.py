@@ -275,6 +275,8 @@ ENGLISH: dict[str, str | tuple[str, str] | tuple[str, str, str]] = {
     "removal-empty": "journal.txt has no entry",
     "removal-refused": "{sail} can't be taken out: {why}",
     "removal-line": "{line} would be refused without her: {why}",
+    "removal-sheets": "She is taken out of these sheets of times, too: {names:,}.",
+    "removal-places": "Kept without a sail again, since she was said to be there: {places:,}.",
     "removal-last": "{sail} can't be taken out: no boat would be left",
     # Why a line isn't sent
     "role-line": "{written} isn't a line of this role",

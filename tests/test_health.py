@@ -28,6 +28,14 @@ class Survey(helpers.Series):
         self.assertEqual(health.disk_fault(folder), "")
         self.assertEqual(sorted(os.listdir(folder.file("office"))), before)
 
+    def test_endless_journal(self) -> None:
+        """A journal with a terabyte of zeros is said to be long, and takes no room."""
+        folder = self.folder()
+        with open(folder.journal, "wb") as file:
+            file.truncate(1 << 40)
+        self.assertEqual((health.disk_fault(folder), health.journal_fault(folder)),
+                         ("", "journal.txt is longer than 4,194,304 bytes."))
+
     def test_left_by_a_kill(self) -> None:
         """A file that was about to replace another goes an hour after its process was killed; nothing else does."""
         folder = self.folder()

@@ -24,6 +24,7 @@ from raceoffice.web.kept_office import KeptOffice
 from raceoffice.web.requests import Reply, Request
 from raceoffice.web.room import Room
 from raceoffice.web.web_office import WebOffice
+from web_devices import Web
 
 CROWD, ROOM = 200, 8
 
@@ -162,6 +163,33 @@ class Faults(helpers.Series):
         with mock.patch("raceoffice.system.socket_of_office", side_effect=OSError(24, "Too many open files")), \
                 self.assertRaisesRegex(Trouble, "can't be reached: Too many open files"):
             Link(self.folder.socket)
+
+
+class LeftOut(Web):
+    """A class whose register can't be used."""
+    words = ("cup", "fleet")
+
+    def prepare(self) -> None:
+        self.make("fleet", "Sail,Boat\nGBR 33,Fulmar\nNED 80,Sterna\n", **{"class": "Folkboats"})
+        self.taps = os.path.join(self.here, "fleet", "office", "web.taps")
+        os.makedirs(self.taps, mode=0o700)
+
+    def test_left_out(self) -> None:
+        """The others are served; the terminal and the scorer's page say why it isn't, and it is opened there once that is
+        put right."""
+        why = f"{self.taps} can't be used: Is a directory"
+        self.assertIn(f"Beware: fleet isn't served. {why}. Put that right, and open it on the scorer's page.\n", self.said())
+        scorer = self.device("scorer")
+        self.assertEqual(scorer.tap("FINISH 1 GBR7")[0], 200)
+        offices = scorer.ask("GET", "/office/scorer/devices")[1]["offices"]
+        self.assertEqual([(one["class"], one["open"]) for one in offices], [("cup", True), ("fleet", False)])
+        self.assertEqual(offices[1]["said"][0]["text"], why)
+        status, said = scorer.again().ask("POST", "/office/scorer/open/fleet", {})
+        self.assertEqual((status, said["said"][0]["text"]), (503, why))
+        os.rmdir(self.taps)
+        status, said = scorer.again().ask("POST", "/office/scorer/open/fleet", {})
+        self.assertEqual((status, said.get("open")), (200, True), said)
+        self.assertEqual([one["open"] for one in scorer.ask("GET", "/office/scorer/devices")[1]["offices"]], [True, True])
 
 
 class Crowds(unittest.IsolatedAsyncioTestCase):

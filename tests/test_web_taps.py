@@ -21,6 +21,7 @@ from raceoffice.errors import NotNow, Trouble
 from raceoffice.program.journal import Race
 from raceoffice.program.replay import Line
 from raceoffice.series.folder import Folder
+from raceoffice.web import taps
 from raceoffice.web.gate import Gate
 from raceoffice.web.room import held_alone, outcome_of
 from raceoffice.web.tap_session import TapSession
@@ -210,10 +211,17 @@ class Damaged(unittest.TestCase):
                 self.assertTrue(set(ids) & register.sent.keys())
                 register.close()
 
+    def test_endless(self) -> None:
+        """A register that no devices can have filled isn't read."""
+        with open(self.path, "wb") as file:
+            file.truncate(taps.LARGEST_REGISTER + 1)
+        with self.assertRaisesRegex(Trouble, "web.taps is longer than 268,435,456 bytes"):
+            Register(self.path)
+
     def test_no_plain_files(self) -> None:
         """A pipe holds nobody up, and a folder or a link is named."""
         os.mkfifo(self.path)
-        with self.assertRaisesRegex(Trouble, "web.taps can't be used: it is no plain file"):
+        with self.assertRaisesRegex(Trouble, "web.taps is no plain file"):
             Register(self.path)
         os.makedirs(os.path.join(self.here, "office", "web.lock"))
         with self.assertRaisesRegex(Trouble, "web.lock can't be used: Is a directory"):

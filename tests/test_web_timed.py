@@ -342,6 +342,9 @@ class Timed(Web):
         scorer.tap("ENTER USA4", agreed=[{"kind": "enter-unlisted", "values": {"sail": "USA4"}}])
         self.finish(ann, "USA4", "15:01:00")
         self.assertEqual(self.finish(ann, "GBR7", "15:05:00")["outcome"], "taken")
+        asked = scorer.again().ask("POST", "/office/scorer/remove/cup", {"sail": "USA4", "agreed": []})[1]["question"]
+        said = asked["remarks"]["also"]["values"]["said"]
+        self.assertEqual([(one["kind"], one["values"]) for one in said], [("removal-sheets", {"names": ["times/race-1.csv"]})])
         self.assertEqual(self.take_out(scorer, "USA4"), 200)
         self.assertEqual(self.sheet(), ["Sail,Start,Finish,Code", "GBR101,14:00:00,15:00:00,", "GBR7,14:00:00,15:05:00,",
                                         "NED12,14:00:00,,", "FRA9,14:00:00,,"])

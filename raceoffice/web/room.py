@@ -9,7 +9,7 @@ import time
 from collections.abc import Callable, Sequence
 
 from raceoffice import system
-from raceoffice.errors import NoSeat, NotSent, Trouble, as_trouble
+from raceoffice.errors import NoSeat, NotSent, Served, Trouble, as_trouble
 from raceoffice.files import PRIVATE, PRIVATE_MODE
 from raceoffice.program.link import Link, Sheet
 from raceoffice.remarks import packed, remark
@@ -44,7 +44,11 @@ class Room:
         self.lock, self.looking = threading.RLock(), threading.RLock()
         folder.make_private()
         self.held = held_alone(folder)
-        self.register = Register(folder.file(PRIVATE, "web.taps"))
+        try:
+            self.register = Register(folder.file(PRIVATE, "web.taps"))
+        except Trouble:
+            os.close(self.held)
+            raise
         self.sessions: dict[str, TapSession] = {}
         self.reader: Link | None = None
         # Links with a line that the office may still take.
@@ -367,7 +371,7 @@ def held_alone(folder: Folder) -> int:
         file = os.open(path, os.O_RDWR | os.O_CREAT | system.NO_LINK, PRIVATE_MODE)
     if not system.take_lock(file):
         os.close(file)
-        raise Trouble(f"{folder.path} is served to browsers already, by another raceoffice serve")
+        raise Served(f"{folder.path} is served to browsers already, by another raceoffice serve")
     return file
 
 

@@ -239,8 +239,11 @@ class Routes:
         offices = [{"class": name, "said": remarks_of(one.office.said), "open": one.office.is_there(),
                     "is_kept_here": one.office.keeping is not None}
                    for name, one in self.office.classes.items()]
+        offices += [{"class": name, "said": remarks_of(one.said), "open": False, "is_kept_here": False}
+                    for name, one in self.office.left_out.items()]
+        served = [*self.office.classes, *self.office.left_out]
         return reply_of({"devices": shown, "keys": sorted(self.gate.keys), "board": self.office.address,
-                         "offices": offices, "beside": series_beside.series_beside(self.office.parent, self.office.classes)})
+                         "offices": offices, "beside": series_beside.series_beside(self.office.parent, served)})
 
     def results(self, one: Class) -> Reply:
         """How the results stand, what is open, and the journal with its copies."""
@@ -280,6 +283,7 @@ class Routes:
                 self.gate.revoke(str(request.values().get("mark", "")))
                 return reply_of({})
             case ["open", name]:
+                self.office.add_again(name)
                 return self.open(request, self.room(name))
             case ["close", name]:
                 return self.close(request, self.room(name))

@@ -25,9 +25,9 @@ function inWords(question) {
 
 // Asks a question of the office; "yes" if somebody agrees.
 export function agrees(question, said = []) {
-  const {lines = [], moves = []} = question.kind === "line-of-several" ? {} : question.values;
-  const more = lines.length || moves.length ? moves.map(moveOf).join("\n") : saidWords(said).join("\n");
-  return choose(text("common.isThatRight"), [wordsOf(inWords(question)), lines.length ? element("p", {class: "mono"}, lines.join("\n")) : null, more],
+  const asked = inWords(question), {lines = [], moves = [], also = ""} = question.kind === "line-of-several" ? {} : asked.values;
+  const more = lines.length || moves.length ? [also, ...moves.map(moveOf)].filter(Boolean).join("\n") : saidWords(said).join("\n");
+  return choose(text("common.isThatRight"), [wordsOf(asked), lines.length ? element("p", {class: "mono"}, lines.join("\n")) : null, more],
     [{value: "", label: text("common.no")}, {value: "yes", label: text("common.yes"), look: "main"}]);
 }
 
