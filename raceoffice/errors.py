@@ -4,7 +4,7 @@ from __future__ import annotations
 import contextlib
 from collections.abc import Iterator
 
-from raceoffice.remarks import Value, remark, system_remark
+from raceoffice.remarks import Value, on_lines, remark, system_remark
 
 
 class Explained(Exception):
@@ -19,6 +19,11 @@ class Explained(Exception):
 def said_of(cause: Explained) -> str:
     """What an exception says: the remark itself if it is one alone."""
     return cause.said[0] if len(cause.said) == 1 else str(cause)
+
+
+def remark_of(cause: Explained) -> str:
+    """The same with the kinds of several, too."""
+    return cause.said[0] if len(cause.said) == 1 else on_lines(*cause.said)
 
 
 class Trouble(Explained):

@@ -231,7 +231,11 @@ ENGLISH: dict[str, str | tuple[str, str] | tuple[str, str, str]] = {
     "wanted-port": "a number from 1 to 65535",
     # What the program says
     "program-says": "the program says {said}",
+    "program-says-nothing": "the program says nothing",
     "program-refuses": "the program refuses {line}: {why}",
+    "program-unrun": "the program at {path} can't be run: {why}",
+    "why-endless": "it does not end",
+    "program-no-journal": "the program doesn't show its journal: is it regatta?",
     # Why a line of decisions.txt is none
     "not-entered": "{sail} isn't entered",
     "no-race": "{written} is no race: a number from 1 to 40",
@@ -330,6 +334,42 @@ ENGLISH: dict[str, str | tuple[str, str] | tuple[str, str, str]] = {
     "starts-several": "{name} has several starts: change them there",
     "sheet-has": "{sail} has {before} in {name} already: strike or clear her first",
     "reason-needed": "amended results need a reason. Nothing was announced",
+    # What is wrong with a sheet of times, with its rules or with the ratings
+    "sheet-cell": "{name}, row {row}, column {column}: {written!r} isn't {wanted}",
+    "sheet-no-sails": "{name}, row 1: no column of sails, as Sail, SailNo or SailNumber",
+    "sheet-no-times": "{name}, row 1: no column of times, as Elapsed, or Start and Finish",
+    "sheet-decided": "{code} isn't for a sheet of times. docs/JURY.md says where it is typed",
+    "sheet-no-code": "{code} is neither a time nor a code",
+    "sheet-sail": "{sail} is in row {above}, too",
+    "wanted-start": "a time of the clock, as 14:05 or 14:05:30",
+    "wanted-finish": "a time of the clock with its seconds, as 15:07:31",
+    "wanted-elapsed": "an elapsed time, as 1:02:31, 62:31 or 3751",
+    "wanted-laps": "laps from 1 to 99",
+    "wanted-distance": "nautical miles, as 12.5",
+    "times-rule": "{name}: {key} has to be {wanted}",
+    "wanted-system": "tcf, py or tod",
+    "wanted-rounding": "half-up, half-down, down or up",
+    "wanted-races": "numbers of races, as 4,5",
+    "ratings-missing-tcf": "{name}, row {row}: no column of ratings. It is headed Rating or TCF",
+    "ratings-missing-py": "{name}, row {row}: no column of ratings. It is headed Rating or PY",
+    "ratings-missing-tod": "{name}, row {row}: no column of ratings. It is headed Rating",
+    "timing-8": "the rating isn't one of the system",
+    "timing-9": "{sail} has no rating",
+    "timing-10": "a time can't be read",
+    "timing-11": "neither an elapsed time, nor a start and a finish",
+    "timing-12": "an elapsed time and a finish",
+    "timing-13": "{sail} finishes before she starts",
+    "timing-14": "the laps aren't 1 to 99, or boats above have none",
+    "timing-15": "the distance is missing, or isn't 0.01 to 999.99 miles",
+    "timing-16": "{sail} has laps, which only Portsmouth takes",
+    "timing-17": "the corrected time of {sail} is below zero",
+    "timing-18": "the corrected time of {sail} is above 999999 seconds",
+    "times-no-sums": "the program at {path} doesn't show sums: is it times?",
+    "sheet-untimed": "a sheet of times belongs to a series by corrected time",
+    "sheet-unread": "the sheet can't be read: put it right first",
+    "sheet-changed": "the sheet has been changed meanwhile: look again",
+    "sheet-odd": "what was sent is no sheet of times",
+    "sheet-boat": "{sail}: {written!r} isn't {wanted}",
     # Why settings, a list or a name aren't taken
     "ini-gone": "series.ini is gone",
     "ini-changed": "somebody else has changed series.ini meanwhile: look again",
@@ -409,16 +449,19 @@ def on_lines(*said: str) -> Remark:
     return made
 
 
-def packed(one: str) -> object:
-    """A remark as it goes to another process; a text without a kind as it is."""
+def packed(one: object) -> object:
+    """A remark as it goes to another process or into a file; any other value as it is."""
+    if isinstance(one, (list, tuple)):
+        return [packed(part) for part in one]
     if not isinstance(one, Remark):
         return one
-    return {"kind": one.kind, "text": str(one), "values": {name: packed(value) if isinstance(value, str) else value
-                                                           for name, value in one.values.items()}}
+    return {"kind": one.kind, "text": str(one), "values": {name: packed(value) for name, value in one.values.items()}}
 
 
 def unpacked(held: Any) -> Any:
-    """What another process has packed."""
+    """What another process has packed, or a file has."""
+    if isinstance(held, list):
+        return [unpacked(part) for part in held]
     if not isinstance(held, dict):
         return held
     made = Remark(held["text"])

@@ -39,7 +39,7 @@ class SheetOfRace:
     def read(self, data: bytes) -> None:
         """Reads what there is; a Trouble if it isn't a sheet."""
         wrong = wrong_form(data, self.name)
-        faults: list[str] = [wrong] if wrong else entries_of(data, self.name)[1]
+        faults = [wrong] if wrong else entries_of(data, self.name)[1]
         if faults:
             raise Trouble(*faults)
         table = table_of(data)
@@ -184,7 +184,7 @@ def with_rule(text: str, key: str, value: str) -> str:
     """times/rules.ini with one value changed; all else in it stays as it is. A Trouble if it can't be read."""
     found, wrong = lines_of(text, f"{SHEETS}/{RULES}", KEYS)
     if wrong:
-        raise Trouble("\n".join(wrong))
+        raise Trouble(*wrong)
     rows = rows_of(text)
     if key in found:
         at, held = found[key]

@@ -12,18 +12,17 @@ from raceoffice import system
 from raceoffice.errors import NoSeat, NotSent, Served, Trouble, as_trouble
 from raceoffice.files import PRIVATE, PRIVATE_MODE
 from raceoffice.program.link import Link, Sheet
-from raceoffice.remarks import remark
+from raceoffice.remarks import packed, remark
 from raceoffice.series.folder import Folder
 from raceoffice.series.kept_places import History, Places
 from raceoffice.series.lost_lines import as_kept
-from raceoffice.session.dialogue import Said
 from raceoffice.session.facts import Facts
 from raceoffice.session.question_words import question
 from raceoffice.traces import guarded
 from raceoffice.web.finish_order import line_in_order
 from raceoffice.web.states import (Values, boats_of, moves_of, races_of, rules_of, said_of, standing_of, unlisted)
 from raceoffice.web.tap_session import DROPPED, TapSession
-from raceoffice.web.taps import PLACED, Register, Sent, Tap, number_of
+from raceoffice.web.taps import PLACED, Register, Sent, Tap, number_of, said_again
 from raceoffice.web.timed_taps import TimedTap, is_timed_tap, sheets_shown, with_typed_times
 from raceoffice.web.timed_undo import timed_undo
 
@@ -304,7 +303,8 @@ class Room:
             # No line was needed, as for a race of which nothing is recorded.
             session.note_begin(tap.id, tap.line)
             sent = self.register.sent[tap.id]
-        said = [[one.text, one.kind, one.what, one.values] for one in session.said]
+        said = [[one.text, one.kind, one.what, {name: packed(value) for name, value in one.values.items()}]
+                for one in session.said]
         answer = sent.answer or (session.answer if is_timed else "") or ("NOTED" if is_taken else "NO")
         self.register.end(sent.id, answer, session.mark, said)
         with self.looking:
@@ -393,7 +393,7 @@ def outcome_of(sent: Sent, is_again: bool, journal: Sequence[str] = ()) -> Value
     """What came of a tap, for its device. Its entry has another number once a boat was taken out before it."""
     first = sent.answer.split()[0]
     outcome = {"NO": "refused", "NOTED": "noted"}.get(first, "taken")
-    said = [Said(*one) for one in sent.said]
+    said = [said_again(one) for one in sent.said]
     entry = number_of(sent, journal) if sent.own and journal else sent.entry
     return {"outcome": outcome, "answer": sent.answer, "line": sent.line, "entry": entry,
             "mark": sent.mark, "said": said_of(said), "again": is_again}

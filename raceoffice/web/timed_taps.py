@@ -11,7 +11,7 @@ from collections.abc import Sequence
 from raceoffice.corrected.sheets import Entry, entries_of, with_seconds
 from raceoffice.corrected.times import Rules, Sheets
 from raceoffice.corrected.write_sheet import SheetOfRace, is_for_sheet
-from raceoffice.errors import NotNow, NotSent, NotThere, Trouble
+from raceoffice.errors import NotNow, NotSent, NotThere, Trouble, remark_of
 from raceoffice.program.codes import OF_JURY
 from raceoffice.remarks import remark
 from raceoffice.series.folder import Folder
@@ -21,7 +21,7 @@ from raceoffice.series.sender import not_taken
 from raceoffice.session.sending import is_meant, transmit
 from raceoffice.session.facts import Facts
 from raceoffice.terminal import sentence
-from raceoffice.web.states import Values
+from raceoffice.web.states import Values, remarks_of
 from raceoffice.web.tap_session import TapSession
 from raceoffice.web.timed_undo import lines_back
 
@@ -129,12 +129,13 @@ class TimedTap:
             unrated = sheets.unrated(self.race.number, journal)
             found = sheets.beside(self.race.number, journal, [entry.sail for entry in unrated])
         except Trouble as trouble:
-            self.session.say_of("sheet-waits", fault=sentence(trouble))
+            self.session.say_of("sheet-waits", fault=sentence(remark_of(trouble)))
             return own
         for entry in [entry for entry in unrated if self.sail in ("", entry.sail)]:
             # She alone waits for her rating.
-            fault = f"{sheet_name(self.race.number)}, row {entry.number}: {entry.sail} has no rating"
-            self.session.say_of("sheet-waits", fault=fault)
+            fault = remark("timing-9", sail=entry.sail)
+            self.session.say_of("sheet-waits", fault=remark("list-row", name=sheet_name(self.race.number), row=entry.number,
+                                                            fault=fault))
         if self.session.role == "SCORER":
             self.say_left_out(found.strangers)
         return own + [line for line in found.lines if line not in own]
@@ -186,12 +187,14 @@ def sheets_shown(folder: Folder) -> dict[int, Values]:
     races = races_with_sheet(folder) if folder.settings.handicap else []
     nights = nights_of(folder) if races else ()
     for race in races:
+        wrong: Sequence[str]
         try:
-            rows, wrong = entries_of(bytes_of(folder.file(sheet_name(race))), sheet_name(race))
+            rows, faults = entries_of(bytes_of(folder.file(sheet_name(race))), sheet_name(race))
+            wrong = [*faults]
         except (NotThere, Trouble) as trouble:
-            rows, wrong = [], [str(trouble)]
+            rows, wrong = [], trouble.said
         starts = sorted({row.cells["start"] for row in rows if row.cells["start"]})
-        found[race] = {"start": starts[0] if len(starts) == 1 else "", "wrong": wrong,
+        found[race] = {"start": starts[0] if len(starts) == 1 else "", "wrong": remarks_of(wrong),
                        "rows": {row.sail: row_shown(row, race in nights) for row in rows if row.is_timed or row.code}}
     return found
 

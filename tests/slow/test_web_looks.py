@@ -24,7 +24,7 @@ OPEN = "document.querySelector('dialog[open]') !== null"
 # Values of what the office says, and what they are of some kinds
 OF_SAID: dict[str, Value] = {
     "answer": "NO 8", "boats": 300, "coded": 12, "command": "raceoffice amended cup", "counts": 0, "digits": "101",
-    "entry": 8192, "fault": "office/places: No space left on device", "file": "entries.csv", "finished": 288,
+    "entry": 8192, "fault": remark("file-unwritten", name="office/places", why=remark("system-ENOSPC")), "file": "entries.csv", "finished": 288,
     "held": ("OCS", "ZFP"), "holds": "OCS", "line": "BEFORE 40 GBR101 NED12", "lines": ("STRIKE 40 GBR101",),
     "listed": 0, "mark": "?77", "marks": ("?77", "?78"), "missing": 300, "name": "times/race-40.csv", "next": 1,
     "number": 1000, "others": ("NED101", "FRA101"), "place": 288, "race": 40, "sail": "GBR101", "sails": ("GBR101", "NED12"),

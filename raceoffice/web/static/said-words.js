@@ -4,6 +4,7 @@
 import {hasText, ordinal, text} from "./texts.js";
 import {moveWords} from "./moves.js";
 import {refusalOf, shownValues} from "./questions.js";
+import {valueWords} from "./remark-words.js";
 
 const NUMBERED = ["entered", "taken-away", "plan"];
 // The kinds of which some values change the words; each gives the rest of the key.
@@ -21,8 +22,9 @@ const MADE = {
   "moved": values => moveWords({...values, net_before: values.before}),
 };
 
-function shown(what, values) {
+function shown(what, values, remarks) {
   const found = shownValues(values);
+  for (const [name, remark] of Object.entries(remarks)) found[name] = valueWords(name, remark);
   if (NUMBERED.includes(what)) found.n = values.boats ?? (Array.isArray(values.lines) ? values.lines.length : values.lines);
   if (what === "finished") found.place = ordinal(values.place + values.unread);
   if (what === "race-unread") found.place = ordinal(values.place);
@@ -31,11 +33,11 @@ function shown(what, values) {
 }
 
 // One thing that was said
-function wordsOfSaid({what, values, text: words}) {
+function wordsOfSaid({what, values, text: words, remarks = {}}) {
   if (what in MADE) return MADE[what](values, words);
   const key = `said.${what}${VARIANTS[what]?.(values) ?? ""}`;
   if (!what || !hasText(key)) return words.trim();
-  const found = [text(key, shown(what, values))];
+  const found = [text(key, shown(what, values, remarks))];
   if (values.unread) found.push(text("said.unreadAhead", {n: values.unread}));
   if ("entry" in values && "missing" in values) found.push(text("said.tally", values));
   return (values.entry && !("mark" in values) ? `OK ${values.entry}  ` : "") + found.join(" ");
