@@ -332,10 +332,12 @@ def run(series: Times, races: list[int], is_sent: bool) -> int:
     if series.sheet().journal != journal:
         say("Somebody else has typed meanwhile. Nothing was sent: send again.")
         return 1
-    left = series.send([Line("SCORER", line) for line in lines],
-                       lambda line, answer: say(f"   {line.text:<24} {answer}"))
+    left = series.send_each([Line("SCORER", line) for line in lines],
+                            lambda line, answer: say(f"   {line.text:<24} {answer}"))
+    if left:
+        say(f"{count(len(left), 'line')} not taken:")
     for line in left:
-        say(f"   not sent: {line}")
+        say(f"   {line}")
     return 1 if left else 0
 
 

@@ -149,6 +149,11 @@ def of_same_line(words: Words) -> str:
             "more?")
 
 
+def of_tapped_too(words: Words) -> str:
+    """Another device's tap was refused, as she was in the order by the one that is undone."""
+    return f"{words.text('by')} has tapped {words.boat()}, too. Strike her all the same?"
+
+
 def of_others(words: Words) -> str:
     """Others were recorded after a finisher was seen, and before she was."""
     others, sail = words.boats("others"), words.boat()
@@ -200,7 +205,7 @@ WORDS: dict[str, Callable[[Words], str]] = {
     "undo": of_undo,
     "drop-place": of_dropping, "keep-place-again": of_keeping,
     # Only pages ask these.
-    "sent-already": of_same_line, "others-recorded": of_others,
+    "sent-already": of_same_line, "others-recorded": of_others, "tapped-too": of_tapped_too,
     # Before an office is opened.
     "use-copy": of_copy, "not-continued": of_difference, "new-rules": of_rules,
     "take-over": of_taking_over, "remove-boat": of_removal,

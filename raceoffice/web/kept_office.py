@@ -15,7 +15,7 @@ from raceoffice.program.messages import move_text
 from raceoffice.remarks import Remark, in_a_row, remark
 from raceoffice.series import settings
 from raceoffice.series.folder import Folder, Lock, clock
-from raceoffice.series.health import disk_fault, faults, notes, summary
+from raceoffice.series.health import disk_fault, faults, journal_fault, notes, summary
 from raceoffice.series.remove_boat import also_changed, moves_without, removal_of, take_out
 from raceoffice.session.dialogue import Question
 from raceoffice.session.question_words import question
@@ -211,6 +211,9 @@ class KeptOffice:
         """Takes a boat out of the journal, for which the office is closed and opened again: the dated copy that has her
         still. What goes and whom that moves is asked while the office is open. `by` is who does."""
         fresh = self.folder_alone()
+        # Once it is closed, an office that can't be kept couldn't be opened again.
+        if fault := journal_fault(fresh) or disk_fault(fresh):
+            raise NotSent(fault)
         if asked := question_of_rules(fresh):
             ask(asked)
         wanted = question_of_removal(fresh, sail)

@@ -18,6 +18,7 @@ from raceoffice.series.kept_places import History, Places
 from raceoffice.series.lost_lines import as_kept
 from raceoffice.session.facts import Facts
 from raceoffice.session.question_words import question
+from raceoffice.session.undo import later_entry
 from raceoffice.traces import guarded
 from raceoffice.web.finish_order import line_in_order
 from raceoffice.web.states import (Values, boats_of, moves_of, races_of, rules_of, said_of, standing_of, unlisted)
@@ -326,6 +327,7 @@ class Room:
             if not self.folder.settings.handicap or len(rest) != 1:
                 raise NotSent(remark("times-form"))
             return tap.line
+        self.check_undo(session, tap)
         if "?" in first or first in ("UNDO", "ABANDON"):
             return tap.line
         if tap.undoes and not self.is_undoable(tap):
@@ -344,6 +346,19 @@ class Room:
         """The line that undoes a tap for a sheet of times; empty if it was none for one."""
         sent = self.register.sent.get(tap.undoes)
         return timed_undo(session, sent) if sent and is_timed_tap(self.folder, sent.line) else ""
+
+    def check_undo(self, session: TapSession, tap: Tap) -> None:
+        """Keeps an undo from taking back what somebody else has done: NotSent if they have changed the boat's place, or
+        code, since. If another device has tapped the same finisher, it is asked."""
+        sent, journal = self.register.sent.get(tap.undoes), session.facts.sheet.journal
+        number = number_of(sent, journal) if sent and sent.entry else 0
+        if not sent or not number:
+            return
+        if later := later_entry(session.facts, number, self.register.entries_by(sent.by, journal)):
+            raise NotSent(later)
+        if by := self.register.who_tapped_too(sent):
+            sail = sent.line.split()[2]
+            session.is_agreed(question("tapped-too", session.facts.called, sail=sail, by=by))
 
     def is_undoable(self, tap: Tap) -> bool:
         """Whether a tap that is to be undone has put an entry into the journal, or kept a place."""

@@ -17,6 +17,7 @@ from raceoffice.remarks import remark
 from raceoffice.series.folder import Folder
 from raceoffice.series.race_sheets import races_with_sheet, sheet_name
 from raceoffice.series.read_list import bytes_of
+from raceoffice.series.sender import not_taken
 from raceoffice.session.sending import is_meant, transmit
 from raceoffice.session.facts import Facts
 from raceoffice.terminal import sentence
@@ -79,13 +80,13 @@ class TimedTap:
     def are_taken(self, lines: Sequence[str]) -> bool:
         """Sends lines; whether all that the tap is about were taken. After a refusal no more is sent of that boat, and
         the others go on. The answer of a tap is that to its own boat."""
-        before, answers, stopped = self.session.answer, list[tuple[str, str]](), set[str]()
-        for sail, line in [(line.split()[2], line) for line in lines]:
-            if sail in stopped:
-                continue
-            if not transmit(self.session, line):
-                stopped.add(sail)
-            answers.append((sail, self.session.answer))
+        before, answers = self.session.answer, list[tuple[str, str]]()
+
+        def is_line_taken(line: str) -> bool:
+            is_good = transmit(self.session, line)
+            answers.append((line.split()[2], self.session.answer))
+            return is_good
+        not_taken(lines, is_line_taken)
         own = [answer for sail, answer in answers if self.sail in ("", sail)]
         refused = [answer for answer in own if answer.startswith("NO ")]
         self.session.answer = next(iter(refused or own[-1:]), before)
