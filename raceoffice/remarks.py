@@ -56,6 +56,25 @@ ENGLISH: dict[str, str | tuple[str, str] | tuple[str, str, str]] = {
     "office-lost": "the office has gone",
     "office-full": "all seats of the office are taken",
     "office-closed-to-all": "the office lets nobody in any more (CLOSED)",
+    "no-office": "no office is open",
+    "office-closing": "the office is being closed",
+    "line-before": "another line is being sent: wait",
+    "line-unanswered": "the office hasn't answered a line yet",
+    "class-opening": "this class is being opened",
+    "office-denied": "this account may not open {path}",
+    "office-unreached": "{path} can't be reached: {why}",
+    "office-owes": "the office still owes an answer",
+    "office-deaf": "the office hasn't listened for {seconds} seconds",
+    "office-no-journal": "the office doesn't show its journal: it said {said}",
+    "office-unasked": "the office said {said}, which nobody had asked for",
+    "stranger-answer": "what answers there is no office: its answer has no end",
+    "stranger-sheet": "what answers there is no office: its sheet has no end",
+    "stranger-said": "what answers there is no office: it said {said}",
+    "socket-other": "{path} is no file that an office leaves. It stays as it is",
+    "socket-open": "an office is open at {path}: find its window, and press Ctrl-C there",
+    "socket-held": "an office is still there with its last clients: it lets nobody in at {path} any more, and ends when "
+                   "they leave. The file stays until then",
+    "socket-unknown": "nobody can say whether an office is still at {path}: {why}. The file stays as it is",
     "office-none": "no office is open there",
     "office-left": "no office is open there, and the last one wasn't closed properly",
     "beware": "Beware: {said}",
@@ -161,6 +180,11 @@ ENGLISH: dict[str, str | tuple[str, str] | tuple[str, str, str]] = {
     "file-long": "{name} is longer than {most} bytes",
     "file-not-utf8": "{name} isn't UTF-8 text: save it as UTF-8",
     "why-unplain": "it is no plain file",
+    "why-not-plain": "it isn't a plain file",
+    "why-written": "another window is writing it",
+    "why-replaced": "it is being replaced",
+    "why-too-long": "it would have more than {most} bytes",
+    "why-long": "it has more than {most} bytes",
     "why-linked": "it has a second name (a hard link)",
     # What the system says, by its own names
     "system-EPERM": "Operation not permitted", "system-ENOENT": "No such file or directory",
@@ -309,6 +333,8 @@ ENGLISH: dict[str, str | tuple[str, str] | tuple[str, str, str]] = {
     "undo-lines": "no one line does it. Type {lines}",
     "undo-abandon": "race {race} was taken away by {lines}: type again what stays of it",
     # Why a place isn't kept, or nobody is put there
+    "places-line": "line {line} of office/places can't be read, and is left out. A finisher without a sail may be missing.",
+    "finisher-unwritten": "{name} can't be written: {why}. Write her down on paper",
     "places-unread": "office/places can't be read",
     "places-several": "more than one place is kept: type {marks:or} and her sail",
     "no-place": "no finisher {mark} is kept in race {race}",
@@ -470,6 +496,8 @@ def unpacked(held: Any) -> Any:
 
 
 def system_remark(cause: OSError) -> str:
-    """What the system says of a fault, which has a kind if it is a usual one."""
+    """What the system says of a fault, which has a kind if it is a usual one, or if this package found it itself."""
+    if isinstance(cause.strerror, Remark):
+        return cause.strerror
     name = errno.errorcode.get(cause.errno or 0, "")
     return remark(f"system-{name}") if f"system-{name}" in ENGLISH else str(cause.strerror)

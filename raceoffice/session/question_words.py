@@ -33,6 +33,12 @@ class Words:
         return f"RACE {self.text('race')} COUNTS ALREADY. " if self.values["counts"] else ""
 
 
+def by_whom(since: str) -> str:
+    """When and by whom something was done, in words: `11:20 Ann` as `Ann at 11:20`."""
+    time, _, name = since.partition(" ")
+    return f"{name} at {time}"
+
+
 def of_line(words: Words) -> str:
     """A line that was typed in words that may mean several."""
     return f"This may be {joined(words.all('lines'), 'or')}. Is {words.text('line')} meant?"
@@ -66,7 +72,7 @@ def of_unlisted(words: Words) -> str:
 
 def of_unknown(words: Words) -> str:
     """Finishers without a sail, each with who has kept her place."""
-    kept = [f"{mark} (kept by {since})" for mark, since in zip(words.all("marks"), words.all("since"))]
+    kept = [f"{mark} (kept by {by_whom(since)})" for mark, since in zip(words.all("marks"), words.all("since"))]
     who = "a finisher" if len(kept) == 1 else "finishers"
     return f"{joined(kept)}: {who} without a sail would be left out. Score it all the same?"
 

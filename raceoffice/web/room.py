@@ -150,7 +150,7 @@ class Room:
     def session(self, role: str) -> TapSession:
         """The session of a role, linked to the office; a Trouble if the office isn't open."""
         if self.folder.is_closing():
-            raise Trouble("the office is being closed")
+            raise Trouble(remark("office-closing"))
         if role not in self.sessions:
             self.sessions[role] = TapSession(self.folder, role, self.register, self.see)
         session = self.sessions[role]
@@ -194,12 +194,12 @@ class Room:
     def look(self) -> None:
         """Reads the journal if its file has grown, and the places that windows keep."""
         if self.folder.is_closing():
-            raise Trouble("the office is being closed")
+            raise Trouble(remark("office-closing"))
         if self.reader is None:
             self.reader = self.folder.link()
             self.log("came")
         elif heard(self.reader) is not None:
-            raise Trouble("the office has gone")
+            raise Trouble(remark("office-lost"))
         self.see(self.reader)
         if self.places.state() != self.places_seen:
             with self.looking:
@@ -217,7 +217,7 @@ class Room:
     def do(self, role: str, name: str, tap: Tap) -> Values:
         """Does a tap once; what came of it. The same tap again gets the same answer."""
         if not self.lock.acquire(timeout=PATIENCE):
-            raise Trouble("another line is being sent: wait")
+            raise Trouble(remark("line-before"))
         try:
             if done := self.done(tap):
                 return done
@@ -242,7 +242,7 @@ class Room:
                 link.close()
                 self.late.remove(link)
         if self.late:
-            raise Trouble("the office hasn't answered a line yet")
+            raise Trouble(remark("line-unanswered"))
 
     def give_up(self, session: TapSession, trouble: Trouble) -> None:
         """Leaves an office that doesn't answer, or has gone."""

@@ -52,7 +52,8 @@ OWN = {"UNDO", "ABANDON"}
 
 def being_opened() -> Wrong:
     """What a class answers before its office is there: whoever asks comes again."""
-    return Wrong(503, "this class is being opened")
+    said = remark("class-opening")
+    return Wrong(503, said, said=remarks_of([said]))
 
 
 class Routes:

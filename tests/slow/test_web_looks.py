@@ -25,10 +25,10 @@ OPEN = "document.querySelector('dialog[open]') !== null"
 OF_SAID: dict[str, Value] = {
     "answer": "NO 8", "boats": 300, "coded": 12, "command": "raceoffice amended cup", "counts": 0, "digits": "101",
     "entry": 8192, "fault": remark("file-unwritten", name="office/places", why=remark("system-ENOSPC")), "file": "entries.csv", "finished": 288,
-    "held": ("OCS", "ZFP"), "holds": "OCS", "line": "BEFORE 40 GBR101 NED12", "lines": ("STRIKE 40 GBR101",),
+    "held": ("OCS", "ZFP"), "holds": "OCS", "class_name": "fleet", "classes": ("fleet", "cruisers"), "line": "BEFORE 40 GBR101 NED12", "lines": ("STRIKE 40 GBR101",),
     "listed": 0, "mark": "?77", "marks": ("?77", "?78"), "missing": 300, "name": "times/race-40.csv", "next": 1,
     "number": 1000, "others": ("NED101", "FRA101"), "place": 288, "race": 40, "sail": "GBR101", "sails": ("GBR101", "NED12"),
-    "since": "Ann at 11:20", "state": "final", "tied": 1, "unread": 2, "why": ""}
+    "since": "11:20 Ann", "state": "final", "tied": 1, "unread": 2, "why": ""}
 OTHER_VALUES: dict[str, Value] = {"race-missing boats": ("GBR101 Ann", "NED12 Bea ZFP"), "taken-away lines": 12}
 
 # In the page: what of its words can't be read whole. A text has to be within the window, within its button, and

@@ -25,11 +25,18 @@ const MADE = {
 function shown(what, values, remarks) {
   const found = shownValues(values);
   for (const [name, remark] of Object.entries(remarks)) found[name] = valueWords(name, remark);
+  if ("since" in values) found.since = byWhom(values.since);
   if (NUMBERED.includes(what)) found.n = values.boats ?? (Array.isArray(values.lines) ? values.lines.length : values.lines);
   if (what === "finished") found.place = ordinal(values.place + values.unread);
   if (what === "race-unread") found.place = ordinal(values.place);
   if (what === "stopped") found.why = refusalOf(values.answer, values.answer);
   return found;
+}
+
+// When and by whom something was done: "11:20 Ann"; a time alone stays as it is.
+export function byWhom(since) {
+  const [time, ...name] = since.split(" ");
+  return name.length ? text("common.byWhom", {time, name: name.join(" ")}) : since;
 }
 
 // One thing that was said

@@ -6,7 +6,7 @@ import {ask, newId, now} from "./office.js";
 import {choose, say} from "./dialogs.js";
 import {agreedOf, refusalOf, wordsOf} from "./questions.js";
 import {moveOf, remarkSentences, troubleWords} from "./remark-words.js";
-import {saidWords} from "./said-words.js";
+import {byWhom, saidWords} from "./said-words.js";
 import {rulesWords} from "./rules-words.js";
 
 const TRIES = 6;
@@ -19,6 +19,7 @@ function inWords(question) {
   const rules = ([exclude, absent, scp, handicap]) => rulesWords({exclude, absent, scp, handicap: handicap === "yes"});
   const {before, now} = question.values, values = {...question.values};
   if (Array.isArray(now)) Object.assign(values, {before: rules(before), now: rules(now)});
+  if (Array.isArray(values.since)) values.since = values.since.map(byWhom);
   for (const [name, remark] of Object.entries(question.remarks ?? {})) [values[name]] = remarkSentences([remark]);
   return {...question, values};
 }
