@@ -40,6 +40,8 @@ def faults(folder: Folder) -> list[str]:
     program = Program(folder)
     if wrong := path_fault(folder) or program.fault():
         return [wrong]
+    if wrong := folder.private_fault():
+        return [sentence(wrong)]
     if wrong := journal_fault(folder):
         return [wrong]
     if not folder.kept():

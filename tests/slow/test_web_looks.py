@@ -9,10 +9,11 @@ from typing import Any
 
 import browser
 from devices import Chromium, Device
-from raceoffice.remarks import ENGLISH, Remark, Value as RemarkValue, remark
+from raceoffice.remarks import ENGLISH, Remark, Value as RemarkValue, in_a_row, remark
 from raceoffice.session.dialogue import NOTE, Said, Value
+from raceoffice.session.question_words import question
 from raceoffice.session.said_words import WORDS as SAID, said
-from raceoffice.web.states import remarks_of, said_of
+from raceoffice.web.states import question_of, remarks_of, said_of
 from stub_office import OPEN as OPEN_POINTS, StubOffice
 from test_web_texts import REMARKED_OTHERWISE, SAID_OTHERWISE, fields_of, remarks_made, values_said
 from web_office import SAILS
@@ -395,6 +396,23 @@ class Looks(Looking):
                 self.assertIn("?77", shown)
                 in_english = [one.what for one in everything if " ".join(one.text.split()) in " ".join(shown.split())]
                 self.assertEqual(in_english if language != "en" else [], [])
+                self.assertEqual(device.run(CUT), [])
+            device.close()
+
+    def test_taken_out(self) -> None:
+        """Before a boat is taken out each language says which sheets and which places that changes."""
+        also = in_a_row(remark("removal-sheets", names=["times/race-3.csv"]),
+                        remark("removal-places", places=[remark("places-of-race", marks=["?77"], race=3)]))
+        asked = question("remove-boat", str, sail="GBR7", lines=["SCORER ENTER GBR7"], moves=[], also=also)
+        for language in LANGUAGES:
+            device = self.device("scorer", 320, 640, language)
+            self.office.line = 409, {"outcome": "asked", "said": [], "question": question_of(asked)}
+            device.click("#score")
+            device.until(OPEN)
+            shown = device.text("dialog[open]")
+            with self.subTest(language=language):
+                self.assertEqual([text for text in ("times/race-3.csv", "?77", "ENTER GBR7") if text not in shown], [])
+                self.assertEqual("She is taken out" in shown, language == "en")
                 self.assertEqual(device.run(CUT), [])
             device.close()
 
