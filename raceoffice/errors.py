@@ -17,12 +17,7 @@ class Explained(Exception):
 
 
 def said_of(cause: Explained) -> str:
-    """What an exception says: the remark itself if it is one alone."""
-    return cause.said[0] if len(cause.said) == 1 else str(cause)
-
-
-def remark_of(cause: Explained) -> str:
-    """The same with the kinds of several, too."""
+    """What an exception says: the remark itself if it is one alone, and otherwise one of them all, a line each."""
     return cause.said[0] if len(cause.said) == 1 else on_lines(*cause.said)
 
 

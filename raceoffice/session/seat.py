@@ -7,7 +7,7 @@ from collections.abc import Callable, Iterable
 from dataclasses import dataclass, field
 from time import monotonic
 
-from raceoffice.errors import Gone, NotSent, Trouble, remark_of
+from raceoffice.errors import Gone, NotSent, Trouble, said_of
 from raceoffice.program.journal import Race
 from raceoffice.program.link import Link
 from raceoffice.remarks import remark
@@ -99,7 +99,7 @@ class Seat:
         try:
             self.folder.log(self.name, self.number, self.role, line, answer)
         except Trouble as trouble:
-            self.say_of("log-fault", WARNING, fault=remark_of(trouble))
+            self.say_of("log-fault", WARNING, fault=said_of(trouble))
 
     # What it knows
 
@@ -131,7 +131,7 @@ class Seat:
             wrong, what = "", "places-line"
             values: dict[str, str | int] = {"number": next(iter(self.history.faults), 0)}
         except Trouble as trouble:
-            wrong, what, values = str(trouble), "places-unread", {"fault": remark_of(trouble)}
+            wrong, what, values = str(trouble), "places-unread", {"fault": said_of(trouble)}
         if self.once.is_new("places", wrong or self.history.fault):
             self.say_of(what, WARNING, **values)
 
@@ -205,7 +205,7 @@ class Seat:
             self.drop(waiting, why)
         except NotSent as fault:
             kept = [unread.mark for unread in waiting]
-            self.say_of("still-kept", WARNING, fault=remark_of(fault), marks=kept)
+            self.say_of("still-kept", WARNING, fault=said_of(fault), marks=kept)
 
     def keep_again(self, unread: Unread) -> None:
         """Keeps a place again as it was kept before."""

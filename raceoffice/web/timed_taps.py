@@ -11,7 +11,7 @@ from collections.abc import Sequence
 from raceoffice.corrected.sheets import Entry, entries_of, with_seconds
 from raceoffice.corrected.times import Rules, Sheets
 from raceoffice.corrected.write_sheet import SheetOfRace, is_for_sheet
-from raceoffice.errors import NotNow, NotSent, NotThere, Trouble, remark_of
+from raceoffice.errors import NotNow, NotSent, NotThere, Trouble
 from raceoffice.program.codes import OF_JURY
 from raceoffice.remarks import remark
 from raceoffice.series.folder import Folder
@@ -129,7 +129,7 @@ class TimedTap:
             unrated = sheets.unrated(self.race.number, journal)
             found = sheets.beside(self.race.number, journal, [entry.sail for entry in unrated])
         except Trouble as trouble:
-            self.session.say_of("sheet-waits", fault=sentence(remark_of(trouble)))
+            self.session.say_of("sheet-waits", fault=sentence(trouble))
             return own
         for entry in [entry for entry in unrated if self.sail in ("", entry.sail)]:
             # She alone waits for her rating.

@@ -446,6 +446,26 @@ class Looks(Looking):
         device.until("document.querySelector('dialog[open]')?.textContent.includes('NED 12 ist nicht gemeldet.')")
         device.close()
 
+    def test_sheet_in_german(self) -> None:
+        """A sheet of times that can't be read, in words of the page; so is who keeps a place, and since when."""
+        self.office.classes = ["cruisers"]
+        self.office.sheet_wrong = remarks_of([remark("sheet-cell", name="times/race-2.csv", row=3, column="Ziel", written="15:07",
+                                                     wanted=remark("wanted-finish"))])
+        self.addCleanup(self.office.sheet_wrong.clear)
+        device = self.device("scorer", 390, 844, "de")
+        device.until("!!document.querySelector('#tab-times')")
+        device.click("#tab-times")
+        device.until("!!document.querySelector('.step.wrong')")
+        self.assertEqual(device.text(".step.wrong"),
+                         "times/race-2.csv, Zeile 3, Spalte Ziel: „15:07“. Nötig: eine Uhrzeit mit Sekunden, wie 15:07:31.")
+        self.office.line = 409, {"outcome": "asked", "said": [], "question": {
+            "kind": "score-unknown", "text": "", "values": {"race": 2, "marks": ["?1"], "since": ["11:20 Ann"]}}}
+        device.click("#tab-races")
+        device.click("#score")
+        device.until(OPEN)
+        self.assertIn("Ann um 11:20", device.text("dialog[open]"))
+        device.close()
+
     def test_two_classes(self) -> None:
         """Two classes at one line at 320 pixels, in each language."""
         for language in LANGUAGES:
