@@ -65,7 +65,7 @@ def remove(path: str, words: list[str]) -> int:
     folder, sail = Folder(path), entry_list.plain("".join(words))
     folder.make_private()
     if Lock(folder).is_taken() or folder.is_held():
-        raise Trouble("the office is open: close it first, by Ctrl-C in its window")
+        raise Trouble(remark("removal-open"))
     found = removal_of(folder, sail)
     if text := differences(folder):
         say(text)

@@ -386,7 +386,7 @@ def held_alone(folder: Folder) -> int:
         file = os.open(path, os.O_RDWR | os.O_CREAT | system.NO_LINK, PRIVATE_MODE)
     if not system.take_lock(file):
         os.close(file)
-        raise Served(f"{folder.path} is served to browsers already, by another raceoffice serve")
+        raise Served(remark("served-already", name=folder.path))
     return file
 
 

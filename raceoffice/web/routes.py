@@ -56,6 +56,11 @@ def being_opened() -> Wrong:
     return Wrong(503, said, said=remarks_of([said]))
 
 
+def no_such_class() -> Wrong:
+    said = remark("no-class")
+    return Wrong(404, said, said=remarks_of([said]))
+
+
 class Routes:
     """Answers requests. What is under /office/ROLE/ needs a device of that role."""
 
@@ -212,7 +217,7 @@ class Routes:
 
     def one(self, name: str) -> Class:
         if name not in self.office.classes:
-            raise being_opened() if name in self.office.to_come else Wrong(404, "there is no such class")
+            raise being_opened() if name in self.office.to_come else no_such_class()
         return self.office.classes[name]
 
     def room(self, name: str) -> Room:
@@ -253,7 +258,7 @@ class Routes:
     def export(self, form: str, some: list[Class]) -> Reply:
         """The results of a class as a file, or of all; what keeps a part from being shown is said."""
         if not (found := some or list(self.office.classes.values())):
-            raise Wrong(404, "there is no such class")
+            raise no_such_class()
         return download(form, [one.room.folder for one in found], self.office.tell)
 
     # What is written
