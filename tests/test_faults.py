@@ -100,7 +100,7 @@ class Guarded(helpers.Series):
         self.assertFalse(os.path.exists(self.faults))
 
     def test_removed_folder(self) -> None:
-        """Whoever stands in a folder that was removed is told so."""
+        """A command that is typed in a folder that was removed says so."""
         here = os.path.join(self.here, "gone")
         os.mkdir(here)
         done = subprocess.run(["sh", "-c", 'rmdir "$0" && exec "$@"', here, *helpers.COMMAND, "check", "cup"], cwd=here,
