@@ -93,11 +93,18 @@ def remove(path: str, words: list[str]) -> int:
 def also_changed(folder: Folder, found: Removal) -> str:
     """What else a removal changes, in words: sheets of times, and places that are kept again. Empty if it changes nothing
     else."""
-    sheets, ended = sheets_with(folder, found.sail), history_of(folder).ended.values()
-    again = [note.key for note in ended if note.sail == found.sail and note.entry in found.about]
+    sheets, again = sheets_with(folder, found.sail), places_kept_again(folder, found)
     said = [remark("removal-sheets", names=sheets)] if sheets else []
     said += [remark("removal-places", places=marks_of_races(again))] if again else []
     return in_a_row(*said) if said else ""
+
+
+def places_kept_again(folder: Folder, found: Removal) -> list[tuple[int, str]]:
+    """The places that were said to be her, and are kept again. If nobody can read the file of places, none are known."""
+    with contextlib.suppress(Trouble):
+        ended = history_of(folder).ended.values()
+        return [note.key for note in ended if note.sail == found.sail and note.entry in found.about]
+    return []
 
 
 def take_out(folder: Folder, found: Removal, by: str = "") -> tuple[str, str]:
