@@ -63,6 +63,7 @@ ENGLISH: dict[str, str | tuple[str, str] | tuple[str, str, str]] = {
     "class-opening": "this class is being opened",
     "no-class": "there is no such class",
     "served-already": "{name} is served to browsers already, by another raceoffice serve",
+    "served-at": "{name} is served to browsers already, at {address}",
     "folders-twice": "two of the folders are called {name}, and each needs a name of its own",
     "folder-foreign": "{name} isn't a folder of this account",
     "table-cell": "the table has a cell {said}, which isn't a score",

@@ -4,13 +4,14 @@ from __future__ import annotations
 import contextlib
 import copy
 import os
+import re
 import threading
 import time
 from collections.abc import Callable, Sequence
 
 from raceoffice import system
 from raceoffice.errors import NoSeat, NotSent, Served, Trouble, as_trouble
-from raceoffice.files import PRIVATE, PRIVATE_MODE
+from raceoffice.files import PRIVATE, PRIVATE_MODE, text_if_any
 from raceoffice.program.link import Link, Sheet
 from raceoffice.remarks import packed, remark
 from raceoffice.series.folder import Folder
@@ -34,17 +35,19 @@ LOOK, AGAIN, LATER = 0.1, 1.0, 5.0
 PATIENCE = 5.0
 # Entries of the journal that are shown.
 SHOWN = 60
+ADDRESS = re.compile("https?://[A-Za-z0-9.:_-]+/")
 
 
 class Room:
-    """A class with its office. `changed` is called when something that is shown is another."""
+    """A class with its office. `changed` is called when something that is shown is another; `address` is where it
+    is served."""
 
-    def __init__(self, folder: Folder, changed: Callable[[], None]) -> None:
+    def __init__(self, folder: Folder, changed: Callable[[], None], address: str = "") -> None:
         self.folder, self.changed = folder, changed
         # One tap at a time, and one look at a time; who needs both takes them in this order.
         self.lock, self.looking = threading.RLock(), threading.RLock()
         folder.make_private()
-        self.held = held_alone(folder)
+        self.held = held_alone(folder, address)
         try:
             self.register = Register(folder.file(PRIVATE, "web.taps"))
         except Trouble:
@@ -379,14 +382,20 @@ class Room:
             session.is_agreed(question("sent-already", session.facts.called, line=line, entry=later[-1]))
 
 
-def held_alone(folder: Folder) -> int:
-    """The file that says that a web serves this class. Two would not know of each other's taps."""
+def held_alone(folder: Folder, address: str) -> int:
+    """The file that says that a web serves this class, and where. Two would not know of each other's taps."""
     path = folder.file(PRIVATE, "web.lock")
     with as_trouble("file-unused", name=path):
         file = os.open(path, os.O_RDWR | os.O_CREAT | system.NO_LINK, PRIVATE_MODE)
     if not system.take_lock(file):
         os.close(file)
-        raise Served(remark("served-already", name=folder.path))
+        other = text_if_any(path, 200)
+        raise Served(remark("served-at", name=folder.path, address=other) if ADDRESS.fullmatch(other) else
+                     remark("served-already", name=folder.path))
+    # On a full disk nobody learns where it is served.
+    with contextlib.suppress(OSError):
+        os.ftruncate(file, 0)
+        os.pwrite(file, address.encode(), 0)
     return file
 
 

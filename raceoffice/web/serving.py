@@ -83,10 +83,9 @@ class Web:
         for folder in self.folders:
             try:
                 self.office.add(folder).office.open(ask_here)
-            except Served:
-                raise
             except Trouble as why:
-                if len(self.folders) == 1:
+                # The first folder's file of devices is that of whoever serves it. Nothing is open yet.
+                if len(self.folders) == 1 or isinstance(why, Served) and folder is self.folders[0]:
                     raise
                 self.office.leave_out(folder, why)
         if self.folders and not self.office.classes:

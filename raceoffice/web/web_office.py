@@ -73,7 +73,7 @@ class WebOffice:
         """One more class. The first one's folder keeps who may write."""
         with self.lock:
             need_own_names([*self.classes, folder.name])
-            room = Room(folder, self.news.wake)
+            room = Room(folder, self.news.wake, self.address)
             # A version is never lower than before the web was started again, also if the clock was set back.
             room.version = max(room.version, int(self.gate.clock.now() * 1000))
             office = KeptOffice(folder, lambda text: self.tell_of(folder.name, text))
