@@ -460,12 +460,17 @@ class Several(list[str]):
         return ", ".join(self) if last == "," else joined(self, last or "and")
 
 
-def remark(kind: str, /, **values: Value) -> Remark:
-    """What is said of these values, with its words."""
+def words_of(kind: str, values: Mapping[str, Value]) -> str:
+    """The English words of these values."""
     words = ENGLISH[kind]
     form = words if isinstance(words, str) else words[2 if values["n"] == 0 and len(words) == 3 else values["n"] != 1]
-    made = Remark(form.format(**{name: value if isinstance(value, (str, int)) else Several(value)
-                                 for name, value in values.items()}))
+    return form.format(**{name: value if isinstance(value, (str, int)) else Several(value)
+                          for name, value in values.items()})
+
+
+def remark(kind: str, /, **values: Value) -> Remark:
+    """What is said of these values, with its words."""
+    made = Remark(words_of(kind, values))
     made.kind, made.values = kind, values
     return made
 
