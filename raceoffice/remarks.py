@@ -187,6 +187,8 @@ ENGLISH: dict[str, str | tuple[str, str] | tuple[str, str, str]] = {
     "file-stays": "{name} can't be removed: {why}",
     "folder-unwritten": "nothing can be written in {name}: {why}",
     "file-odd-name": "{name!r} can't be the name of a file",
+    "taps-long": "{name} is longer than {most} bytes. When no device holds taps any more, move it to another folder, and serve "
+                 "the class again. A tap that a device sends again after that may be done twice, and no page can undo earlier taps",
     "file-long": "{name} is longer than {most} bytes",
     "file-not-utf8": "{name} isn't UTF-8 text: save it as UTF-8",
     "why-unplain": "it is no plain file",

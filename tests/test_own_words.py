@@ -42,7 +42,7 @@ class Outputs(ForgedPages):
                      or columns >= 40 and own_words.columns_of(line) > columns]
             self.assertEqual(wrong, [])
         self.assertEqual([line for line in found.lines if len(line) > 600], [])
-        self.assertNotIn("\u2423", "".join(found.lines) + repr(found.value))
+        self.assertNotIn("\u2423", "".join([*found.lines, str(found.value.get("why"))]))
         if found.status == verifier.VERIFIED:
             end = [line for line in found.lines if ": Beware: " not in line]
             self.assertEqual([*found.lines[-len(end):]], end)
