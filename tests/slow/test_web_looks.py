@@ -245,7 +245,7 @@ class Looking(unittest.TestCase):
         yield "results"
         self.office.line = 409, {"outcome": "asked", "said": [], "open": OPEN_POINTS, "question": {
             "kind": "announce", "text": "", "values": {"state": "amended", "table": "", "races": ["2"], "sails": [],
-                                                       "marks": ["?1"], "faults": []}}}
+                                                       "marks": ["?1"], "faults": [], "decisions": ["1 GBR101 DPI 7.0 6.0"]}}}
         device.type("#reason", "A boat is reinstated")
         device.click("#declare-amended")
         device.until(OPEN)

@@ -3,7 +3,8 @@
 import {byId, element} from "./elements.js";
 import {ordinal, text, timeOfDay} from "./texts.js";
 import {kindOf, spaced} from "./sails.js";
-import {boatOf, called, heldIn, missingFrom, raceNumbered} from "./desk.js";
+import {boatOf, called, heldIn, missingFrom, raceNumbered, state} from "./desk.js";
+import {stalePart} from "./jury-kept.js";
 import {finishers, waitingIn} from "./race-view.js";
 import {addFinisher, correct, line, resolve, toOtherRace} from "./scorer-corrections.js";
 import {correctNames, enterLate, takeOut, unlistedPart} from "./scorer-late.js";
@@ -109,6 +110,6 @@ export function racePane(number, draw) {
     element("header", {}, element("h2", {id: "race-title"}, `${text("common.race")} ${number} `),
       element("span", {class: `chip ${race.counts ? "good" : "wait"}`}, text(race.counts ? "scorer.counts" : "scorer.doesntCount")),
       element("span", {class: "soft"}, counts)),
-    actions(race, number, !rows.length), rows.length ? comparedLine(race, number) : null, missingParts(race, away),
+    actions(race, number, !rows.length), rows.length ? comparedLine(race, number) : null, missingParts(race, away), stalePart(state().decisions),
     orderTable(rows), awayPart(race, number, away), unlistedPart(), typedForm(), entriesPart());
 }

@@ -7,6 +7,7 @@ import {here, path, state} from "./desk.js";
 import {choose, say} from "./dialogs.js";
 import {agreedOf, wordsOf} from "./questions.js";
 import {remarkSentences, troubleWords, valueWords} from "./remark-words.js";
+import {verdictWords} from "./jury-kept.js";
 import {spaced} from "./sails.js";
 
 const STATES = ["provisional", "final", "amended"];
@@ -47,6 +48,10 @@ function pointWords({kind, values, text: english, remarks = {}}) {
         marks: values.marks.map((mark, at) => text("results.markInRace", {mark, race: values.races[at]}))});
     case "places-unread":
       return text("results.placesUnread", remarks.fault ? {fault: valueWords("fault", remarks.fault)} : values);
+    case "decision-stale":
+      return `${verdictWords({...values, why: remarks.why ? [remarks.why] : []})} ${remarks.why ? "" : text("jury.sendsLacking")}`.trim();
+    case "decisions-unread":
+      return remarks.fault ? remarkSentences([remarks.fault])[0] : english;
     default:
       return english;
   }
