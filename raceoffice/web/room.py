@@ -271,6 +271,7 @@ class Room:
     def settle(self) -> None:
         """Notes what came of each tap that was begun and never ended, as the journal has it now."""
         with self.lock:
+            self.register.learn(self.facts.sheet.journal)
             for sent in [one for one in self.register.sent.values() if not one.answer and one.line.split()]:
                 answer, mark = self.answer_found(sent)
                 if answer:
@@ -310,6 +311,10 @@ class Room:
         said = [[one.text, one.kind, one.what, {name: packed(value) for name, value in one.values.items()}]
                 for one in session.said]
         answer = sent.answer or (session.answer if is_timed else "") or ("NOTED" if is_taken else "NO")
+        # Whoever looked at the journal before the answer was noted hasn't learnt whose its last entries are.
+        self.register.learn(self.facts.sheet.journal)
+        if is_timed:
+            sent.own = self.register.own_of_line(sent.id, answer)
         self.register.end(sent.id, answer, session.mark, said)
         with self.looking:
             self.look_at_places()

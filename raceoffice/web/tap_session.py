@@ -123,11 +123,14 @@ class TapSession(Session):
 
     # What is noted in the register before it is done
 
+    def sent_now(self, id: str, line: str) -> Sent:
+        """What the register is to have of a line, as the journal is now."""
+        journal = self.facts.sheet.journal
+        return Sent(id, self.role, line, self.tap.at, self.name, len(journal), os.getpid(), numbers=last_numbers(journal))
+
     def note_begin(self, id: str, line: str) -> None:
         """Notes, on the disk, that a line is about to be sent, or something else to be done."""
-        journal = self.facts.sheet.journal
-        self.register.begin(Sent(id, self.role, line, self.tap.at, self.name, len(journal), os.getpid(),
-                                 numbers=last_numbers(journal)))
+        self.register.begin(self.sent_now(id, line))
 
     @property
     def is_begun(self) -> bool:
