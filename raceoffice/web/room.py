@@ -314,7 +314,8 @@ class Room:
         # Whoever looked at the journal before the answer was noted hasn't learnt whose its last entries are.
         self.register.learn(self.facts.sheet.journal)
         if is_timed:
-            sent.own = self.register.own_of_line(sent.id, answer)
+            # It has the entry of the line that was answered so.
+            sent.own = next((part.own for part in self.register.parts(sent.id) if part.answer == answer), "")
         self.register.end(sent.id, answer, session.mark, said)
         with self.looking:
             self.look_at_places()
