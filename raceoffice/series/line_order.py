@@ -15,8 +15,8 @@ HERS = "?"
 
 @dataclass(frozen=True)
 class Kept:
-    """How a place is kept: behind these boats, when the journal has so many entries, and just ahead of a boat or a
-    place that was recorded before it; `later` is empty if there is none."""
+    """How a place is kept: behind these boats, when the journal has this number of entries. `later` is the boat or the
+    place just ahead of which it comes; empty if it comes last."""
     mark: str
     behind: Collection[str]
     entries: int
