@@ -187,6 +187,8 @@ ENGLISH: dict[str, str | tuple[str, str] | tuple[str, str, str]] = {
     "file-stays": "{name} can't be removed: {why}",
     "folder-unwritten": "nothing can be written in {name}: {why}",
     "file-odd-name": "{name!r} can't be the name of a file",
+    "taps-long": "{name} is longer than {most} bytes. When no device holds taps any more, move it to another folder, and serve "
+                 "the class again. A tap that a device sends again after that may be done twice, and no page can undo earlier taps",
     "file-long": "{name} is longer than {most} bytes",
     "file-not-utf8": "{name} isn't UTF-8 text: save it as UTF-8",
     "why-unplain": "it is no plain file",
@@ -460,12 +462,17 @@ class Several(list[str]):
         return ", ".join(self) if last == "," else joined(self, last or "and")
 
 
-def remark(kind: str, /, **values: Value) -> Remark:
-    """What is said of these values, with its words."""
+def words_of(kind: str, values: Mapping[str, Value]) -> str:
+    """The English words of these values."""
     words = ENGLISH[kind]
     form = words if isinstance(words, str) else words[2 if values["n"] == 0 and len(words) == 3 else values["n"] != 1]
-    made = Remark(form.format(**{name: value if isinstance(value, (str, int)) else Several(value)
-                                 for name, value in values.items()}))
+    return form.format(**{name: value if isinstance(value, (str, int)) else Several(value)
+                          for name, value in values.items()})
+
+
+def remark(kind: str, /, **values: Value) -> Remark:
+    """What is said of these values, with its words."""
+    made = Remark(words_of(kind, values))
     made.kind, made.values = kind, values
     return made
 

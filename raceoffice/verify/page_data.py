@@ -95,7 +95,7 @@ def whole_number(text: str) -> int:
 
 
 def no_number(text: str) -> float:
-    raise ValueError(f"{text[:20]} is no whole number")
+    raise ValueError(f"{quoted(text)} is no whole number")
 
 
 def value_of(text: str) -> object:

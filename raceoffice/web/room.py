@@ -397,7 +397,7 @@ class Room:
             session.is_agreed(question("sent-already", session.facts.called, line=line, entry=later[-1]))
 
 
-def held_alone(folder: Folder, address: str) -> int:
+def held_alone(folder: Folder, address: str = "") -> int:
     """The file that says that a web serves this class, and where. Two would not know of each other's taps."""
     path = folder.file(PRIVATE, "web.lock")
     with as_trouble("file-unused", name=path):

@@ -322,7 +322,11 @@ class Routes:
     def line(self, request: Request, role: str, device: Device, room: Room) -> Reply:
         tap = tap_of(request.values())
         check_command(tap.line, role)
+        if tap.id not in room.register.sent:
+            self.gate.refused.check(device.mark)
         done = room.do(role, device.name, tap)
+        if is_idle(done):
+            self.gate.refused.pause(device.mark)
         return reply_of(done | {"version": room.version, "now": now()})
 
     def preview(self, request: Request, role: str, room: Room) -> Reply:
@@ -523,6 +527,11 @@ def tap_of(values: dict[str, Any]) -> Tap:
     if tap.at > LATEST:
         raise NotSent(remark("no-clock"))
     return tap
+
+
+def is_idle(done: Values) -> bool:
+    """Whether a tap was refused, or there was nothing to do for it: the register grows, and no journal does."""
+    return done["outcome"] == "refused" or done["outcome"] == "noted" and str(done["line"]).startswith("ABANDON ")
 
 
 def agreed_of(request: Request) -> tuple[Question, ...]:
