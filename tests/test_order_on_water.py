@@ -20,9 +20,9 @@ from raceoffice.web.taps import Tap
 from web_devices import SAILS, new_id
 
 # Races of a series, and steps in each.
-RACES, STEPS = 40, 16
-# How many sequences are tried, and from which on.
-SEQUENCES, FIRST = int(os.environ.get("SEQUENCES", "300")), int(os.environ.get("FIRST", "0"))
+RACES, STEPS = 15, 16
+# How many sequences each of three checks tries, and with which the first begins.
+SEQUENCES, FIRST = int(os.environ.get("SEQUENCES", "100")), int(os.environ.get("FIRST", "0"))
 
 
 class Water:
@@ -237,13 +237,13 @@ class AsRecorded(OnWater):
     def test_place_of_a_phone_without_a_connection(self) -> None:
         """A tap for a place arrives after finishers who crossed the line later, and were recorded by another: it is
         asked where she was, as of a boat."""
-        by_clock: dict[str, object] = {"behind": "NED12", "by_clock": True}
-        for race, more, order in ((1, by_clock, "NED12 ?1 FRA9 IRL5"), (2, {}, "NED12 FRA9 IRL5 ?1")):
+        for race, is_by_clock, order in ((1, True, "NED12 ?1 FRA9 IRL5"), (2, False, "NED12 FRA9 IRL5 ?1")):
             self.at(0, "Ann", f"FINISH {race} NED12", behind="")
             self.at(60, "Bob", f"FINISH {race} FRA9", behind="NED12")
             self.at(70, "Bob", f"FINISH {race} IRL5", behind="FRA9")
             self.assertEqual(self.at(1, "Ann", f"? {race}", behind="NED12"), (("FRA9", "IRL5"), f"BEFORE {race} ? FRA9"))
-            self.assertEqual(self.at(1, "Ann", f"? {race}", **more), "noted")
+            behind = "NED12" if is_by_clock else None
+            self.assertEqual(self.at(1, "Ann", f"? {race}", behind=behind, by_clock=is_by_clock), "noted")
             self.check(race, "?", f"{order} ?2")
         self.check(1, "?1 GBR7", "NED12 GBR7 FRA9 IRL5 ?2")
         # The clock says itself that she was after all.
@@ -389,20 +389,27 @@ class Sequence:
 
 
 class AtRandom(OnWater):
-    def test_sequences(self) -> None:
+    def check(self, first: int) -> None:
         """In each order everybody is where she crossed the line, unless the office has asked."""
         ended = 0
-        for seed in range(FIRST, FIRST + SEQUENCES):
-            race = (seed - FIRST) % RACES + 1
-            if race == 1 and seed > FIRST:
-                self.tearDown()
+        for seed in range(first, first + SEQUENCES):
+            race = (seed - first) % RACES + 1
+            if race == 1 and seed > first:
                 self.doCleanups()
                 self.setUp()
             sequence = Sequence(race, random.Random(seed), [self.phone, self.window_bob], self.seen)
             with self.subTest(seed=seed):
-                steps = sum(1 for _ in iter(lambda: len(sequence.log) < 2 * STEPS and sequence.step(), False))
-                ended += steps < STEPS // 2
-        self.assertLess(ended, SEQUENCES // 10)
+                ended += not all(sequence.step() for _ in range(STEPS))
+        self.assertLess(ended, 1 + SEQUENCES // 5)
+
+    def test_some(self) -> None:
+        self.check(FIRST)
+
+    def test_others(self) -> None:
+        self.check(FIRST + SEQUENCES)
+
+    def test_more(self) -> None:
+        self.check(FIRST + 2 * SEQUENCES)
 
 
 if __name__ == "__main__":

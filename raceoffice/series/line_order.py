@@ -51,7 +51,7 @@ class LineOrder:
         for place in kept:
             due.setdefault(min(place.entries, len(journal)), []).append(place)
         for at, line in enumerate(["", *journal]):
-            command, of, *words = [*line.split(), "", ""]
+            command, of, *words = [*line.split(), "", ""] if line.startswith(ORDERING) else ["", ""]
             if command in ORDERING and of == str(number):
                 # A journal that was edited by hand may have any line.
                 with contextlib.suppress(ValueError):
