@@ -169,7 +169,8 @@ class StubOffice:
                 for sail in SAILS]},
             "rules": lambda _: self.effect() if values else self.kept(),
             "list": lambda _: {"wrong": [], "done": remarks_of([remark("list-semicolons"), remark("list-above", n=2)]), "text": "Sail\nGBR 7\n",
-                               "heads": ["Boat", "Number"], "is_sail_known": False, "boats": [["GBR 7", "Sea Pink", "J. Hale", ""]]}}
+                               "heads": ["Boat", "Number"], "is_sail_known": False, "boats": [["GBR 7", "Sea Pink", "J. Hale", "", "1050"]],
+                               "ratings": ["PY"]}}
         first, _, rest = what.partition("/")
         if first in ("line", "declare"):
             return self.line

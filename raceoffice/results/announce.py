@@ -105,7 +105,7 @@ def of_decisions(folder: Folder, sheet: Sheet, decisions: DecisionsNow) -> list[
 
 def of_decision(folder: Folder, verdict: Verdict) -> Open:
     ruling = verdict.ruling
-    values = {"race": ruling.race, "sail": ruling.sail, "kind": ruling.kind, "how": ruling.how, "points": verdict.points,
+    values: dict[str, Value] = {"race": ruling.race, "sail": ruling.sail, "kind": ruling.kind, "how": ruling.how, "points": verdict.points,
               "held": verdict.held, "why": verdict.why or ""}
     sending = "" if verdict.why else f" `{folder.command('decisions send')}` sends what is lacking."
     return Open("decision-stale", values, f"{FILE}, line {ruling.line}: {verdict}.{sending}")

@@ -25,6 +25,7 @@ from raceoffice.session.undo import later_entry
 from raceoffice.traces import guarded
 from raceoffice.web.finish_order import line_in_order, later_in_order
 from raceoffice.web.preview import decided_shown
+from raceoffice.web.sheet_waits import with_reasons
 from raceoffice.web.states import (Values, boats_of, moves_of, races_of, rules_of, said_of, standing_of, unlisted)
 from raceoffice.web.tap_session import DROPPED, TapSession
 from raceoffice.web.taps import PLACED, Register, Sent, Tap, number_of, said_again
@@ -145,7 +146,7 @@ class Room:
     def races(self, facts: Facts) -> Values:
         """The races of which anything is recorded, with their sheets of times if the class has some."""
         moments = self.register.moments(facts.sheet.journal)
-        sheets = sheets_shown(self.folder)
+        sheets = with_reasons(self.folder, sheets_shown(self.folder))
         return {number: values | ({"sheet": sheets[int(number)]} if int(number) in sheets else {})
                 for number, values in races_of(facts, self.history.waiting, moments, sheets).items()}
 

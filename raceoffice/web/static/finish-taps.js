@@ -4,6 +4,7 @@ import {element} from "./elements.js";
 import {text} from "./texts.js";
 import {choose, dialogOf, say} from "./dialogs.js";
 import {CODES, PENALTIES, spaced} from "./sails.js";
+import {inWords} from "./queue.js";
 import {heldBy, isIn, lastBoat} from "./race-view.js";
 import {addTap, isTimed, keep, page, queue, raceNow, sailing, setMode} from "./finish-state.js";
 
@@ -111,11 +112,21 @@ function codeButton(code, words, label = code) {
 // What can be done about a finisher of the list
 export async function askFinisher(name, sail) {
   const places = [{value: "before", label: text("finish.insertAhead")}, {value: "level", label: text("finish.insertLevel")}];
-  const done = await choose(spaced(sail), [], [...(isTimed(name) ? [] : places), {value: "code", label: text("finish.codeOrPenalty")}, {value: "strike", label: text("finish.strikeHer"), look: "bad"},
+  const done = await choose(spaced(sail), whyWaiting(name, sail), [...(isTimed(name) ? [] : places), {value: "code", label: text("finish.codeOrPenalty")}, {value: "strike", label: text("finish.strikeHer"), look: "bad"},
     {value: "", label: text("common.cancel")}], "stack");
   if (done === "strike") strike(name, sail);
   else if (done === "code") askCode(name, sail);
   else if (done) setMode({kind: done, class: name, sail});
+}
+
+// Why her time is in the sheet alone: in English until the words of this language have come
+function whyWaiting(name, sail) {
+  const {waiting, sheet} = raceNow(name), said = waiting?.includes(sail) ? [...sheet.why, ...sheet.rows[sail]?.why ?? []] : [];
+  if (!said.length) return [];
+  const part = element("p", {}), show = words => { part.textContent = `${text("finish.inSheet")}: ${words}`; };
+  show(said.map(one => one.text).join("\n"));
+  inWords({said}).then(show, () => {});
+  return part;
 }
 
 function strike(name, sail) {
@@ -142,8 +153,14 @@ export async function askUnread(name, mark) {
 // The start of a race by corrected time: now, or a time of the clock.
 export async function askStart(name) {
   const field = element("input", {type: "time", step: "1", "aria-label": text("finish.startTime"), value: raceNow(name).start});
-  const done = await choose(text("finish.startOf", {number: page.races[name]}), element("label", {class: "field"}, text("finish.startTime"), field), [
-    {value: "", label: text("common.cancel")}, {value: "at", label: text("finish.startAt")}, {value: "now", label: text("finish.startNow"), look: "main"}]);
-  if (done === "now") addTap(name, "START #");
-  else if (done === "at" && field.value) addTap(name, `START # ${field.value}`);
+  const inside = [element("label", {class: "field"}, text("finish.startTime"), field)];
+  for (;;) {
+    const done = await choose(text("finish.startOf", {number: page.races[name]}), inside, [
+      {value: "", label: text("common.cancel")}, {value: "at", label: text("finish.startAt")}, {value: "now", label: text("finish.startNow"), look: "main"}]);
+    if (done === "now") addTap(name, "START #");
+    else if (done && field.value) addTap(name, `START # ${field.value}`);
+    // A time of which a part is missing is none.
+    if (!done || done === "now" || field.value) return;
+    inside[1] = element("p", {role: "alert"}, text("finish.startWhole"));
+  }
 }
