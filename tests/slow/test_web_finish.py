@@ -303,6 +303,10 @@ class Timed(WebTrial):
         """A phone, after a start at midnight."""
         ann = self.phone()
         ann.click("#start")
+        # The field has no value until the whole time is there.
+        ann.choose("at")
+        ann.until("!!document.querySelector('dialog[open] [role=alert]')")
+        self.assertEqual(ann.text("dialog [role=alert]"), "Type the whole time, as 11:05:00.")
         ann.type("dialog input", "00:00:00")
         ann.choose("at")
         ann.until("document.querySelector('#start').textContent === '00:00:00'")
@@ -344,6 +348,19 @@ class Timed(WebTrial):
         for sail, sign in (("NED12", "in the sheet only"), ("GBR101", "✓")):
             ann.until(f"document.querySelector('#list li[data-sail={sail}] .end i')?.textContent === '{sign}'")
         self.assertEqual([line.split()[3] for line in self.journal()], ["GBR101"])
+        ann.run("document.querySelector('#list li[data-sail=NED12] button').click()")
+        ann.until("!!document.querySelector('dialog[open]')")
+        self.assertRegex(ann.text("dialog[open] p"), r"^in the sheet only: entries\.csv, row 4: NED\s12 has no rating")
+        ann.choose("")
+        sue.click("#late")
+        for sure in ("", "yes"):
+            sue.type("dialog input", "DEN 5")
+            sue.choose("yes")
+            sue.until("document.querySelector('dialog[open] h2')?.textContent === 'Enter her without a rating?'")
+            sue.choose(sure)
+        sue.until("document.querySelector('dialog[open]')?.textContent.includes('DEN 5')")
+        sue.choose("yes")
+        sue.until("document.querySelector('.missing').textContent.includes('DEN 5')")
         sue.until("[...document.querySelectorAll('.waits')].some(one => one.textContent.endsWith('in the journal yet: NED 12'))")
         self.need_no_faults()
 

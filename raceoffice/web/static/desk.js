@@ -17,6 +17,14 @@ export const boatOf = sail => state()?.boats.find(boat => boat[0] === sail);
 export const path = what => `${what}/${encodeURIComponent(here)}`;
 export const send = (line, more) => sendLine(here, line, state().entries, more);
 
+// A class by its name, if there are several; "" otherwise
+export function groupOf(name) {
+  return me?.classes.length > 1 ? me.classes.find(one => one.class === name)?.group ?? "" : "";
+}
+
+// What is asked, with the class that it is about if there are several
+export const withClass = (words, name = here) => [groupOf(name), words].filter(Boolean).join(": ");
+
 // A boat by her sail and name
 export function called(sail) {
   const boat = boatOf(sail);

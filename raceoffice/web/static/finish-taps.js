@@ -6,7 +6,7 @@ import {choose, dialogOf, say} from "./dialogs.js";
 import {CODES, PENALTIES, spaced} from "./sails.js";
 import {inWords} from "./queue.js";
 import {heldBy, isIn, lastBoat} from "./race-view.js";
-import {addTap, isTimed, keep, page, queue, raceNow, sailing, setMode} from "./finish-state.js";
+import {addTap, isTimed, keep, lastTap, named, page, queue, raceNow, sailing, setMode} from "./finish-state.js";
 
 // Milliseconds: how long a finger may bounce on one boat
 const BOUNCE = 400;
@@ -79,10 +79,10 @@ export function tapUnread() {
 
 // Takes back the last tap of this device.
 export function undo() {
-  const tap = page.undoable.at(-1);
+  const tap = lastTap();
   if (!tap) return;
   const item = queue.find(tap.id), isUnsent = item && ["unsent", "asked", "refused"].includes(item.state);
-  page.undoable = page.undoable.slice(0, -1);
+  page.undoable = page.undoable.filter(one => one !== tap);
   keep("undoable", page.undoable);
   buzz(60);
   if (isUnsent) queue.drop(item);
@@ -97,7 +97,7 @@ export async function askCode(name, sail) {
   page.redraw();
   const box = element("div", {class: "codes"}, [...CODES.filter(code => code !== "DNC"), ...PENALTIES].map(code => codeButton(code, text(`code.${code}`))),
     held.length ? codeButton("CLEAR", held.join(" "), text("finish.clear")) : null);
-  const code = await choose(text("finish.whichCode", {sail: spaced(sail)}), box, [{value: "", label: text("common.cancel")}]);
+  const code = await choose(text("finish.whichCode", {sail: named(name, sail)}), box, [{value: "", label: text("common.cancel")}]);
   if (!code) return;
   buzz(35);
   if (code === "CLEAR") addTap(name, `CLEAR # ${sail}`);
@@ -112,7 +112,7 @@ function codeButton(code, words, label = code) {
 // What can be done about a finisher of the list
 export async function askFinisher(name, sail) {
   const places = [{value: "before", label: text("finish.insertAhead")}, {value: "level", label: text("finish.insertLevel")}];
-  const done = await choose(spaced(sail), whyWaiting(name, sail), [...(isTimed(name) ? [] : places), {value: "code", label: text("finish.codeOrPenalty")}, {value: "strike", label: text("finish.strikeHer"), look: "bad"},
+  const done = await choose(named(name, sail), whyWaiting(name, sail), [...(isTimed(name) ? [] : places), {value: "code", label: text("finish.codeOrPenalty")}, {value: "strike", label: text("finish.strikeHer"), look: "bad"},
     {value: "", label: text("common.cancel")}], "stack");
   if (done === "strike") strike(name, sail);
   else if (done === "code") askCode(name, sail);
@@ -136,7 +136,7 @@ function strike(name, sail) {
 
 // After a swipe or a long press
 export async function askStrike(name, sail) {
-  const done = await choose(text("finish.strikeQuestion", {sail: spaced(sail)}), text("finish.strikeMeans"),
+  const done = await choose(text("finish.strikeQuestion", {sail: named(name, sail)}), text("finish.strikeMeans"),
     [{value: "", label: text("common.no")}, {value: "yes", label: text("finish.strike"), look: "bad"}]);
   if (done === "yes") strike(name, sail);
 }

@@ -3,7 +3,7 @@
 import {byId, element} from "./elements.js";
 import {date, list, text, timeOfDay} from "./texts.js";
 import {ask, me, newId} from "./office.js";
-import {here, path, state} from "./desk.js";
+import {here, path, state, withClass} from "./desk.js";
 import {choose, say} from "./dialogs.js";
 import {agreedOf, wordsOf} from "./questions.js";
 import {remarkSentences, troubleWords, valueWords} from "./remark-words.js";
@@ -67,7 +67,7 @@ const openList = points => element("ul", {class: "waits open-points"}, points.ma
 // Declaring
 
 async function agreesTo({question, open}) {
-  const inside = [element("p", {}, wordsOf(question)), open.length ? element("h3", {}, text("results.stillOpen")) : null,
+  const inside = [element("p", {}, withClass(wordsOf(question))), open.length ? element("h3", {}, text("results.stillOpen")) : null,
     open.length ? openList(open) : null];
   return await choose(text("common.isThatRight"), inside,
     [{value: "", label: text("common.no")}, {value: "yes", label: text("common.yes"), look: "main"}]) === "yes";
