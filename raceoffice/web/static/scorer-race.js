@@ -3,7 +3,7 @@
 import {byId, element} from "./elements.js";
 import {ordinal, text, timeOfDay} from "./texts.js";
 import {kindOf, spaced} from "./sails.js";
-import {boatOf, called, heldIn, missingFrom, raceNumbered} from "./desk.js";
+import {boatOf, called, heldIn, missingFrom, raceNumbered, state} from "./desk.js";
 import {finishers, waitingIn} from "./race-view.js";
 import {addFinisher, correct, line, resolve, toOtherRace} from "./scorer-corrections.js";
 import {correctNames, enterLate, takeOut, unlistedPart} from "./scorer-late.js";
@@ -31,7 +31,12 @@ function boatRow(race, number, sail, place, placeWords) {
     element("td", {class: "place", "aria-label": placeWords}, place),
     element("th", {class: "sail", scope: "row"}, element("button", {type: "button", class: "quiet", onclick: () => correct(number, sail)}, spaced(sail))),
     element("td", {class: "name"}, [boat?.[1], boat?.[2]].filter(Boolean).join(" · ")), element("td", {}, held.map(codeTag)),
-    element("td", {class: "time", title: race.by[sail]}, timeOfDay(race.at[sail])));
+    element("td", {class: "time", title: race.by[sail]}, timeIn(race, sail)));
+}
+
+// Her finish as the sheet of times has it, or the time of her tap
+function timeIn(race, sail) {
+  return state().handicap ? race.sheet?.rows[sail]?.finish : timeOfDay(race.at[sail]);
 }
 
 function unreadRow(number, {gap, place}) {

@@ -1,0 +1,79 @@
+"""The scorer's corrections in a class by corrected time, in Chromium over the real program."""
+from __future__ import annotations
+
+import os
+import unittest
+
+import helpers
+from devices import Device
+from web_office import WebTrial
+
+SHEET = "Sail,Start,Finish\nGBR 101,14:00:00,15:00:00\nGBR 7,14:00:00,15:05:00\nNED 12,14:00:00,14:48:01\n"
+
+
+@helpers.needs_times
+class TimedCorrections(WebTrial):
+    """Elapsed times by the ratings: 3,600 s x 1.000, 3,900 s x 0.900, and 2,881 s x 1.250 = 3,601.25 s."""
+    classes = {"cup": "Sail,Boat,TCF\nGBR 101,Kestrel,1.000\nGBR 7,Sea Pink,0.900\nNED 12,Windhover,1.250\nFRA 9,Plover,0.8\n"}
+    settings = {"handicap": "yes", "zone": "UTC"}
+
+    def start(self) -> None:
+        os.makedirs(os.path.join(self.here, "cup", "times"), exist_ok=True)
+        self.write(f"[times]\nsystem = tcf\nprogram = {helpers.TIMES}\n", "cup", "times", "rules.ini")
+        super().start()
+
+    def scorer_of(self, race: int, rows: int) -> Device:
+        """The scorer's page with a race whose sheet is sent."""
+        scorer = self.device("scorer", "Bea’s laptop")
+        scorer.click(f".races [data-key='{race}']")
+        scorer.type("#typed", f"times {race}")
+        scorer.press("Send")
+        scorer.until(f"document.querySelectorAll('.order tbody tr').length === {rows}")
+        return scorer
+
+    def point(self, scorer: Device, sail: str) -> list[str]:
+        """Points at a boat; what can be done about her."""
+        scorer.click(f".order tr[data-sail={sail}] th button")
+        scorer.until("!!document.querySelector('dialog[open]')")
+        return [str(one) for one in scorer.run("[...document.querySelectorAll('dialog[open] button')].map(one => one.dataset.value)")]
+
+    def test_times(self) -> None:
+        """The page shows the finishes of the sheet. Only what has no place is offered, a finish is typed, and what isn't
+        one is asked for again: 3,960 s x 0.900, 4,200 s x 0.8."""
+        self.write(SHEET, "cup", "times", "race-1.csv")
+        scorer = self.scorer_of(1, 3)
+        self.assertEqual(scorer.texts(".order td.time"), ["15:05:00", "15:00:00", "14:48:01"])
+        self.assertEqual(self.point(scorer, "GBR7"), ["time", "strike", "code", ""])
+        scorer.choose("time")
+        scorer.until("document.querySelector('#hand-finish')?.value === '15:05:00'")
+        scorer.type("#hand-finish", "1506")
+        scorer.choose("save")
+        scorer.until("document.querySelector('dialog[open] .wrong')?.textContent.startsWith('1506 is no finish')")
+        scorer.type("#hand-finish", "150600")
+        scorer.choose("save")
+        scorer.until("document.querySelector('.order tr[data-sail=GBR7] td.time').textContent === '15:06:00'")
+        scorer.click("#add")
+        scorer.until("!!document.querySelector('dialog[open] .missing button')")
+        self.assertEqual(scorer.texts("dialog[open] .missing button"), ["FRA 9 Plover"])
+        scorer.click("dialog[open] [data-sail=FRA9]")
+        scorer.type("#hand-finish", "15.10.00")
+        scorer.choose("save")
+        scorer.until("document.querySelectorAll('.order tbody tr').length === 4")
+        self.assertEqual(self.journal()[3:], ["SCORER STRIKE 1 GBR7", "SCORER TIME 1 GBR7 3564", "SCORER TIME 1 FRA9 3360"])
+        self.need_no_faults()
+
+    def test_an_hour_of_one_digit(self) -> None:
+        """31640 is 3:16:40, on the page of times, too: 1,000 s x 0.900."""
+        self.write("Sail,Start,Finish\nGBR 101,03:00:00,\nGBR 7,03:00:00,\n", "cup", "times", "race-1.csv")
+        scorer = self.device("scorer", "Bea’s laptop")
+        scorer.click("#tab-times")
+        scorer.click("[data-hand=GBR7]")
+        scorer.type("#hand-finish", "31640")
+        scorer.choose("save")
+        scorer.until("document.querySelector('[data-hand=GBR7]')?.textContent === '03:16:40'")
+        self.assertEqual(self.journal(), ["SCORER TIME 1 GBR7 900"])
+        self.need_no_faults()
+
+
+if __name__ == "__main__":
+    unittest.main()
