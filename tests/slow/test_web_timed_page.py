@@ -62,6 +62,53 @@ class TimedCorrections(WebTrial):
         self.assertEqual(self.journal()[3:], ["SCORER STRIKE 1 GBR7", "SCORER TIME 1 GBR7 3564", "SCORER TIME 1 FRA9 3360"])
         self.need_no_faults()
 
+    def move(self, scorer: Device, sail: str, race: int) -> None:
+        """Says that finishers from a boat on belong to another race."""
+        scorer.click("#other-race")
+        scorer.until("document.querySelectorAll('dialog[open] select').length === 2")
+        for at, value in enumerate((sail, race)):
+            scorer.type(f"dialog[open] .field:{'last' if at else 'first'}-of-type select", str(value))
+        scorer.choose("yes")
+
+    def sheet(self, race: int) -> list[str]:
+        return self.text("cup", "times", f"race-{race}.csv").splitlines()
+
+    def test_another_race(self) -> None:
+        """All that was recorded in race 2 goes to race 1 with its times, its start and its codes, and nothing of it stays."""
+        self.write(SHEET.replace("Finish\n", "Finish,Code\n") + "FRA 9,14:00:00,,DNF\n", "cup", "times", "race-2.csv")
+        scorer = self.scorer_of(2, 4)
+        # The first at the line, not by corrected time
+        self.move(scorer, "NED12", 1)
+        scorer.until("document.querySelector('.races [data-key=\"1\"] small').textContent === 'open'"
+                     " && document.querySelectorAll('.order tbody tr').length === 0")
+        self.assertEqual(self.journal()[4:8], ["SCORER TIME 1 NED12 3601", "SCORER TIME 1 GBR101 3600",
+                                               "SCORER TIME 1 GBR7 3510", "SCORER MARK 1 FRA9 DNF"])
+        self.assertEqual(self.sheet(1), ["Sail,Start,Finish,Code", "GBR101,14:00:00,15:00:00,", "GBR7,14:00:00,15:05:00,",
+                                         "NED12,14:00:00,14:48:01,", "FRA9,14:00:00,,DNF"])
+        helpers.until("no start", lambda: "14:00" not in "".join(self.sheet(2)))
+        self.assertEqual(sorted(self.journal()[8:]), ["SCORER CLEAR 2 FRA9", "SCORER STRIKE 2 GBR101", "SCORER STRIKE 2 GBR7",
+                                                      "SCORER STRIKE 2 NED12"])
+        self.need_no_faults()
+
+    def test_another_start(self) -> None:
+        """A race with another start is asked about: from 14:10, GBR 7's 3,300 s x 0.900. The codes of a part stay."""
+        self.write("Sail,Start,Finish\nFRA 9,14:10:00,14:40:00\n", "cup", "times", "race-1.csv")
+        self.write(SHEET.replace("15:00:00", "DNF"), "cup", "times", "race-2.csv")
+        scorer = self.scorer_of(2, 3)
+        for choice, start, time in (("there", "14:10:00", 2970), ("own", "14:00:00", 3510)):
+            self.move(scorer, "GBR7", 1)
+            scorer.choose(choice)
+            scorer.until("document.querySelectorAll('.order tbody tr').length === 2")
+            self.assertIn(f"GBR7,{start},15:05:00,", self.sheet(1))
+            self.assertIn(f"SCORER TIME 1 GBR7 {time}", self.journal())
+            self.assertIn("FRA 9,14:10:00,14:40:00,", self.sheet(1))
+            for line in ("strike 1 gbr7", "finish 2 gbr7 15:05:00"):
+                scorer.type("#typed", line)
+                scorer.press("Send")
+                scorer.until("document.querySelector('#typed').value === ''")
+            scorer.until("document.querySelectorAll('.order tbody tr').length === 3")
+        self.need_no_faults()
+
     def test_an_hour_of_one_digit(self) -> None:
         """31640 is 3:16:40, on the page of times, too: 1,000 s x 0.900."""
         self.write("Sail,Start,Finish\nGBR 101,03:00:00,\nGBR 7,03:00:00,\n", "cup", "times", "race-1.csv")

@@ -8,9 +8,8 @@ import {called, heldIn, here, isIn, missingFrom, raceNumbered, send, state} from
 import {correctByHand} from "./finish-by-hand.js";
 import {saidWords} from "./said-words.js";
 import {findBoat} from "./boat-finder.js";
-import {linesOfLevel, linesOfMove, linesOfOtherRace, linesOfSwap} from "./corrections.js";
+import {linesOfLevel, linesOfMove, linesOfSwap} from "./corrections.js";
 
-const RACES = 40;
 const cancel = () => ({value: "", label: text("common.cancel")});
 
 // Sends a line, and says what the office said of it.
@@ -129,16 +128,4 @@ export async function addFinisher(number) {
 export async function resolve(number, mark) {
   const sail = await findBoat(text("finish.whoWas", {mark}), missingFrom(raceNumbered(number)), text("scorer.nobodyHint", {line: `${mark} ${number} none`}));
   if (sail) line(`${mark} ${number} ${sail}`);
-}
-
-// Finishers that were recorded in the wrong race
-export async function toOtherRace(number) {
-  const race = raceNumbered(number), field = element("select", {"aria-label": text("common.race")},
-    Array.from({length: RACES}, (_, at) => at + 1).filter(one => one !== number).map(one => element("option", {value: one}, one)));
-  const from = element("select", {"aria-label": text("scorer.fromBoat")}, race.order.flat().map(sail => element("option", {value: sail}, called(sail))));
-  const done = await choose(text("scorer.otherRace"), [element("label", {class: "field"}, text("scorer.fromBoat"), from),
-    element("label", {class: "field"}, text("scorer.belongTo"), field)], [cancel(), {value: "yes", label: text("scorer.putThem"), look: "main"}]);
-  if (done !== "yes") return;
-  const sails = race.order.flat(), chosen = sails.slice(sails.indexOf(from.value));
-  lines(linesOfOtherRace(race, number, Number(field.value), chosen));
 }
