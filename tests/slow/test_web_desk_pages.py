@@ -147,10 +147,10 @@ class Desks(WebTrial):
             "SCORER FINISH 3 GBR101", "SCORER FINISH 3 GBR33", "SCORER TIE 3 NED12 GBR33",
             "SCORER STRIKE 1 GBR101", "SCORER STRIKE 1 GBR33", "SCORER STRIKE 1 NED12"])
         # All of race 3 belongs to race 4, a code and a penalty, too.
-        for count, line in ((4, "mark 3 den61 ret"), (4, "penalty 3 ned12 zfp")):
+        for line in ("mark 3 den61 RET", "penalty 3 ned12 ZFP"):
             scorer.type("#typed", line)
             scorer.press("Send")
-            scorer.until(f"document.querySelector('#typed').value === '' && document.querySelectorAll('.order tbody tr').length === {count}")
+            scorer.until(f"document.querySelector('#typed').value === '' && document.querySelector('.order').textContent.includes('{line[-3:]}')")
         scorer.click("#other-race")
         scorer.until("document.querySelector('dialog[open] #codes-too')?.checked")
         scorer.run("document.querySelectorAll('dialog[open] select')[1].value = '4'")
