@@ -301,6 +301,18 @@ class Renumbered(unittest.TestCase):
         # Without her finish the tap has no entry any more.
         self.assertEqual(outcome_of(sent[finished], True, left[:3])["entry"], 0)
 
+    def test_learnt(self) -> None:
+        """The web dies before it has noted the entry of an answer. Once the next one has read the journal, the entry is
+        known to all that come later, whoever is taken out."""
+        register = self.opened()
+        unsent, id = self.begun(register, "PENALTY 1 GBR7 ZFP", 4), self.begun(register, "PENALTY 1 GBR7 ZFP", 4)
+        register.end(id, "OK 5 1 0.0")
+        self.opened().learn(self.JOURNAL)
+        left, register = [line for line in self.JOURNAL if "USA4" not in line], self.opened()
+        self.assertEqual(outcome_of(register.sent[id], True, left)["entry"], 3)
+        # It isn't taken for that of a tap that was begun before, and never sent.
+        self.assertEqual(register.found(register.sent[unsent], left), 0)
+
     def test_older_journal(self) -> None:
         """An older journal was put in place of a newer one: an entry that looks like one of a tap that was answered
         before is that of the tap that was begun since."""

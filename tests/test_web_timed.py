@@ -26,8 +26,9 @@ def moment(clock: str) -> int:
     return int(found.timestamp() * 1000) + 700
 
 
-@helpers.needs_times
-class Timed(Web):
+class Prepared(Web):
+    """The web over a class by corrected time."""
+
     def prepare(self) -> None:
         self.write(ENTRIES, "cup", "entries.csv")
         self.write(settings.filled_in({"title": "Autumn Cup", "program": helpers.PROGRAM, "zone": "UTC",
@@ -35,6 +36,9 @@ class Timed(Web):
         os.mkdir(os.path.join(self.here, "cup", "times"))
         self.write(f"[times]\nsystem = tcf\nprogram = {helpers.TIMES}\n", "cup", "times", "rules.ini")
 
+
+@helpers.needs_times
+class Timed(Prepared):
     def finish(self, device: Device, sail: str, clock: str, id: str = "") -> Any:
         return device.tap(f"FINISH 1 {sail}", id, at=moment(clock))[1]
 
@@ -341,7 +345,8 @@ class Timed(Web):
         self.finish(ann, "GBR101", "15:00:00")
         scorer.tap("ENTER USA4", agreed=[{"kind": "enter-unlisted", "values": {"sail": "USA4"}}])
         self.finish(ann, "USA4", "15:01:00")
-        self.assertEqual(self.finish(ann, "GBR7", "15:05:00")["outcome"], "taken")
+        done = self.finish(ann, "GBR7", "15:05:00", id := new_id())
+        self.assertEqual((done["outcome"], done["entry"]), ("taken", 7))
         asked = scorer.again().ask("POST", "/office/scorer/remove/cup", {"sail": "USA4", "agreed": []})[1]["question"]
         said = asked["remarks"]["also"]["values"]["said"]
         self.assertEqual([(one["kind"], one["values"]) for one in said], [("removal-sheets", {"names": ["times/race-1.csv"]})])
@@ -350,6 +355,8 @@ class Timed(Web):
                                         "NED12,14:00:00,,", "FRA9,14:00:00,,"])
         done = self.finish(ann.again(), "NED12", "14:48:01")
         self.assertEqual((done["outcome"], done["answer"]), ("taken", "OK 7 1= 0.0"), done)
+        # Her entry was the seventh.
+        self.assertEqual(self.finish(ann.again(), "GBR7", "15:05:00", id)["entry"], 6)
         self.assertEqual(self.journal(), ["FINISH TIME 1 GBR101 3600", "FINISH TIME 1 GBR7 3510", "FINISH TIME 1 NED12 3601"])
 
     def test_left_out(self) -> None:

@@ -50,6 +50,8 @@ class TapSession(Session):
         self.register, self.see = register, see
         self.said: list[Said] = []
         self.tap, self.lines, self.mark, self.answer = Tap("", ""), 0, "", ""
+        # Who finished after the one whose place the tap keeps, if somebody is recorded who did.
+        self.later = ""
         # Whether a tap may take several lines, each of which has a note of its own.
         self.is_of_several = False
         # The boats that aren't entered, whose rows in sheets of times were said to be left out.
@@ -73,7 +75,7 @@ class TapSession(Session):
         if asked.kind == "place-is":
             # Who taps a boat doesn't mean a place: that has taps of its own.
             return False
-        if asked in self.tap.agreed or self.tap.line == "UNDO" and asked.kind in MEANT_BY_UNDO:
+        if asked in self.tap.agreed or self.tap.undoes and asked.kind in MEANT_BY_UNDO:
             return True
         raise Asked(asked, self.said)
 
@@ -82,7 +84,7 @@ class TapSession(Session):
     def begin(self, tap: Tap, name: str) -> None:
         """Begins with a tap of a device."""
         self.tap, self.name, self.lines, self.mark, self.answer, self.at = tap, name, 0, "", "", None
-        self.is_of_several = tap.line.startswith("ABANDON ")
+        self.is_of_several, self.later = tap.line.startswith("ABANDON "), ""
         self.twins.end = time.monotonic() + PLACES
         self.places = Places(self.folder, name, self.twins.end)
         self.said.clear()
@@ -138,11 +140,14 @@ class TapSession(Session):
 
     # What is noted in the register before it is done
 
+    def sent_now(self, id: str, line: str) -> Sent:
+        """What the register is to have of a line, as the journal is now."""
+        journal = self.facts.sheet.journal
+        return Sent(id, self.role, line, self.tap.at, self.name, len(journal), os.getpid(), numbers=last_numbers(journal))
+
     def note_begin(self, id: str, line: str) -> None:
         """Notes, on the disk, that a line is about to be sent, or something else to be done."""
-        journal = self.facts.sheet.journal
-        self.register.begin(Sent(id, self.role, line, self.tap.at, self.name, len(journal), os.getpid(),
-                                 numbers=last_numbers(journal)))
+        self.register.begin(self.sent_now(id, line))
 
     @property
     def is_begun(self) -> bool:
@@ -190,9 +195,9 @@ class TapSession(Session):
         self.register.end(id, self.answer, self.mark)
         return self.answer
 
-    def keep(self, race: Race, typed: str, twin: Twin = Twin()) -> str:
+    def keep(self, race: Race, typed: str, twin: Twin = Twin(), later: str = "") -> str:
         self.note_begin(self.tap.id, f"{typed}? {race.number}")
-        self.mark = super().keep(race, typed, twin)
+        self.mark = super().keep(race, typed, twin, later or self.later)
         return self.mark
 
     def drop(self, waiting: list[Unread], why: str) -> None:

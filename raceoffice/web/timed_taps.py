@@ -21,6 +21,7 @@ from raceoffice.series.sender import not_taken
 from raceoffice.session.sending import is_meant, transmit
 from raceoffice.session.facts import Facts
 from raceoffice.terminal import sentence
+from raceoffice.web.row_changes import cells_of, is_answered, is_made, note_tapped_too
 from raceoffice.web.states import Values, remarks_of
 from raceoffice.web.tap_session import TapSession
 from raceoffice.web.timed_undo import lines_back
@@ -40,9 +41,9 @@ def is_timed_tap(folder: Folder, line: str) -> bool:
 class TimedTap:
     """One tap for the sheet of its race.
 
-    The web may die between any two steps. The register has the tap before the sheet is written, its lines once it
-    was, and each line before it is sent. So the same tap again doesn't write a sheet that has it already, and sends
-    what is left.
+    The web may die between any two steps. The register has the tap before the sheet is written, with what it changes
+    there, its lines once it was, and each line before it is sent. So the same tap again doesn't write a sheet that has, or
+    had, what it makes of it, and sends what is left.
     """
 
     def __init__(self, session: TapSession, line: str) -> None:
@@ -59,23 +60,40 @@ class TimedTap:
 
     def is_taken(self) -> bool:
         """Writes what was tapped into the sheet, and sends the lines that differ; whether all were taken."""
-        if not self.is_written:
-            sheet = SheetOfRace(self.folder, self.race.number)
-            before = sheet.cells(self.sail)
-            self.change(sheet)
-            # All lines of a tap are about one race: what is asked of one is asked of all.
-            if not is_meant(self.session, self.likely_line()):
-                return self.session.not_sent()
-            if not self.is_begun or before != sheet.cells(self.sail):
-                # Otherwise the sheet was written at an earlier try.
-                self.session.note_back(lines_back(self.command, self.race, self.sail, before))
-            self.session.note_begin(self.session.tap.id, " ".join([self.command, str(self.race.number), *self.rest]))
-            write(sheet)
+        if not self.is_written and not self.is_sheet_written():
+            return self.session.not_sent()
         lines = self.lines()
         if not self.is_written:
             self.session.note_lines(lines)
         self.session.is_of_several = True
         return self.are_taken(lines)
+
+    def is_sheet_written(self) -> bool:
+        """Writes what was tapped into the sheet, if that hasn't had it from an earlier try; whether that is meant."""
+        sheet, register = SheetOfRace(self.folder, self.race.number), self.session.register
+        before, sent = cells_of(sheet, self.sail), register.sent.get(self.session.tap.id)
+        if sent and is_made(register, sent, before):
+            # Somebody may have changed it since.
+            return True
+        if sent and sent.made and before != sent.was and not self.is_first_finish:
+            raise NotSent(remark("sheet-changed"))
+        self.change(sheet)
+        # All lines of a tap are about one race: what is asked of one is asked of all.
+        if not is_meant(self.session, self.likely_line()):
+            return False
+        after = cells_of(sheet, self.sail)
+        if self.sail and (not self.is_begun or before != after):
+            # An older package may have written the sheet at an earlier try.
+            self.session.note_back(lines_back(self.command, self.race, self.sail, before))
+        line = " ".join([self.command, str(self.race.number), *self.rest])
+        register.begin(dataclasses.replace(self.session.sent_now(self.session.tap.id, line), was=before, made=after))
+        write(sheet)
+        return True
+
+    @property
+    def is_first_finish(self) -> bool:
+        """Whether it takes nothing away, whatever the sheet has by now."""
+        return self.command == "FINISH" and len(self.rest) == 1
 
     def are_taken(self, lines: Sequence[str]) -> bool:
         """Sends lines; whether all that the tap is about were taken. After a refusal no more is sent of that boat, and
@@ -112,7 +130,7 @@ class TimedTap:
         elif self.command == "FINISH" and self.is_given_back:
             sheet.give_back(self.sail, self.rest[1])
         elif self.command == "FINISH":
-            sheet.finish(self.sail, *(self.rest[1:] or [clock_text(self.folder, self.session.tap.at)]))
+            self.finish(sheet)
         elif self.command == "STRIKE":
             if not (sheet.take_finish(self.sail) or self.sail in self.race.times or self.is_begun):
                 raise NotSent(remark("no-finish", boat=self.session.facts.called(self.sail), race=self.race.number))
@@ -120,6 +138,15 @@ class TimedTap:
             sheet.code(self.sail, self.rest[-1])
         elif self.command == "CLEAR":
             sheet.code(self.sail, "")
+
+    def finish(self, sheet: SheetOfRace) -> None:
+        """Gives the boat her finish. A tap at a boat that has another one is noted."""
+        try:
+            sheet.finish(self.sail, *(self.rest[1:] or [clock_text(self.folder, self.session.tap.at)]))
+        except NotSent:
+            if self.is_first_finish and sheet.cell(sheet.row(self.sail), "finish"):
+                note_tapped_too(self.session, f"FINISH {self.race.number} {self.sail}")
+            raise
 
     def lines(self) -> list[str]:
         """The lines after which the journal is as the sheet says. Without a start there are none yet."""
@@ -147,11 +174,13 @@ class TimedTap:
                 self.session.say_of("row-left-out", sail=sail, name=sheet_name(self.race.number))
 
     def own_lines(self) -> list[str]:
-        """The lines that aren't those of a finish or a code in the sheet. What somebody else has taken away since an
-        earlier try isn't taken away again."""
-        is_held = bool(self.race.held(self.sail)) or not self.is_begun
+        """The lines that aren't those of a finish or a code in the sheet. What somebody else has taken away or given since
+        an earlier try isn't taken away again."""
+        line, sent = f"{self.command} {self.race.number} {self.sail}", self.session.register.sent[self.session.tap.id]
+        # If there is nothing to clear, the office says so.
+        is_held = bool(self.race.held(self.sail)) or not self.is_begun and not sent.was.get("code")
         if self.command == "STRIKE" and self.sail in self.race.times or self.command == "CLEAR" and is_held:
-            return [f"{self.command} {self.race.number} {self.sail}"]
+            return [] if is_answered(self.session, sent) else [line]
         return []
 
 
