@@ -38,6 +38,9 @@ export function stateOf(item) {
   return page.link !== "live" || now() - item.at > LATE ? "unsent" : "way";
 }
 
+// The line of an item as the race shows it: of an undo that the office works out, the one that it most likely is
+export const shownLine = item => item.shown || item.line;
+
 // A tap that was answered goes once the race that the office shows has it.
 export function forgetIfShown(item) {
   if (item.state !== "done") return;
@@ -51,7 +54,7 @@ export function forgetIfShown(item) {
 // The race of a class that is being recorded, with the taps of this device
 export function raceNow(name) {
   const number = page.races[name];
-  const items = queue.of(name).filter(item => !["refused", "gone"].includes(item.state) && isHere(item));
+  const items = queue.of(name).filter(item => !["refused", "gone"].includes(item.state) && isHere(item)).map(item => ({...item, line: shownLine(item)}));
   const race = page.states[name]?.races?.[number];
   return withTaps(isTimed(name) ? atTheLine(race) : race, items, stateOf);
 }
@@ -68,7 +71,7 @@ export const sailing = () => page.classes.filter(one => page.races[one.class]);
 export const named = (name, sail) => [spaced(sail), page.classes.length > 1 ? page.classes.find(one => one.class === name)?.group : ""].filter(Boolean).join(" ");
 
 // Whether a line is about the race of its class that is shown
-export const isHere = ({class: name, line}) => Number(line.split(" ")[1]) === page.races[name];
+export const isHere = item => Number(shownLine(item).split(" ")[1]) === page.races[item.class];
 
 // The last tap that can be undone, of the races that are shown
 export const lastTap = () => page.undoable.findLast(isHere);
