@@ -12,6 +12,7 @@ from collections.abc import Callable, Sequence
 from raceoffice import system
 from raceoffice.errors import NoSeat, NotSent, Served, Trouble, as_trouble
 from raceoffice.files import PRIVATE, PRIVATE_MODE, text_if_any
+from raceoffice.program.journal import Race
 from raceoffice.program.link import Link, Sheet
 from raceoffice.remarks import packed, remark
 from raceoffice.series.folder import Folder
@@ -21,7 +22,7 @@ from raceoffice.session.facts import Facts
 from raceoffice.session.question_words import question
 from raceoffice.session.undo import later_entry
 from raceoffice.traces import guarded
-from raceoffice.web.finish_order import line_in_order
+from raceoffice.web.finish_order import line_in_order, later_in_order
 from raceoffice.web.states import (Values, boats_of, moves_of, races_of, rules_of, said_of, standing_of, unlisted)
 from raceoffice.web.tap_session import DROPPED, TapSession
 from raceoffice.web.taps import PLACED, Register, Sent, Tap, number_of, said_again
@@ -314,7 +315,8 @@ class Room:
         # Whoever looked at the journal before the answer was noted hasn't learnt whose its last entries are.
         self.register.learn(self.facts.sheet.journal)
         if is_timed:
-            sent.own = self.register.own_of_line(sent.id, answer)
+            # It has the entry of the line that was answered so.
+            sent.own = next((part.own for part in self.register.parts(sent.id) if part.answer == answer), "")
         self.register.end(sent.id, answer, session.mark, said)
         with self.looking:
             self.look_at_places()
@@ -336,10 +338,15 @@ class Room:
                 raise NotSent(remark("times-form"))
             return tap.line
         self.check_undo(session, tap)
+        if first.endswith("?") and len(rest) == 1 and tap.behind is not None:
+            session.later = self.later_of_place(session, tap, rest[0])
         if "?" in first or first in ("UNDO", "ABANDON"):
             return tap.line
         if tap.undoes and not self.is_undoable(tap):
             raise NotSent(remark("undo-nothing"))
+        if tap.undoes and self.register.sent[tap.undoes].line.startswith("STRIKE "):
+            # Only the office knows where she was among the places that are kept.
+            return "UNDO"
         typed, times = with_typed_times(self.folder, tap.line)
         line = session.line(typed)
         if self.is_for_sheet(tap.id, line, session.role):
@@ -349,6 +356,15 @@ class Room:
             line = line_in_order(session.facts, moments, tap, line)
         self.ask_again(session, tap, line)
         return line
+
+    def later_of_place(self, session: TapSession, tap: Tap, number: str) -> str:
+        """Who finished after the one whose place a tap keeps; empty if nobody who is recorded did."""
+        race = session.facts.race(number).number
+        order = session.history.order(race).standing(session.unread.marks(race))
+        moments = self.register.moments(self.facts.sheet.journal)
+        times = {sail: at for (of, sail), (at, _) in moments.items() if of == race}
+        times |= {mark: at for (of, mark), at in self.register.moments_of_places().items() if of == race}
+        return later_in_order(session.facts, times, tap, Race(race, order))
 
     def line_of_undo(self, session: TapSession, tap: Tap) -> str:
         """The line that undoes a tap for a sheet of times; empty if it was none for one."""

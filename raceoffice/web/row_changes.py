@@ -35,7 +35,7 @@ def cells_of(sheet: SheetOfRace, sail: str) -> Cells:
 def taps_since(register: Register, sent: Sent) -> list[Sent]:
     """The taps for the same row that were begun after another, in their order."""
     later = itertools.takewhile(lambda one: one is not sent, reversed(register.sent.values()))
-    return [one for one in later if one.made and row_of(one.line) == row_of(sent.line)][::-1]
+    return [one for one in later if "/" not in one.id and row_of(one.line) == row_of(sent.line)][::-1]
 
 
 def is_made(register: Register, sent: Sent, now: Cells) -> bool:
@@ -43,13 +43,14 @@ def is_made(register: Register, sent: Sent, now: Cells) -> bool:
     had then."""
     if row_of(sent.line) is None:
         return True
-    since = taps_since(register, sent)
-    return bool(sent.made) and (since[0].was if since else now) == sent.made
+    # Only taps for the sheet have noted what it had.
+    since = [one.was for one in taps_since(register, sent) if one.made]
+    return bool(sent.made) and (since[0] if since else now) == sent.made
 
 
 def is_answered(session: TapSession, sent: Sent) -> bool:
     """Whether the journal has another line about the same of the boat since a tap was begun."""
-    own = {one.own for one in session.register.sent.values() if main_of(one) == sent.id}
+    own = {part.own for part in session.register.parts(sent.id)}
     return any(sent.is_before(entry, number) and entry not in own and is_about_same(sent.line, entry.split(maxsplit=3)[3])
                for number, entry in enumerate(session.facts.sheet.journal, 1))
 

@@ -49,6 +49,8 @@ class TapSession(Session):
         self.register, self.see = register, see
         self.said: list[Said] = []
         self.tap, self.lines, self.mark, self.answer = Tap("", ""), 0, "", ""
+        # Who finished after the one whose place the tap keeps, if somebody is recorded who did.
+        self.later = ""
         # Whether a tap may take several lines, each of which has a note of its own.
         self.is_of_several = False
         # The boats that aren't entered, whose rows in sheets of times were said to be left out.
@@ -92,7 +94,7 @@ class TapSession(Session):
         if asked.kind == "place-is":
             # Who taps a boat doesn't mean a place: that has taps of its own.
             return False
-        if asked in self.tap.agreed or self.tap.line == "UNDO" and asked.kind in MEANT_BY_UNDO:
+        if asked in self.tap.agreed or self.tap.undoes and asked.kind in MEANT_BY_UNDO:
             return True
         raise Asked(asked, self.said)
 
@@ -101,7 +103,7 @@ class TapSession(Session):
     def begin(self, tap: Tap, name: str) -> None:
         """Begins with a tap of a device."""
         self.tap, self.name, self.lines, self.mark, self.answer, self.at = tap, name, 0, "", "", None
-        self.is_of_several = tap.line.startswith("ABANDON ")
+        self.is_of_several, self.later = tap.line.startswith("ABANDON "), ""
         self.twins.end = time.monotonic() + PLACES
         self.places = Places(self.folder, name, self.twins.end)
         self.said.clear()
@@ -199,9 +201,9 @@ class TapSession(Session):
         self.register.end(id, self.answer, self.mark)
         return self.answer
 
-    def keep(self, race: Race, typed: str, twin: Twin = Twin()) -> str:
+    def keep(self, race: Race, typed: str, twin: Twin = Twin(), later: str = "") -> str:
         self.note_begin(self.tap.id, f"{typed}? {race.number}")
-        self.mark = super().keep(race, typed, twin)
+        self.mark = super().keep(race, typed, twin, later or self.later)
         return self.mark
 
     def drop(self, waiting: list[Unread], why: str) -> None:

@@ -157,7 +157,7 @@ class TimedTap:
             sheet.code(self.sail, "")
 
     def finish(self, sheet: SheetOfRace) -> None:
-        """Gives the boat her finish. Who has tapped a boat that has another one is noted."""
+        """Gives the boat her finish. A tap at a boat that has another one is noted."""
         try:
             sheet.finish(self.sail, *(self.rest[1:] or [clock_text(self.folder, self.session.tap.at)]))
         except NotSent:

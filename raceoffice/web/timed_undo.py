@@ -88,9 +88,7 @@ def line_back(session: TapSession, sent: Sent) -> str:
 
 def need_last(session: TapSession, sent: Sent) -> None:
     """NotSent if something was recorded about the same boat and race since a tap."""
-    parts, at = session.register.sent, 1
-    while (part := parts.get(f"{sent.id}/{at}")) and part.line != sent.line:
-        at += 1
+    part = next((part for part in session.register.parts(sent.id) if part.line == sent.line), None)
     number = number_of(part, session.facts.sheet.journal) if part else 0
     if number and (later := later_entry(session.facts, number)):
         raise NotSent(later)

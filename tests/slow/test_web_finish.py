@@ -196,6 +196,7 @@ class Finish(WebTrial):
         ann.until("document.querySelector('#link').dataset.state === 'away'")
         ben.tap("GBR33")
         self.settle(ben)
+        ann.click("#unread")
         ann.tap("GBR7")
         ann.tap("NED12")
         ben.tap("FRA9")
@@ -204,15 +205,15 @@ class Finish(WebTrial):
         self.settle(ben)
         line.mend()
         ann.until("!!document.querySelector('dialog[open]')")
-        self.assertIn("Where did GBR 7 finish?", ann.text("dialog"))
-        self.assertIn("By the clock GBR 7 is just ahead of FRA 9.", ann.text("dialog"))
+        self.assertIn("Where did ? finish?", ann.text("dialog"))
+        self.assertIn("By the clock ? is just ahead of FRA 9.", ann.text("dialog"))
         ann.choose("clock")
         ann.until("document.querySelectorAll('#list li.refused').length === 1")
         self.assertIn("She is in the finishing order of this race already.", ann.text("#list li.refused"))
         self.assertEqual(self.journal(), ["FINISH FINISH 1 GBR101", "FINISH FINISH 1 GBR33", "FINISH FINISH 1 FRA9",
                                           "FINISH FINISH 1 NED12", "FINISH BEFORE 1 GBR7 FRA9"])
-        ben.until("document.querySelectorAll('#list li').length === 5")
-        self.assertEqual(ben.texts(ROWS), ["GBR 101", "GBR 33", "GBR 7", "FRA 9", "NED 12"])
+        ben.until("document.querySelectorAll('#list li').length === 6")
+        self.assertEqual(ben.texts(ROWS), ["GBR 101", "GBR 33", "?1", "GBR 7", "FRA 9", "NED 12"])
 
 
     def test_a_first_visit(self) -> None:
