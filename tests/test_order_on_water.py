@@ -193,6 +193,16 @@ class AsRecorded(OnWater):
         self.check(5, "FINISH FRA9, ?, FINISH IRL5, STRIKE FRA9, BEFORE FRA9 IRL5", "?1 FRA9 IRL5")
         self.assertEqual(self.phone.asked, ["?1"])
 
+    def test_ahead_of_one_place_alone(self) -> None:
+        """A boat finishes after one place and ahead of the next, as somebody says. One that was behind a place last isn't
+        asked about."""
+        self.check(1, "FINISH FRA9, ?, ?, STRIKE FRA9", "?1 ?2")
+        self.window_bob.answers = [True, False]
+        self.window_bob.send(1, "FINISH 1 FRA9")
+        self.assertEqual((self.window_bob.asked, self.seen(1)), (["?1", "?2"], [["?1"], ["FRA9"], ["?2"]]))
+        self.check(2, "FINISH FRA9, ?, FINISH IRL5, STRIKE FRA9, FINISH FRA9, STRIKE IRL5, STRIKE FRA9, FINISH FRA9", "?1 FRA9")
+        self.assertEqual(self.phone.asked, [])
+
     def test_struck_and_another_place(self) -> None:
         """A boat that was struck is said to be one who finished later."""
         self.check(1, "FINISH NED12, ?, ?, STRIKE NED12, ?2 NED12", "?1 NED12")

@@ -89,7 +89,8 @@ class LineOrder:
     def ahead_of(self, mark: str) -> set[str]:
         """The boats ahead of a place, and those that were and aren't in the order."""
         now = {sail for group in self.groups for sail in self.boats(group)}
-        return {sail for group in self.groups[:self.at(mark) + 1] for sail in self.boats(group)} | (self.ahead[mark] - now)
+        first = {sail for group in self.groups[:self.at(mark) + 1] for sail in self.boats(group)}
+        return first | (self.ahead[mark] - now)
 
     def ahead_before(self, line: str) -> list[str]:
         """The places that a boat was ahead of when she was struck, and that she would come behind by this line if it
@@ -119,7 +120,8 @@ class LineOrder:
         self.ahead[place.mark] = set(place.behind)
         if is_there:
             return
-        at = max((at for at, group in enumerate(self.groups, 1) if set(place.behind) & set(self.boats(group))), default=0)
+        behind = set(place.behind)
+        at = max((at for at, group in enumerate(self.groups, 1) if behind & set(self.boats(group))), default=0)
         while at < len(self.groups) and not self.boats(self.groups[at]):
             at += 1
         with contextlib.suppress(ValueError):
@@ -173,7 +175,8 @@ class LineOrder:
     def is_ahead(self, sail: str, mark: str) -> bool:
         """Whether a boat that was struck was ahead of all places from there to this one."""
         end = self.at(mark) + 1 if mark in self.ahead else 0
-        return all(sail in self.ahead[other] for group in self.groups[self.at(sail):end] for other in filter(is_mark, group))
+        marks = [name for group in self.groups[self.at(sail):end] for name in group if is_mark(name)]
+        return all(sail in self.ahead[other] for other in marks)
 
     def is_alone(self, name: str, at: int) -> bool:
         """Whether no boat is where somebody of the list is, nor between there and where a line would put her."""

@@ -301,6 +301,9 @@ class Room:
 
     def done_now(self, session: TapSession, tap: Tap) -> Values:
         """Does a tap; what came of it."""
+        if tap.undoes:
+            # What came of that one is known before it is undone.
+            self.done(Tap(tap.undoes, ""))
         line = self.line_of(session, tap)
         is_timed = self.is_for_sheet(tap.id, line, session.role)
         is_taken = TimedTap(session, line).is_taken() if is_timed else session.is_tap_taken(line)
@@ -402,8 +405,10 @@ class Room:
         if words[0] in PLACED and race and race.is_in_order(words[2]):
             # The office refuses it (8).
             return
-        commands, wanted = session.facts.commands, as_kept(line)
-        later = [at for at, text in enumerate(commands[tap.seen:], tap.seen + 1) if text == wanted]
+        commands, wanted, journal = session.facts.commands, as_kept(line), session.facts.sheet.journal
+        # A finisher whose tap was undone may be tapped again on the same device.
+        own = self.register.entries_by(session.name, journal) if words[0] in PLACED else ()
+        later = [at for at, text in enumerate(commands[tap.seen:], tap.seen + 1) if text == wanted and journal[at - 1] not in own]
         if later:
             session.is_agreed(question("sent-already", session.facts.called, line=line, entry=later[-1]))
 

@@ -531,7 +531,7 @@ def tap_of(values: dict[str, Any]) -> Tap:
 
 def is_idle(done: Values) -> bool:
     """Whether a tap was refused, or there was nothing to do for it: the register grows, and no journal does."""
-    return done["outcome"] == "refused" or done["outcome"] == "noted" and str(done["line"]).startswith("ABANDON ")
+    return done["outcome"] == "refused" or done["outcome"] == "noted" and str(done["line"]).startswith(("ABANDON ", "UNDO"))
 
 
 def agreed_of(request: Request) -> tuple[Question, ...]:

@@ -27,6 +27,8 @@ from raceoffice.web.taps import Register, Sent, Tap, last_numbers, number_of
 
 # How the register has a place that was dropped, or kept again.
 DROPPED, KEPT_AGAIN = "NONE", "AGAIN"
+# How the register has a tap that was undone before it came, and an undo that had nothing to take back.
+UNDONE = "UNDO"
 # Seconds for which a tap waits, in all, for windows that write places: one may have been stopped. Others wait for the tap.
 PLACES = 2.0
 # What isn't asked of somebody who taps Undo.
@@ -127,9 +129,22 @@ class TapSession(Session):
         return keep_or_send(self, mark, [word.lower() for word in rest[1:]])
 
     def undo_tap(self) -> bool:
-        """Takes back what another tap has done."""
-        self.done = self.done_by(self.register.sent.get(self.tap.undoes))
+        """Takes back what another tap has done. One of which nothing came isn't done any more, should it still come."""
+        sent = self.register.sent.get(self.tap.undoes)
+        if self.tap.undoes and self.is_without_effect(sent):
+            if sent is None or not sent.answer:
+                self.note_begin(self.tap.undoes, UNDONE)
+                self.register.end(self.tap.undoes, "NOTED")
+            return True
+        self.done = self.done_by(sent)
         return undo(self)
+
+    def is_without_effect(self, sent: Sent | None) -> bool:
+        """Whether a tap is known to have done nothing. By corrected time a line may be refused, or be without an answer,
+        and its sheet be written."""
+        if sent is None or sent.line == UNDONE:
+            return True
+        return not self.folder.settings.handicap and not sent.answer.startswith(("OK ", "NOTED"))
 
     def done_by(self, sent: Sent | None) -> Done:
         """What a tap has done; NotSent if nothing stands of it."""

@@ -146,6 +146,20 @@ class Desks(WebTrial):
         self.assertEqual(self.journal()[-6:], [
             "SCORER FINISH 3 GBR101", "SCORER FINISH 3 GBR33", "SCORER TIE 3 NED12 GBR33",
             "SCORER STRIKE 1 GBR101", "SCORER STRIKE 1 GBR33", "SCORER STRIKE 1 NED12"])
+        # All of race 3 belongs to race 4, a code and a penalty, too.
+        for line in ("mark 3 den61 RET", "penalty 3 ned12 ZFP"):
+            scorer.type("#typed", line)
+            scorer.press("Send")
+            scorer.until(f"document.querySelector('#typed').value === '' && document.querySelector('.order').textContent.includes('{line[-3:]}')")
+        scorer.click("#other-race")
+        scorer.until("document.querySelector('dialog[open] #codes-too')?.checked")
+        scorer.run("document.querySelectorAll('dialog[open] select')[1].value = '4'")
+        scorer.choose("yes")
+        scorer.until("document.querySelectorAll('.order tbody tr').length === 0")
+        self.assertEqual(self.journal()[-10:], [
+            "SCORER FINISH 4 GBR101", "SCORER FINISH 4 GBR33", "SCORER TIE 4 NED12 GBR33", "SCORER PENALTY 4 NED12 ZFP",
+            "SCORER CLEAR 3 NED12", "SCORER MARK 4 DEN61 RET", "SCORER CLEAR 3 DEN61",
+            "SCORER STRIKE 3 GBR101", "SCORER STRIKE 3 GBR33", "SCORER STRIKE 3 NED12"])
         self.need_no_faults()
 
     def point(self, scorer: Device, sail: str, what: str, how: str, other: str) -> None:

@@ -37,6 +37,9 @@ export function stateOf(item) {
   return page.link !== "live" || now() - item.at > LATE ? "unsent" : "way";
 }
 
+// The line of an item as the race shows it: of an undo that the office works out, the one that it most likely is
+export const shownLine = item => item.shown || item.line;
+
 // A tap that was answered goes once the race that the office shows has it.
 export function forgetIfShown(item) {
   if (item.state !== "done") return;
@@ -50,7 +53,7 @@ export function forgetIfShown(item) {
 // The race of a class that is being recorded, with the taps of this device
 export function raceNow(name) {
   const number = page.races[name];
-  const items = queue.of(name).filter(item => !["refused", "gone"].includes(item.state)
+  const items = queue.of(name).map(item => ({...item, line: shownLine(item)})).filter(item => !["refused", "gone"].includes(item.state)
     && Number(item.line.split(" ")[1]) === number);
   const race = page.states[name]?.races?.[number];
   return withTaps(isTimed(name) ? atTheLine(race) : race, items, stateOf);

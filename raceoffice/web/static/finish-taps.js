@@ -80,12 +80,22 @@ export function tapUnread() {
 export function undo() {
   const tap = page.undoable.at(-1);
   if (!tap) return;
-  const item = queue.find(tap.id), isUnsent = item && ["unsent", "asked", "refused"].includes(item.state);
+  const item = queue.find(tap.id), isOpen = queue.unsent.includes(item);
   page.undoable = page.undoable.slice(0, -1);
   keep("undoable", page.undoable);
   buzz(60);
-  if (isUnsent) queue.drop(item);
+  if (item?.state === "refused" || isOpen && !item.isSent) queue.drop(item);
+  else if (isOpen) undoSent(tap, item);
   else addTap(tap.class, tap.back || "UNDO", {undoes: tap.id});
+}
+
+// Takes back a tap that was sent and not answered: the office alone knows whether it has taken it.
+function undoSent(tap, item) {
+  // A sheet of times may be half written: such a tap is done whole before it is taken back.
+  const isLeft = isTimed(tap.class) && item.state !== "asked";
+  if (!isLeft) item.state = "gone";
+  addTap(tap.class, "UNDO", {undoes: tap.id, shown: tap.back});
+  if (!isLeft) queue.drop(item);
 }
 
 // A code or a penalty for a boat
