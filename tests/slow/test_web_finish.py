@@ -303,10 +303,6 @@ class Timed(WebTrial):
         """A phone, after a start at midnight."""
         ann = self.phone()
         ann.click("#start")
-        # The field has no value until the whole time is there.
-        ann.choose("at")
-        ann.until("!!document.querySelector('dialog[open] [role=alert]')")
-        self.assertEqual(ann.text("dialog [role=alert]"), "Type the whole time, as 11:05:00.")
         ann.type("dialog input", "00:00:00")
         ann.choose("at")
         ann.until("document.querySelector('#start').textContent === '00:00:00'")
@@ -362,6 +358,47 @@ class Timed(WebTrial):
         sue.choose("yes")
         sue.until("document.querySelector('.missing').textContent.includes('DEN 5')")
         sue.until("[...document.querySelectorAll('.waits')].some(one => one.textContent.endsWith('in the journal yet: NED 12'))")
+        self.need_no_faults()
+
+    def test_a_sail_that_was_not_read(self) -> None:
+        """The moment of ? stays on the phone, also while the page is away, and is her finish once she is known. Undo of that
+        asks again who she was; a ? that was nobody's, or is undone, leaves nothing."""
+        ann = self.started()
+        ann.tap("GBR101")
+        ann.click("#unread")
+        ann.until("document.querySelector('#list li.unread')?.innerText.includes('?1')")
+        moment = ann.texts("#list li.unread .end b")[0]
+        ann.until("new Date().toTimeString().slice(0, 8) > " + repr(moment))
+        ann.tap("NED12")
+        self.settle(ann)
+        ann.reload()
+        ann.until("document.querySelectorAll('#list li').length === 3")
+        self.assertEqual(ann.texts("#list li .sail"), ["GBR 101", "?1", "NED 12"])
+        for after in ("undo", "rest"):
+            ann.click("#list li.unread button")
+            ann.choose("known")
+            ann.tap("GBR7")
+            self.settle(ann)
+            ann.until("!document.querySelector('#list li.unread')")
+            self.assertIn(f"GBR7,00:00:00,{moment},", self.text("cup", "times", "race-1.csv"))
+            self.assertEqual(ann.texts("#list li .sail"), ["GBR 101", "GBR 7", "NED 12"])
+            if after == "undo":
+                ann.click("#undo")
+                self.settle(ann)
+                ann.until("document.querySelectorAll('#list li.unread').length === 1")
+                self.assertIn("GBR7,00:00:00,,", self.text("cup", "times", "race-1.csv"))
+                # A finger that bounces is none.
+                ann.run("new Promise(done => setTimeout(done, 500))")
+        ann.click("#unread")
+        ann.until("document.querySelector('#list li.unread')?.innerText.includes('?2')")
+        ann.click("#undo")
+        ann.until("!document.querySelector('#list li.unread')")
+        ann.run("new Promise(done => setTimeout(done, 500))")
+        ann.click("#unread")
+        ann.click("#list li.unread button")
+        ann.choose("drop")
+        ann.until("!document.querySelector('#list li.unread')")
+        self.assertEqual(self.journal().count("FINISH STRIKE 1 GBR7"), 1)
         self.need_no_faults()
 
     def test_strike_is_undone(self) -> None:
