@@ -2,8 +2,7 @@
 // What the scorer's and the jury's page share: their classes, what the office shows of each, and lines.
 import {byId, element, fill} from "./elements.js";
 import {languageField, loadTexts, text} from "./texts.js";
-import {comeIn, followNews, me} from "./office.js";
-import {stateFollower} from "./states.js";
+import {comeIn, followNews, me, stateFollower} from "./office.js";
 import {sendLine} from "./sending.js";
 import {spaced} from "./sails.js";
 

@@ -76,7 +76,7 @@ function keepMoments(moments) {
 
 export function addMoment(name) {
   const one = {id: newId(), class: name, race: page.races[name], mark: `?${momentsOf(name).length + 1}`, at: now()};
-  noteUndoable({id: one.id, class: name, line: "?"});
+  noteUndoable({id: one.id, class: name, line: `? ${one.race}`});
   keepMoments([...page.moments, one]);
 }
 
@@ -103,7 +103,7 @@ export function isTimed(name) {
 export const sailing = () => page.classes.filter(one => page.races[one.class]);
 
 // A sail, with her class if there are several: two may have one sail
-export const named = (name, sail) => [spaced(sail), page.classes.length > 1 ? page.classes.find(one => one.class === name)?.group : ""].filter(Boolean).join(" ");
+export const named = (name, sail) => page.classes.length > 1 ? `${spaced(sail)} ${page.classes.find(one => one.class === name).group}` : spaced(sail);
 
 // Whether a line is about the race of its class that is shown
 export const isHere = item => Number(shownLine(item).split(" ")[1]) === page.races[item.class];

@@ -4,7 +4,6 @@ import {element} from "./elements.js";
 import {text} from "./texts.js";
 import {choose, dialogOf, say} from "./dialogs.js";
 import {CODES, PENALTIES, spaced} from "./sails.js";
-import {inWords} from "./queue.js";
 import {heldBy, isIn, lastBoat} from "./race-view.js";
 import {addMoment, addTap, endMoment, isTimed, keep, lastTap, named, page, queue, raceNow, sailing, setMode, undoMoment} from "./finish-state.js";
 
@@ -131,13 +130,10 @@ export async function askFinisher(name, sail) {
   else if (done) setMode({kind: done, class: name, sail});
 }
 
-// Why her time is in the sheet alone: in English until the words of this language have come
+// Why her time is in the sheet alone, once that has come
 function whyWaiting(name, sail) {
-  const {waiting, sheet} = raceNow(name), said = waiting?.includes(sail) ? [...sheet.why, ...sheet.rows[sail]?.why ?? []] : [];
-  if (!said.length) return [];
-  const part = element("p", {}), show = words => { part.textContent = `${text("finish.inSheet")}: ${words}`; };
-  show(said.map(one => one.text).join("\n"));
-  inWords({said}).then(show, () => {});
+  const {waiting, sheet} = raceNow(name), part = element("p", {});
+  if (waiting?.includes(sail)) import("./sheet-why.js").then(({showWhy}) => showWhy(part, sheet, sail)).catch(() => {});
   return part;
 }
 

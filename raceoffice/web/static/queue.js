@@ -13,7 +13,7 @@ const WAITING = ["unsent", "sending", "asked"];
 const pauseAfter = tries => Math.min(5000, 500 * 2 ** tries);
 
 // Why a tap isn't taken, in words that this page fetches only then
-export async function inWords(said) {
+async function inWords(said) {
   const [{troubleWords}] = await Promise.all([import("./remark-words.js"), loadRest()]);
   return troubleWords(said);
 }
