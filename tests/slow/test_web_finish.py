@@ -345,7 +345,7 @@ class Timed(WebTrial):
             ann.until(f"document.querySelector('#list li[data-sail={sail}] .end i')?.textContent === '{sign}'")
         self.assertEqual([line.split()[3] for line in self.journal()], ["GBR101"])
         ann.run("document.querySelector('#list li[data-sail=NED12] button').click()")
-        ann.until("!!document.querySelector('dialog[open]')")
+        ann.until("!!document.querySelector('dialog[open] p')?.textContent")
         self.assertRegex(ann.text("dialog[open] p"), r"^in the sheet only: entries\.csv, row 4: NED\s12 has no rating")
         ann.choose("")
         sue.click("#late")
