@@ -156,6 +156,12 @@ def of_tapped_too(words: Words) -> str:
     return f"{words.text('by')} has tapped {words.boat()}, too. Strike her all the same?"
 
 
+def of_start(words: Words) -> str:
+    """A start that was tapped before the race got another one, and that comes later."""
+    return (f"Race {words.text('race')} has another start by now: {words.text('start')}. Put {words.text('written')} in its "
+            "place?")
+
+
 def of_others(words: Words) -> str:
     """Others were recorded after a finisher was seen, and before she was."""
     others, sail = words.boats("others"), words.boat()
@@ -208,6 +214,7 @@ WORDS: dict[str, Callable[[Words], str]] = {
     "drop-place": of_dropping, "keep-place-again": of_keeping,
     # Only pages ask these.
     "sent-already": of_same_line, "others-recorded": of_others, "tapped-too": of_tapped_too,
+    "start-since": of_start,
     # Before an office is opened.
     "use-copy": of_copy, "not-continued": of_difference, "new-rules": of_rules,
     "take-over": of_taking_over, "remove-boat": of_removal,
