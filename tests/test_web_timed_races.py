@@ -54,7 +54,7 @@ class Races(Prepared):
         ann, scorer = self.device("finish"), self.device("scorer")
         ann.tap("FINISH 1 GBR101", at=moment("15:00:00"))
         asked = ann.tap("ABANDON 1")[1]["question"]
-        self.assertEqual((asked["kind"], asked["values"]), ("abandon", {"race": 1, "lines": [], "marks": []}))
+        self.assertEqual((asked["kind"], asked["values"]), ("clear-sheet", {"race": 1}))
         self.assertEqual(ann.tap("ABANDON 1", agreed=[asked])[0], 200)
         ann.tap("START 1 16:00")
         self.assertEqual((self.journal(), self.sheet()[1]), ([], "GBR101,16:00:00,,"))

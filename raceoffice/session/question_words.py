@@ -115,9 +115,11 @@ def of_redress(words: Words) -> str:
 
 
 def of_abandoning(words: Words) -> str:
-    if words.all("lines"):
-        return "Send them?"
-    return "Drop the places?" if words.all("marks") else f"Clear the sheet of times of race {words.text('race')}?"
+    return "Send them?" if words.all("lines") else "Drop the places?"
+
+
+def of_clearing(words: Words) -> str:
+    return f"Clear the sheet of times of race {words.text('race')}?"
 
 
 def of_place(words: Words) -> str:
@@ -209,6 +211,7 @@ WORDS: dict[str, Callable[[Words], str]] = {
     "score-unknown": of_unknown, "score-only-codes": of_codes, "score-penalised": of_penalties,
     "score-missing": of_missing, "unscore": of_unscore, "correction": of_correction,
     "clear-several": of_clear, "redress-unplaced": of_redress, "abandon": of_abandoning,
+    "clear-sheet": of_clearing,
     "place-is": of_place, "place-unanswered": of_unanswered, "finished-after": of_finished_after,
     "undo": of_undo,
     "drop-place": of_dropping, "keep-place-again": of_keeping,
