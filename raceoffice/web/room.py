@@ -14,6 +14,7 @@ from raceoffice.errors import NoSeat, NotSent, Served, Trouble, as_trouble
 from raceoffice.files import PRIVATE, PRIVATE_MODE, text_if_any
 from raceoffice.program.journal import Race
 from raceoffice.program.link import Link, Sheet
+from raceoffice.program.standing import Standing
 from raceoffice.remarks import packed, remark
 from raceoffice.series.folder import Folder
 from raceoffice.series.kept_places import History, Places
@@ -26,7 +27,7 @@ from raceoffice.web.finish_order import line_in_order, later_in_order
 from raceoffice.web.states import (Values, boats_of, moves_of, races_of, rules_of, said_of, standing_of, unlisted)
 from raceoffice.web.tap_session import DROPPED, TapSession
 from raceoffice.web.taps import PLACED, Register, Sent, Tap, number_of, said_again
-from raceoffice.web.timed_taps import TimedTap, is_timed_tap, sheets_shown, with_typed_times
+from raceoffice.web.timed_taps import TimedTap, boats_waiting, is_timed_tap, sheets_shown, with_typed_times
 from raceoffice.web.timed_undo import timed_undo
 
 # Seconds between two looks at whether the journal has grown, and between two tries at an office that isn't
@@ -304,7 +305,9 @@ class Room:
         if tap.undoes:
             # What came of that one is known before it is undone.
             self.done(Tap(tap.undoes, ""))
-        line = self.line_of(session, tap)
+        line, before, last = self.line_of(session, tap), self.facts.standing, self.last
+        if line.startswith("SCORE ") and (waiting := boats_waiting(self.folder, self.facts.race(line.split()[1]))):
+            session.say_of("sheet-waits", fault=", ".join(map(self.facts.called, waiting)))
         is_timed = self.is_for_sheet(tap.id, line, session.role)
         is_taken = TimedTap(session, line).is_taken() if is_timed else session.is_tap_taken(line)
         sent = self.register.sent.get(tap.id)
@@ -323,8 +326,15 @@ class Room:
         self.register.end(sent.id, answer, session.mark, said)
         with self.looking:
             self.look_at_places()
+            if session.is_of_several:
+                self.last = self.change_of(before, sent.line, session.role) or last
         self.news()
         return outcome_of(sent, False, self.facts.sheet.journal)
+
+    def change_of(self, before: Standing, line: str, role: str) -> Values:
+        """Whom a tap of several lines has moved in all, as each of them alone has moved others; empty if nobody."""
+        moves = moves_of(before, self.facts.standing, self.facts)
+        return {"at": int(time.time() * 1000), "moves": moves, "line": line, "role": role} if moves else {}
 
     def line_of(self, session: TapSession, tap: Tap) -> str:
         """The line of a tap, of which it is clear that it is meant, and where a finisher belongs."""

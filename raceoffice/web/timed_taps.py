@@ -11,6 +11,7 @@ from raceoffice.corrected.times import Rules, Sheets
 from raceoffice.corrected.write_sheet import SheetOfRace, is_for_sheet
 from raceoffice.errors import NotNow, NotSent, NotThere, Trouble
 from raceoffice.program.codes import OF_JURY
+from raceoffice.program.journal import Race
 from raceoffice.program.replay import Line
 from raceoffice.remarks import remark
 from raceoffice.series.folder import Folder
@@ -251,6 +252,12 @@ def sheets_shown(folder: Folder) -> dict[int, Values]:
         found[race] = {"start": starts[0] if len(starts) == 1 else "", "wrong": remarks_of(wrong),
                        "rows": {row.sail: row_shown(row, race in nights) for row in rows if row.is_timed or row.code}}
     return found
+
+
+def boats_waiting(folder: Folder, race: Race) -> list[str]:
+    """The boats whose times or codes are in the sheet of a race, and not in the journal."""
+    rows = sheets_shown(folder).get(race.number, {}).get("rows")
+    return [sail for sail in rows if sail not in race.times and sail not in race.codes] if isinstance(rows, dict) else []
 
 
 def races_waiting(folder: Folder, facts: Facts, sail: str) -> list[int]:

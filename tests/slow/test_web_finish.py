@@ -347,6 +347,25 @@ class Timed(WebTrial):
         sue.until("[...document.querySelectorAll('.waits')].some(one => one.textContent.endsWith('in the journal yet: NED 12'))")
         self.need_no_faults()
 
+    def test_a_start_that_is_odd(self) -> None:
+        """A start that isn't typed whole is asked for again, and one that is still to come is asked about."""
+        ann = self.phone()
+        ann.click("#start")
+        ann.until("!!document.querySelector('dialog[open] input')")
+        ann.choose("at")
+        ann.until("document.querySelector('dialog[open] .wrong')?.textContent.includes('11:05:00')")
+        for answer, start in (("", "Start"), ("yes", "23:59:59")):
+            ann.type("dialog[open] input", "23:59:59")
+            ann.choose("at")
+            ann.until("document.querySelector('dialog[open] h2')?.textContent.endsWith('Is the start at 23:59:59?')")
+            ann.choose(answer)
+            ann.until(f"!document.querySelector('dialog[open]') && document.querySelector('#start').textContent === '{start}'")
+            if not answer:
+                ann.click("#start")
+        self.settle(ann)
+        self.assertIn("GBR101,23:59:59,,", self.text("cup", "times", "race-1.csv"))
+        self.need_no_faults()
+
     def test_a_sail_that_was_not_read(self) -> None:
         """The moment of ? stays on the phone, also while the page is away, and is her finish once she is known. Undo of that
         asks again who she was; a ? that was nobody's, or is undone, leaves nothing."""

@@ -151,12 +151,3 @@ export async function askUnread(name, mark) {
   if (done === "drop" && isTimed(name)) endMoment(name, mark, "");
   else if (done === "drop") addTap(name, `${mark} # NONE`);
 }
-
-// The start of a race by corrected time: now, or a time of the clock.
-export async function askStart(name) {
-  const field = element("input", {type: "time", step: "1", "aria-label": text("finish.startTime"), value: raceNow(name).start});
-  const done = await choose(text("finish.startOf", {number: page.races[name]}), element("label", {class: "field"}, text("finish.startTime"), field), [
-    {value: "", label: text("common.cancel")}, {value: "at", label: text("finish.startAt")}, {value: "now", label: text("finish.startNow"), look: "main"}]);
-  if (done === "now") addTap(name, "START #");
-  else if (done === "at" && field.value) addTap(name, `START # ${field.value}`);
-}
