@@ -5,6 +5,7 @@ from __future__ import annotations
 import contextlib
 import unittest
 from collections.abc import Sequence
+from typing import Any
 
 from raceoffice.errors import Trouble
 from raceoffice.web.room import Room
@@ -50,7 +51,8 @@ class Correction(Trial):
         try:
             with contextlib.suppress(Trouble):
                 room.look()
-            return [line for one in room.state(True)["unfinished"] for line in one["lines"]]
+            unfinished: Any = room.state(True)["unfinished"]
+            return [line for one in unfinished for line in one["lines"]]
         finally:
             room.close()
             self.settle()
