@@ -20,7 +20,7 @@ from raceoffice.series.entry_list import plain
 from raceoffice.series.folder import Folder
 from raceoffice.session.confirm import questions
 from raceoffice.session.dialogue import Question
-from raceoffice.session.parse import COMMANDS, MAY
+from raceoffice.session.parse import COMMANDS, FIRST, MAY
 from raceoffice.terminal import sentence
 from raceoffice.traces import guarded
 from raceoffice.web import (boat_names, corrections, new_series, preview, qr, rulings, series_beside, series_settings,
@@ -570,7 +570,8 @@ def check_command(line: str, role: str) -> None:
     """Only lines of the role's own kinds reach a session: no ROLE, SHOW or QUIT."""
     first, *rest = line.split() or [""]
     command = COMMANDS.get(first, first)
-    if rest and rest[-1] in COMMANDS and command not in MAY[role]:
+    if rest and rest[-1] in COMMANDS and first not in FIRST:
+        # A boat, and then her code
         command = COMMANDS[rest[-1]]
     own = OWN | ({"START", "TIMES"} if "FINISH" in MAY[role] else set())
     if command not in MAY[role] | own and "?" not in command:
