@@ -381,7 +381,7 @@ class Lines(unittest.TestCase):
         """A refusal stops the lines about that boat alone, and the answer is that to the boat of the tap."""
         answers = {"STRIKE 1 A": "NO 7", "TIME 1 B 20": "OK 8", "TIME 1 C 30": "OK 9"}
         for sail, answer in (("B", "OK 8"), ("A", "NO 7"), ("", "NO 7"), ("C", "OK 9"), ("D", "before")):
-            session, sent = mock.Mock(answer="before"), []
+            session, sent = mock.MagicMock(answer="before"), []
 
             def transmit(seat: Any, line: str) -> bool:
                 sent.append(line)

@@ -115,7 +115,9 @@ def of_redress(words: Words) -> str:
 
 
 def of_abandoning(words: Words) -> str:
-    return "Send them?" if words.all("lines") else "Drop the places?"
+    if words.all("lines"):
+        return "Send them?"
+    return "Drop the places?" if words.all("marks") else f"Clear the sheet of times of race {words.text('race')}?"
 
 
 def of_place(words: Words) -> str:

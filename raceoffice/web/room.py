@@ -283,7 +283,7 @@ class Room:
         """The answer to something that was begun and never ended, by the journal or by the places that are
         kept; and the place that it is about. Empty if nothing came of it."""
         first, *rest = sent.line.split()
-        if "/" not in sent.id and is_timed_tap(self.folder, sent.line):
+        if "/" not in sent.id and self.is_for_sheet(sent.id, sent.line, sent.role):
             # It may take several lines, each of which has a note of its own: what is left of them is still to be done.
             return "", ""
         if "?" not in first:
@@ -306,7 +306,7 @@ class Room:
             # What came of that one is known before it is undone.
             self.done(Tap(tap.undoes, ""))
         line = self.line_of(session, tap)
-        is_timed = is_timed_tap(self.folder, line)
+        is_timed = self.is_for_sheet(tap.id, line, session.role)
         is_taken = TimedTap(session, line).is_taken() if is_timed else session.is_tap_taken(line)
         sent = self.register.sent.get(tap.id)
         if sent is None:
@@ -353,7 +353,7 @@ class Room:
             return "UNDO"
         typed, times = with_typed_times(self.folder, tap.line)
         line = session.line(typed)
-        if is_timed_tap(self.folder, line):
+        if self.is_for_sheet(tap.id, line, session.role):
             return f"{line} {times}".rstrip()
         if line.startswith("FINISH "):
             moments = self.register.moments(self.facts.sheet.journal)
@@ -373,7 +373,12 @@ class Room:
     def line_of_undo(self, session: TapSession, tap: Tap) -> str:
         """The line that undoes a tap for a sheet of times; empty if it was none for one."""
         sent = self.register.sent.get(tap.undoes)
-        return timed_undo(session, sent) if sent and is_timed_tap(self.folder, sent.line) else ""
+        return timed_undo(session, sent) if sent and self.is_for_sheet(sent.id, sent.line, sent.role) else ""
+
+    def is_for_sheet(self, id: str, line: str, role: str) -> bool:
+        """Whether a tap is one for a sheet of times. A decision's lines are the office's alone: so it takes nothing out of a
+        sheet, and all that it took away can be given back."""
+        return is_timed_tap(self.folder, line, role) and not self.register.is_of_decision(id)
 
     def check_undo(self, session: TapSession, tap: Tap) -> None:
         """Keeps an undo from taking back what somebody else has done: NotSent if they have changed the boat's place, or

@@ -13,6 +13,7 @@ from raceoffice.corrected.times import Rules, Sheets
 from raceoffice.corrected.write_sheet import SheetOfRace, is_for_sheet
 from raceoffice.errors import NotNow, NotSent, NotThere, Trouble
 from raceoffice.program.codes import OF_JURY
+from raceoffice.program.replay import Line
 from raceoffice.remarks import remark
 from raceoffice.series.folder import Folder
 from raceoffice.series.race_sheets import races_with_sheet, sheet_name
@@ -32,10 +33,11 @@ DAY = 86400
 TIMED = ("START", "TIMES", "FINISH", "ELAPSED", "STRIKE", "MARK", "CLEAR")
 
 
-def is_timed_tap(folder: Folder, line: str) -> bool:
-    """Whether a tap is one for the sheet. What the jury gives is none."""
+def is_timed_tap(folder: Folder, line: str, role: str) -> bool:
+    """Whether a tap is one for the sheet. What the jury gives is none, and of what is in a sheet it clears codes alone."""
     words = line.split() or [""]
-    return folder.settings.handicap and words[0] in TIMED and not (words[0] == "MARK" and words[-1] in OF_JURY)
+    taps = ("CLEAR",) if role == "JURY" else TIMED
+    return folder.settings.handicap and words[0] in taps and not (words[0] == "MARK" and words[-1] in OF_JURY)
 
 
 class TimedTap:
@@ -60,11 +62,15 @@ class TimedTap:
 
     def is_taken(self) -> bool:
         """Writes what was tapped into the sheet, and sends the lines that differ; whether all were taken."""
+        sent = self.session.register.sent.get(self.session.tap.id)
+        if self.is_decided and not (sent and sent.made):
+            # The office refuses it, and says why.
+            return transmit(self.session, " ".join([self.command, str(self.race.number), *self.rest]))
         if not self.is_written and not self.is_sheet_written():
             return self.session.not_sent()
         lines = self.lines()
         if not self.is_written:
-            self.session.note_lines(lines)
+            self.session.note_lines([Line(self.role_of(line), line) for line in lines])
         self.session.is_of_several = True
         return self.are_taken(lines)
 
@@ -91,6 +97,16 @@ class TimedTap:
         return True
 
     @property
+    def is_decided(self) -> bool:
+        """Whether only the jury may change what she holds."""
+        is_of_jury = self.race.codes.get(self.sail) in OF_JURY or self.sail in self.race.redress
+        return self.session.role != "JURY" and self.command in ("MARK", "CLEAR") and is_of_jury
+
+    def role_of(self, line: str) -> str:
+        """The role that sends a line: what the sheet gives back of a boat that the jury clears is the committee's."""
+        return "SCORER" if self.session.role == "JURY" and not line.startswith("CLEAR ") else self.session.role
+
+    @property
     def is_first_finish(self) -> bool:
         """Whether it takes nothing away, whatever the sheet has by now."""
         return self.command == "FINISH" and len(self.rest) == 1
@@ -101,7 +117,8 @@ class TimedTap:
         before, answers = self.session.answer, list[tuple[str, str]]()
 
         def is_line_taken(line: str) -> bool:
-            is_good = transmit(self.session, line)
+            with self.session.in_role(self.role_of(line)):
+                is_good = transmit(self.session, line)
             answers.append((line.split()[2], self.session.answer))
             return is_good
         not_taken(lines, is_line_taken)
@@ -165,7 +182,8 @@ class TimedTap:
                                                             fault=fault))
         if self.session.role == "SCORER":
             self.say_left_out(found.strangers)
-        return own + [line for line in found.lines if line not in own]
+        others = [line for line in found.lines if line not in own]
+        return own + [line for line in others if self.session.role != "JURY" or line.split()[2] == self.sail]
 
     def say_left_out(self, sails: Sequence[str]) -> None:
         """Says whose rows are left out, until they are others once."""
