@@ -140,7 +140,8 @@ class Room:
             "boats": boats_of(facts), "races": self.races(facts)}
         if is_whole:
             found |= {"standing": standing_of(facts.standing), "last": self.last,
-                      "unlisted": unlisted(facts), "journal": facts.sheet.journal[-SHOWN:]}
+                      "unlisted": unlisted(facts), "journal": facts.sheet.journal[-SHOWN:],
+                      "unfinished": self.register.unfinished(facts.sheet.journal)}
         return found
 
     def races(self, facts: Facts) -> Values:
