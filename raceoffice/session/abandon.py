@@ -23,7 +23,9 @@ def abandon(seat: Seat, race: Race) -> bool:
         seat.say_of("nothing-there", race=race.number)
         return True
     seat.tell_all(plan_said(seat.facts, race, plan, kept, seat.prefix))
-    if not seat.ask(seat.question("abandon", race=race.number, lines=plan.lines, marks=kept)):
+    asked = seat.question("abandon", race=race.number, lines=plan.lines, marks=kept) if plan.lines or kept else \
+        seat.question("clear-sheet", race=race.number)
+    if not seat.ask(asked):
         return seat.not_sent()
     if sheet:
         # What it had would be sent again by the next tap.

@@ -71,6 +71,15 @@ def preview(folder: Folder, facts: Facts, lines: Sequence[Line]) -> Values:
             "counts": any(race in facts.standing.races for race in map(race_of, lines))}
 
 
+def why_refused(folder: Folder, facts: Facts, lines: Sequence[Line]) -> Sequence[str]:
+    """Why the program would refuse one of these lines; empty if it takes them all."""
+    try:
+        scored(folder.program, options_of(folder), facts.sheet.journal, lines)
+    except Trouble as trouble:
+        return trouble.said
+    return ()
+
+
 def effect_of_rules(folder: Folder, facts: Facts, options: list[str]) -> Values:
     """Whom other rules would move, by a replay of the journal that is on the disk, and which decisions would be
     out of date; or why the program refuses them."""

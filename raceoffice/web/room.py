@@ -141,6 +141,7 @@ class Room:
         if is_whole:
             found |= {"standing": standing_of(facts.standing), "last": self.last,
                       "unlisted": unlisted(facts), "journal": facts.sheet.journal[-SHOWN:],
+                      "unfinished": self.register.unfinished(facts.sheet.journal),
                       "decisions": decided_shown(self.decisions.look(facts.sheet))}
         return found
 

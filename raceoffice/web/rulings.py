@@ -20,7 +20,7 @@ from raceoffice.web.room import Room
 from raceoffice.web.series_settings import tag_of
 from raceoffice.web.states import Values, remarks_of
 from raceoffice.web.tap_session import Asked
-from raceoffice.web.taps import PART, NoTap, Tap
+from raceoffice.web.taps import NoTap, Tap, part_id
 
 
 def ruled(room: Room, values: Mapping[str, Any], is_begun: bool = False) -> preview.Ruled:
@@ -124,4 +124,4 @@ def tap_of(values: Mapping[str, Any]) -> Tap:
 
 def part_of(tap: Tap, at: int, line: str = "") -> Tap:
     """The tap of one line of a decision."""
-    return Tap(f"{tap.id[:-PART]}{at:0{PART}x}", line, tap.at, agreed=tap.agreed)
+    return Tap(part_id(tap.id, at), line, tap.at, agreed=tap.agreed)

@@ -3,9 +3,7 @@ of that goes to the office as lines."""
 from __future__ import annotations
 
 import dataclasses
-import datetime
 import functools
-import zoneinfo
 from collections.abc import Sequence
 
 from raceoffice.corrected.sheets import Entry, entries_of, with_seconds
@@ -23,6 +21,7 @@ from raceoffice.series.sender import not_taken
 from raceoffice.session.sending import is_meant, transmit
 from raceoffice.session.facts import Facts
 from raceoffice.terminal import sentence
+from raceoffice.web.race_start import by_clock_of_start, clock_of_race, clock_text, was_given_before
 from raceoffice.web.row_changes import cells_of, is_answered, is_made, note_tapped_too
 from raceoffice.web.states import Values, remarks_of
 from raceoffice.web.tap_session import TapSession
@@ -138,9 +137,7 @@ class TimedTap:
     def change(self, sheet: SheetOfRace) -> None:
         """Changes the sheet as it was tapped; NotSent if that can't be."""
         if self.command == "START":
-            text = self.rest[0] if self.rest else clock_text(self.folder, self.session.tap.at)
-            self.rest = [text]
-            sheet.start(text, self.session.facts.boats)
+            self.start(sheet)
         elif self.command == "TIMES" and not sheet.rows:
             raise NotSent(remark("no-sheet", race=self.race.number))
         elif self.command == "ELAPSED":
@@ -157,14 +154,31 @@ class TimedTap:
         elif self.command == "CLEAR":
             sheet.code(self.sail, "")
 
+    def start(self, sheet: SheetOfRace) -> None:
+        """Gives the race its start. If it has had another one since the tap, that is asked."""
+        register, at, before = self.session.register, self.session.tap.at, sheet.starts
+        text = self.rest[0] if self.rest else clock_text(self.folder, at)
+        self.rest = [text]
+        sheet.start(text, self.session.facts.boats)
+        if before != sheet.starts and before and not was_given_before(register, self.race.number, before[0], at):
+            self.session.is_yes(self.session.question("start-since", race=self.race.number, start=before[0],
+                                                      written=sheet.starts[0]))
+        by_clock_of_start(self.folder, register, self.race.number, sheet, at)
+
     def finish(self, sheet: SheetOfRace) -> None:
         """Gives the boat her finish. A tap at a boat that has another one is noted."""
         try:
-            sheet.finish(self.sail, *(self.rest[1:] or [clock_text(self.folder, self.session.tap.at)]))
+            sheet.finish(self.sail, *(self.rest[1:] or [self.clock(sheet)]))
         except NotSent:
             if self.is_first_finish and sheet.cell(sheet.row(self.sail), "finish"):
                 note_tapped_too(self.session, f"FINISH {self.race.number} {self.sail}")
             raise
+
+    def clock(self, sheet: SheetOfRace) -> str:
+        """The moment of the tap by the clock of the race."""
+        own = with_seconds("start", sheet.cell(sheet.row(self.sail), "start"))
+        start = own or (sheet.starts[0] if len(sheet.starts) == 1 else "")
+        return clock_of_race(self.folder, self.session.register, self.race.number, start, self.session.tap.at)
 
     def lines(self) -> list[str]:
         """The lines after which the journal is as the sheet says. Without a start there are none yet."""
@@ -219,13 +233,6 @@ def with_typed_times(folder: Folder, typed: str) -> tuple[str, str]:
     if not folder.settings.handicap or words[:1] != ["FINISH"] or not times or len(words) != 3 + len(times):
         return typed, ""
     return " ".join(words[:3]), " ".join(times)
-
-
-def clock_text(folder: Folder, at: int) -> str:
-    """A moment as the clock of the race office shows it, in the zone of the series."""
-    zone = folder.settings.zone
-    moment = datetime.datetime.fromtimestamp(at / 1000, datetime.timezone.utc)
-    return moment.astimezone(zoneinfo.ZoneInfo(zone) if zone else None).strftime("%H:%M:%S")
 
 
 def sheets_shown(folder: Folder) -> dict[int, Values]:

@@ -13,7 +13,7 @@ const VARIANTS = {
   "redress-unplaced": values => values.a53 ? ".a53" : "",
   "announce": values => values.state === "final" ? "" : `.${values.state}`,
   "take-over": values => values.since ? ".since" : "",
-  "abandon": values => values.lines.length ? "" : values.marks.length ? ".places" : ".sheet",
+  "abandon": values => values.lines.length ? "" : ".places",
   "others-recorded": values => (values.others.length ? "" : ".changed") + (values.ahead ? ".ahead" : ""),
 };
 // Values that are sails, and those whose number chooses between one and several
