@@ -14,7 +14,7 @@ from web_office import BOATS, FOLKBOATS, WebTrial, entries_of, finishes
 
 ROWS = "#list li .sail"
 # What is by sail, and may be empty
-ANY = {"at", "by", "codes", "penalties", "redress", "times", "last", "asked", "decisions"}
+ANY = {"at", "by", "codes", "penalties", "redress", "times", "last", "asked", "decisions", "unfinished"}
 UNSENT = "document.querySelectorAll('#list li.unsent').length === {}"
 
 
