@@ -76,7 +76,7 @@ function keepMoments(moments) {
 
 export function addMoment(name) {
   const one = {id: newId(), class: name, race: page.races[name], mark: `?${momentsOf(name).length + 1}`, at: now()};
-  noteUndoable({id: one.id, class: name, line: "?"});
+  noteUndoable({id: one.id, class: name, line: `? ${one.race}`});
   keepMoments([...page.moments, one]);
 }
 
