@@ -11,6 +11,7 @@ import {findBoat} from "./boat-finder.js";
 import {agreedOf} from "./questions.js";
 import {agrees} from "./sending.js";
 import {line} from "./scorer-corrections.js";
+import {sendTimesAgain} from "./scorer-retimed.js";
 
 const FIELDS = {name: "scorer.boatName", helm: "new.helm", club: "new.club", rating: "scorer.rating"};
 // Letters of a name
@@ -41,8 +42,10 @@ function namesIn(fields) {
 
 async function putIntoList(sail, names, was = {}) {
   const done = await ask(path("listed"), {sail: spaced(sail), ...names, was}, LONG);
-  if (done.status === 200) say(text("scorer.isListed", {sail: spaced(sail)}));
-  else say(`${text("scorer.isNotListed", {sail: spaced(sail)})}\n${troubleWords(done)}`, true);
+  if (done.status === 200) {
+    say(text("scorer.isListed", {sail: spaced(sail)}));
+    if (names.rating) sendTimesAgain(sail);
+  } else say(`${text("scorer.isNotListed", {sail: spaced(sail)})}\n${troubleWords(done)}`, true);
 }
 
 // Whether a boat has a rating, needs none, or is meant to have none
