@@ -48,11 +48,19 @@ async function putIntoList(sail, names, was = {}) {
   } else say(`${text("scorer.isNotListed", {sail: spaced(sail)})}\n${troubleWords(done)}`, true);
 }
 
+// Whether a boat has a rating, needs none, or is meant to have none
+async function isRatingMeant(field) {
+  return !field || field.value.trim() !== "" || await choose(text("scorer.noRating"), text("scorer.noRatingMeans"),
+    [button("", text("common.no")), button("yes", text("common.yes"), "main")]) === "yes";
+}
+
 // Asks for a boat, enters her, and puts her names into the list once that was taken.
 export async function enterLate() {
   const fields = await nameFields(), sail = element("input", {placeholder: "GBR 123", autocomplete: "off"});
   const inside = [text("scorer.lateMeans"), element("label", {class: "field"}, text("common.sail"), sail), ...shown(fields)];
-  const done = await choose(text("scorer.lateEntry"), inside, [button("", text("common.cancel")), button("yes", text("scorer.enterHer"), "main")]);
+  const asked = () => choose(text("scorer.lateEntry"), inside, [button("", text("common.cancel")), button("yes", text("scorer.enterHer"), "main")]);
+  let done = await asked();
+  while (done === "yes" && !await isRatingMeant(fields.rating)) done = await asked();
   const typed = sail.value.replace(/\s/g, ""), names = namesIn(fields);
   if (done !== "yes" || !typed) return;
   const sent = await line(`ENTER ${typed}`);
