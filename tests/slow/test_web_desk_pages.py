@@ -265,7 +265,8 @@ class TwoClasses(WebTrial):
         jury.click("#boat")
         jury.click("dialog [data-sail=GBR7]")
         jury.click("#what-DPI")
-        jury.type("#takes", "1.5")
+        # As the page writes it in other languages
+        jury.type("#takes", "1,5")
         jury.click("#send")
         jury.choose("yes")
         jury.until("document.querySelectorAll('.kept li').length === 1")

@@ -484,6 +484,18 @@ class Looks(Looking):
             self.assertEqual(device.run(CUT), [])
         device.close()
 
+    def test_head(self) -> None:
+        """On a laptop of 1366 pixels the scorer's tabs are in one line with two classes."""
+        self.office.classes = ["cup", "cruisers"]
+        for language in ("en", "de", "fr"):
+            device = self.device("scorer", 1366, 768, language)
+            device.click("[data-key=cruisers]")
+            device.until("!!document.querySelector('#tab-times')")
+            with self.subTest(language=language):
+                self.assertEqual(device.run("[...document.querySelectorAll('.top > *')].filter(part => part.getClientRects().length && "
+                                            "part.getBoundingClientRect().top > document.querySelector('#tabs').getBoundingClientRect().bottom).length"), 0)
+            device.close()
+
     def test_contrast(self) -> None:
         """Each text has a contrast of 4.5 to 1 at least, in dark and light, in all states."""
         for dark in (False, True):
