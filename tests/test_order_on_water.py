@@ -7,6 +7,7 @@ import random
 import unittest
 from collections.abc import Callable, Mapping
 from typing import Any
+from unittest import mock
 
 import helpers
 from raceoffice.errors import NotSent
@@ -142,7 +143,7 @@ class OnWater(helpers.Series):
         self.open()
         folder = Folder(os.path.join(self.here, "cup"))
         self.room = Room(folder, lambda: None)
-        self.addCleanup(self.room.close)
+        self.addCleanup(lambda: self.room.close())
         self.phone, self.window_bob = Phone(self.room, "Ann"), Window(folder, "Bob")
         self.addCleanup(self.window_bob.session.disconnect)
 
@@ -254,7 +255,8 @@ class AsRecorded(OnWater):
             self.assertEqual(self.at(1, "Ann", f"? {race}", behind="NED12"), (("FRA9", "IRL5"), f"BEFORE {race} ? FRA9"))
             behind = "NED12" if is_by_clock else None
             self.assertEqual(self.at(1, "Ann", f"? {race}", behind=behind, by_clock=is_by_clock), "noted")
-            self.check(race, "?", f"{order} ?2")
+            self.at(75, "Bob", f"? {race}", behind="IRL5")
+            self.assertEqual(self.seen(race), [[name] for name in f"{order} ?2".split()])
         self.check(1, "?1 GBR7", "NED12 GBR7 FRA9 IRL5 ?2")
         # The clock says itself that she was after all.
         self.assertEqual(self.at(80, "Ann", "? 1", behind="NED12"), "noted")
@@ -274,6 +276,120 @@ class AsRecorded(OnWater):
         self.check(1, "?4 NONE", "NED12 ?1 ?2 ?3 IRL5")
         self.window_bob.send(1, "UNDO")
         self.check(1, "?3 FRA9, ?2 GBR7", "NED12 ?1 GBR7 FRA9 IRL5")
+
+    # Boats of a phone without a connection, and places that another has kept meanwhile
+
+    def late(self, race: int, second: float, asked: tuple[tuple[str, ...], str], order: str, **more: Any) -> None:
+        """FRA9 was tapped at a second and arrives only now: what is asked, and the order by this answer."""
+        line = f"FINISH {race} FRA9"
+        self.assertEqual(self.at(second, "Ann", line, behind="NED12"), asked)
+        self.assertEqual(self.at(second, "Ann", line, **({"behind": "NED12"} | more)), "taken")
+        self.assertEqual(self.seen(race), [[name] for name in order.split()])
+
+    def places_meanwhile(self, race: int, *seconds: float) -> None:
+        """NED12 finishes, and a phone keeps places while another has no connection."""
+        self.at(0, "Ann", f"FINISH {race} NED12", behind="")
+        for second in seconds:
+            self.assertEqual(self.at(second, "Bob", f"? {race}", behind="NED12"), "noted")
+
+    def test_boat_ahead_of_a_place(self) -> None:
+        """A boat arrives after the place of one who crossed the line later: it is asked where she was, as of a boat."""
+        ways: list[tuple[dict[str, Any], str]] = [({"by_clock": True}, "NED12 FRA9 ?1"), ({"behind": None}, "NED12 ?1 FRA9")]
+        for race, (more, order) in enumerate(ways, 1):
+            self.places_meanwhile(race, 60)
+            self.late(race, 1, (("?1",), f"BEFORE {race} FRA9 ?1"), order, **more)
+        self.check(1, "?1 GBR7, FINISH IRL5", "NED12 FRA9 GBR7 IRL5")
+        self.places_meanwhile(3, 60, 90)
+        self.late(3, 75, (("?2",), "BEFORE 3 FRA9 ?2"), "NED12 ?1 FRA9 ?2", by_clock=True)
+        self.places_meanwhile(4, 60, 65)
+        self.at(70, "Bob", "FINISH 4 IRL5", behind="NED12")
+        self.late(4, 1, (("?1", "?2", "IRL5"), "BEFORE 4 FRA9 ?1"), "NED12 FRA9 ?1 ?2 IRL5", by_clock=True)
+        self.check(4, "STRIKE IRL5, ?2 GBR7, ?1 GBR33", "NED12 FRA9 GBR33 GBR7")
+        # Nobody has finished before.
+        self.at(60, "Bob", "? 5", behind="")
+        self.assertEqual(self.at(1, "Ann", "FINISH 5 FRA9", behind=""), (("?1",), "BEFORE 5 FRA9 ?1"))
+        self.assertEqual(self.at(1, "Ann", "FINISH 5 FRA9", behind="", by_clock=True), "taken")
+        self.check(5, "?1 GBR7", "FRA9 GBR7")
+
+    def test_boat_close_to_a_place(self) -> None:
+        """Two phones within a second: it is asked. A phone's own places come in their order."""
+        self.places_meanwhile(1, 60)
+        self.late(1, 60.5, (("?1",), "FINISH 1 FRA9"), "NED12 ?1 FRA9", by_clock=True)
+        self.places_meanwhile(2, 60)
+        self.assertEqual(self.at(61, "Ann", "FINISH 2 FRA9", behind="NED12"), "taken")
+        self.places_meanwhile(3, 60)
+        self.assertEqual(self.at(60.2, "Bob", "FINISH 3 FRA9", behind="NED12"), "taken")
+        self.assertEqual([self.seen(race) for race in (2, 3)], [[["NED12"], ["?1"], ["FRA9"]]] * 2)
+
+    def test_place_of_a_window(self) -> None:
+        """A place that was typed in a window has a moment, too."""
+        self.at(0, "Ann", "FINISH 1 NED12", behind="")
+        self.window_bob.send(1, "? 1")
+        self.late(1, 1, (("?1",), "BEFORE 1 FRA9 ?1"), "NED12 FRA9 ?1", by_clock=True)
+
+    def test_moment_of_a_boat_in_a_place(self) -> None:
+        """A boat that is known later crossed the line when her place was kept."""
+        self.places_meanwhile(1, 60)
+        self.at(300, "Bob", "?1 1 IRL5")
+        self.late(1, 1, (("IRL5",), "BEFORE 1 FRA9 IRL5"), "NED12 FRA9 IRL5", by_clock=True)
+        self.places_meanwhile(2, 60)
+        self.at(300, "Bob", "?1 2 IRL5")
+        self.assertEqual(self.at(90, "Ann", "FINISH 2 FRA9", behind="NED12"), "taken")
+        self.assertEqual(self.seen(2), [["NED12"], ["IRL5"], ["FRA9"]])
+
+    def test_late_boat_that_was_struck(self) -> None:
+        """A boat that was struck arrives late: by the clock she is ahead of a place that she was behind, or between two
+        that she was ahead of."""
+        self.places_meanwhile(1, 60)
+        self.at(70, "Bob", "FINISH 1 FRA9", behind="NED12")
+        self.at(80, "Bob", "STRIKE 1 FRA9")
+        self.late(1, 1, (("?1",), "BEFORE 1 FRA9 ?1"), "NED12 FRA9 ?1", by_clock=True)
+        self.at(0, "Bob", "FINISH 2 NED12", behind="")
+        self.at(10, "Bob", "FINISH 2 FRA9", behind="NED12")
+        for second in (60, 90):
+            self.at(second, "Bob", "? 2", behind="FRA9")
+        self.at(95, "Bob", "STRIKE 2 FRA9")
+        asked = Tap.read({"id": new_id(), "line": "FINISH 2 FRA9", "at": 1_075_000, "behind": "NED12", "by_clock": True})
+        with self.assertRaises(Asked) as found:
+            self.room.do("FINISH", "Ann", asked)
+        self.assertEqual(dict(found.exception.question.values), {"mark": "?1", "sail": "FRA9"})
+        agreed = [{"kind": "finished-after", "values": {"mark": "?1", "sail": "FRA9"}}]
+        self.late(2, 75, (("?2",), "BEFORE 2 FRA9 ?2"), "NED12 ?1 FRA9 ?2", by_clock=True, agreed=agreed)
+
+    def test_killed_before_a_late_boat(self) -> None:
+        """The web is killed before the line of a boat ahead of a place: the same tap is done, and whoever else taps her
+        has her behind the place."""
+        for race, steps in enumerate((("transmit", "Ann"), ("transmit", "Bob"), ("Places.note_back", "Ann")), 1):
+            self.places_meanwhile(race, 60)
+            tap = Tap.read({"id": new_id(), "line": f"FINISH {race} FRA9", "at": 1_001_000, "behind": "NED12", "by_clock": True})
+            self.kill(steps[0], tap)
+            self.assertEqual(self.seen(race), [["NED12"], ["?1"]])
+            if steps[1] == "Bob":
+                self.at(100, "Bob", f"FINISH {race} FRA9", behind="NED12")
+                self.assertEqual(self.room.do("FINISH", "Ann", tap)["outcome"], "refused")
+            else:
+                self.assertEqual(self.room.do("FINISH", "Ann", tap)["outcome"], "taken")
+            order = [["NED12"], ["?1"], ["FRA9"]] if steps[1] == "Bob" else [["NED12"], ["FRA9"], ["?1"]]
+            self.assertEqual(self.seen(race), order)
+
+    def test_killed_after_a_late_boat(self) -> None:
+        """The web is killed once the office has the line of a boat ahead of a place, or before its answer is noted."""
+        for race, step in enumerate(("look_after", "log"), 1):
+            self.places_meanwhile(race, 60)
+            tap = Tap.read({"id": new_id(), "line": f"FINISH {race} FRA9", "at": 1_001_000, "behind": "NED12", "by_clock": True})
+            self.kill(step, tap)
+            self.assertEqual(self.seen(race), [["NED12"], ["FRA9"], ["?1"]])
+            self.assertTrue(self.room.do("FINISH", "Ann", tap)["again"])
+            self.check(race, "?1 GBR7", "NED12 FRA9 GBR7")
+
+    def kill(self, step: str, tap: Tap) -> None:
+        """Kills the web at a step of a tap, and opens it again."""
+        names = {"Places.note_back": "raceoffice.series.kept_places.Places.note_back",
+                 "log": "raceoffice.session.seat.Seat.log"}
+        with mock.patch(names.get(step, f"raceoffice.session.sending.{step}"), side_effect=KeyboardInterrupt):
+            self.assertRaises(KeyboardInterrupt, self.room.do, "FINISH", "Ann", tap)
+        self.room.close()
+        self.room = self.phone.room = Room(Folder(os.path.join(self.here, "cup")), lambda: None)
 
 
 class Sequence:

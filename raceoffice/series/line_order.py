@@ -92,12 +92,13 @@ class LineOrder:
         first = {sail for group in self.groups[:self.at(mark) + 1] for sail in self.boats(group)}
         return first | (self.ahead[mark] - now)
 
-    def ahead_before(self, line: str) -> list[str]:
+    def ahead_before(self, line: str, later: str = "") -> list[str]:
         """The places that a boat was ahead of when she was struck, and that she would come behind by this line if it
-        is taken as it stands. No boat is between."""
+        is taken as it stands, or puts her just ahead of the place `later`. No boat is between."""
         command, _, sail, *other = line.split()
         with contextlib.suppress(ValueError):
-            at = len(self.groups) if command == "FINISH" else self.at(other[0])
+            next_one = [later] if later else other
+            at = self.at(next_one[0]) if next_one else len(self.groups)
             behind = [(where, mark) for where, group in enumerate(self.groups[:at]) for mark in filter(is_mark, group)
                       if sail in self.ahead[mark]]
             return [mark for where, mark in behind if self.are_none_between(where, at)]
@@ -173,10 +174,11 @@ class LineOrder:
         self.note_ahead(sail)
 
     def is_ahead(self, sail: str, mark: str) -> bool:
-        """Whether a boat that was struck was ahead of all places from there to this one."""
-        end = self.at(mark) + 1 if mark in self.ahead else 0
-        marks = [name for group in self.groups[self.at(sail):end] for name in group if is_mark(name)]
-        return all(sail in self.ahead[other] for other in marks)
+        """Whether a boat that was struck was ahead of a place, and of all places from there to this one."""
+        if mark not in self.ahead:
+            return True
+        marks = [name for group in self.groups[self.at(sail):self.at(mark) + 1] for name in group if is_mark(name)]
+        return mark in marks and all(sail in self.ahead[other] for other in marks)
 
     def is_alone(self, name: str, at: int) -> bool:
         """Whether no boat is where somebody of the list is, nor between there and where a line would put her."""

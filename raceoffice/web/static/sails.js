@@ -14,10 +14,10 @@ export function parts(sail) {
   return {letters: letters.replace(/-$/, ""), rest};
 }
 
-// A sail as it is read: GBR 101
+// A sail as it is read: GBR 101; a place as ?1
 export function spaced(sail) {
   const {letters, rest} = parts(sail);
-  return letters && rest ? `${letters} ${rest}` : sail;
+  return letters && letters !== "?" && rest ? `${letters} ${rest}` : sail;
 }
 
 // The digits that somebody would press for a boat, or all of her sail if it has none
