@@ -514,6 +514,133 @@ class Sequence:
             water.come(mark, water.when[mark])
 
 
+class LatePhone:
+    """A phone: the boats that it shows in their order, and its taps that wait, each with when somebody crossed the line and
+    the last boat that was shown then."""
+
+    def __init__(self, name: str) -> None:
+        self.name, self.is_away = name, False
+        self.shown: list[str] = []
+        self.waiting: list[tuple[str, float, str | None]] = []
+
+    def tap(self, line: str, moment: float) -> None:
+        command, _, *rest = line.split()
+        behind = (self.shown or [""])[-1] if command in ("FINISH", "?") else None
+        self.waiting.append((line, moment, behind))
+        if command == "FINISH":
+            self.shown.append(rest[0])
+
+
+class Meanwhile:
+    """A race at random that two phones record, each of which has no connection for a while. What is asked is answered
+    by where she was on the water."""
+
+    def __init__(self, race: int, dice: random.Random, room: Room, seen: Callable[[int], list[list[str]]]) -> None:
+        self.race, self.dice, self.room, self.seen = race, dice, room, seen
+        self.water, self.log, self.now = Water(), list[str](), 0.0
+        self.phones = [LatePhone("Ann"), LatePhone("Bob")]
+        # Boats whose taps haven't arrived.
+        self.tapped: set[str] = set()
+        # How often it was asked where a boat, or a place, was, and how often the clock had no true answer.
+        self.asked = self.dropped = 0
+
+    def step(self) -> None:
+        """Somebody crosses the line, is known or is nobody after all, or a phone comes or goes."""
+        phone = self.dice.choice(self.phones)
+        self.now += self.dice.choice([0.2, 0.6, 1.5, 5])
+        if self.dice.random() < 0.25:
+            phone.is_away = not phone.is_away
+        else:
+            if not phone.is_away:
+                self.show(phone)
+            self.tap(phone)
+        if not phone.is_away:
+            self.arrive(phone)
+
+    def show(self, phone: LatePhone) -> None:
+        phone.shown = [sail for group in self.seen(self.race) for sail in group if "?" not in sail]
+
+    def tap(self, phone: LatePhone) -> None:
+        """Taps something that the phone can show."""
+        # A boat that was struck may be the last that a phone without a connection shows.
+        gone = set(self.water.when) if any(other.is_away for other in self.phones) else set()
+        left = [sail for sail in SAILS if sail not in self.water.here | self.tapped | gone]
+        marks, boats = ([], []) if phone.is_away else (self.water.marks(), self.water.boats())
+        ways = [f"? {self.race}"] * 3 + [f"{mark} {self.race} NONE" for mark in marks[:1]]
+        ways += [f"STRIKE {self.race} {self.dice.choice(boats)}"] * 2 if boats else []
+        if left:
+            sail = self.dice.choice(left)
+            ways += [f"FINISH {self.race} {sail}"] * 4 + [f"{mark} {self.race} {sail}" for mark in marks]
+            ways += [f"{command} {self.race} {sail} {other}" for other in phone.shown[-1:] for command in ("BEFORE", "TIE")]
+        line = self.dice.choice(ways)
+        self.tapped.update(line.split()[2:3])
+        phone.tap(line, self.now)
+
+    def arrive(self, phone: LatePhone) -> None:
+        """The taps of a phone arrive in their order."""
+        while phone.waiting:
+            line, moment, behind = phone.waiting.pop(0)
+            self.log.append(f"{phone.name} {line} at {moment:.1f}, behind {behind}")
+            self.tapped -= set(line.split()[2:3])
+            if found := self.send(phone, line, moment, behind):
+                self.came(line, str(found["mark"]), moment)
+            order, now = self.water.order(), self.seen(self.race)
+            self.log.append(f"    {now}")
+            if now != order:
+                raise AssertionError("\n".join([*self.log, f"on the water {order}"]))
+
+    def send(self, phone: LatePhone, line: str, moment: float, behind: str | None) -> Mapping[str, Any] | None:
+        """What came of a tap; None if nothing did."""
+        values: dict[str, Any] = {"id": new_id(), "line": line, "at": 10_000_000 + round(1000 * moment), "behind": behind,
+                                  "agreed": []}
+        while True:
+            try:
+                found = self.room.do("FINISH", phone.name, Tap.read(values))
+                return found if found["outcome"] != "refused" else None
+            except NotSent:
+                return None
+            except Elsewhere as where:
+                self.log.append(f"    {where} {where.clock}")
+                self.asked += 1
+                if (answer := self.answer(moment, where.clock)) is None:
+                    self.dropped += 1
+                    return None
+                values |= answer
+            except Asked as asked:
+                mark = str(asked.question.values["mark"])
+                self.log.append(f"    {asked}")
+                if self.water.when[mark] > moment:
+                    return None
+                values["agreed"].append({"kind": asked.question.kind, "values": dict(asked.question.values)})
+
+    def answer(self, moment: float, clock: str) -> dict[str, Any] | None:
+        """The true answer to where somebody was who crossed the line at a moment; None if there is no such."""
+        later = [self.water.when[name] for name in self.water.here if self.water.when[name] > moment]
+        told = clock.split()[3:] if clock.startswith("BEFORE ") else []
+        if [self.water.when[name] for name in told] == sorted(later)[:1]:
+            return {"by_clock": True}
+        return None if later else {"behind": None}
+
+    def came(self, line: str, mark: str, moment: float) -> None:
+        """Follows on the water what was taken."""
+        water, (first, _, *rest) = self.water, line.split()
+        match [first, *rest]:
+            case ["?"]:
+                water.come(mark, moment)
+            case ["FINISH", sail]:
+                water.come(sail, moment)
+            case ["STRIKE", sail]:
+                water.here.discard(sail)
+            case ["TIE", sail, other]:
+                water.come(sail, water.when[other])
+            case ["BEFORE", sail, other]:
+                water.come(sail, water.just_ahead(other))
+            case [place, sail]:
+                water.here.discard(place)
+                if sail != "NONE":
+                    water.come(sail, water.when[place])
+
+
 class AtRandom(OnWater):
     def check(self, first: int) -> None:
         """In each order everybody is where she crossed the line, unless the office has asked."""
@@ -536,6 +663,24 @@ class AtRandom(OnWater):
 
     def test_more(self) -> None:
         self.check(FIRST + 2 * SEQUENCES)
+
+
+class WithoutConnection(OnWater):
+    def test_some(self) -> None:
+        """Taps that arrive late are where their boats crossed the line, or it was asked."""
+        asked = dropped = 0
+        for seed in range(FIRST, FIRST + SEQUENCES // 3):
+            race = (seed - FIRST) % RACES + 1
+            if race == 1 and seed > FIRST:
+                self.doCleanups()
+                self.setUp()
+            sequence = Meanwhile(race, random.Random(seed), self.room, self.seen)
+            with self.subTest(seed=seed):
+                for _ in range(2 * STEPS):
+                    sequence.step()
+            asked, dropped = asked + sequence.asked, dropped + sequence.dropped
+        self.assertGreater(asked, SEQUENCES // 3)
+        self.assertLess(dropped, asked // 5)
 
 
 if __name__ == "__main__":
