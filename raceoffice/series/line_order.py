@@ -104,6 +104,10 @@ class LineOrder:
             return [mark for where, mark in behind if self.are_none_between(where, at)]
         return []
 
+    def places_level_with(self, sail: str) -> list[str]:
+        """The places, open or not, that a boat is level with, or was before she was struck."""
+        return [name for name in self.groups[self.at(sail)] if is_mark(name)]
+
     def line_back(self, number: int, sail: str) -> str:
         """The line that puts a boat that was struck where she was."""
         at = self.at(sail)
