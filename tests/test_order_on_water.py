@@ -238,6 +238,13 @@ class AsRecorded(OnWater):
         self.assertIsNone(self.phone.send(2, "UNDO", id))
         self.assertEqual(self.seen(2), [["GBR101", "GBR7"]])
 
+    def test_struck_at_a_place_and_finished_after(self) -> None:
+        """A boat finishes again after one who was at a place, and who was struck by a slip."""
+        self.check(1, "?, ?, ?1 IRL5, ?2 GBR101", "IRL5 GBR101")
+        id = self.tap(1, "STRIKE GBR101")["id"]
+        self.check(1, "STRIKE IRL5, FINISH IRL5", "IRL5")
+        self.check_undone(1, id, "GBR101 IRL5")
+
     def test_undo_of_a_strike_level_with_a_place(self) -> None:
         """A boat was level with one who isn't known any more: she comes back level with her, once she is known again, or
         once nobody was there."""

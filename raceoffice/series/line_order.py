@@ -193,11 +193,12 @@ class LineOrder:
 
     def ahead_as_before(self, sail: str, at: int) -> int:
         """Where a boat comes that was ahead of places before she was struck, and of which nobody has said that she
-        isn't now."""
+        isn't now. She is behind those who were known then."""
         found = at
         for there in range(at - 1, -1, -1):
             marks = list(filter(is_mark, self.groups[there]))
-            if self.boats(self.groups[there]) or any(sail not in self.ahead[mark] for mark in marks):
+            is_known = bool(marks) and len(marks) < len(self.groups[there])
+            if is_known or self.boats(self.groups[there]) or any(sail not in self.ahead[mark] for mark in marks):
                 break
             found = there if marks else found
         return found
