@@ -422,6 +422,8 @@ ENGLISH: dict[str, str | tuple[str, str] | tuple[str, str, str]] = {
     "setting-long": "{key} has more than {most} letters",
     "rounding-wrong": "{written} is no rounding, which are {roundings:or}",
     "rounding-changed": "somebody else has changed the rounding meanwhile: look again",
+    "zone-in-race": "race {race} has a start and doesn't count yet: its times are those of this time zone. Score or abandon "
+                    "it first",
     "rules-refused": "the program refuses these rules",
     "list-not-whole": "the list didn't come whole",
     "list-too-long": "the list is longer than {most} bytes",

@@ -71,7 +71,8 @@ def state(name: str, version: int) -> dict[str, Any]:
             "races": {"1": race(22, True, codes={SAILS[22]: "OCS"}), "2": open_race},
             "standing": {"races": [1], "rows": rows()},
             "last": {"at": NOON, "moves": moves(rows(SAILS[9]), rows()), "line": f"CLEAR 1 {SAILS[9]}", "role": "JURY"},
-            "unlisted": ["USA4", "NED12345"], "journal": [f"1 1 SCORER ENTER {SAILS[0]}"]}
+            "unlisted": ["USA4", "NED12345"], "journal": [f"1 1 SCORER ENTER {SAILS[0]}"],
+            "unfinished": [{"id": "0" * 32, "lines": [f"BEFORE 2 {SAILS[5]} {SAILS[0]}"]}]}
 
 
 def verdict() -> dict[str, Any]:

@@ -313,6 +313,37 @@ class Timed(Prepared):
         self.assertEqual(ann.tap("FINISH 1 FRA9", agreed=[said["question"]], at=at)[1]["outcome"], "taken")
         self.assertEqual(self.journal()[-1], "FINISH TIME 1 FRA9 4320")
 
+    def test_who_moved(self) -> None:
+        """A start that is corrected after scoring shows whom all its lines have moved: from 14:00 GBR 101 has 3,600 s and
+        GBR 7 3,900 s x 0.900 = 3,510 s; from 13:20 they have 6,000 s and 6,300 s x 0.900 = 5,670 s, and from 14:50 600 s and
+        810 s. Codes stay, and one start for another moves nobody."""
+        ann, scorer = self.device("finish"), self.device("scorer")
+        ann.tap("START 1 14:00:00")
+        for sail, clock in (("GBR101", "15:00:00"), ("GBR7", "15:05:00")):
+            self.finish(ann, sail, clock)
+        for sail in ("NED12", "FRA9"):
+            ann.tap(f"MARK 1 {sail} DNF")
+        self.assertEqual(scorer.tap("SCORE 1")[1]["outcome"], "taken")
+        for start, moved in (("13:20:00", []), ("14:50:00", [("GBR101", 2, 1), ("GBR7", 1, 2)]),
+                             ("14:49:00", [("GBR101", 2, 1), ("GBR7", 1, 2)])):
+            tap = f"START 1 {start}"
+            asked = ann.tap(tap)[1]["question"]
+            self.assertEqual(ann.tap(tap, agreed=[asked])[1]["outcome"], "taken")
+            last = scorer.state()["last"]
+            if moved:
+                self.assertEqual(sorted((one["sail"], one["was"], one["rank"]) for one in last["moves"]), moved)
+                self.assertEqual((last["line"], last["role"]), ("START 1 14:50:00", "FINISH"))
+
+    def test_a_time_that_waits(self) -> None:
+        """Before a race is scored it is said whose time is in the sheet alone."""
+        self.write(ENTRIES.replace("1.250", ""), "cup", "entries.csv")
+        ann, scorer = self.device("finish"), self.device("scorer")
+        ann.tap("START 1 14:00")
+        for sail in ("NED12", "GBR101"):
+            self.finish(ann, sail, "15:00:00")
+        asked = scorer.tap("SCORE 1")[1]
+        self.assertEqual([one["values"] for one in asked["said"] if one["what"] == "sheet-waits"], [{"fault": "NED 12 Windhover"}])
+
     def test_crash(self) -> None:
         """The web dies between the sheet and its line: the tap that comes again sends it, once."""
         ann, id = self.device("finish"), new_id()
@@ -381,7 +412,7 @@ class Lines(unittest.TestCase):
         """A refusal stops the lines about that boat alone, and the answer is that to the boat of the tap."""
         answers = {"STRIKE 1 A": "NO 7", "TIME 1 B 20": "OK 8", "TIME 1 C 30": "OK 9"}
         for sail, answer in (("B", "OK 8"), ("A", "NO 7"), ("", "NO 7"), ("C", "OK 9"), ("D", "before")):
-            session, sent = mock.Mock(answer="before"), []
+            session, sent = mock.MagicMock(answer="before"), []
 
             def transmit(seat: Any, line: str) -> bool:
                 sent.append(line)

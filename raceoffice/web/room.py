@@ -14,6 +14,7 @@ from raceoffice.errors import NoSeat, NotSent, Served, Trouble, as_trouble
 from raceoffice.files import PRIVATE, PRIVATE_MODE, text_if_any
 from raceoffice.program.journal import Race
 from raceoffice.program.link import Link, Sheet
+from raceoffice.program.standing import Standing
 from raceoffice.remarks import packed, remark
 from raceoffice.series.folder import Folder
 from raceoffice.series.kept_places import History, Places
@@ -26,7 +27,7 @@ from raceoffice.web.finish_order import line_in_order, later_in_order
 from raceoffice.web.states import (Values, boats_of, moves_of, races_of, rules_of, said_of, standing_of, unlisted)
 from raceoffice.web.tap_session import DROPPED, TapSession
 from raceoffice.web.taps import PLACED, Register, Sent, Tap, number_of, said_again
-from raceoffice.web.timed_taps import TimedTap, is_timed_tap, sheets_shown, with_typed_times
+from raceoffice.web.timed_taps import TimedTap, boats_waiting, is_timed_tap, sheets_shown, with_typed_times
 from raceoffice.web.timed_undo import timed_undo
 
 # Seconds between two looks at whether the journal has grown, and between two tries at an office that isn't
@@ -139,7 +140,8 @@ class Room:
             "boats": boats_of(facts), "races": self.races(facts)}
         if is_whole:
             found |= {"standing": standing_of(facts.standing), "last": self.last,
-                      "unlisted": unlisted(facts), "journal": facts.sheet.journal[-SHOWN:]}
+                      "unlisted": unlisted(facts), "journal": facts.sheet.journal[-SHOWN:],
+                      "unfinished": self.register.unfinished(facts.sheet.journal)}
         return found
 
     def races(self, facts: Facts) -> Values:
@@ -282,7 +284,7 @@ class Room:
         """The answer to something that was begun and never ended, by the journal or by the places that are
         kept; and the place that it is about. Empty if nothing came of it."""
         first, *rest = sent.line.split()
-        if "/" not in sent.id and is_timed_tap(self.folder, sent.line):
+        if "/" not in sent.id and self.is_for_sheet(sent.id, sent.line, sent.role):
             # It may take several lines, each of which has a note of its own: what is left of them is still to be done.
             return "", ""
         if "?" not in first:
@@ -304,8 +306,10 @@ class Room:
         if tap.undoes:
             # What came of that one is known before it is undone.
             self.done(Tap(tap.undoes, ""))
-        line = self.line_of(session, tap)
-        is_timed = is_timed_tap(self.folder, line)
+        line, before, last = self.line_of(session, tap), self.facts.standing, self.last
+        if line.startswith("SCORE ") and (waiting := boats_waiting(self.folder, self.facts.race(line.split()[1]))):
+            session.say_of("sheet-waits", fault=", ".join(map(self.facts.called, waiting)))
+        is_timed = self.is_for_sheet(tap.id, line, session.role)
         is_taken = TimedTap(session, line).is_taken() if is_timed else session.is_tap_taken(line)
         sent = self.register.sent.get(tap.id)
         if sent is None:
@@ -323,8 +327,15 @@ class Room:
         self.register.end(sent.id, answer, session.mark, said)
         with self.looking:
             self.look_at_places()
+            if session.is_of_several:
+                self.last = self.change_of(before, sent.line, session.role) or last
         self.news()
         return outcome_of(sent, False, self.facts.sheet.journal)
+
+    def change_of(self, before: Standing, line: str, role: str) -> Values:
+        """Whom a tap of several lines has moved in all, as each of them alone has moved others; empty if nobody."""
+        moves = moves_of(before, self.facts.standing, self.facts)
+        return {"at": int(time.time() * 1000), "moves": moves, "line": line, "role": role} if moves else {}
 
     def line_of(self, session: TapSession, tap: Tap) -> str:
         """The line of a tap, of which it is clear that it is meant, and where a finisher belongs."""
@@ -352,7 +363,7 @@ class Room:
             return "UNDO"
         typed, times = with_typed_times(self.folder, tap.line)
         line = session.line(typed)
-        if is_timed_tap(self.folder, line):
+        if self.is_for_sheet(tap.id, line, session.role):
             return f"{line} {times}".rstrip()
         if line.startswith("FINISH "):
             order = self.order_with_places(session, session.facts.race(line.split()[1]))
@@ -381,7 +392,12 @@ class Room:
     def line_of_undo(self, session: TapSession, tap: Tap) -> str:
         """The line that undoes a tap for a sheet of times; empty if it was none for one."""
         sent = self.register.sent.get(tap.undoes)
-        return timed_undo(session, sent) if sent and is_timed_tap(self.folder, sent.line) else ""
+        return timed_undo(session, sent) if sent and self.is_for_sheet(sent.id, sent.line, sent.role) else ""
+
+    def is_for_sheet(self, id: str, line: str, role: str) -> bool:
+        """Whether a tap is one for a sheet of times. A decision's lines are the office's alone: so it takes nothing out of a
+        sheet, and all that it took away can be given back."""
+        return is_timed_tap(self.folder, line, role) and not self.register.is_of_decision(id)
 
     def check_undo(self, session: TapSession, tap: Tap) -> None:
         """Keeps an undo from taking back what somebody else has done: NotSent if they have changed the boat's place, or

@@ -1,9 +1,10 @@
 """The session of one role whose answers come with each tap, and whose lines go through the register."""
 from __future__ import annotations
 
+import contextlib
 import os
 import time
-from collections.abc import Callable, Sequence
+from collections.abc import Callable, Iterator, Sequence
 
 from raceoffice.errors import NotSent, Trouble
 from raceoffice.program.journal import Race
@@ -67,6 +68,26 @@ class TapSession(Session):
         except Trouble:
             self.disconnect()
             raise
+
+    @contextlib.contextmanager
+    def in_role(self, role: str) -> Iterator[None]:
+        """Sends what follows from a line of this role in the role that sends it. After a fault the next line has a link of
+        its own."""
+        own = self.role
+        if role == own:
+            yield
+            return
+        self.office().ask(f"ROLE {role}")
+        self.role = role
+        try:
+            yield
+        except BaseException:
+            if not self.unanswered:
+                self.disconnect()
+            raise
+        finally:
+            self.role = own
+        self.office().ask(f"ROLE {own}")
 
     def look_at_journal(self) -> None:
         self.facts = self.see(self.office())
@@ -160,9 +181,9 @@ class TapSession(Session):
         """Whether the lines of this tap are noted: what comes before them was done then."""
         return f"{self.tap.id}/0" in self.register.decisions
 
-    def note_lines(self, lines: Sequence[str]) -> None:
+    def note_lines(self, lines: Sequence[Line]) -> None:
         """Notes the lines of a tap of several, before the first is sent."""
-        self.register.decide(f"{self.tap.id}/0", [Line(self.role, line) for line in lines])
+        self.register.decide(f"{self.tap.id}/0", lines)
 
     def note_back(self, lines: Sequence[str]) -> None:
         """Notes by which lines this tap is undone, before anything is taken away."""

@@ -347,6 +347,66 @@ class Timed(WebTrial):
         sue.until("[...document.querySelectorAll('.waits')].some(one => one.textContent.endsWith('in the journal yet: NED 12'))")
         self.need_no_faults()
 
+    def test_a_start_that_is_odd(self) -> None:
+        """A start that isn't typed whole is asked for again, and one that is still to come is asked about."""
+        ann = self.phone()
+        ann.click("#start")
+        ann.until("!!document.querySelector('dialog[open] input')")
+        ann.choose("at")
+        ann.until("document.querySelector('dialog[open] .wrong')?.textContent.includes('11:05:00')")
+        for answer, start in (("", "Start"), ("yes", "23:59:59")):
+            ann.type("dialog[open] input", "23:59:59")
+            ann.choose("at")
+            ann.until("document.querySelector('dialog[open] h2')?.textContent.endsWith('Is the start at 23:59:59?')")
+            ann.choose(answer)
+            ann.until(f"!document.querySelector('dialog[open]') && document.querySelector('#start').textContent === '{start}'")
+            if not answer:
+                ann.click("#start")
+        self.settle(ann)
+        self.assertIn("GBR101,23:59:59,,", self.text("cup", "times", "race-1.csv"))
+        self.need_no_faults()
+
+    def test_a_sail_that_was_not_read(self) -> None:
+        """The moment of ? stays on the phone, also while the page is away, and is her finish once she is known. Undo of that
+        asks again who she was; a ? that was nobody's, or is undone, leaves nothing."""
+        ann = self.started()
+        ann.tap("GBR101")
+        ann.click("#unread")
+        ann.until("document.querySelector('#list li.unread')?.innerText.includes('?1')")
+        moment = ann.texts("#list li.unread .end b")[0]
+        ann.until("new Date().toTimeString().slice(0, 8) > " + repr(moment))
+        ann.tap("NED12")
+        self.settle(ann)
+        ann.reload()
+        ann.until("document.querySelectorAll('#list li').length === 3")
+        self.assertEqual(ann.texts("#list li .sail"), ["GBR 101", "?1", "NED 12"])
+        for after in ("undo", "rest"):
+            ann.click("#list li.unread button")
+            ann.choose("known")
+            ann.tap("GBR7")
+            self.settle(ann)
+            ann.until("!document.querySelector('#list li.unread')")
+            self.assertIn(f"GBR7,00:00:00,{moment},", self.text("cup", "times", "race-1.csv"))
+            self.assertEqual(ann.texts("#list li .sail"), ["GBR 101", "GBR 7", "NED 12"])
+            if after == "undo":
+                ann.click("#undo")
+                self.settle(ann)
+                ann.until("document.querySelectorAll('#list li.unread').length === 1")
+                self.assertIn("GBR7,00:00:00,,", self.text("cup", "times", "race-1.csv"))
+                # A finger that bounces is none.
+                ann.run("new Promise(done => setTimeout(done, 500))")
+        ann.click("#unread")
+        ann.until("document.querySelector('#list li.unread')?.innerText.includes('?2')")
+        ann.click("#undo")
+        ann.until("!document.querySelector('#list li.unread')")
+        ann.run("new Promise(done => setTimeout(done, 500))")
+        ann.click("#unread")
+        ann.click("#list li.unread button")
+        ann.choose("drop")
+        ann.until("!document.querySelector('#list li.unread')")
+        self.assertEqual(self.journal().count("FINISH STRIKE 1 GBR7"), 1)
+        self.need_no_faults()
+
     def test_strike_is_undone(self) -> None:
         """Strike and Undo on the page leave the finish that she had, whatever the time is by then."""
         ann = self.started()

@@ -6,7 +6,7 @@ import {isOpen} from "./dialogs.js";
 import {short} from "./sails.js";
 import {lastBoat} from "./race-view.js";
 import {isTimed, page, raceNow, sailing, setDigits, setMode} from "./finish-state.js";
-import {askStart, buzz, tapUnread, undo} from "./finish-taps.js";
+import {buzz, tapUnread, undo} from "./finish-taps.js";
 import {startGridAgain} from "./finish-grid.js";
 
 export function drawDock() {
@@ -21,7 +21,9 @@ export function drawDock() {
 // The start of a race by corrected time, and when it was
 function startButton(name) {
   const {start} = raceNow(name);
-  return element("button", {type: "button", id: "start", class: start ? "set" : "main", "aria-label": `${text("finish.start")} ${start}`, onclick: () => askStart(name)},
+  // It is there before somebody presses it without a connection.
+  import("./finish-start.js").catch(() => {});
+  return element("button", {type: "button", id: "start", class: start ? "set" : "main", "aria-label": `${text("finish.start")} ${start}`, onclick: async () => (await import("./finish-start.js")).askStart(name)},
     start || text("finish.start"));
 }
 

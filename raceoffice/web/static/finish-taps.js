@@ -5,7 +5,7 @@ import {text} from "./texts.js";
 import {choose, dialogOf, say} from "./dialogs.js";
 import {CODES, PENALTIES, spaced} from "./sails.js";
 import {heldBy, isIn, lastBoat} from "./race-view.js";
-import {addTap, isTimed, keep, page, queue, raceNow, sailing, setMode} from "./finish-state.js";
+import {addMoment, addTap, endMoment, isTimed, keep, page, queue, raceNow, sailing, setMode, undoMoment} from "./finish-state.js";
 
 // Milliseconds: how long a finger may bounce on one boat
 const BOUNCE = 400;
@@ -47,6 +47,7 @@ function finish(name, sail) {
   page.digits = "";
   if (mode.kind === "level") addTap(name, `TIE # ${sail} ${mode.sail}`);
   else if (mode.kind === "before") addTap(name, `BEFORE # ${sail} ${mode.sail}`);
+  else if (mode.kind === "known" && isTimed(name)) endMoment(name, mode.mark, `FINISH # ${sail}`);
   else if (mode.kind === "known") addTap(name, `${mode.mark} # ${sail}`);
   else addTap(name, `FINISH # ${sail}`, {behind: lastBoat(race)});
 }
@@ -60,20 +61,17 @@ function flipRounded(name, sail) {
   page.redraw();
 }
 
-// A finisher whose sail wasn't read: her place is kept.
+// A finisher whose sail wasn't read: her place is kept, or by corrected time her moment.
 export function tapUnread() {
   const open = sailing(), name = open.length === 1 ? open[0].class : page.mode.class;
   if (!name) {
     say(text(open.length ? "finish.whichClass" : "finish.chooseRace"));
     return;
   }
-  if (isTimed(name)) {
-    say(text("finish.correctedTime"), true);
-    return;
-  }
   if (isBounce("?")) return;
   buzz([35, 50, 35]);
-  addTap(name, "? #", {behind: lastBoat(raceNow(name))});
+  if (isTimed(name)) addMoment(name);
+  else addTap(name, "? #", {behind: lastBoat(raceNow(name))});
 }
 
 // Takes back the last tap of this device.
@@ -84,6 +82,10 @@ export function undo() {
   page.undoable = page.undoable.slice(0, -1);
   keep("undoable", page.undoable);
   buzz(60);
+  if (undoMoment(tap)) {
+    setMode({kind: "finish"});
+    return;
+  }
   if (item?.state === "refused" || isOpen && !item.isSent) queue.drop(item);
   else if (isOpen) undoSent(tap, item);
   else addTap(tap.class, tap.back || "UNDO", {undoes: tap.id});
@@ -142,18 +144,10 @@ export async function askStrike(name, sail) {
 
 // What can be done about a place that is kept
 export async function askUnread(name, mark) {
-  const done = await choose(text("finish.whoWas", {mark}), text("finish.placeIsKept"), [
+  const done = await choose(text("finish.whoWas", {mark}), text(isTimed(name) ? "finish.timeIsKept" : "finish.placeIsKept"), [
     {value: "known", label: text("finish.tapHerNext"), look: "main"}, {value: "drop", label: text("finish.nobody"), look: "bad"},
     {value: "", label: text("finish.notYet")}], "stack");
   if (done === "known") setMode({kind: "known", class: name, mark});
-  if (done === "drop") addTap(name, `${mark} # NONE`);
-}
-
-// The start of a race by corrected time: now, or a time of the clock.
-export async function askStart(name) {
-  const field = element("input", {type: "time", step: "1", "aria-label": text("finish.startTime"), value: raceNow(name).start});
-  const done = await choose(text("finish.startOf", {number: page.races[name]}), element("label", {class: "field"}, text("finish.startTime"), field), [
-    {value: "", label: text("common.cancel")}, {value: "at", label: text("finish.startAt")}, {value: "now", label: text("finish.startNow"), look: "main"}]);
-  if (done === "now") addTap(name, "START #");
-  else if (done === "at" && field.value) addTap(name, `START # ${field.value}`);
+  if (done === "drop" && isTimed(name)) endMoment(name, mark, "");
+  else if (done === "drop") addTap(name, `${mark} # NONE`);
 }

@@ -8,6 +8,7 @@ import {called, heldIn, here, isIn, missingFrom, raceNumbered, send, state} from
 import {correctByHand} from "./finish-by-hand.js";
 import {saidWords} from "./said-words.js";
 import {findBoat} from "./boat-finder.js";
+import {lines} from "./scorer-unfinished.js";
 import {linesOfLevel, linesOfMove, linesOfSwap} from "./corrections.js";
 
 const cancel = () => ({value: "", label: text("common.cancel")});
@@ -17,24 +18,6 @@ export async function line(words, more) {
   const done = await send(words, more);
   if (done && done.outcome !== "refused") say(saidWords(done.said).slice(0, 2).join("\n"));
   return done;
-}
-
-// Sends the lines of one correction one after another. What was agreed to for one holds for all. Whether all
-// were taken; if one isn't, it is said which are left.
-export async function lines(several) {
-  const agreed = [];
-  let seen = state().entries;
-  for (const [at, words] of several.entries()) {
-    const done = await send(words, {agreed, seen});
-    if (!done || done.outcome === "refused") {
-      if (at > 0) await choose(text("scorer.stopped"), [text("scorer.notSent"), element("p", {class: "mono"}, several.slice(at).join("\n"))],
-        [{value: "ok", label: text("finish.understood"), look: "main"}]);
-      return false;
-    }
-    seen = Math.max(seen, done.entry ?? 0);
-  }
-  say(text("scorer.linesSent", {n: several.length}));
-  return true;
 }
 
 // Whether anything of a boat is in the order, or in the sheet of times

@@ -8,7 +8,7 @@ import {choose, say} from "./dialogs.js";
 import {remarkSentences, troubleWords} from "./remark-words.js";
 import {called, path, raceNumbered, state} from "./desk.js";
 import {atTheLine} from "./race-view.js";
-import {lines} from "./scorer-corrections.js";
+import {lines} from "./scorer-unfinished.js";
 import {linesOfCodes, linesOfOtherRace, linesOfOtherSheet} from "./corrections.js";
 
 const RACES = 40;

@@ -7,6 +7,7 @@ import {boatOf, called, heldIn, missingFrom, raceNumbered, state} from "./desk.j
 import {finishers, waitingIn} from "./race-view.js";
 import {addFinisher, correct, line, resolve} from "./scorer-corrections.js";
 import {finishersOf, toOtherRace} from "./scorer-other-race.js";
+import {unfinishedPart} from "./scorer-unfinished.js";
 import {correctNames, enterLate, takeOut, unlistedPart} from "./scorer-late.js";
 
 // What was compared with the paper on this page: "RACE SAIL"
@@ -115,6 +116,6 @@ export function racePane(number, draw) {
     element("header", {}, element("h2", {id: "race-title"}, `${text("common.race")} ${number} `),
       element("span", {class: `chip ${race.counts ? "good" : "wait"}`}, text(race.counts ? "scorer.counts" : "scorer.doesntCount")),
       element("span", {class: "soft"}, counts)),
-    actions(race, number, !rows.length), rows.length ? comparedLine(race, number) : null, missingParts(race, away),
+    unfinishedPart(), actions(race, number, !rows.length), rows.length ? comparedLine(race, number) : null, missingParts(race, away),
     orderTable(rows), awayPart(race, number, away), unlistedPart(), typedForm(), entriesPart());
 }
