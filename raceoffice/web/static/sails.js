@@ -14,7 +14,7 @@ export function parts(sail) {
   return {letters: letters.replace(/-$/, ""), rest};
 }
 
-// A sail as it is read: GBR 101; a place as ?1
+// A sail as it is read: GBR 101
 export function spaced(sail) {
   const {letters, rest} = parts(sail);
   return letters && rest && !letters.includes("?") ? `${letters} ${rest}` : sail;
