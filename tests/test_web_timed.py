@@ -62,11 +62,11 @@ class Timed(Prepared):
         self.assertEqual(scorer.tap("mark 1 9 dnf")[1]["outcome"], "taken")
         race = scorer.state()["races"]["1"]
         self.assertEqual(race["order"], [["GBR7"], ["GBR101"], ["NED12"]])
-        self.assertEqual(race["sheet"], {"start": "14:00:00", "wrong": [], "rows": {
-            "GBR101": {"finish": "15:00:00", "code": "", "elapsed": 3600},
-            "GBR7": {"finish": "15:05:00", "code": "", "elapsed": 3900},
-            "NED12": {"finish": "14:48:01", "code": "", "elapsed": 2881},
-            "FRA9": {"finish": "", "code": "DNF", "elapsed": None}}})
+        self.assertEqual(race["sheet"], {"start": "14:00:00", "wrong": [], "why": [], "rows": {
+            "GBR101": {"finish": "15:00:00", "code": "", "elapsed": 3600, "why": []},
+            "GBR7": {"finish": "15:05:00", "code": "", "elapsed": 3900, "why": []},
+            "NED12": {"finish": "14:48:01", "code": "", "elapsed": 2881, "why": []},
+            "FRA9": {"finish": "", "code": "DNF", "elapsed": None, "why": []}}})
         self.assertEqual(race["at"]["GBR7"], moment("15:05:00"))
         # She has finished already, and isn't moved by another tap.
         self.assertEqual(ann.tap("FINISH 1 GBR7", at=moment("15:06:00"))[0], 422)

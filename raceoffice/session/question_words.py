@@ -199,7 +199,7 @@ def of_taking_over(words: Words) -> str:
 def of_announcing(words: Words) -> str:
     """Before results are provisional, final or amended; what is open is said before."""
     state, races = words.text("state"), words.all("races")
-    if words.all("marks") or words.all("faults"):
+    if words.all("marks") or words.all("faults") or words.all("decisions"):
         return f"Are the results {state} all the same?"
     without = f" without {'that race' if len(races) == 1 else 'those races'}" if races else ""
     return f"Are the results {state}{without}?"

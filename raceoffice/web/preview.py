@@ -180,10 +180,12 @@ def keep_decisions(folder: Folder, found: Ruled) -> None:
 def decisions_shown(folder: Folder, facts: Facts) -> list[Values]:
     """The decisions of the class, and what each comes to now."""
     text = decision_lines.read(folder.path)
-    if not text.strip():
-        return []
-    found, rows = decided(folder.program, options_of(folder), facts.sheet.journal, text), lines_of(text)
-    shown = []
+    return decided_shown(decided(folder.program, options_of(folder), facts.sheet.journal, text)) if text.strip() else []
+
+
+def decided_shown(found: Decided) -> list[Values]:
+    """Decisions with what each comes to, and what of their file can't be read."""
+    shown, rows = [], lines_of(found.text)
     for verdict in found.verdicts:
         row = rows[verdict.ruling.line - 1].strip()
         shown.append(verdict_shown(verdict, row.partition("#")[2].strip()) | {"row": row})

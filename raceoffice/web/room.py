@@ -16,6 +16,7 @@ from raceoffice.program.journal import Race
 from raceoffice.program.link import Link, Sheet
 from raceoffice.program.standing import Standing
 from raceoffice.remarks import packed, remark
+from raceoffice.results.decisions_now import FILE, DecisionsNow
 from raceoffice.series.folder import Folder
 from raceoffice.series.kept_places import History, Places
 from raceoffice.series.lost_lines import as_kept
@@ -24,6 +25,8 @@ from raceoffice.session.question_words import question
 from raceoffice.session.undo import later_entry
 from raceoffice.traces import guarded
 from raceoffice.web.finish_order import line_in_order, later_in_order
+from raceoffice.web.preview import decided_shown
+from raceoffice.web.sheet_waits import with_reasons
 from raceoffice.web.states import (Values, boats_of, moves_of, races_of, rules_of, said_of, standing_of, unlisted)
 from raceoffice.web.tap_session import DROPPED, TapSession
 from raceoffice.web.taps import PLACED, Register, Sent, Tap, number_of, said_again
@@ -59,7 +62,7 @@ class Room:
         self.reader: Link | None = None
         # Links with a line that the office may still take.
         self.late: list[Link] = []
-        self.facts, self.names = Facts(folder), self.names_now()
+        self.facts, self.decisions, self.files = Facts(folder), DecisionsNow(folder), self.files_now()
         self.places, self.history = Places(folder), History()
         self.places_seen: object = None
         self.trouble, self.version = "the office isn't open yet", int(time.time() * 1000)
@@ -79,11 +82,11 @@ class Room:
     # What is shown
 
     def see(self, link: Link) -> Facts:
-        """What the office shows now. It is asked only if the journal's file or the entry list is another: the
-        file has each entry before that is answered."""
+        """What the office shows now. It is asked only if the journal's file, the entry list or decisions.txt is
+        another: the journal's file has each entry before that is answered."""
         with self.looking:
             size = self.size_now()
-            if size != self.size or self.trouble or self.names != self.names_now():
+            if size != self.size or self.trouble or self.files != self.files_now():
                 sheet = link.sheet()
                 self.take(sheet)
                 self.size = size
@@ -93,9 +96,9 @@ class Room:
         """Takes over what an office shows; those who wait learn of it if it is new."""
         before, was_open = self.facts, not self.trouble
         self.openings += not was_open
-        if self.names != (names := self.names_now()) or not was_open:
+        if self.files != (files := self.files_now()) or not was_open:
             # An office that has come may have other settings, too.
-            self.names, fresh = names, Facts(self.folder)
+            self.files, fresh = files, Facts(self.folder)
         elif before.sheet == sheet and was_open:
             return
         else:
@@ -110,12 +113,9 @@ class Room:
         self.look_at_places()
         self.news()
 
-    def names_now(self) -> object:
-        """What is another whenever the entry list is."""
-        with contextlib.suppress(OSError):
-            found = os.stat(self.folder.entries)
-            return found.st_mtime_ns, found.st_size
-        return None
+    def files_now(self) -> list[object]:
+        """What is another whenever the entry list or decisions.txt is."""
+        return [stamp_of(self.folder.entries), stamp_of(self.folder.file(FILE))]
 
     def look_at_places(self) -> bool:
         """Reads the places that are kept; whether they are others. If that can't be, those stay that were
@@ -141,13 +141,14 @@ class Room:
         if is_whole:
             found |= {"standing": standing_of(facts.standing), "last": self.last,
                       "unlisted": unlisted(facts), "journal": facts.sheet.journal[-SHOWN:],
-                      "unfinished": self.register.unfinished(facts.sheet.journal)}
+                      "unfinished": self.register.unfinished(facts.sheet.journal),
+                      "decisions": decided_shown(self.decisions.look(facts.sheet))}
         return found
 
     def races(self, facts: Facts) -> Values:
         """The races of which anything is recorded, with their sheets of times if the class has some."""
         moments = self.register.moments(facts.sheet.journal)
-        sheets = sheets_shown(self.folder)
+        sheets = with_reasons(self.folder, sheets_shown(self.folder))
         return {number: values | ({"sheet": sheets[int(number)]} if int(number) in sheets else {})
                 for number, values in races_of(facts, self.history.waiting, moments, sheets).items()}
 
@@ -448,6 +449,14 @@ def held_alone(folder: Folder, address: str = "") -> int:
         os.ftruncate(file, 0)
         os.pwrite(file, address.encode(), 0)
     return file
+
+
+def stamp_of(path: str) -> object:
+    """What is another whenever a file is; None if there is none."""
+    with contextlib.suppress(OSError):
+        found = os.stat(path)
+        return found.st_mtime_ns, found.st_size
+    return None
 
 
 def heard(link: Link) -> bytes | None:

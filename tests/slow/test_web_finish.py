@@ -14,7 +14,7 @@ from web_office import BOATS, FOLKBOATS, WebTrial, entries_of, finishes
 
 ROWS = "#list li .sail"
 # What is by sail, and may be empty
-ANY = {"at", "by", "codes", "penalties", "redress", "times", "last", "asked"}
+ANY = {"at", "by", "codes", "penalties", "redress", "times", "last", "asked", "decisions", "unfinished"}
 UNSENT = "document.querySelectorAll('#list li.unsent').length === {}"
 
 
@@ -367,6 +367,19 @@ class Timed(WebTrial):
         for sail, sign in (("NED12", "in the sheet only"), ("GBR101", "✓")):
             ann.until(f"document.querySelector('#list li[data-sail={sail}] .end i')?.textContent === '{sign}'")
         self.assertEqual([line.split()[3] for line in self.journal()], ["GBR101"])
+        ann.run("document.querySelector('#list li[data-sail=NED12] button').click()")
+        ann.until("!!document.querySelector('dialog[open] p')?.textContent")
+        self.assertRegex(ann.text("dialog[open] p"), r"^in the sheet only: entries\.csv, row 4: NED\s12 has no rating")
+        ann.choose("")
+        sue.click("#late")
+        for sure in ("", "yes"):
+            sue.type("dialog input", "DEN 5")
+            sue.choose("yes")
+            sue.until("document.querySelector('dialog[open] h2')?.textContent === 'Enter her without a rating?'")
+            sue.choose(sure)
+        sue.until("document.querySelector('dialog[open]')?.textContent.includes('DEN 5')")
+        sue.choose("yes")
+        sue.until("document.querySelector('.missing').textContent.includes('DEN 5')")
         sue.until("[...document.querySelectorAll('.waits')].some(one => one.textContent.endsWith('in the journal yet: NED 12'))")
         self.need_no_faults()
 

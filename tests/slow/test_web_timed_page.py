@@ -62,6 +62,25 @@ class TimedCorrections(WebTrial):
         self.assertEqual(self.journal()[3:], ["SCORER STRIKE 1 GBR7", "SCORER TIME 1 GBR7 3564", "SCORER TIME 1 FRA9 3360"])
         self.need_no_faults()
 
+    def test_another_rating(self) -> None:
+        """A rating that is corrected after scoring: whoever says so has the race scored with it, 3,900 s x 0.800."""
+        self.write(SHEET, "cup", "times", "race-1.csv")
+        scorer = self.scorer_of(1, 3)
+        scorer.click("#score")
+        scorer.choose("yes")
+        scorer.until("!!document.querySelector('#unscore')")
+        scorer.click("#correct-names")
+        scorer.click("dialog[open] [data-sail=GBR7]")
+        scorer.type("dialog[open] input[name=rating]", "0.800")
+        for _ in range(2):
+            scorer.choose("yes")
+        scorer.until("document.querySelector('dialog[open]')?.textContent.includes('Race 1 counts with her old rating.')")
+        scorer.choose("yes")
+        scorer.until("document.querySelector('dialog[open]')?.textContent.includes('Is this a correction?')")
+        scorer.choose("yes")
+        helpers.until("her new time", lambda: self.journal()[4:] == ["SCORER STRIKE 1 GBR7", "SCORER TIME 1 GBR7 3120"])
+        self.need_no_faults()
+
     def move(self, scorer: Device, sail: str, race: int) -> None:
         """Says that finishers from a boat on belong to another race."""
         scorer.click("#other-race")

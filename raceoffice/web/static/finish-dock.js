@@ -5,12 +5,12 @@ import {text} from "./texts.js";
 import {isOpen} from "./dialogs.js";
 import {short} from "./sails.js";
 import {lastBoat} from "./race-view.js";
-import {isTimed, page, raceNow, sailing, setDigits, setMode} from "./finish-state.js";
+import {isTimed, lastTap, page, raceNow, sailing, setDigits, setMode} from "./finish-state.js";
 import {buzz, tapUnread, undo} from "./finish-taps.js";
 import {startGridAgain} from "./finish-grid.js";
 
 export function drawDock() {
-  const tap = page.undoable.at(-1), level = lastFinisher(), timed = sailing().find(one => isTimed(one.class));
+  const tap = lastTap(), level = lastFinisher(), timed = sailing().find(one => isTimed(one.class));
   fill(byId("acts"),
     element("button", {type: "button", id: "undo", class: "undo", disabled: !tap, onclick: undo}, tap ? undoWords(tap.line) : text("finish.undo")),
     timed ? startButton(timed.class) : modeButton("level", !level, () => ({kind: "level", class: level.class, sail: level.sail})),

@@ -2,6 +2,7 @@
 // What the finish page knows: its classes, which race of each it records, and what somebody is about to tap.
 import {newId, now} from "./office.js";
 import {text} from "./texts.js";
+import {spaced} from "./sails.js";
 import {atTheLine, isIn, lineThatUndoes, withTaps} from "./race-view.js";
 import {Queue} from "./queue.js";
 
@@ -55,8 +56,7 @@ export function forgetIfShown(item) {
 // The race of a class that is being recorded, with the taps of this device
 export function raceNow(name) {
   const number = page.races[name];
-  const items = queue.of(name).map(item => ({...item, line: shownLine(item)})).filter(item => !["refused", "gone"].includes(item.state)
-    && Number(item.line.split(" ")[1]) === number);
+  const items = queue.of(name).filter(item => !["refused", "gone"].includes(item.state) && isHere(item)).map(item => ({...item, line: shownLine(item)}));
   const race = page.states[name]?.races?.[number];
   const found = withTaps(isTimed(name) ? atTheLine(race) : race, items, stateOf);
   for (const one of momentsOf(name).filter(one => !one.by)) {
@@ -76,7 +76,7 @@ function keepMoments(moments) {
 
 export function addMoment(name) {
   const one = {id: newId(), class: name, race: page.races[name], mark: `?${momentsOf(name).length + 1}`, at: now()};
-  noteUndoable({id: one.id, class: name, line: "?"});
+  noteUndoable({id: one.id, class: name, line: `? ${one.race}`});
   keepMoments([...page.moments, one]);
 }
 
@@ -101,6 +101,15 @@ export function isTimed(name) {
 
 // The classes of which a race is being recorded
 export const sailing = () => page.classes.filter(one => page.races[one.class]);
+
+// A sail, with her class if there are several: two may have one sail
+export const named = (name, sail) => page.classes.length > 1 ? `${spaced(sail)} ${page.classes.find(one => one.class === name).group}` : spaced(sail);
+
+// Whether a line is about the race of its class that is shown
+export const isHere = item => Number(shownLine(item).split(" ")[1]) === page.races[item.class];
+
+// The last tap that can be undone, of the races that are shown
+export const lastTap = () => page.undoable.findLast(isHere);
 
 export function boatNamed(name, sail) {
   const found = page.states[name]?.boats.find(boat => boat[0] === sail) ?? [sail, "", ""];

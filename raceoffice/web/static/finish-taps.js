@@ -5,7 +5,7 @@ import {text} from "./texts.js";
 import {choose, dialogOf, say} from "./dialogs.js";
 import {CODES, PENALTIES, spaced} from "./sails.js";
 import {heldBy, isIn, lastBoat} from "./race-view.js";
-import {addMoment, addTap, endMoment, isTimed, keep, page, queue, raceNow, sailing, setMode, undoMoment} from "./finish-state.js";
+import {addMoment, addTap, endMoment, isTimed, keep, lastTap, named, page, queue, raceNow, sailing, setMode, undoMoment} from "./finish-state.js";
 
 // Milliseconds: how long a finger may bounce on one boat
 const BOUNCE = 400;
@@ -76,10 +76,10 @@ export function tapUnread() {
 
 // Takes back the last tap of this device.
 export function undo() {
-  const tap = page.undoable.at(-1);
+  const tap = lastTap();
   if (!tap) return;
   const item = queue.find(tap.id), isOpen = queue.unsent.includes(item);
-  page.undoable = page.undoable.slice(0, -1);
+  page.undoable = page.undoable.filter(one => one !== tap);
   keep("undoable", page.undoable);
   buzz(60);
   if (undoMoment(tap)) {
@@ -108,7 +108,7 @@ export async function askCode(name, sail) {
   page.redraw();
   const box = element("div", {class: "codes"}, [...CODES.filter(code => code !== "DNC"), ...PENALTIES].map(code => codeButton(code, text(`code.${code}`))),
     held.length ? codeButton("CLEAR", held.join(" "), text("finish.clear")) : null);
-  const code = await choose(text("finish.whichCode", {sail: spaced(sail)}), box, [{value: "", label: text("common.cancel")}]);
+  const code = await choose(text("finish.whichCode", {sail: named(name, sail)}), box, [{value: "", label: text("common.cancel")}]);
   if (!code) return;
   buzz(35);
   if (code === "CLEAR") addTap(name, `CLEAR # ${sail}`);
@@ -123,11 +123,18 @@ function codeButton(code, words, label = code) {
 // What can be done about a finisher of the list
 export async function askFinisher(name, sail) {
   const places = [{value: "before", label: text("finish.insertAhead")}, {value: "level", label: text("finish.insertLevel")}];
-  const done = await choose(spaced(sail), [], [...(isTimed(name) ? [] : places), {value: "code", label: text("finish.codeOrPenalty")}, {value: "strike", label: text("finish.strikeHer"), look: "bad"},
+  const done = await choose(named(name, sail), whyWaiting(name, sail), [...(isTimed(name) ? [] : places), {value: "code", label: text("finish.codeOrPenalty")}, {value: "strike", label: text("finish.strikeHer"), look: "bad"},
     {value: "", label: text("common.cancel")}], "stack");
   if (done === "strike") strike(name, sail);
   else if (done === "code") askCode(name, sail);
   else if (done) setMode({kind: done, class: name, sail});
+}
+
+// Why her time is in the sheet alone, once that has come
+function whyWaiting(name, sail) {
+  const {waiting, sheet} = raceNow(name), part = element("p", {});
+  if (waiting?.includes(sail)) import("./sheet-why.js").then(({showWhy}) => showWhy(part, sheet, sail)).catch(() => {});
+  return part;
 }
 
 function strike(name, sail) {
@@ -137,7 +144,7 @@ function strike(name, sail) {
 
 // After a swipe or a long press
 export async function askStrike(name, sail) {
-  const done = await choose(text("finish.strikeQuestion", {sail: spaced(sail)}), text("finish.strikeMeans"),
+  const done = await choose(text("finish.strikeQuestion", {sail: named(name, sail)}), text("finish.strikeMeans"),
     [{value: "", label: text("common.no")}, {value: "yes", label: text("finish.strike"), look: "bad"}]);
   if (done === "yes") strike(name, sail);
 }

@@ -4,6 +4,7 @@ import {byId, element} from "./elements.js";
 import {ordinal, text, timeOfDay} from "./texts.js";
 import {kindOf, spaced} from "./sails.js";
 import {boatOf, called, heldIn, missingFrom, raceNumbered, state} from "./desk.js";
+import {stalePart} from "./jury-kept.js";
 import {finishers, waitingIn} from "./race-view.js";
 import {addFinisher, correct, line, resolve} from "./scorer-corrections.js";
 import {finishersOf, toOtherRace} from "./scorer-other-race.js";
@@ -117,5 +118,6 @@ export function racePane(number, draw) {
       element("span", {class: `chip ${race.counts ? "good" : "wait"}`}, text(race.counts ? "scorer.counts" : "scorer.doesntCount")),
       element("span", {class: "soft"}, counts)),
     unfinishedPart(), actions(race, number, !rows.length), rows.length ? comparedLine(race, number) : null, missingParts(race, away),
+    stalePart(state().decisions),
     orderTable(rows), awayPart(race, number, away), unlistedPart(), typedForm(), entriesPart());
 }
