@@ -1,6 +1,6 @@
 -- Texts put together piece by piece.
 use Rattle.std.proofs.Common.{◌≡◌, ℕ, ◌+◌, ◌<◌, ◌≤◌, List, [], ◌∷◌, ◌++◌, length, take, get_or}
-use Rattle.std.proofs.Common.{ap, ◌∙◌, sym, length-append, arith}
+use Rattle.std.proofs.Common.{ap, ◌∙◌, sym, append_assoc, length-append, arith}
 use Rattle.std.specs.List.{flat_map}
 use Rattle.std.proofs.Math.Seq.{take-append_seam}
 use Rattle.std.proofs.lemmas.List.{flat_map_more, take_more, take-take}
@@ -52,3 +52,29 @@ no_room_for_piece pieces i d before text room cap old len below so_far start end
       ap length so_far,
       length-append before (flat_map (λ piece. piece.now) (take i pieces)),
     )
+
+-- two parts, one after the other
+pub two_parts : (old a b one two : List ℕ) → one ≡ old ++ a → two ≡ one ++ b → two ≡ old ++ (a ++ b)
+two_parts old a b one two first second =
+    second ∙ ap (λ (t : List ℕ). t ++ b) first ∙ append_assoc old a b
+
+-- three parts
+pub three_parts : (old a b c one two three : List ℕ) → one ≡ old ++ a → two ≡ one ++ b
+    → three ≡ two ++ c → three ≡ old ++ ((a ++ b) ++ c)
+three_parts old a b c one two three first second third =
+    two_parts old (a ++ b) c two three (two_parts old a b one two first second) third
+
+-- four parts
+pub four_parts : (old a b c d one two three four : List ℕ) → one ≡ old ++ a → two ≡ one ++ b
+    → three ≡ two ++ c → four ≡ three ++ d → four ≡ old ++ (((a ++ b) ++ c) ++ d)
+four_parts old a b c d one two three four first second third fourth =
+    two_parts old ((a ++ b) ++ c) d three four
+    (three_parts old a b c one two three first second third) fourth
+
+-- five parts
+pub five_parts : (old a b c d e one two three four five : List ℕ) → one ≡ old ++ a
+    → two ≡ one ++ b → three ≡ two ++ c → four ≡ three ++ d → five ≡ four ++ e
+    → five ≡ old ++ ((((a ++ b) ++ c) ++ d) ++ e)
+five_parts old a b c d e one two three four five first second third fourth fifth =
+    two_parts old (((a ++ b) ++ c) ++ d) e four five
+    (four_parts old a b c d one two three four first second third fourth) fifth

@@ -1,11 +1,11 @@
 -- What codes and kinds of penalty mean, and how codes are scored.
-use Rattle.std.specs.Prelude.{◌≡◌, ℕ, Bool, true, false, List, codes, refl}
+use Rattle.std.specs.Prelude.{◌≡◌, ℕ, Bool, true, false, not, Some, List, codes, refl}
 use Rattle.regatta_terms.specs.declared.command.Code.{Code}
 use Rattle.regatta_terms.specs.declared.command.Code.TheVariants.{Dnc, Dns, Ocs, Ufd, Bfd, Dnf, Ret}
 use Rattle.regatta_terms.specs.declared.command.Code.TheVariants.{Dsq, Dne}
 use Rattle.regatta_terms.specs.declared.command.PenaltyKind.{PenaltyKind}
 use Rattle.regatta_terms.specs.declared.command.PenaltyKind.TheVariants.{Zfp, Scp}
-use Rattle.regatta_scores.specs.RacePoints.{Coded, base_by}
+use Rattle.regatta_scores.specs.RacePoints.{Coded, base_by, is_dne}
 
 -- the meaning of each code (RRS A10)
 abbrev pub meaning : Code → List ℕ
@@ -69,6 +69,10 @@ scored_alike Dnf place_points entered dnf = refl
 scored_alike Ret place_points entered dnf = refl
 scored_alike Dsq place_points entered dnf = refl
 scored_alike Dne place_points entered dnf = refl
+
+-- whether a score by the code can be excluded: not if it is a DNE (90.3(b))
+unfoldable pub can_be_excluded : Code → Bool
+can_be_excluded code = not (is_dne (Some code))
 
 -- the meaning of each kind of penalty
 abbrev pub kind_meaning : PenaltyKind → List ℕ

@@ -1,5 +1,5 @@
 -- The document of words: codes, kinds of penalty, roles, lines, refusals, faults and limits.
-use Rattle.std.specs.Prelude.{ℕ, Bool, List, [], ◌∷◌, ◌++◌, codes, decimal, not, Some}
+use Rattle.std.specs.Prelude.{ℕ, Bool, List, [], ◌∷◌, ◌++◌, codes, decimal}
 use Rattle.regatta_terms.specs.declared.command.Code.{Code}
 use Rattle.regatta_terms.specs.declared.command.PenaltyKind.{PenaltyKind}
 use Rattle.regatta_terms.specs.declared.command.Role.{Role}
@@ -12,11 +12,12 @@ use Rattle.regatta_terms.specs.declared.reply.Refusal.{Refusal}
 use Rattle.regatta_terms.specs.Codes.{all_codes, code_text, is_jury_code}
 use Rattle.regatta_terms.specs.CommandWords.{role_text, kind_text}
 use Rattle.regatta_terms.specs.Replies.{number_of_refusal, number_of_fault}
-use Rattle.regatta_scores.specs.RacePoints.{Coded, came, is_dne}
+use Rattle.regatta_scores.specs.RacePoints.{Coded, came}
 use Rattle.regatta_json.specs.Rows.{flag_text, joined, rows}
 use Rattle.regatta_words.specs.declared.forms.Form.{Form}
 use Rattle.regatta_words.specs.Forms.{all_forms, form_text, form_sentence}
-use Rattle.regatta_words.specs.Meanings.{meaning, rule, is_breach, scores_as, kind_meaning, kind_rule}
+use Rattle.regatta_words.specs.Meanings.{meaning, rule, is_breach, scores_as, can_be_excluded}
+use Rattle.regatta_words.specs.Meanings.{kind_meaning, kind_rule}
 use Rattle.regatta_words.specs.Senders.{all_kinds, gives, sends}
 use Rattle.regatta_words.specs.Sentences.{all_roles, all_refusals, all_faults, role_meaning}
 use Rattle.regatta_words.specs.Sentences.{refusal_name, refusal_sentence, fault_name, fault_sentence}
@@ -35,15 +36,23 @@ code_head code = joined (codes "{\"code\":\"" ∷ code_text code ∷ codes "\",\
     ∷ codes ",\"breach\":" ∷ flag_text (is_breach code)
     ∷ codes ",\"came\":" ∷ flag_text (came (Coded code)) ∷ [])
 
--- whose points it has, whether the score can be excluded, and who gives it
-unfoldable pub code_tail : Code → List ℕ
-code_tail code = joined (codes ",\"scores_as\":\"" ∷ code_text (scores_as code)
-    ∷ codes "\",\"excludable\":" ∷ flag_text (not (is_dne (Some code))) ∷ codes ",\"given_by\":" ∷ [])
-    ++ by_role (gives Finish code) (gives Jury code) (gives Scorer code) ++ codes "}"
+-- the code whose points a code has, and whether the score can be excluded
+unfoldable pub score_fields : List ℕ → Bool → List ℕ
+score_fields scored excludable = joined (codes ",\"scores_as\":\"" ∷ scored
+    ∷ codes "\",\"excludable\":" ∷ flag_text excludable ∷ [])
+
+-- those of a code
+abbrev pub code_score : Code → List ℕ
+code_score code = score_fields (code_text (scores_as code)) (can_be_excluded code)
+
+-- who gives it
+unfoldable pub code_givers : Code → List ℕ
+code_givers code = codes ",\"given_by\":" ++ by_role (gives Finish code) (gives Jury code) (gives Scorer code)
+    ++ codes "}"
 
 -- the row of a code
 unfoldable pub code_row : Code → List ℕ
-code_row code = code_head code ++ code_tail code
+code_row code = code_head code ++ code_score code ++ code_givers code
 
 -- the row of a kind of penalty
 unfoldable pub kind_row : PenaltyKind → List ℕ
@@ -92,16 +101,15 @@ answers_text = codes "\n],\n\"refusals\":[\n" ++ rows refusal_row all_refusals
 
 -- the limits of a series
 unfoldable pub series_limits : List ℕ
-series_limits = codes "\n],\n\"limits\":{\"boats\":" ++ decimal MAX_BOATS
-    ++ codes ",\"races\":" ++ decimal MAX_RACES
-    ++ codes ",\"entries\":" ++ decimal MAX_ENTRIES
+series_limits = (codes "\n],\n\"limits\":{\"boats\":" ++ decimal MAX_BOATS)
+    ++ (codes ",\"races\":" ++ decimal MAX_RACES) ++ (codes ",\"entries\":" ++ decimal MAX_ENTRIES)
 
 -- the limits of penalties, lines and seats
 unfoldable pub other_limits : List ℕ
-other_limits = codes ",\"penalties\":" ++ decimal MAX_PENALTIES
-    ++ codes ",\"scp_points\":" ++ decimal MAX_SCP_POINTS
-    ++ codes ",\"line_bytes\":" ++ decimal MAX_LINE
-    ++ codes ",\"seats\":" ++ decimal MAX_SEATS ++ codes "}}\n"
+other_limits = (codes ",\"penalties\":" ++ decimal MAX_PENALTIES)
+    ++ (codes ",\"scp_points\":" ++ decimal MAX_SCP_POINTS)
+    ++ (codes ",\"line_bytes\":" ++ decimal MAX_LINE) ++ (codes ",\"seats\":" ++ decimal MAX_SEATS)
+    ++ codes "}}\n"
 
 -- the whole document
 unfoldable pub words_text : List ℕ

@@ -1,11 +1,12 @@
 //! What each code and each kind of penalty means.
 
-ghost use Rattle.std.specs.Prelude.{◌≡◌, not, Some};
-ghost use Rattle.regatta_scores.specs.RacePoints.{Coded, came as came_by, is_dne};
+ghost use Rattle.std.specs.Prelude.{◌≡◌};
+ghost use Rattle.regatta_terms.specs.Codes.{code_text};
+ghost use Rattle.regatta_scores.specs.RacePoints.{Coded, came as came_by};
 ghost use Rattle.regatta_words.specs.Meanings.{scores_as as scored_as, is_breach as breaks_rule};
 ghost use Rattle.regatta_words.specs.Meanings.{meaning as meaning_of, rule as rule_of};
 ghost use Rattle.regatta_words.specs.Meanings.{kind_meaning as meaning_of_kind};
-ghost use Rattle.regatta_words.specs.Meanings.{kind_rule as rule_of_kind};
+ghost use Rattle.regatta_words.specs.Meanings.{can_be_excluded, kind_rule as rule_of_kind};
 
 use regatta_terms::{Code, PenaltyKind};
 
@@ -77,26 +78,27 @@ pub(crate) fn came(code: Code) -> bool
     }
 }
 
-/// DNC or DNF: a boat with this code has the points of a boat with that one (RRS A5.2, A5.3).
-pub(crate) fn scores_as(code: Code) -> Code
-    ensures { result ≡ scored_as code }
+/// `DNC` or `DNF`: a boat with this code has the points of a boat with that one (RRS A5.2, A5.3).
+pub(crate) fn scores_as(code: Code) -> &'static [u8]
+    ensures { result.now ≡ code_text (scored_as code) }
 {
     match code {
-        Code::Dnc => Code::Dnc,
-        Code::Dns => Code::Dnf,
-        Code::Ocs => Code::Dnf,
-        Code::Ufd => Code::Dnf,
-        Code::Bfd => Code::Dnf,
-        Code::Dnf => Code::Dnf,
-        Code::Ret => Code::Dnf,
-        Code::Dsq => Code::Dnf,
-        Code::Dne => Code::Dnf,
+        Code::Dnc => b"DNC",
+        Code::Dns => b"DNF",
+        Code::Ocs => b"DNF",
+        Code::Ufd => b"DNF",
+        Code::Bfd => b"DNF",
+        Code::Dnf => b"DNF",
+        Code::Ret => b"DNF",
+        Code::Dsq => b"DNF",
+        Code::Dne => b"DNF",
     }
 }
 
 /// Whether a score by this code can be excluded (RRS A2.1, 90.3(b)).
+#[tactic(auto, unfolding(crate::specs::Meanings::can_be_excluded))]
 pub(crate) fn is_excludable(code: Code) -> bool
-    ensures { result ≡ not (is_dne (Some code)) }
+    ensures { result ≡ can_be_excluded code }
 {
     match code {
         Code::Dnc => true,

@@ -2,7 +2,8 @@
 
 ghost use Rattle.std.specs.Prelude.{◌≡◌, ◌≤◌, ◌<◌, ◌++◌, ◌+◌, take, length, vec_len};
 ghost use Rattle.std.specs.Prelude.{vec_capacity, OnOk, OnErr};
-ghost use Rattle.regatta_words.specs.WordsText.{by_role, code_head, code_tail, code_row, kind_row};
+ghost use Rattle.regatta_words.specs.WordsText.{by_role, code_head, code_score, code_givers};
+ghost use Rattle.regatta_words.specs.WordsText.{score_fields};
 ghost use Rattle.regatta_words.specs.WordsText.{role_row, form_row, numbered_row, refusal_row};
 ghost use Rattle.regatta_words.specs.WordsText.{fault_row};
 
@@ -70,27 +71,49 @@ fn push_code_head(code: Code, out: &mut Vec<u8>) -> Result<(), AllocError>
     )
 }
 
-/// Appends the second part of a code's row.
-#[tactic(auto, unfolding(crate::specs::WordsText::code_tail))]
-fn push_code_tail(code: Code, of: &Example, out: &mut Vec<u8>) -> Result<(), AllocError>
-    ensures ok { OnOk result (out.new.items ≡ out.old.items ++ code_tail code) }
+/// Appends the code whose points a code has, and whether the score can be excluded.
+#[tactic(auto, unfolding(crate::specs::WordsText::score_fields))]
+fn push_score_fields(scored: &[u8], excludable: bool, out: &mut Vec<u8>) -> Result<(), AllocError>
+    ensures ok { OnOk result (out.new.items ≡ out.old.items ++ score_fields scored.now excludable) }
     ensures err { OnErr result (take (vec_len out.old) out.new.items ≡ out.old.items) }
     ensures room { vec_capacity out.old ≤ vec_capacity out.new }
     ensures full { OnErr result (vec_capacity out.old
-        < vec_len out.old + length (code_tail code)) }
+        < vec_len out.old + length (score_fields scored.now excludable)) }
 {
-    let (finish, jury) = (gives(Role::Finish, code, of), gives(Role::Jury, code, of));
-    let scorer = gives(Role::Scorer, code, of);
     push_pieces(
         out,
         &[
             b",\"scores_as\":\"",
-            scores_as(code).text().as_bytes(),
+            scored,
             b"\",\"excludable\":",
-            flag(is_excludable(code)),
-            b",\"given_by\":",
+            flag(excludable),
         ],
-    )?;
+    )
+}
+
+/// Appends how a code is scored.
+fn push_code_score(code: Code, out: &mut Vec<u8>) -> Result<(), AllocError>
+    ensures ok { OnOk result (out.new.items ≡ out.old.items ++ code_score code) }
+    ensures err { OnErr result (take (vec_len out.old) out.new.items ≡ out.old.items) }
+    ensures room { vec_capacity out.old ≤ vec_capacity out.new }
+    ensures full { OnErr result (vec_capacity out.old
+        < vec_len out.old + length (code_score code)) }
+{
+    push_score_fields(scores_as(code), is_excludable(code), out)
+}
+
+/// Appends who gives a code.
+#[tactic(auto, unfolding(crate::specs::WordsText::code_givers))]
+fn push_code_givers(code: Code, of: &Example, out: &mut Vec<u8>) -> Result<(), AllocError>
+    ensures ok { OnOk result (out.new.items ≡ out.old.items ++ code_givers code) }
+    ensures err { OnErr result (take (vec_len out.old) out.new.items ≡ out.old.items) }
+    ensures room { vec_capacity out.old ≤ vec_capacity out.new }
+    ensures full { OnErr result (vec_capacity out.old
+        < vec_len out.old + length (code_givers code)) }
+{
+    let (finish, jury) = (gives(Role::Finish, code, of), gives(Role::Jury, code, of));
+    let scorer = gives(Role::Scorer, code, of);
+    push_pieces(out, &[b",\"given_by\":"])?;
     push_by_role(finish, jury, scorer, out)?;
     push_pieces(out, &[b"}"])?;
     Ok(())
@@ -108,7 +131,8 @@ impl ItemWriter<Code> for CodeRows<'_> {
     #[tactic(auto, unfolding(crate::specs::WordsText::code_row))]
     fn push_item(&self, item: &Code, out: &mut Vec<u8>) -> Result<(), AllocError> {
         push_code_head(*item, out)?;
-        push_code_tail(*item, self.0, out)?;
+        push_code_score(*item, out)?;
+        push_code_givers(*item, self.0, out)?;
         Ok(())
     }
 }

@@ -117,7 +117,7 @@ fn push_series_limits(out: &mut Vec<u8>) -> Result<(), AllocError>
     ensures full { OnErr result (vec_capacity out.old < vec_len out.old + length series_limits) }
 {
     push_limit(b"\n],\n\"limits\":{\"boats\":", MAX_BOATS as u32, out)?;
-    push_limit(b",\"races\":", u32::from(MAX_RACES), out)?;
+    push_limit(b",\"races\":", MAX_RACES as u32, out)?;
     push_limit(b",\"entries\":", MAX_ENTRIES as u32, out)?;
     Ok(())
 }
@@ -130,10 +130,10 @@ fn push_other_limits(out: &mut Vec<u8>) -> Result<(), AllocError>
     ensures room { vec_capacity out.old ≤ vec_capacity out.new }
     ensures full { OnErr result (vec_capacity out.old < vec_len out.old + length other_limits) }
 {
-    push_limit(b",\"penalties\":", u32::from(MAX_PENALTIES), out)?;
-    push_limit(b",\"scp_points\":", u32::from(MAX_SCP_POINTS), out)?;
+    push_limit(b",\"penalties\":", MAX_PENALTIES as u32, out)?;
+    push_limit(b",\"scp_points\":", MAX_SCP_POINTS as u32, out)?;
     push_limit(b",\"line_bytes\":", MAX_LINE as u32, out)?;
-    push_limit(b",\"seats\":", u32::from(MAX_SEATS), out)?;
+    push_limit(b",\"seats\":", MAX_SEATS as u32, out)?;
     push_pieces(out, &[b"}}\n"])?;
     Ok(())
 }
