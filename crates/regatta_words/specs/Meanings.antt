@@ -5,6 +5,7 @@ use Rattle.regatta_terms.specs.declared.command.Code.TheVariants.{Dnc, Dns, Ocs,
 use Rattle.regatta_terms.specs.declared.command.Code.TheVariants.{Dsq, Dne}
 use Rattle.regatta_terms.specs.declared.command.PenaltyKind.{PenaltyKind}
 use Rattle.regatta_terms.specs.declared.command.PenaltyKind.TheVariants.{Zfp, Scp}
+use Rattle.regatta_terms.specs.Codes.{code_text}
 use Rattle.regatta_scores.specs.RacePoints.{Coded, base_by, is_dne}
 
 -- the meaning of each code (RRS A10)
@@ -69,6 +70,10 @@ scored_alike Dnf place_points entered dnf = refl
 scored_alike Ret place_points entered dnf = refl
 scored_alike Dsq place_points entered dnf = refl
 scored_alike Dne place_points entered dnf = refl
+
+-- the letters of the code that it scores as
+unfoldable pub scored_text : Code → List ℕ
+scored_text code = code_text (scores_as code)
 
 -- whether a score by the code can be excluded: not if it is a DNE (90.3(b))
 unfoldable pub can_be_excluded : Code → Bool

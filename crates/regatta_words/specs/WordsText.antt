@@ -16,7 +16,7 @@ use Rattle.regatta_scores.specs.RacePoints.{Coded, came}
 use Rattle.regatta_json.specs.Rows.{flag_text, joined, rows}
 use Rattle.regatta_words.specs.declared.forms.Form.{Form}
 use Rattle.regatta_words.specs.Forms.{all_forms, form_text, form_sentence}
-use Rattle.regatta_words.specs.Meanings.{meaning, rule, is_breach, scores_as, can_be_excluded}
+use Rattle.regatta_words.specs.Meanings.{meaning, rule, is_breach, scored_text, can_be_excluded}
 use Rattle.regatta_words.specs.Meanings.{kind_meaning, kind_rule}
 use Rattle.regatta_words.specs.Senders.{all_kinds, gives, sends}
 use Rattle.regatta_words.specs.Sentences.{all_roles, all_refusals, all_faults, role_meaning}
@@ -37,13 +37,9 @@ code_head code = joined (codes "{\"code\":\"" ∷ code_text code ∷ codes "\",\
     ∷ codes ",\"came\":" ∷ flag_text (came (Coded code)) ∷ [])
 
 -- the code whose points a code has, and whether the score can be excluded
-unfoldable pub score_fields : List ℕ → Bool → List ℕ
-score_fields scored excludable = joined (codes ",\"scores_as\":\"" ∷ scored
-    ∷ codes "\",\"excludable\":" ∷ flag_text excludable ∷ [])
-
--- those of a code
-abbrev pub code_score : Code → List ℕ
-code_score code = score_fields (code_text (scores_as code)) (can_be_excluded code)
+unfoldable pub code_score : Code → List ℕ
+code_score code = joined (codes ",\"scores_as\":\"" ∷ scored_text code
+    ∷ codes "\",\"excludable\":" ∷ flag_text (can_be_excluded code) ∷ [])
 
 -- who gives it
 unfoldable pub code_givers : Code → List ℕ

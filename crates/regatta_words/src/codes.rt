@@ -1,9 +1,8 @@
 //! What each code and each kind of penalty means.
 
 ghost use Rattle.std.specs.Prelude.{◌≡◌};
-ghost use Rattle.regatta_terms.specs.Codes.{code_text};
 ghost use Rattle.regatta_scores.specs.RacePoints.{Coded, came as came_by};
-ghost use Rattle.regatta_words.specs.Meanings.{scores_as as scored_as, is_breach as breaks_rule};
+ghost use Rattle.regatta_words.specs.Meanings.{scored_text, is_breach as breaks_rule};
 ghost use Rattle.regatta_words.specs.Meanings.{meaning as meaning_of, rule as rule_of};
 ghost use Rattle.regatta_words.specs.Meanings.{kind_meaning as meaning_of_kind};
 ghost use Rattle.regatta_words.specs.Meanings.{can_be_excluded, kind_rule as rule_of_kind};
@@ -79,8 +78,9 @@ pub(crate) fn came(code: Code) -> bool
 }
 
 /// `DNC` or `DNF`: a boat with this code has the points of a boat with that one (RRS A5.2, A5.3).
+#[tactic(auto, unfolding(crate::specs::Meanings::scored_text))]
 pub(crate) fn scores_as(code: Code) -> &'static [u8]
-    ensures { result.now ≡ code_text (scored_as code) }
+    ensures { result.now ≡ scored_text code }
 {
     match code {
         Code::Dnc => b"DNC",

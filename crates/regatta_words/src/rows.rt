@@ -3,7 +3,6 @@
 ghost use Rattle.std.specs.Prelude.{◌≡◌, ◌≤◌, ◌<◌, ◌++◌, ◌+◌, take, length, vec_len};
 ghost use Rattle.std.specs.Prelude.{vec_capacity, OnOk, OnErr};
 ghost use Rattle.regatta_words.specs.WordsText.{by_role, code_head, code_score, code_givers};
-ghost use Rattle.regatta_words.specs.WordsText.{score_fields};
 ghost use Rattle.regatta_words.specs.WordsText.{role_row, form_row, numbered_row, refusal_row};
 ghost use Rattle.regatta_words.specs.WordsText.{fault_row};
 
@@ -72,26 +71,7 @@ fn push_code_head(code: Code, out: &mut Vec<u8>) -> Result<(), AllocError>
 }
 
 /// Appends the code whose points a code has, and whether the score can be excluded.
-#[tactic(auto, unfolding(crate::specs::WordsText::score_fields))]
-fn push_score_fields(scored: &[u8], excludable: bool, out: &mut Vec<u8>) -> Result<(), AllocError>
-    ensures ok { OnOk result (out.new.items ≡ out.old.items ++ score_fields scored.now excludable) }
-    ensures err { OnErr result (take (vec_len out.old) out.new.items ≡ out.old.items) }
-    ensures room { vec_capacity out.old ≤ vec_capacity out.new }
-    ensures full { OnErr result (vec_capacity out.old
-        < vec_len out.old + length (score_fields scored.now excludable)) }
-{
-    push_pieces(
-        out,
-        &[
-            b",\"scores_as\":\"",
-            scored,
-            b"\",\"excludable\":",
-            flag(excludable),
-        ],
-    )
-}
-
-/// Appends how a code is scored.
+#[tactic(auto, unfolding(crate::specs::WordsText::code_score))]
 fn push_code_score(code: Code, out: &mut Vec<u8>) -> Result<(), AllocError>
     ensures ok { OnOk result (out.new.items ≡ out.old.items ++ code_score code) }
     ensures err { OnErr result (take (vec_len out.old) out.new.items ≡ out.old.items) }
@@ -99,7 +79,15 @@ fn push_code_score(code: Code, out: &mut Vec<u8>) -> Result<(), AllocError>
     ensures full { OnErr result (vec_capacity out.old
         < vec_len out.old + length (code_score code)) }
 {
-    push_score_fields(scores_as(code), is_excludable(code), out)
+    push_pieces(
+        out,
+        &[
+            b",\"scores_as\":\"",
+            scores_as(code),
+            b"\",\"excludable\":",
+            flag(is_excludable(code)),
+        ],
+    )
 }
 
 /// Appends who gives a code.
