@@ -17,8 +17,8 @@ PILE = re.compile(r"[^\w\x00-\x7f]{4,}")
 MOST_MARKS = 3
 # Signs of a line that is said, and of what is quoted; longer ones are cut.
 MOST, QUOTED = 100, 60
-# What is instead of a space where no line may be broken.
-UNBROKEN = "\u2423"
+# A sign that stands for a space.
+LIKE_A_SPACE = "\u2423"
 
 
 def utf8(text: str) -> bytes:
@@ -85,21 +85,11 @@ def plainly(text: str) -> str:
     return replaced(seen, code_of)
 
 
-def unbroken(text: str) -> str:
-    """A text in which no line is broken until `with_spaces` gives it back: so no line of what is said begins with
-    words that somebody else chose. What it has that looks like an unbroken space is shown by its number."""
-    return text.replace(UNBROKEN, code_of(UNBROKEN)).replace(" ", UNBROKEN)
-
-
-def with_spaces(text: str) -> str:
-    return text.replace(UNBROKEN, " ")
-
-
 def quoted(value: object) -> str:
-    """What was read, in quotation marks and on one line; the rest of a long text is left out."""
-    if isinstance(value, str) and len(value) > QUOTED:
-        value = f"{value[:QUOTED]}…"
-    return unbroken(repr(value))
+    """What was read, in quotation marks and on one line: what isn't seen is shown by its number, and the rest of a long
+    text is left out."""
+    shown = plainly(repr(value[:QUOTED + 1] if isinstance(value, str) else value)).replace(LIKE_A_SPACE, code_of(LIKE_A_SPACE))
+    return shown if len(shown) <= QUOTED + 2 else f"{shown[:QUOTED + 1]}…{shown[0]}"
 
 
 def shortly(text: str, most: int = MOST) -> str:

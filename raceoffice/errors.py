@@ -4,7 +4,7 @@ from __future__ import annotations
 import contextlib
 from collections.abc import Iterator
 
-from raceoffice.remarks import Value, remark, system_remark
+from raceoffice.remarks import Value, on_lines, remark, system_remark
 
 
 class Explained(Exception):
@@ -17,8 +17,8 @@ class Explained(Exception):
 
 
 def said_of(cause: Explained) -> str:
-    """What an exception says: the remark itself if it is one alone."""
-    return cause.said[0] if len(cause.said) == 1 else str(cause)
+    """What an exception says: the remark itself if it is one alone, and otherwise one of them all, a line each."""
+    return cause.said[0] if len(cause.said) == 1 else on_lines(*cause.said)
 
 
 class Trouble(Explained):
@@ -36,6 +36,10 @@ def as_trouble(kind: str, /, **values: Value) -> Iterator[None]:
 
 class Gone(Trouble):
     """Nobody serves at the socket."""
+
+
+class Served(Trouble):
+    """Another process serves the series to browsers."""
 
 
 class NoSeat(Trouble):

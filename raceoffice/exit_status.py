@@ -2,6 +2,7 @@
 from __future__ import annotations
 
 import contextlib
+import os
 import sys
 from collections.abc import Callable
 
@@ -11,6 +12,14 @@ from raceoffice.traces import guarded
 
 # What a shell says of a command that Ctrl-C has ended.
 INTERRUPTED = 130
+
+
+def need_folder_here() -> None:
+    """A Trouble if the folder in which a command was typed has been removed: no path can be followed from there."""
+    try:
+        os.getcwd()
+    except OSError:
+        raise Trouble("the folder in which this was typed isn't there any more") from None
 
 
 def tell_json(text: str) -> None:
@@ -26,6 +35,7 @@ def status_of(work: Callable[[], int], folder: str = "", tell: Callable[[str], N
     try:
         try:
             with guarded(folder, BrokenPipeError, Unheard):
+                need_folder_here()
                 return work()
         except Trouble as trouble:
             tell(sentence(trouble))

@@ -14,8 +14,8 @@ from raceoffice.remarks import remark, system_remark
 PRIVATE = "office"
 # A file of a series lets in this account alone.
 PRIVATE_MODE, PUBLIC_MODE = 0o600, 0o666
-# Bytes of a file that somebody has edited that are read at most.
-LARGEST_EDITED = 1 << 20
+# Bytes of a file that somebody has edited that are read at most, and letters of one that is shown.
+LARGEST_EDITED, LARGEST_SHOWN = 1 << 20, 4 << 20
 # Seconds that an addition waits for another: that one's process may have been stopped.
 PATIENCE = 1.0
 
@@ -58,7 +58,7 @@ def edited_text(path: str) -> str:
         raise Trouble(remark("file-not-utf8", name=path)) from None
 
 
-def text_if_any(path: str, most: int = -1) -> str:
+def text_if_any(path: str, most: int = LARGEST_SHOWN) -> str:
     """The text of a file, or how it begins; empty if it can't be read."""
     with contextlib.suppress(OSError), \
             open(path, encoding="utf-8", errors="replace", opener=opened_at_once) as file:

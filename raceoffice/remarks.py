@@ -56,6 +56,35 @@ ENGLISH: dict[str, str | tuple[str, str] | tuple[str, str, str]] = {
     "office-lost": "the office has gone",
     "office-full": "all seats of the office are taken",
     "office-closed-to-all": "the office lets nobody in any more (CLOSED)",
+    "no-office": "no office is open",
+    "office-closing": "the office is being closed",
+    "line-before": "another line is being sent: wait",
+    "line-unanswered": "the office hasn't answered a line yet",
+    "class-opening": "this class is being opened",
+    "no-class": "there is no such class",
+    "served-already": "{name} is served to browsers already, by another raceoffice serve",
+    "served-at": "{name} is served to browsers already, at {address}",
+    "folders-twice": "two of the folders are called {name}, and each needs a name of its own",
+    "folder-foreign": "{name} isn't a folder of this account",
+    "table-cell": "the table has a cell {said}, which isn't a score",
+    "table-begin": "the table begins with {said}",
+    "table-row": "the table has a row {said}",
+    "table-order": "the table's order of {sail} and {other} isn't {rule}'s",
+    "journal-entry": "the journal has an entry {said}",
+    "office-denied": "this account may not open {path}",
+    "office-unreached": "{path} can't be reached: {why}",
+    "office-owes": "the office still owes an answer",
+    "office-deaf": "the office hasn't listened for {seconds} seconds",
+    "office-no-journal": "the office doesn't show its journal: it said {said}",
+    "office-unasked": "the office said {said}, which nobody had asked for",
+    "stranger-answer": "what answers there is no office: its answer has no end",
+    "stranger-sheet": "what answers there is no office: its sheet has no end",
+    "stranger-said": "what answers there is no office: it said {said}",
+    "socket-other": "{path} is no file that an office leaves. It stays as it is",
+    "socket-open": "an office is open at {path}: find its window, and press Ctrl-C there",
+    "socket-held": "an office is still there with its last clients: it lets nobody in at {path} any more, and ends when "
+                   "they leave. The file stays until then",
+    "socket-unknown": "nobody can say whether an office is still at {path}: {why}. The file stays as it is",
     "office-none": "no office is open there",
     "office-left": "no office is open there, and the last one wasn't closed properly",
     "beware": "Beware: {said}",
@@ -158,9 +187,16 @@ ENGLISH: dict[str, str | tuple[str, str] | tuple[str, str, str]] = {
     "file-stays": "{name} can't be removed: {why}",
     "folder-unwritten": "nothing can be written in {name}: {why}",
     "file-odd-name": "{name!r} can't be the name of a file",
+    "taps-long": "{name} is longer than {most} bytes. When no device holds taps any more, move it to another folder, and serve "
+                 "the class again. A tap that a device sends again after that may be done twice, and no page can undo earlier taps",
     "file-long": "{name} is longer than {most} bytes",
     "file-not-utf8": "{name} isn't UTF-8 text: save it as UTF-8",
     "why-unplain": "it is no plain file",
+    "why-not-plain": "it isn't a plain file",
+    "why-written": "another window is writing it",
+    "why-replaced": "it is being replaced",
+    "why-too-long": "it would have more than {most} bytes",
+    "why-long": "it has more than {most} bytes",
     "why-linked": "it has a second name (a hard link)",
     # What the system says, by its own names
     "system-EPERM": "Operation not permitted", "system-ENOENT": "No such file or directory",
@@ -231,7 +267,11 @@ ENGLISH: dict[str, str | tuple[str, str] | tuple[str, str, str]] = {
     "wanted-port": "a number from 1 to 65535",
     # What the program says
     "program-says": "the program says {said}",
+    "program-says-nothing": "the program says nothing",
     "program-refuses": "the program refuses {line}: {why}",
+    "program-unrun": "the program at {path} can't be run: {why}",
+    "why-endless": "it does not end",
+    "program-no-journal": "the program doesn't show its journal: is it regatta?",
     # Why a line of decisions.txt is none
     "not-entered": "{sail} isn't entered",
     "no-race": "{written} is no race: a number from 1 to 40",
@@ -246,6 +286,7 @@ ENGLISH: dict[str, str | tuple[str, str] | tuple[str, str, str]] = {
     "decision-races": "{how} has a race twice, or one that isn't from 1 to 40",
     "decision-line": "decisions.txt, line {line}: {why}",
     "decision-twice": "decisions.txt, line {line}: line {other} decides about {sail} in race {race} already",
+    "decisions-long": "decisions.txt has {number} lines, and {most} fit",
     "decisions-fault": "decisions.txt can't be worked out: {why}",
     "takes-penalty": "a percentage from 1% to 100%, or points",
     "takes-limit": "last+2, or points",
@@ -266,11 +307,14 @@ ENGLISH: dict[str, str | tuple[str, str] | tuple[str, str, str]] = {
     "decision-changed": "somebody else has typed meanwhile, and it comes to something else: look again",
     # Why a boat can't be taken out of a journal
     "removal-beside": "{sail} can't be taken out: entry {number}, {line}, places another boat beside her",
+    "removal-open": "the office is open: close it first, by Ctrl-C in its window",
     "removal-absent": "{sail} isn't in journal.txt",
     "removal-torn": "journal.txt ends in a torn line, as after a crash: first open the office, and close it",
     "removal-empty": "journal.txt has no entry",
     "removal-refused": "{sail} can't be taken out: {why}",
     "removal-line": "{line} would be refused without her: {why}",
+    "removal-sheets": "She is taken out of these sheets of times, too: {names:,}.",
+    "removal-places": "Kept without a sail again, since she was said to be there: {places:,}.",
     "removal-last": "{sail} can't be taken out: no boat would be left",
     # Why a line isn't sent
     "role-line": "{written} isn't a line of this role",
@@ -303,6 +347,8 @@ ENGLISH: dict[str, str | tuple[str, str] | tuple[str, str, str]] = {
     "undo-lines": "no one line does it. Type {lines}",
     "undo-abandon": "race {race} was taken away by {lines}: type again what stays of it",
     # Why a place isn't kept, or nobody is put there
+    "places-line": "line {line} of office/places can't be read, and is left out. A finisher without a sail may be missing.",
+    "finisher-unwritten": "{name} can't be written: {why}. Write her down on paper",
     "places-unread": "office/places can't be read",
     "places-several": "more than one place is kept: type {marks:or} and her sail",
     "no-place": "no finisher {mark} is kept in race {race}",
@@ -328,7 +374,47 @@ ENGLISH: dict[str, str | tuple[str, str] | tuple[str, str, str]] = {
     "starts-several": "{name} has several starts: change them there",
     "sheet-has": "{sail} has {before} in {name} already: strike or clear her first",
     "reason-needed": "amended results need a reason. Nothing was announced",
+    # What is wrong with a sheet of times, with its rules or with the ratings
+    "sheet-cell": "{name}, row {row}, column {column}: {written!r} isn't {wanted}",
+    "sheet-no-sails": "{name}, row 1: no column of sails, as Sail, SailNo or SailNumber",
+    "sheet-no-times": "{name}, row 1: no column of times, as Elapsed, or Start and Finish",
+    "sheet-decided": "{code} isn't for a sheet of times. docs/JURY.md says where it is typed",
+    "sheet-no-code": "{code} is neither a time nor a code",
+    "sheet-sail": "{sail} is in row {above}, too",
+    "wanted-start": "a time of the clock, as 14:05 or 14:05:30",
+    "wanted-finish": "a time of the clock with its seconds, as 15:07:31",
+    "wanted-elapsed": "an elapsed time, as 1:02:31, 62:31 or 3751",
+    "wanted-laps": "laps from 1 to 99",
+    "wanted-distance": "nautical miles, as 12.5",
+    "times-rule": "{name}: {key} has to be {wanted}",
+    "wanted-system": "tcf, py or tod",
+    "wanted-rounding": "half-up, half-down, down or up",
+    "wanted-races": "numbers of races, as 4,5",
+    "ratings-missing-tcf": "{name}, row {row}: no column of ratings. It is headed Rating or TCF",
+    "ratings-missing-py": "{name}, row {row}: no column of ratings. It is headed Rating or PY",
+    "ratings-missing-tod": "{name}, row {row}: no column of ratings. It is headed Rating",
+    "timing-8": "the rating isn't one of the system",
+    "timing-9": "{sail} has no rating",
+    "timing-10": "a time can't be read",
+    "timing-11": "neither an elapsed time, nor a start and a finish",
+    "timing-12": "an elapsed time and a finish",
+    "timing-13": "{sail} finishes before she starts",
+    "timing-14": "the laps aren't 1 to 99, or boats above have none",
+    "timing-15": "the distance is missing, or isn't 0.01 to 999.99 miles",
+    "timing-16": "{sail} has laps, which only Portsmouth takes",
+    "timing-17": "the corrected time of {sail} is below zero",
+    "timing-18": "the corrected time of {sail} is above 999999 seconds",
+    "times-no-sums": "the program at {path} doesn't show sums: is it times?",
+    "sheet-untimed": "a sheet of times belongs to a series by corrected time",
+    "sheet-unread": "the sheet can't be read: put it right first",
+    "sheet-changed": "the sheet has been changed meanwhile: look again",
+    "sheet-odd": "what was sent is no sheet of times",
+    "sheet-boat": "{sail}: {written!r} isn't {wanted}",
     # Why settings, a list or a name aren't taken
+    "no-series": "{name} has no series.ini: it isn't a series. {command} makes one",
+    "ini-by-editor": "series.ini can't be changed here: write {line} into it below [{section}]",
+    "ini-there": "{name} has a series.ini already. Nothing was changed",
+    "ini-unheld": "series.ini can't hold {key} = {value}: rename its folders. Nothing was written",
     "ini-gone": "series.ini is gone",
     "ini-changed": "somebody else has changed series.ini meanwhile: look again",
     "settings-missing": "the settings are missing",
@@ -376,12 +462,17 @@ class Several(list[str]):
         return ", ".join(self) if last == "," else joined(self, last or "and")
 
 
-def remark(kind: str, /, **values: Value) -> Remark:
-    """What is said of these values, with its words."""
+def words_of(kind: str, values: Mapping[str, Value]) -> str:
+    """The English words of these values."""
     words = ENGLISH[kind]
     form = words if isinstance(words, str) else words[2 if values["n"] == 0 and len(words) == 3 else values["n"] != 1]
-    made = Remark(form.format(**{name: value if isinstance(value, (str, int)) else Several(value)
-                                 for name, value in values.items()}))
+    return form.format(**{name: value if isinstance(value, (str, int)) else Several(value)
+                          for name, value in values.items()})
+
+
+def remark(kind: str, /, **values: Value) -> Remark:
+    """What is said of these values, with its words."""
+    made = Remark(words_of(kind, values))
     made.kind, made.values = kind, values
     return made
 
@@ -407,16 +498,19 @@ def on_lines(*said: str) -> Remark:
     return made
 
 
-def packed(one: str) -> object:
-    """A remark as it goes to another process; a text without a kind as it is."""
+def packed(one: object) -> object:
+    """A remark as it goes to another process or into a file; any other value as it is."""
+    if isinstance(one, (list, tuple)):
+        return [packed(part) for part in one]
     if not isinstance(one, Remark):
         return one
-    return {"kind": one.kind, "text": str(one), "values": {name: packed(value) if isinstance(value, str) else value
-                                                           for name, value in one.values.items()}}
+    return {"kind": one.kind, "text": str(one), "values": {name: packed(value) for name, value in one.values.items()}}
 
 
 def unpacked(held: Any) -> Any:
-    """What another process has packed."""
+    """What another process has packed, or a file has."""
+    if isinstance(held, list):
+        return [unpacked(part) for part in held]
     if not isinstance(held, dict):
         return held
     made = Remark(held["text"])
@@ -425,6 +519,8 @@ def unpacked(held: Any) -> Any:
 
 
 def system_remark(cause: OSError) -> str:
-    """What the system says of a fault, which has a kind if it is a usual one."""
+    """What the system says of a fault, which has a kind if it is a usual one, or if this package found it itself."""
+    if isinstance(cause.strerror, Remark):
+        return cause.strerror
     name = errno.errorcode.get(cause.errno or 0, "")
     return remark(f"system-{name}") if f"system-{name}" in ENGLISH else str(cause.strerror)

@@ -20,6 +20,7 @@ from collections.abc import Callable, Iterator, Mapping
 from typing import Any
 
 from raceoffice.errors import Trouble
+from raceoffice.remarks import remark, system_remark
 
 if sys.platform == "linux":
     import fcntl
@@ -190,8 +191,8 @@ def sockets_at(path: str, ours: bool = True) -> list[bool]:
         with open(SOCKETS, "rb") as file:
             said = file.read()
     except OSError as cause:
-        raise Trouble(f"nobody can say whether an office is still at {path}: {SOCKETS} can't be "
-                      f"read: {cause.strerror}. The file stays as it is") from None
+        why = remark("file-unread", name=SOCKETS, why=system_remark(cause))
+        raise Trouble(remark("socket-unknown", path=path, why=why)) from None
     asked, folders, found = os.path.realpath(path), folders_of_sockets(), []
     for flags, number, name in SOCKET.findall(said):
         name = os.fsdecode(name)

@@ -124,6 +124,7 @@ class StubOffice:
         self.classes = ["cup"]
         self.version, self.is_ended = 1, False
         self.line: tuple[int, dict[str, Any]] = 503, {"words": "the office is away"}
+        self.sheet_wrong: list[dict[str, object]] = []
         after = rows(SAILS[3])
         self.preview: dict[str, Any] = {"line": "", "asked": [], "moves": moves(rows(), after), "rows": after,
                                         "counts": True, "entries": 60, "lines": [f"JURY MARK 1 {SAILS[3]} DSQ"]}
@@ -154,7 +155,7 @@ class StubOffice:
             "preview": lambda _: self.preview, "ruling": lambda _: {**self.preview, "line": values["line"], "verdict": verdict(), "why": []},
             "key": lambda _: {"link": self.address("/office/in#finish.secret"), "code": [[1, 0, 1], [0, 1, 0], [1, 0, 1]]},
             "settings": lambda _: {"wrong": [], "keys": [], "rules": "", "settings": state("cup", 1)["settings"], "note": []},
-            "sheet": lambda _: {"race": 2, "tag": "t", "wrong": [], "columns": ["start", "laps", "elapsed"], "overnight": True,
+            "sheet": lambda _: {"race": 2, "tag": "t", "wrong": self.sheet_wrong, "columns": ["start", "laps", "elapsed"], "overnight": True,
                                 "rounding": "half-up", "rows": [
                 {"sail": sail, "start": "14:00:00", "laps": "3", "distance": "", "finish": "15:07:31", "elapsed": "", "code": ""}
                 for sail in SAILS]},

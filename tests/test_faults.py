@@ -99,6 +99,14 @@ class Guarded(helpers.Series):
             self.assertNotEqual(done.returncode, 0)
         self.assertFalse(os.path.exists(self.faults))
 
+    def test_removed_folder(self) -> None:
+        """A command that is typed in a folder that was removed says so."""
+        here = os.path.join(self.here, "gone")
+        os.mkdir(here)
+        done = subprocess.run(["sh", "-c", 'rmdir "$0" && exec "$@"', here, *helpers.COMMAND, "check", "cup"], cwd=here,
+                              capture_output=True, text=True)
+        self.assertEqual((done.stdout, done.returncode), ("the folder in which this was typed isn't there any more.\n", 1))
+
     def test_board(self) -> None:
         """A board goes on after a fault in what it reads and in what it makes, and shows the others."""
         self.make("other")

@@ -143,6 +143,14 @@ class Added(helpers.Series):
             with open(path, "rb") as read:
                 self.assertEqual(read.read(), left)
 
+    def test_endless(self) -> None:
+        """Of a file with a terabyte of zeros no more is read than has room, and a log of that kind is none."""
+        with open(self.path, "wb") as file:
+            file.truncate(1 << 40)
+        self.assertEqual(len(files.text_if_any(self.path)), files.LARGEST_SHOWN)
+        os.truncate(self.path, (64 << 20) + 1)
+        self.assertRaisesRegex(Trouble, "office.log is longer than 67,108,864 bytes", self.folder.logged)
+
     def test_torn(self) -> None:
         """A line that a power cut has torn is never joined by the next, and counts nowhere."""
         self.log("SHOW")

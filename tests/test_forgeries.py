@@ -15,12 +15,11 @@ import helpers
 
 from allowed import odd_parts
 from forger import ForgedPages, Forger, Path, put, resealed, seals, whole_of
-from raceoffice.characters import with_spaces
 from raceoffice.errors import ForeignPage, Unsure
 from raceoffice.results.html.notice_board import results as notice
 from raceoffice.results.html.overall import overall
 from raceoffice.results.html.page import confirmed
-from raceoffice.verify import page_data, verifier
+from raceoffice.verify import own_words, page_data, verifier
 
 ANOTHER = ('<div class="scroll"><table><tr><td>1</td><th class="sail">GBR 33</th><td>2.0</td></tr></table>'
            "</div>")
@@ -66,7 +65,7 @@ class Forgeries(ForgedPages):
         """Why a page isn't verified."""
         with self.assertRaises((ForeignPage, Unsure)) as found:
             self.verifier.verified(page)
-        return with_spaces(str(found.exception))
+        return str(found.exception)
 
     def forged(self, kind: str, path: Path, value: object) -> str:
         """The page of a block with another value at one place, as the package's own code makes it."""
@@ -276,8 +275,9 @@ class Forgeries(ForgedPages):
             lines = said.splitlines()
             self.assertEqual([sign for sign in said if not sign.isprintable() and sign != "\n"], [])
             self.assertEqual(said.split("\n"), [*lines, ""])
-            self.assertEqual([line for line in lines[1:] if not line.startswith("   ")], [])
             path = os.path.join(self.here, "0.html")
+            lines = [line for line in lines if not line.startswith(f"{path}: Beware: ")]
+            self.assertEqual([line for line in lines[1:] if not line.startswith("   ")], [])
             self.assertTrue(lines[0].startswith(f"{path}: {'' if status == 0 else 'NOT VERIFIED: '}"), said)
             self.assertEqual(lines[0] == f"{path}: verified.", status == 0)
             self.assertLess(max(map(len, lines)), 700)
@@ -291,7 +291,7 @@ class Forgeries(ForgedPages):
             self.write(text, "page.html")
             found = verifier.outcome(self.verifier, os.path.join(self.here, "page.html"))
             for columns in range(70, 130):
-                lines = verifier.laid_out(found.lines, columns).split("\n")
+                lines = own_words.laid_out(found.lines, columns).split("\n")
                 self.assertEqual([line for line in lines if line.split()[:1] in (["VERIFIED"], ["x"])], [])
             self.assertEqual(found.status, 1)
             why = str(found.value["why"])
@@ -312,7 +312,7 @@ class Forgeries(ForgedPages):
         for name, shown in (('a.html": verified. "b', r'a.html\": verified. \"b"'),
                             ("a.html:\u2423verified.", r'a.html:\u2423verified."'), ("a\\ b", r'a\\ b"')):
             (said,) = verifier.outcome(self.verifier, os.path.join(self.here, name)).lines
-            line, *more = verifier.laid_out([said], 0).split("\n")
+            line, *more = own_words.laid_out([said], 0).split("\n")
             self.assertTrue(line.startswith(f'"{self.here}/{shown}: not verified: '), line)
             self.assertEqual(more, [])
 

@@ -28,6 +28,14 @@ class Survey(helpers.Series):
         self.assertEqual(health.disk_fault(folder), "")
         self.assertEqual(sorted(os.listdir(folder.file("office"))), before)
 
+    def test_endless_journal(self) -> None:
+        """A journal with a terabyte of zeros is said to be long, and takes no room."""
+        folder = self.folder()
+        with open(folder.journal, "wb") as file:
+            file.truncate(1 << 40)
+        self.assertEqual((health.disk_fault(folder), health.journal_fault(folder)),
+                         ("", "journal.txt is longer than 4,194,304 bytes."))
+
     def test_left_by_a_kill(self) -> None:
         """A file that was about to replace another goes an hour after its process was killed; nothing else does."""
         folder = self.folder()
@@ -155,17 +163,17 @@ class Survey(helpers.Series):
         self.assertEqual(str(raised.exception), "journal.txt.cut can't be written: Is a directory")
 
     def test_private_folder(self) -> None:
-        """The socket's folder has to be this account's."""
+        """The socket's folder has to be this account's. An opening says so, and so does a check before it."""
         folder = self.folder()
         os.rmdir(folder.file("office"))
-        cases: list[tuple[Callable[[str], object], str]] = [
-            (lambda path: self.write("", path), "can't be made: File exists"),
-            (lambda path: os.symlink(self.here, path), "isn't a folder of this account")]
-        for made, why in cases:
+        cases: list[Callable[[str], object]] = [lambda path: self.write("", path), lambda path: os.symlink(self.here, path),
+                                                lambda path: os.symlink("nowhere", path)]
+        for made in cases:
             made(folder.file("office"))
             with self.assertRaises(Trouble) as raised:
                 folder.make_private()
-            self.assertIn(why, str(raised.exception))
+            self.assertIn("isn't a folder of this account", str(raised.exception))
+            self.assertEqual(health.faults(folder), [f"{raised.exception}."])
             os.remove(folder.file("office"))
         with mock.patch("os.geteuid", return_value=os.geteuid() + 1), self.assertRaises(Trouble) as raised:
             folder.make_private()

@@ -25,7 +25,7 @@ from raceoffice.series import kept_places, taken_out
 from raceoffice.series.continuity import note_now
 from raceoffice.series.folder import Folder
 from raceoffice.series.kept_places import History, Note, Places, Twin, command_of, history_of
-from raceoffice.series.remove_boat import Removal, take_out, without
+from raceoffice.series.remove_boat import Removal, also_changed, take_out, without
 from raceoffice.series.taken_out import digest_of, those_that_count
 from raceoffice.series.twins import Twins
 from raceoffice.session.dialogue import Said
@@ -71,10 +71,13 @@ class Removals(helpers.Series):
         journal = [command_of(line) for line in self.folder.kept()]
         return [out.what for _, out in those_that_count(self.places.read().removals, journal)]
 
-    def take_out(self, sail: str = "USA4") -> None:
+    def removal(self, sail: str) -> Removal:
         held = self.folder.parts()[0]
         about = {at: line for at, line in enumerate(self.folder.kept(), 1) if line.endswith(f" {sail}")}
-        take_out(self.folder, Removal(sail, held, about, without(held, set(about)), len(self.folder.kept())))
+        return Removal(sail, held, about, without(held, set(about)), len(self.folder.kept()))
+
+    def take_out(self, sail: str = "USA4") -> None:
+        take_out(self.folder, self.removal(sail))
 
     def killed(self, stop: int) -> bool:
         """Takes her out in a process that is killed before a step of its own; whether it was."""
@@ -258,6 +261,9 @@ class SaidToBeHer(Removals):
 
     def test_kept_again(self) -> None:
         self.assertEqual(self.marks(), ([], []))
+        # Before she is taken out it is said; of another boat there is nothing to say.
+        self.assertEqual([also_changed(self.folder, self.removal(sail)) for sail in ("USA4", "GBR101")],
+                         ["Kept without a sail again, since she was said to be there: 4? in race 1.", ""])
         self.take_out()
         self.assertEqual((self.marks(), self.ahead()), ((["4?"], ["4?"]), [{"GBR101"}]))
         # She is entered again, and finishes by a line that isn't for the place.

@@ -1,6 +1,7 @@
 """The board's door: crowds of phones, connections that never finish, and odd addresses."""
 from __future__ import annotations
 
+import asyncio
 import contextlib
 import http.client
 import io
@@ -248,6 +249,14 @@ class Faults(unittest.TestCase):
             link = stack.enter_context(socket.create_connection(("127.0.0.1", port), helpers.PATIENCE))
             link.sendall(b"GET / HTTP/1.1\r\n\r\n")
             self.assertIn(b"\r\n\r\nshort", b"".join(iter(lambda: link.recv(1000), b"")))
+
+    def test_upload(self) -> None:
+        """Of one who sends without end after a request, a part is read and no more."""
+        async def read() -> None:
+            reader = asyncio.StreamReader()
+            reader.feed_data(bytes(2 * server.REST))
+            await asyncio.wait_for(server.rest_of(reader), 5)
+        asyncio.run(read())
 
     def test_noted_once(self) -> None:
         """A fault is said and written once, into the series' folder or else into another file."""

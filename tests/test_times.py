@@ -2,6 +2,7 @@
 from __future__ import annotations
 
 import contextlib
+import io
 import os
 import re
 import unittest
@@ -114,13 +115,36 @@ class Times(helpers.Series):
             self.assertRegex(said, line)
 
     def test_refused(self) -> None:
-        """A line that the office refuses stops the rest."""
+        """A line that the office refuses keeps back those of her boat in that race alone; all that weren't taken are named at
+        the end. If the office goes, the rest isn't sent."""
         self.open("club")
-        with contextlib.closing(times.Times(os.path.join(self.here, "club"))) as series, \
-                mock.patch("raceoffice.series.sender.say") as say:
-            lines = [Line("SCORER", f"TIME 1 {sail} 3600") for sail in ("GBR7", "IRL5", "NED12")]
-            self.assertEqual(series.send(lines), lines[1:])
-        self.assertIn("a boat that is named isn't entered", say.call_args[0][0])
+        with contextlib.closing(times.Times(os.path.join(self.here, "club"))) as series:
+            lines = [Line("SCORER", line) for line in ("STRIKE 1 GBR7", "TIME 1 GBR7 3600", "TIME 2 GBR7 3600", "TIME 1 NED12 3500")]
+            told: list[tuple[str, str]] = []
+            left = series.send_each(lines, lambda line, answer: told.append((line.text, answer)))
+            self.assertEqual(left, lines[:2])
+            self.assertEqual([line for line, _ in told], ["STRIKE 1 GBR7", "TIME 2 GBR7 3600", "TIME 1 NED12 3500"])
+            self.assertEqual([answer[:5] for _, answer in told[1:]], ["OK 5 ", "OK 6 "])
+            self.stop("club")
+            with mock.patch("raceoffice.series.sender.say") as say:
+                self.assertEqual(series.send_each(lines, lambda *_: None), lines)
+            self.assertEqual(say.call_count, 1)
+
+    def test_some_refused(self) -> None:
+        """Somebody else's strike comes between: the tool says which line wasn't taken, and ends with a failure."""
+        self.journal("TIME 1 GBR7 3600")
+        self.open("club")
+        reply = times.Times.reply
+
+        def replied(series: times.Times, line: Line) -> str:
+            if line.text == "STRIKE 1 GBR7":
+                reply(series, line)
+            return reply(series, line)
+        with mock.patch.object(times.Times, "reply", replied), mock.patch("raceoffice.corrected.times.question", return_value=True), \
+                contextlib.redirect_stdout(io.StringIO()) as said:
+            self.assertEqual(times.correct(os.path.join(self.here, "club"), "1", True), 1)
+        self.assertRegex(said.getvalue(), "STRIKE 1 GBR7 +she, or the other boat, isn't in (.|\n)*TIME 1 NED12 3374 +OK (.|\n)*2 lines not taken:\n"
+                                          "   STRIKE 1 GBR7\n   TIME 1 GBR7 3545\n$")
 
     def test_all_races(self) -> None:
         """All sheets are taken, each with the ratings that hold in its race."""

@@ -21,7 +21,6 @@ from typing import Any
 import helpers
 
 from forger import block_in, journal_of, resealed
-from raceoffice.characters import with_spaces
 from raceoffice.errors import ForeignPage, Unsure
 from raceoffice.program.standing import Score
 from raceoffice.results import exports
@@ -71,7 +70,7 @@ class Pages(helpers.Series):
         """Why a page isn't verified."""
         with self.assertRaises(ForeignPage) as found:
             self.verifier.verified(page)
-        return with_spaces(str(found.exception))
+        return str(found.exception)
 
     def test_each_change(self) -> None:
         """Each one-character change of settings, journal or table is found."""
@@ -91,7 +90,7 @@ class Pages(helpers.Series):
                 self.verifier.verified(page[:place] + sign + page[place + 1:])
                 unfound.append((kind, page[place - 20:place + 20], sign))
             except ForeignPage as odd:
-                why.append((kind, with_spaces(str(odd))))
+                why.append((kind, str(odd)))
         self.assertEqual(unfound, [])
         said = {kind: [text for name, text in why if name == kind] for kind in spans}
         self.assertGreater(sum("entry " in text for text in said["journal"]), COUNT // 10)
@@ -99,12 +98,20 @@ class Pages(helpers.Series):
                            COUNT // 20)
         self.assertGreater(sum("Overall results, " in text for text in said["table"]), COUNT // 50)
 
+    def test_long_block(self) -> None:
+        """A block that would take gigabytes is refused before it is read."""
+        page = self.page()
+        begin = page.index(page_data.START) + len(page_data.START)
+        room = page_data.BLOCK - len(page_data.block_of(page))
+        self.assertNotIn("longer", self.odd(page[:begin] + " " * room + page[begin:]))
+        self.assertIn("the block is longer than 12,582,912 characters", self.odd(page[:begin] + " " * (room + 1) + page[begin:]))
+
     def test_named(self) -> None:
         """The first cell, line or setting that differs is named."""
         page = self.page()
         for old, new, why in [
                 ('<span class="p">1<i>.0</i>', '<span class="p">2<i>.0</i>',
-                 "row 1 (GBR 101 A. Moss), R1: the page has '2.0', and not '1.0'"),
+                 "row 1 ('GBR 101 A. Moss'), R1: the page has '2.0', and not '1.0'"),
                 ("<abbr class=\"kind\" title=\"discretionary penalty\">DPI", "<abbr>SCP",
                  "R3: the page has '(5.0) excluded SCP', and not '(5.0) excluded DPI'"),
                 ('class="m1">1</span>', 'class="m1">2</span>', "Rank: the page has '2', and not '1"),
@@ -165,7 +172,7 @@ class Pages(helpers.Series):
         said, status = helpers.run("verify", *pages, "--program", helpers.PROGRAM, cwd=self.here)
         self.assertEqual(status, 0, said)
         self.assertEqual(said.count(": verified."), 16)
-        self.assertIn("A <b>: 7 boats, 3 races, 28 entries, provisional. Scored again: every cell is "
+        self.assertIn("Class 'A <b>': 7 boats, 3 races, 28 entries, provisional. Scored again: every cell is "
                       "the same.", said)
         self.assertIn("Program: the same that scored the page, SHA-256 ", said)
 
@@ -211,7 +218,7 @@ class Pages(helpers.Series):
     def test_wrong_tools(self) -> None:
         """If the package itself wrote a cell wrongly, and would do so again, the cell is named."""
         right = overall.cell
-        for was, now, why in [("3<i>.0", "4<i>.0", "(GBR 101 A. Moss)"), ("DNE", "DSQ", "(GBR 33 "),
+        for was, now, why in [("3<i>.0", "4<i>.0", "('GBR 101 A. Moss')"), ("DNE", "DSQ", "('GBR 33 "),
                               ("<s>)", "<s>", "")]:
             def wrong(score: Score) -> Markup:
                 return Markup(right(score).html.replace(was, now))
@@ -307,7 +314,7 @@ then exec sleep 60; fi\n: > {self.here}/once\nexec {helpers.PROGRAM} "$@\"""")]:
         with subprocess.Popen(["cat", "page.html"], cwd=self.here, stdout=subprocess.PIPE) as writer:
             done = subprocess.run([*helpers.COMMAND, *words], stdin=writer.stdout, capture_output=True,
                                   text=True)
-        self.assertEqual(done.stdout.partition("\n")[0], "/dev/stdin: verified.")
+        self.assertIn("\n/dev/stdin: verified.\n", done.stdout)
         said, status = helpers.run("verify", "pipe", "--program", helpers.PROGRAM, cwd=self.here)
         self.assertEqual((said, status), ("pipe: not verified: it has no block that can be verified, so it "
                                           "is no page of results.\n", 2))
@@ -323,7 +330,7 @@ then exec sleep 60; fi\n: > {self.here}/once\nexec {helpers.PROGRAM} "$@\"""")]:
         with open(os.path.join(self.here, "picture.html"), "wb") as file:
             file.write(b"\x89PNG\r\n")
         for names, wanted, why in [
-                (["good"], 0, "good.html: verified."), (["other"], 1, "NOT VERIFIED: Overall results, "),
+                (["good"], 0, "good.html: verified."), (["other"], 1, "NOT VERIFIED: 'Overall results, "),
                 (["note"], 2, "not verified: it has no block"), (["byte"], 1, "NOT VERIFIED: byte "),
                 (["picture"], 2, "it is no page of "), (["no"], 2, "can't be read: No such file"),
                 (["good", "note"], 2, "good.html: verified."), (["note", "other", "good"], 1, "NOT ")]:

@@ -217,6 +217,20 @@ class Out(Web):
         self.assertEqual((self.device("jury").ask("POST", "/office/scorer/remove/cup", {"sail": "GBR33"})[0],
                           self.text("cup", "journal.txt")), (401, before))
 
+    def test_journal_that_cannot_be_kept(self) -> None:
+        """Where the office couldn't be opened again it isn't closed, and the page says why."""
+        self.scorer.tap("ENTER USA4", agreed=[{"kind": "enter-unlisted", "values": {"sail": "USA4"}}])
+        before, other = self.text("cup", "journal.txt"), os.path.join(self.here, "other")
+        os.link(os.path.join(self.here, "cup", "journal.txt"), other)
+        status, said = self.remove()
+        if status == 409:
+            status, said = self.remove("USA4", said["question"])
+        os.remove(other)
+        self.assertEqual((status, [one["kind"] for one in said["said"]]), (422, ["journal-linked"]), said)
+        self.assertEqual(self.text("cup", "journal.txt"), before)
+        self.assertEqual(self.scorer.again().tap("FINISH 1 GBR7")[0], 200)
+        self.assertNotIn(" Closed.", self.said())
+
     def test_typing_window(self) -> None:
         """Somebody types meanwhile: that window waits for an office that is opened again at once, and says so. It ends when
         the office is closed for good."""

@@ -5,6 +5,7 @@ import asyncio
 import os
 import shutil
 import socket
+import subprocess
 import threading
 import unittest
 from collections.abc import Callable
@@ -24,6 +25,7 @@ from raceoffice.web.kept_office import KeptOffice
 from raceoffice.web.requests import Reply, Request
 from raceoffice.web.room import Room
 from raceoffice.web.web_office import WebOffice
+from web_devices import READY, Web
 
 CROWD, ROOM = 200, 8
 
@@ -162,6 +164,64 @@ class Faults(helpers.Series):
         with mock.patch("raceoffice.system.socket_of_office", side_effect=OSError(24, "Too many open files")), \
                 self.assertRaisesRegex(Trouble, "can't be reached: Too many open files"):
             Link(self.folder.socket)
+
+
+class LeftOut(Web):
+    """A class whose register can't be used."""
+    words = ("cup", "fleet")
+
+    def prepare(self) -> None:
+        self.make("fleet", "Sail,Boat\nGBR 33,Fulmar\nNED 80,Sterna\n", **{"class": "Folkboats"})
+        self.taps = os.path.join(self.here, "fleet", "office", "web.taps")
+        os.makedirs(self.taps, mode=0o700)
+
+    def test_left_out(self) -> None:
+        """The others are served; the terminal and the scorer's page say why it isn't, and it is opened there once that is
+        put right."""
+        why = f"{self.taps} can't be used: Is a directory"
+        self.assertIn(f"Beware: fleet isn't served. {why}. Put that right, and open it on the scorer's page.\n", self.said())
+        scorer = self.device("scorer")
+        self.assertEqual(scorer.tap("FINISH 1 GBR7")[0], 200)
+        offices = scorer.ask("GET", "/office/scorer/devices")[1]["offices"]
+        self.assertEqual([(one["class"], one["open"]) for one in offices], [("cup", True), ("fleet", False)])
+        self.assertEqual(offices[1]["said"][0]["text"], why)
+        status, said = scorer.again().ask("POST", "/office/scorer/open/fleet", {})
+        self.assertEqual((status, said["said"][0]["text"]), (503, why))
+        os.rmdir(self.taps)
+        status, said = scorer.again().ask("POST", "/office/scorer/open/fleet", {})
+        self.assertEqual((status, said.get("open")), (200, True), said)
+        self.assertEqual([one["open"] for one in scorer.ask("GET", "/office/scorer/devices")[1]["offices"]], [True, True])
+
+
+class Elsewhere(Web):
+    """Two classes, of which another web serves one already."""
+
+    def serve(self, *more: str) -> None:
+        if not os.path.exists(os.path.join(self.here, "fleet")):
+            self.make("fleet", "Sail,Boat\nGBR 33,Fulmar\nNED 80,Sterna\n", **{"class": "Folkboats"})
+            self.other = helpers.free_port(self)
+            words = [*helpers.COMMAND, "serve", "fleet", "--http", str(self.other)]
+            with open(os.path.join(self.here, "other.txt"), "wb") as out:
+                fleet = subprocess.Popen(words, cwd=self.here, stdin=subprocess.DEVNULL, stdout=out, stderr=out)
+            self.addCleanup(helpers.end, fleet)
+            helpers.until("the other web", lambda: READY in self.text("other.txt") or fleet.poll() is not None)
+        super().serve(*more)
+
+    words = ("cup", "fleet")
+
+    def test_left_out(self) -> None:
+        """The other class is served, and it is said where this one is."""
+        self.assertRegex(self.said(), rf"Beware: fleet isn't served\. \S*fleet is served to browsers already, "
+                                      rf"at http://[^ ]+:{self.other}/\. Put that right")
+        self.assertEqual(self.device("finish").tap("FINISH 1 GBR7")[1].get("outcome"), "taken")
+
+    def test_first(self) -> None:
+        """The first class's file of devices belongs to the web that serves it: nothing is opened."""
+        self.close()
+        said, status = helpers.run("serve", "fleet", "cup", "--http", str(helpers.free_port(self)), cwd=self.here)
+        self.assertEqual(status, 1, said)
+        self.assertIn(f":{self.other}/", said)
+        self.assertFalse(os.path.exists(os.path.join(self.here, "cup", "office", "socket")), said)
 
 
 class Crowds(unittest.IsolatedAsyncioTestCase):

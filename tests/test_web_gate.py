@@ -429,6 +429,14 @@ class Shares(unittest.IsolatedAsyncioTestCase):
                 await asyncio.sleep(0.01)
             self.assertEqual(await self.news("127.0.0.2"), b"HTTP/1.1 200 OK")
 
+    async def test_upload(self) -> None:
+        """Who asks for news, and then sends without end, is cut off: reading that would take a processor."""
+        self.assertEqual(await self.news("127.0.0.2"), b"HTTP/1.1 200 OK")
+        with self.assertRaises(ConnectionError):
+            for _ in range(1000):
+                self.links[0].write(bytes(1 << 16))
+                await self.links[0].drain()
+
 
 class Begin(unittest.TestCase):
     def test_to_come(self) -> None:

@@ -21,6 +21,7 @@ from raceoffice.errors import NotNow, Trouble
 from raceoffice.program.journal import Race
 from raceoffice.program.replay import Line
 from raceoffice.series.folder import Folder
+from raceoffice.web import taps
 from raceoffice.web.gate import Gate
 from raceoffice.web.room import held_alone, outcome_of
 from raceoffice.web.tap_session import TapSession
@@ -122,6 +123,30 @@ class Once(Web):
         self.assertEqual(finish.tap("UNDO", undoes=new_id())[0], 422)
         self.assertEqual(len(self.journal()), 8)
 
+    def test_undo_beside_others(self) -> None:
+        """An undo takes away no tap of another device: neither the same boat's, which is asked about, nor the place that
+        somebody else has given her since."""
+        ann, bea = self.device("finish"), self.device("finish", "Bea")
+        taps = [new_id() for _ in range(4)]
+        ann.tap("FINISH 1 GBR7", taps[0])
+        self.assertEqual(bea.tap("FINISH 1 GBR7", taps[1])[1]["answer"], "NO 8")
+        for line in ("STRIKE 1 GBR7", "UNDO"):
+            status, said = ann.tap(line, undoes=taps[0])
+            self.assertEqual((status, said["question"]["kind"], said["question"]["values"]),
+                             (409, "tapped-too", {"sail": "GBR7", "by": "Bea"}))
+        self.assertEqual(bea.tap("STRIKE 1 GBR7", undoes=taps[1])[0], 422)
+        agreed = [{"kind": "tapped-too", "values": {"sail": "GBR7", "by": "Bea"}}]
+        self.assertEqual(ann.tap("STRIKE 1 GBR7", undoes=taps[0], agreed=agreed)[0], 200)
+        # A device takes back its own taps one after another, and none that others have come after.
+        ann.tap("FINISH 1 NED12", taps[2])
+        ann.tap("STRIKE 1 NED12", taps[3])
+        self.assertEqual(ann.tap("FINISH 1 NED12", undoes=taps[3])[0], 200)
+        bea.tap("STRIKE 1 NED12")
+        bea.tap("FINISH 1 NED12")
+        status, said = ann.tap("STRIKE 1 NED12", undoes=taps[2])
+        self.assertEqual((status, said["said"][0]["kind"]), (422, "undo-later"), said)
+        self.assertEqual(self.journal()[-1], "FINISH FINISH 1 NED12")
+
     def test_places(self) -> None:
         """A place is kept once, in the file of all windows. It is resolved by a sail, or dropped."""
         finish, scorer, id = self.device("finish"), self.device("scorer"), new_id()
@@ -210,10 +235,17 @@ class Damaged(unittest.TestCase):
                 self.assertTrue(set(ids) & register.sent.keys())
                 register.close()
 
+    def test_endless(self) -> None:
+        """A register that no devices can have filled isn't read."""
+        with open(self.path, "wb") as file:
+            file.truncate(taps.LARGEST_REGISTER + 1)
+        with self.assertRaisesRegex(Trouble, "web.taps is longer than 268,435,456 bytes"):
+            Register(self.path)
+
     def test_no_plain_files(self) -> None:
         """A pipe holds nobody up, and a folder or a link is named."""
         os.mkfifo(self.path)
-        with self.assertRaisesRegex(Trouble, "web.taps can't be used: it is no plain file"):
+        with self.assertRaisesRegex(Trouble, "web.taps is no plain file"):
             Register(self.path)
         os.makedirs(os.path.join(self.here, "office", "web.lock"))
         with self.assertRaisesRegex(Trouble, "web.lock can't be used: Is a directory"):

@@ -102,6 +102,44 @@ def remarks_made() -> dict[str, list[set[str]]]:
 
 # What makes a remark
 MAKERS = ("remark", "as_trouble")
+# The exceptions of which pages show what they say
+SHOWN = {"Trouble", "NotSent", "NotNow", "Gone", "NoSeat", "NotThere", "NoTable", "NoJournal", "Served"}
+# What is for terminals alone: packages and modules, and single texts by how they begin
+TERMINALS = ("commands/", "typing_window/", "verify/", "series/sender.py", "results/server.py", "web/serving.py", "system.py",
+             "exit_status.py")
+AT_TERMINALS = ("CLEAR takes away", "no answer came", "the entry list isn't right", " isn't a series by corrected time",
+                " is no race: a number")
+
+
+def plain_texts() -> list[str]:
+    """The texts without a kind that are shown as why something can't be done, with their places."""
+    top, found = os.path.join(helpers.TOP, "raceoffice"), []
+    for folder, _, names in os.walk(top):
+        for name in (one for one in names if one.endswith(".py")):
+            path = os.path.relpath(os.path.join(folder, name), top)
+            if not path.startswith(TERMINALS):
+                with open(os.path.join(top, path), encoding="utf-8") as file:
+                    found += [f"{path}, line {node.lineno}" for node in ast.walk(ast.parse(file.read()))
+                              if isinstance(node, ast.Call) and any(map(is_plain, said_in(node)))]
+    return found
+
+
+def said_in(call: ast.Call) -> list[ast.expr]:
+    """What a call has an exception say; nothing if it makes none that pages show."""
+    name = call.func.id if isinstance(call.func, ast.Name) else ""
+    if name == "Wrong" and call.args and isinstance(call.args[0], ast.Constant) and call.args[0].value in (422, 503):
+        return [] if any(one.arg == "said" for one in call.keywords) else call.args[1:]
+    return call.args if name in SHOWN else []
+
+
+def is_plain(node: ast.expr) -> bool:
+    """Whether a text is put together where it is said, and not of a kind."""
+    parts = node.values if isinstance(node, ast.JoinedStr) else [node]
+    words = "".join(str(part.value) for part in parts if isinstance(part, ast.Constant))
+    is_made = isinstance(node, (ast.BinOp, ast.JoinedStr)) or isinstance(node, ast.Call) and (
+        isinstance(node.func, ast.Attribute) and node.func.attr in ("join", "format", "removesuffix")
+        or isinstance(node.func, ast.Name) and node.func.id == "str")
+    return (is_made or bool(words)) and not words.startswith(AT_TERMINALS)
 
 
 def kinds_of(node: ast.expr) -> list[str]:
@@ -257,6 +295,10 @@ class Texts(unittest.TestCase):
                 self.assertEqual(fields_of(kind) - always, set())
                 for text in forms(table("en")[f"remark.{kind}"]).values():
                     self.assertEqual(set(VALUE.findall(text)) - always, set())
+
+    def test_all_have_kinds(self) -> None:
+        """Whatever a page shows of why something can't be done has a kind."""
+        self.assertEqual(plain_texts(), [], "these need a kind of raceoffice/remarks.py")
 
     def test_codes_and_lines(self) -> None:
         """Codes and words of lines are the same in each language."""

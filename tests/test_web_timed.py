@@ -124,8 +124,12 @@ class Timed(Web):
         self.write(ENTRIES.replace("1.250", ""), "cup", "entries.csv")
         ann, scorer = self.device("finish"), self.device("scorer")
         ann.tap("START 1 14:00")
-        done = self.finish(ann, "NED12", "14:48:01")
+        done, again = [self.finish(ann, "NED12", "14:48:01", "1" * 32) for _ in range(2)]
         self.assertEqual((done["outcome"], done["said"][0]["what"]), ("noted", "sheet-waits"), done)
+        fault = done["said"][0]["remarks"]["fault"]
+        self.assertEqual((fault["kind"], fault["values"]["fault"]["kind"]), ("list-row", "timing-9"))
+        # The register has it as it was said.
+        self.assertEqual(again["said"], done["said"])
         done = self.finish(ann, "GBR101", "15:00:00")
         self.assertEqual((done["outcome"], self.journal()), ("taken", ["FINISH TIME 1 GBR101 3600"]), done)
         rated = {"sail": "NED 12", "name": "", "helm": "", "club": "", "rating": "1.250"}
@@ -222,7 +226,9 @@ class Timed(Web):
             (1, {"GBR7": {"finish": "16:00:00"}}, tag)]
         for race, rows, wanted in odd:
             given = {"race": race, "rows": rows, "tag": wanted}
-            self.assertEqual(scorer.ask("POST", "/office/scorer/sheet/cup", given)[0], 422, given)
+            status, refused = scorer.ask("POST", "/office/scorer/sheet/cup", given)
+            self.assertEqual(status, 422, given)
+            self.assertEqual([one for one in refused["said"] if not one["kind"]], [])
         late: dict[str, dict[str, str]] = {"GBR7": {"start": "14:10"}, "NED12": {"start": "14:10"}}
         status, found = scorer.ask("POST", "/office/scorer/sheet/cup", {"race": 1, "rows": late, "tag": tag})
         self.assertEqual((status, self.journal()), (200, before), found)
@@ -251,6 +257,10 @@ class Timed(Web):
                 given = {"race": 1, "rows": {"GBR7": cells}, "tag": shown["tag"]}
                 self.assertEqual(scorer.ask("POST", path, given)[0], status, given)
             self.assertEqual(self.sheet()[2], line)
+        self.write("Sail,Finish\nGBR7,15:07\n", "cup", "times", "race-1.csv")
+        shown = self.times_sheet(scorer)
+        self.assertEqual([one["kind"] for one in shown["wrong"]], ["sheet-cell"])
+        self.assertEqual(scorer.state()["races"]["1"]["sheet"]["wrong"], shown["wrong"])
 
     def times_sheet(self, scorer: Device) -> Any:
         return scorer.ask("GET", "/office/scorer/sheet/cup/1")[1]
@@ -332,6 +342,9 @@ class Timed(Web):
         scorer.tap("ENTER USA4", agreed=[{"kind": "enter-unlisted", "values": {"sail": "USA4"}}])
         self.finish(ann, "USA4", "15:01:00")
         self.assertEqual(self.finish(ann, "GBR7", "15:05:00")["outcome"], "taken")
+        asked = scorer.again().ask("POST", "/office/scorer/remove/cup", {"sail": "USA4", "agreed": []})[1]["question"]
+        said = asked["remarks"]["also"]["values"]["said"]
+        self.assertEqual([(one["kind"], one["values"]) for one in said], [("removal-sheets", {"names": ["times/race-1.csv"]})])
         self.assertEqual(self.take_out(scorer, "USA4"), 200)
         self.assertEqual(self.sheet(), ["Sail,Start,Finish,Code", "GBR101,14:00:00,15:00:00,", "GBR7,14:00:00,15:05:00,",
                                         "NED12,14:00:00,,", "FRA9,14:00:00,,"])
@@ -423,6 +436,10 @@ class Sheets(unittest.TestCase):
         self.assertTrue(sheet.code("NED12", ""))
         sheet.finish("NED12", "15:20:00")
         self.assertEqual(self.written(sheet)[2], "NED12,14:05,15:20:00,")
+        with self.assertRaises(Trouble) as caught:
+            self.sheet("Sail,Finish\nGBR7,15:07\nNED12,XXX\nNED12,RDG\nA_1,DNF\n")
+        kinds = [getattr(one, "kind", "") for one in caught.exception.said]
+        self.assertEqual(kinds, ["sheet-cell", "list-row", "list-row", "list-row", "list-row"])
         self.assertRaises(Trouble, self.sheet, "Boat,Time\nx,1\n")
 
     def test_row_taken(self) -> None:

@@ -9,6 +9,7 @@ import re
 from dataclasses import dataclass
 
 from raceoffice.program.codes import CODES
+from raceoffice.remarks import Remark, remark
 from raceoffice.series.entry_list import fault_of, plain
 from raceoffice.series.headings import SHEET, columns
 from raceoffice.series.race_sheets import CARRIED
@@ -21,11 +22,11 @@ TIMES = ("start", "finish", "elapsed")
 CLOCK = "([01]?[0-9]|2[0-3]):[0-5][0-9]"
 # What each column takes, and how that is called.
 FORMS = {
-    "start": (f"{CLOCK}(:[0-5][0-9])?", "a time of the clock, as 14:05 or 14:05:30"),
-    "finish": (f"{CLOCK}:[0-5][0-9]", "a time of the clock with its seconds, as 15:07:31"),
-    "elapsed": ("[0-9]{1,6}(:[0-5][0-9]){0,2}", "an elapsed time, as 1:02:31, 62:31 or 3751"),
-    "laps": ("[1-9][0-9]?", "laps from 1 to 99"),
-    "distance": (r"[0-9]{1,3}(\.[0-9]{1,2})?", "nautical miles, as 12.5"),
+    "start": (f"{CLOCK}(:[0-5][0-9])?", remark("wanted-start")),
+    "finish": (f"{CLOCK}:[0-5][0-9]", remark("wanted-finish")),
+    "elapsed": ("[0-9]{1,6}(:[0-5][0-9]){0,2}", remark("wanted-elapsed")),
+    "laps": ("[1-9][0-9]?", remark("wanted-laps")),
+    "distance": (r"[0-9]{1,3}(\.[0-9]{1,2})?", remark("wanted-distance")),
 }
 # Codes for which the program has no line.
 DECIDED = ("DPI", "NSC", "PRP", "RDG", "SCP", "T1", "TLE", "ZFP")
@@ -57,7 +58,7 @@ def entry_of(table: Table, places: dict[str, int], number: int, row: list[str],
     return Entry(number, plain(table.cell(row, places.get("sail"))), codes[0] if codes else "", cells)
 
 
-def entries_of(data: bytes, name: str) -> tuple[list[Entry], list[str]]:
+def entries_of(data: bytes, name: str) -> tuple[list[Entry], list[Remark]]:
     """The rows of a sheet, and what is wrong with it."""
     if wrong := wrong_form(data, name):
         return [], [wrong]
@@ -68,51 +69,50 @@ def entries_of(data: bytes, name: str) -> tuple[list[Entry], list[str]]:
     above: dict[str, str] = {}
     found = [entry_of(table, places, number, row, above) for number, row in table.rows]
     shown = {key: table.heads[at].strip() for key, at in places.items()}
-    faults = [f"{name}, row {entry.number}{fault}" for entry in found
-              if (fault := fault_of_entry(entry, shown))]
-    return found, faults + [f"{name}, row {fault}" for fault in twice(found)]
+    faults = [fault for entry in found if (fault := fault_of_entry(entry, shown, name))]
+    return found, faults + twice(found, name)
 
 
-def twice(found: list[Entry]) -> list[str]:
+def twice(found: list[Entry], name: str) -> list[Remark]:
     """The rows whose boats are in a row above."""
     first: dict[str, int] = {}
     faults = []
     for entry in found:
         above = first.setdefault(entry.sail, entry.number)
         if entry.sail and above != entry.number:
-            faults.append(f"{entry.number}: {entry.sail} is in row {above}, too")
+            faults.append(fault_in_row(name, entry, remark("sheet-sail", sail=entry.sail, above=above)))
     return faults
 
 
-def fault_of_heads(places: dict[str, int], name: str) -> str:
-    """Which column a sheet lacks; empty if it has all."""
+def fault_in_row(name: str, entry: Entry, fault: Remark) -> Remark:
+    return remark("list-row", name=name, row=entry.number, fault=fault)
+
+
+def fault_of_heads(places: dict[str, int], name: str) -> Remark | None:
+    """Which column a sheet lacks; None if it has all."""
     if "sail" not in places:
-        return f"{name}, row 1: no column of sails, as Sail, SailNo or SailNumber"
+        return remark("sheet-no-sails", name=name)
     if "elapsed" not in places and "finish" not in places:
-        return f"{name}, row 1: no column of times, as Elapsed, or Start and Finish"
-    return ""
+        return remark("sheet-no-times", name=name)
+    return None
 
 
-def fault_of_entry(entry: Entry, shown: dict[str, str]) -> str:
-    """What is wrong with a row, and in which column; empty if nothing is."""
-    if fault := fault_of(entry.sail):
-        return f": {fault}"
-    if entry.code:
-        return fault_of_code(entry.code)
+def fault_of_entry(entry: Entry, shown: dict[str, str], name: str) -> Remark | None:
+    """What is wrong with a row, and in which column; None if nothing is."""
+    if fault := fault_of(entry.sail) or fault_of_code(entry.code):
+        return fault_in_row(name, entry, fault)
     for key, (form, wanted) in FORMS.items():
         text = entry.cells[key]
-        if text and not re.fullmatch(form, text):
-            return f", column {shown[key]}: {text!r} isn't {wanted}"
-    return ""
+        if not entry.code and text and not re.fullmatch(form, text):
+            return remark("sheet-cell", name=name, row=entry.number, column=shown[key], written=text, wanted=wanted)
+    return None
 
 
-def fault_of_code(code: str) -> str:
-    """Why a code can't be in a sheet; empty if it can."""
-    if code in CODES:
-        return ""
-    if code in DECIDED:
-        return f": {code} isn't for a sheet of times. docs/JURY.md says where it is typed"
-    return f": {code} is neither a time nor a code"
+def fault_of_code(code: str) -> Remark | None:
+    """Why a code can't be in a sheet; None if it can, or if there is none."""
+    if not code or code in CODES:
+        return None
+    return remark("sheet-decided" if code in DECIDED else "sheet-no-code", code=code)
 
 
 def for_program(found: list[Entry]) -> bytes:

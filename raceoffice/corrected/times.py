@@ -17,7 +17,8 @@ from raceoffice.files import edited_text
 from raceoffice.program.codes import OF_JURY
 from raceoffice.program.find import found_program
 from raceoffice.program.journal import Race, Series
-from raceoffice.program.replay import Line, not_run
+from raceoffice.program.replay import Line, not_run, program_said
+from raceoffice.remarks import ENGLISH, Remark, remark
 from raceoffice.series import entry_list
 from raceoffice.series.entry_list import plain
 from raceoffice.series.folder import Folder
@@ -36,7 +37,7 @@ ROUNDINGS = {"half-up": "to the nearest second, halves up", "half-down": "to the
              "down": "rounded down", "up": "rounded up"}
 # Seconds that the program may take for a race.
 PATIENCE = 60.0
-FAULT = re.compile(r"times: (ratings|sheet) fault \d+ row (\d+): (.*)")
+FAULT = re.compile(r"times: (ratings|sheet) fault (\d+) row (\d+): (.*)")
 NUMBER = "[0-9]{1,12}"
 SUM = re.compile(f"([A-Z0-9-]{{1,12}}) ({NUMBER}(?: [-+*/] {NUMBER})*) -> ([0-9]{{1,6}})")
 # The note of a boat that the office doesn't know.
@@ -60,12 +61,12 @@ class Rules:
             raise Trouble(*wrong)
         values = KEYS["times"] | {key: value for key, (_, value) in found.items()}
         if values["system"] not in SYSTEMS:
-            raise Trouble(f"{path}: system has to be tcf, py or tod")
+            raise Trouble(remark("times-rule", name=path, key="system", wanted=remark("wanted-system")))
         if values["rounding"] not in ROUNDINGS:
-            raise Trouble(f"{path}: rounding has to be half-up, half-down, down or up")
+            raise Trouble(remark("times-rule", name=path, key="rounding", wanted=remark("wanted-rounding")))
         nights = [text.strip() for text in values["overnight"].split(",") if text.strip()]
         if not all(re.fullmatch("[0-9]{1,2}", night) for night in nights):
-            raise Trouble(f"{path}: overnight has to be numbers of races, as 4,5")
+            raise Trouble(remark("times-rule", name=path, key="overnight", wanted=remark("wanted-races")))
         return cls(values["system"], values["rounding"], tuple(map(int, nights)),
                    program_of(folder, values["program"]))
 
@@ -122,8 +123,7 @@ def rated(data: bytes, path: str, race: int, system: str) -> Rated:
     table = table_of(data)
     begins = {first: at for first, at in rating_columns(table.heads, system).items() if first <= race}
     if not begins:
-        other = {"py": " or PY", "tcf": " or TCF"}.get(system, "")
-        raise Trouble(f"{name_of(path)}, row {table.first}: no column of ratings. It is headed Rating{other}")
+        raise Trouble(remark(f"ratings-missing-{system}", name=name_of(path), row=table.first))
     at = begins[max(begins)]
     sails = list(entry_list.boats_of(table))
     rows = [[sail, table.number(row, at)] for sail, (_, row) in zip(sails, table.rows)]
@@ -131,18 +131,25 @@ def rated(data: bytes, path: str, race: int, system: str) -> Rated:
                  frozenset(plain(sail) for sail, rating in rows if rating.strip()))
 
 
-def program_fault(fault: str, sheet: str, ratings: str, rows: dict[str, Sequence[int]]) -> str:
+def program_fault(fault: str, sheet: str, ratings: str, rows: dict[str, Sequence[int]]) -> Remark:
     """What the program says of a list, with the file and its row. `rows` are the numbers of those that it
     was given."""
     found = FAULT.fullmatch(fault)
     if not found:
-        return f"the program says {fault.removeprefix('times: ') or 'nothing'}"
+        return program_said(fault.removeprefix("times: "))
     name = sheet if found[1] == "sheet" else ratings
-    said = re.sub(r"^entries fault \d+: |,? (?:in|from) row \d+", "", found[3])
-    number, given = int(found[2]), rows.get(found[1], ())
+    said = re.sub(r"^entries fault \d+: |,? (?:in|from) row \d+", "", found[4])
+    number, given = int(found[3]), rows.get(found[1], ())
     # The first row that the program was given is that of the headings.
     row = given[number - 2] if 2 <= number < len(given) + 2 else number
-    return f"{name}, row {row}: {said}"
+    return remark("list-row", name=name, row=row, fault=fault_numbered(found[2], said))
+
+
+def fault_numbered(number: str, said: str) -> str:
+    """What the program says of a row, as a remark if it is one of its faults: the first word in capitals is a sail."""
+    sail = next((word for word in said.split() if re.fullmatch("[A-Z0-9-]+", word)), "")
+    known = remark(f"timing-{number}", sail=sail) if f"timing-{number}" in ENGLISH else None
+    return known if known == said else said
 
 
 class Sheets:
@@ -178,7 +185,7 @@ class Sheets:
         head, *lines = done.stdout.decode("ascii", "replace").splitlines() or [""]
         found = [SUM.fullmatch(line) for line in lines]
         if head != f"RACE {race} {self.rules.rounding}" or not all(found):
-            raise Trouble(f"the program at {self.rules.program} doesn't show sums: is it times?")
+            raise Trouble(remark("times-no-sums", path=self.rules.program))
         return [Time(match[1], match[2], int(match[3])) for match in found if match]
 
     def ran(self, race: int, sheet: bytes, ratings: bytes) -> subprocess.CompletedProcess[bytes]:
@@ -325,10 +332,12 @@ def run(series: Times, races: list[int], is_sent: bool) -> int:
     if series.sheet().journal != journal:
         say("Somebody else has typed meanwhile. Nothing was sent: send again.")
         return 1
-    left = series.send([Line("SCORER", line) for line in lines],
-                       lambda line, answer: say(f"   {line.text:<24} {answer}"))
+    left = series.send_each([Line("SCORER", line) for line in lines],
+                            lambda line, answer: say(f"   {line.text:<24} {answer}"))
+    if left:
+        say(f"{count(len(left), 'line')} not taken:")
     for line in left:
-        say(f"   not sent: {line}")
+        say(f"   {line}")
     return 1 if left else 0
 
 

@@ -18,7 +18,6 @@ from raceoffice.series.headings import SHEET, columns
 from raceoffice.series.race_sheets import SHEETS, sheet_name
 from raceoffice.series.read_list import as_csv, bytes_of, table_of, wrong_form
 from raceoffice.series.settings import head_of, lines_of, rows_of
-from raceoffice.wording import joined
 
 # The headings of a new sheet, and that of each column that is added to another.
 HEADS = {"sail": "Sail", "start": "Start", "finish": "Finish", "code": "Code"}
@@ -39,7 +38,7 @@ class SheetOfRace:
     def read(self, data: bytes) -> None:
         """Reads what there is; a Trouble if it isn't a sheet."""
         wrong = wrong_form(data, self.name)
-        faults: list[str] = [wrong] if wrong else entries_of(data, self.name)[1]
+        faults = [wrong] if wrong else entries_of(data, self.name)[1]
         if faults:
             raise Trouble(*faults)
         table = table_of(data)
@@ -167,9 +166,10 @@ class SheetOfRace:
 
 def rules_text(system: str, rounding: str) -> bytes:
     """The rules of a new series; a Trouble if there are none such."""
-    if system not in SYSTEMS or rounding not in ROUNDINGS:
-        raise Trouble(f"the system of corrected times has to be {joined(list(SYSTEMS), 'or')}, and the rounding "
-                      f"{joined(list(ROUNDINGS), 'or')}")
+    if system not in SYSTEMS:
+        raise Trouble(remark("times-rule", name=f"{SHEETS}/{RULES}", key="system", wanted=remark("wanted-system")))
+    if rounding not in ROUNDINGS:
+        raise Trouble(remark("times-rule", name=f"{SHEETS}/{RULES}", key="rounding", wanted=remark("wanted-rounding")))
     return f"[times]\nsystem = {system}\nrounding = {rounding}\n".encode()
 
 
@@ -184,7 +184,7 @@ def with_rule(text: str, key: str, value: str) -> str:
     """times/rules.ini with one value changed; all else in it stays as it is. A Trouble if it can't be read."""
     found, wrong = lines_of(text, f"{SHEETS}/{RULES}", KEYS)
     if wrong:
-        raise Trouble("\n".join(wrong))
+        raise Trouble(*wrong)
     rows = rows_of(text)
     if key in found:
         at, held = found[key]

@@ -172,7 +172,7 @@ def read(folder: str) -> str:
     except NotThere:
         return ""
     if (lines := len(rows_of(text))) > MOST:
-        raise Trouble(f"{NAME} has {lines:,} lines, and {MOST:,} fit")
+        raise Trouble(remark("decisions-long", number=f"{lines:,}", most=f"{MOST:,}"))
     return text
 
 

@@ -38,13 +38,16 @@ class Verdict:
 
     def __str__(self) -> str:
         """What is wrong with it, after its text."""
-        if self.why:
-            return f"{self.ruling}: {self.why}"
+        return f"{self.ruling}: {self.why or self.state}"
+
+    @property
+    def state(self) -> str:
+        """What it comes to beside what the journal holds, if nothing bars it."""
         if self.is_kept:
-            return f"{self.ruling}: {f'{self.points} points' if self.points else 'done'}"
+            return f"{self.points} points" if self.points else "done"
         now = f"the journal has {self.held} points" if self.held else "the journal doesn't have it"
         wanted = f"{self.points} points by the scores as they are" if self.points else "to be sent"
-        return f"{self.ruling}: {wanted}, and {now}"
+        return f"{wanted}, and {now}"
 
 
 @dataclass(frozen=True)

@@ -10,7 +10,7 @@ from dataclasses import dataclass
 from raceoffice import system
 from raceoffice.characters import utf8
 from raceoffice.errors import Gone, NoSeat, Trouble, as_trouble
-from raceoffice.remarks import remark
+from raceoffice.remarks import remark, system_remark
 
 # How long an answer may take, in seconds, and how many bytes of one are read at most. A sheet of
 # 500 boats, 40 races and 8,192 entries has less than a quarter of that.
@@ -32,8 +32,8 @@ def unreachable(path: str, cause: OSError) -> Trouble:
     if isinstance(cause, ConnectionRefusedError):
         return Gone(remark("office-left"))
     if isinstance(cause, PermissionError):
-        return Trouble(f"this account may not open {path}")
-    return Trouble(f"{path} can't be reached: {cause.strerror or cause}")
+        return Trouble(remark("office-denied", path=path))
+    return Trouble(remark("office-unreached", path=path, why=system_remark(cause) if cause.strerror else str(cause)))
 
 
 class Link:
@@ -76,7 +76,7 @@ class Link:
             *lines, self.rest = (self.rest + data).split(b"\n")
             self.lines.extend(text.decode("ascii", "replace") for text in lines)
             if len(self.rest) > LARGEST:
-                raise Trouble("what answers there is no office: its answer has no end")
+                raise Trouble(remark("stranger-answer"))
         text = self.lines.popleft()
         if text == "BUSY":
             raise NoSeat(remark("office-full"))
@@ -94,12 +94,12 @@ class Link:
         """The first line of the answer to a line. Until all of it is read nothing else is asked: what comes
         late would be taken for the answer to that."""
         if self.is_owed:
-            raise Trouble("the office still owes an answer")
+            raise Trouble(remark("office-owes"))
         self.is_owed = True
         try:
             self.socket.sendall(utf8(line) + b"\n")
         except TimeoutError:
-            raise Trouble(f"the office hasn't listened for {self.patience:g} seconds") from None
+            raise Trouble(remark("office-deaf", seconds=f"{self.patience:g}")) from None
         except OSError:
             # A client who is turned away can't write any more, and has yet to read why.
             pass
@@ -109,24 +109,24 @@ class Link:
         """The journal's lines and the table's."""
         words = (first := self.begun("SHOW")).split()
         if len(words) != 2 or words[0] != "JOURNAL" or not re.fullmatch("[0-9]{1,9}", words[1]):
-            raise Trouble(f"the office doesn't show its journal: it said {first[:60]!r}")
+            raise Trouble(remark("office-no-journal", said=repr(first[:60])))
         lines: list[str] = []
         size = 0
         while not lines or lines[-1] != "END":
             lines.append(self.line())
             size += len(lines[-1]) + 1
             if size > LARGEST:
-                raise Trouble("what answers there is no office: its sheet has no end")
+                raise Trouble(remark("stranger-sheet"))
         journal, table = lines[:int(words[1])], lines[int(words[1]):-1]
         if not table or not table[0].startswith("TABLE "):
-            raise Trouble(f"what answers there is no office: it said {first[:60]!r}")
+            raise Trouble(remark("stranger-said", said=repr(first[:60])))
         self.is_owed = False
         return Sheet(tuple(journal), tuple(table))
 
     def heard(self) -> Trouble:
         """Why the office ended this link: what came although nothing was asked."""
         try:
-            return Trouble(f"the office said {self.line()!r}, which nobody had asked for")
+            return Trouble(remark("office-unasked", said=repr(self.line())))
         except Trouble as trouble:
             return trouble
 
@@ -144,14 +144,13 @@ def remove_socket(path: str) -> bool:
     except OSError as cause:
         raise unreachable(path, cause) from None
     if not stat.S_ISSOCK(file.st_mode):
-        raise Trouble(f"{path} is no file that an office leaves. It stays as it is")
+        raise Trouble(remark("socket-other", path=path))
     # Who connects uses up one of an office's --sessions, so the kernel is asked first.
     found = system.sockets_at(path, file.st_uid == system.account())
     if any(found) or not found and is_answered(path):
-        raise Trouble(f"an office is open at {path}: find its window, and press Ctrl-C there")
+        raise Trouble(remark("socket-open", path=path))
     if found:
-        raise Trouble(f"an office is still there with its last clients: it lets nobody in at {path} "
-                      "any more, and ends when they leave. The file stays until then")
+        raise Trouble(remark("socket-held", path=path))
     with as_trouble("file-stays", name=path):
         os.remove(path)
     return True

@@ -19,7 +19,7 @@ from raceoffice.errors import Trouble
 from raceoffice.program.link import Sheet
 from raceoffice.program.messages import refusal
 from raceoffice.program.standing import Standing
-from raceoffice.remarks import remark
+from raceoffice.remarks import Remark, remark, system_remark
 
 # Seconds that the program may take for a replay, and for each 1,000 bytes of its journal: of a full series
 # it prints the table once for each race.
@@ -76,9 +76,9 @@ def watched(program: str, words: list[str], typed: str, journal: bytes,
     except OSError as cause:
         raise not_run(program, cause) from cause
     if process.returncode == -signal.SIGKILL:
-        raise Trouble(f"the program at {program} can't be run: it does not end")
+        raise Trouble(remark("program-unrun", path=program, why=remark("why-endless")))
     if process.returncode:
-        raise Trouble(remark("program-says", said=said.strip() or "nothing"))
+        raise Trouble(program_said(said.strip()))
     return printed
 
 
@@ -88,8 +88,13 @@ def patience(journal: bytes | None) -> float:
 
 def not_run(program: str, cause: OSError | subprocess.TimeoutExpired) -> Trouble:
     """Why a program can't be run, or doesn't end."""
-    return Trouble(f"the program at {program} can't be run: "
-                   f"{getattr(cause, 'strerror', '') or 'it does not end'}")
+    why = system_remark(cause) if isinstance(cause, OSError) and cause.strerror else remark("why-endless")
+    return Trouble(remark("program-unrun", path=program, why=why))
+
+
+def program_said(said: str) -> Remark:
+    """What a program says of its own end."""
+    return remark("program-says", said=said) if said else remark("program-says-nothing")
 
 
 def printed(program: str, words: list[str], typed: str, journal: bytes | None = None,
@@ -97,7 +102,7 @@ def printed(program: str, words: list[str], typed: str, journal: bytes | None = 
     """What a replay prints for these lines, after the journal and the entry list that are given."""
     done = ran(program, words, typed, journal, boats)
     if done.returncode:
-        raise Trouble(remark("program-says", said=done.stderr.strip() or "nothing"))
+        raise Trouble(program_said(done.stderr.strip()))
     return done.stdout.splitlines()
 
 
@@ -105,7 +110,7 @@ def sheet_of(lines: list[str]) -> Sheet:
     """The sheet that a replay prints for SHOW."""
     head = re.fullmatch("JOURNAL ([0-9]{1,9})", lines[0]) if lines else None
     if not head or "END" not in lines:
-        raise Trouble("the program doesn't show its journal: is it regatta?")
+        raise Trouble(remark("program-no-journal"))
     count = int(head[1])
     return Sheet(tuple(lines[1:count + 1]), tuple(lines[count + 1:lines.index("END")]))
 

@@ -8,6 +8,7 @@ import re
 from dataclasses import dataclass
 
 from raceoffice.errors import NoTable
+from raceoffice.remarks import remark
 
 
 @dataclass(frozen=True)
@@ -21,7 +22,7 @@ class Score:
     def read(cls, cell: str) -> Score:
         found = re.fullmatch(r"(\()?([0-9]{1,9}\.[0-9])(?:/([A-Z]{3}))?(\))?", cell)
         if not found or bool(found[1]) != bool(found[4]):
-            raise NoTable(f"the table has a cell {cell[:60]!r}, which isn't a score")
+            raise NoTable(remark("table-cell", said=repr(cell[:60])))
         return cls(found[2], found[3] or "", bool(found[1]))
 
     @property
@@ -53,7 +54,7 @@ class Standing:
         first = table[0] if table else ""
         head = re.fullmatch(r"TABLE ([0-9]{1,3}) RACES((?: [0-9]{1,2})*)", first)
         if not head or int(head[1]) != len(table) - 1:
-            raise NoTable(f"the table begins with {first[:60]!r}")
+            raise NoTable(remark("table-begin", said=repr(first[:60])))
         races = tuple(map(int, head[2].split()))
         return cls(races, tuple(row_of(line, len(races)) for line in table[1:]))
 
@@ -63,7 +64,7 @@ def row_of(line: str, races: int) -> Row:
     found = re.fullmatch(r"([0-9]{1,3})(=?) (\S+) ([0-9]{1,9}\.[0-9])((?: \S+)*)", line)
     cells = found[5].split() if found else []
     if not found or len(cells) != races:
-        raise NoTable(f"the table has a row {line[:60]!r}")
+        raise NoTable(remark("table-row", said=repr(line[:60])))
     return Row(int(found[1]), bool(found[2]), found[3], found[4], tuple(map(Score.read, cells)))
 
 
@@ -84,7 +85,7 @@ def tie_break(races: tuple[int, ...], better: Row, worse: Row) -> Break | None:
             for number, a, b in zip(races, better.scores, worse.scores)]
     found = next((step for step in best + last[::-1] if step.better != step.worse), None)
     if found and found.better > found.worse:
-        raise NoTable(f"the table's order of {better.sail} and {worse.sail} isn't {found.rule}'s")
+        raise NoTable(remark("table-order", sail=better.sail, other=worse.sail, rule=found.rule))
     return found
 
 

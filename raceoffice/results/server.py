@@ -28,6 +28,8 @@ CROWD, SLOW, MOMENT = 512, 16, 1.0
 ROOM, SPARE = 8192, 32
 # Bytes of an answer that are handed over at a time.
 PIECE = 65536
+# The most bytes that are read after a request.
+REST = 1 << 20
 END = re.compile(rb"\r?\n\r?\n")
 
 
@@ -60,9 +62,10 @@ async def hand_over(writer: asyncio.StreamWriter, data: bytes) -> None:
 
 
 async def rest_of(reader: asyncio.StreamReader) -> None:
-    """Reads what is still being sent: a client who can't send it all would never read the answer."""
-    while await reader.read(PIECE):
-        pass
+    """Reads what is still being sent, unless it is a lot: a client who can't send it all would never read the answer."""
+    come = 0
+    while come <= REST and (piece := await reader.read(PIECE)):
+        come += len(piece)
 
 
 @contextlib.contextmanager

@@ -9,6 +9,7 @@ import os
 from raceoffice.decisions import decision_lines
 from raceoffice.decisions.points import Decided, decided
 from raceoffice.errors import Trouble
+from raceoffice.remarks import remark
 from raceoffice.program.journal import Series, last_scored
 from raceoffice.program.link import Link, Sheet
 from raceoffice.program.replay import digest_of, nets_before_exclusion
@@ -33,7 +34,7 @@ def now() -> datetime.datetime:
 def need_own_names(names: list[str]) -> None:
     """A Trouble if two folders have one name: pages and their addresses know a series by it."""
     if twice := [name for name in names if names.count(name) > 1]:
-        raise Trouble(f"two of the folders are called {twice[0]}, and each needs a name of its own")
+        raise Trouble(remark("folders-twice", name=twice[0]))
 
 
 class ResultsSource:

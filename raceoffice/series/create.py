@@ -9,6 +9,7 @@ from collections.abc import Callable
 
 from raceoffice.characters import utf8
 from raceoffice.errors import Trouble, as_trouble
+from raceoffice.remarks import remark
 from raceoffice.files import replace_whole
 from raceoffice.program.find import found_program
 from raceoffice.series import entry_list, settings
@@ -150,7 +151,7 @@ def new(folder: str) -> int:
     """Makes a folder with its series.ini and its entry list, once all is asked; the status."""
     path, list_path = os.path.join(folder, settings.NAME), os.path.join(folder, "entries.csv")
     if os.path.exists(path):
-        raise Trouble(f"{folder} has a {settings.NAME} already. Nothing was changed")
+        raise Trouble(remark("ini-there", name=folder))
     try_folder(folder)
     values = {"title": asked_until("Title: ", bool, "a title, as Autumn Cup"),
               "class": asked("Class (Enter: none): "), "club": asked("Club (Enter: none): ")}
@@ -180,7 +181,7 @@ def make(folder: str, values: dict[str, str], entries: bytes) -> None:
     """Makes a new series of which nothing has to be asked. A Trouble says what is wrong; nothing is written
     then."""
     if os.path.lexists(os.path.join(folder, settings.NAME)):
-        raise Trouble(f"{folder} has a {settings.NAME} already. Nothing was changed")
+        raise Trouble(remark("ini-there", name=folder))
     values = {"copy": "", "program": program_for(folder), **values}
     if wrong := settings.problems(settings.filled_in(values)) + entry_list.problems(entries, NAME):
         raise Trouble(*wrong)
@@ -193,8 +194,7 @@ def settings_with(values: dict[str, str]) -> bytes:
     read = settings.values_of(data.decode())
     for key in ("program", "copy"):
         if read.get(key) != values[key]:
-            raise Trouble(f"{settings.NAME} can't hold {key} = {values[key]!r}: rename its folders. Nothing "
-                          "was written")
+            raise Trouble(remark("ini-unheld", key=key, value=repr(values[key])))
     return data
 
 

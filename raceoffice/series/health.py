@@ -19,7 +19,7 @@ from raceoffice.remarks import remark, system_remark
 from raceoffice.series import entry_list
 from raceoffice.series.continuity import added
 from raceoffice.series.copies import best_copy
-from raceoffice.series.folder import Folder, entries_of
+from raceoffice.series.folder import LARGEST, Folder, entries_of
 from raceoffice.series.kept_places import kept_in_words
 from raceoffice.series.read_list import bytes_of
 from raceoffice.series.run_program import Program, replayed
@@ -40,6 +40,8 @@ def faults(folder: Folder) -> list[str]:
     program = Program(folder)
     if wrong := path_fault(folder) or program.fault():
         return [wrong]
+    if wrong := folder.private_fault():
+        return [sentence(wrong)]
     if wrong := journal_fault(folder):
         return [wrong]
     if not folder.kept():
@@ -130,6 +132,8 @@ def room_fault(folder: Folder) -> OSError | None:
     """Why the disk has no room for what an opening and its day may write; None if it has."""
     path = probe_of(folder)
     size = os.path.getsize(folder.journal) if os.path.exists(folder.journal) else 0
+    # A longer journal isn't opened.
+    size = min(size, LARGEST)
     remove_probe(path)
     try:
         # It has to be a new file: a link of this name may lead to another, and a pipe holds up who opens it.

@@ -29,6 +29,18 @@ def races_with_sheet(folder: Folder) -> list[int]:
     return [race for race in range(1, 41) if os.path.exists(folder.file(sheet_name(race)))]
 
 
+def sheets_with(folder: Folder, sail: str) -> list[str]:
+    """The sheets that have a row of a boat, as far as they can be read."""
+    found = []
+    for race in races_with_sheet(folder) if folder.settings.handicap else []:
+        with contextlib.suppress(Trouble, OSError):
+            held = table_of(bytes_of(folder.file(sheet_name(race))))
+            place = columns(held.heads, SHEET).get("sail", len(held.heads))
+            if sail in [plain(cell) for _, row in held.rows for cell in row[place:place + 1]]:
+                found.append(sheet_name(race))
+    return found
+
+
 def take_out_of_sheets(folder: Folder, sail: str) -> None:
     """Takes a boat's row out of all sheets. One that can't be read or written keeps it: a row of a boat that isn't
     entered is left out wherever a sheet is read."""

@@ -11,15 +11,16 @@ from raceoffice.files import replace_whole
 from raceoffice.program.messages import moved, refusal
 from raceoffice.program.replay import ran
 from raceoffice.program.standing import Change, Standing, changes
-from raceoffice.remarks import Remark, remark
+from raceoffice.remarks import Remark, in_a_row, remark
 from raceoffice.series import copies, entry_list
 from raceoffice.series.continuity import differences, note_now, own_entries, parts_of, with_entries
 from raceoffice.series.folder import Folder, Lock
 from raceoffice.series.kept_places import Places, command_of, history_of, kept_in_words
-from raceoffice.series.race_sheets import take_out_of_sheets
+from raceoffice.series.race_sheets import sheets_with, take_out_of_sheets
 from raceoffice.series.run_program import Program, replayed
 from raceoffice.series.second_folder import places_copy_of, second_of
 from raceoffice.series.twins import Twins
+from raceoffice.series.unknown_finishers import marks_of_races
 from raceoffice.terminal import question, say
 from raceoffice.wording import count
 
@@ -64,7 +65,7 @@ def remove(path: str, words: list[str]) -> int:
     folder, sail = Folder(path), entry_list.plain("".join(words))
     folder.make_private()
     if Lock(folder).is_taken() or folder.is_held():
-        raise Trouble("the office is open: close it first, by Ctrl-C in its window")
+        raise Trouble(remark("removal-open"))
     found = removal_of(folder, sail)
     if text := differences(folder):
         say(text)
@@ -74,6 +75,8 @@ def remove(path: str, words: list[str]) -> int:
     names = entry_list.read_if_there(folder.entries)
     for change in moves_without(folder, found):
         say(f"   {moved(change, str(names.get(change.after.sail, change.after.sail)))}")
+    if text := also_changed(folder, found):
+        say(text)
     if not question(f"Take {sail} out? The journal with her stays in kept/."):
         say("Nothing was changed.")
         return 1
@@ -85,6 +88,23 @@ def remove(path: str, words: list[str]) -> int:
     if text := kept_in_words(folder):
         say(text)
     return 0
+
+
+def also_changed(folder: Folder, found: Removal) -> str:
+    """What else a removal changes, in words: sheets of times, and places that are kept again. Empty if it changes nothing
+    else."""
+    sheets, again = sheets_with(folder, found.sail), places_kept_again(folder, found)
+    said = [remark("removal-sheets", names=sheets)] if sheets else []
+    said += [remark("removal-places", places=marks_of_races(again))] if again else []
+    return in_a_row(*said) if said else ""
+
+
+def places_kept_again(folder: Folder, found: Removal) -> list[tuple[int, str]]:
+    """The places that were said to be her, and are kept again. If nobody can read the file of places, none are known."""
+    with contextlib.suppress(Trouble):
+        ended = history_of(folder).ended.values()
+        return [note.key for note in ended if note.sail == found.sail and note.entry in found.about]
+    return []
 
 
 def take_out(folder: Folder, found: Removal, by: str = "") -> tuple[str, str]:

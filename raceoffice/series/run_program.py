@@ -11,7 +11,7 @@ from raceoffice.program.link import Sheet
 from raceoffice.program.messages import start_fault
 from raceoffice.program.replay import printed, ran, sheet_of
 from raceoffice.program.standing import Standing
-from raceoffice.remarks import remark
+from raceoffice.remarks import Remark, remark
 from raceoffice.series.entry_list import given
 from raceoffice.series.folder import Folder
 from raceoffice.terminal import sentence
@@ -68,8 +68,15 @@ class Program:
     def output(self, done: subprocess.CompletedProcess[str]) -> str:
         """What the program has printed; a Trouble says what it finds wrong."""
         if done.returncode:
-            raise Trouble("\n".join(self.in_words(done.stderr)).removesuffix("."))
+            *before, last = self.in_words(done.stderr)
+            raise Trouble(*before, without_stop(last))
         return done.stdout
+
+
+def without_stop(text: str) -> str:
+    """A text without a full stop at its end; a remark stays one."""
+    words = text.removesuffix(".")
+    return text.in_words(words) if isinstance(text, Remark) else words
 
 
 def why_not_run(path: str, trouble: Trouble) -> str:

@@ -3,6 +3,7 @@ from __future__ import annotations
 
 import os
 from collections.abc import Callable, Sequence
+from typing import TypeVar
 
 from raceoffice.errors import Trouble
 from raceoffice.program.link import Link, Sheet
@@ -12,6 +13,8 @@ from raceoffice.series.folder import Folder
 from raceoffice.series.lost_lines import UNANSWERED
 from raceoffice.series.run_program import replayed
 from raceoffice.terminal import say
+
+Sent = TypeVar("Sent", str, Line)
 
 
 class Sender:
@@ -39,8 +42,8 @@ class Sender:
             return self.link.sheet()
         return replayed(self.folder, self.folder.settings.options())
 
-    def answer(self, line: Line) -> str:
-        """Sends a line in its role, and logs its answer. A Trouble says why it wasn't taken."""
+    def reply(self, line: Line) -> str:
+        """Sends a line in its role, and logs its answer. A Trouble says why there is none."""
         link = self.office()
         try:
             link.ask(f"ROLE {line.role}")
@@ -49,6 +52,11 @@ class Sender:
             self.folder.log(self.who, "", line.role, line.text, UNANSWERED)
             raise
         self.folder.log(self.who, "", line.role, line.text, answer)
+        return answer
+
+    def answer(self, line: Line) -> str:
+        """The answer to a line, once it is taken. A Trouble says why it wasn't."""
+        answer = self.reply(line)
         if not answer.startswith("OK "):
             raise Trouble(refusal(answer))
         return answer
@@ -63,3 +71,35 @@ class Sender:
                 say(f"Stopped at {line}: {why}.")
                 return list(lines[at:])
         return []
+
+    def send_each(self, lines: Sequence[Line], tell: Callable[[Line, str], None]) -> list[Line]:
+        """Sends lines of boats, each of which goes on without the others; those that weren't taken. An office that has
+        gone ends that. `tell` hears what came of each."""
+        gone: list[Trouble] = []
+
+        def is_taken(line: Line) -> bool:
+            if gone:
+                return False
+            try:
+                answer = self.reply(line)
+            except Trouble as why:
+                gone.append(why)
+                say(f"Stopped at {line}: {why}.")
+                return False
+            is_good = answer.startswith("OK ")
+            tell(line, answer if is_good else refusal(answer))
+            return is_good
+        return not_taken(lines, is_taken)
+
+
+def not_taken(lines: Sequence[Sent], is_taken: Callable[[Sent], bool]) -> list[Sent]:
+    """Sends lines of boats one after another; those that weren't taken. One that isn't keeps back those about its boat in
+    its race, and no others."""
+    left: list[Sent] = []
+    stopped: set[tuple[str, ...]] = set()
+    for line in lines:
+        about = tuple(str(line).split()[1:3])
+        if about in stopped or not is_taken(line):
+            stopped.add(about)
+            left.append(line)
+    return left

@@ -222,8 +222,8 @@ def read(folder: str) -> Settings:
     try:
         text = edited_text(os.path.join(folder, NAME))
     except NotThere:
-        raise Trouble(f"{folder} has no {NAME}: it isn't a series. "
-                      f"{command_name()} new {shlex.quote(folder)} makes one") from None
+        command = f"{command_name()} new {shlex.quote(folder)}"
+        raise Trouble(remark("no-series", name=folder, command=command)) from None
     if wrong := problems(text):
         raise Trouble(*wrong)
     return settings_of(values_of(text))
@@ -264,7 +264,7 @@ def with_value(text: str, section: str, key: str, value: str) -> str:
         rows += ["", f"[{section}]", f"{key} = {value}"]
     changed = "\n".join(rows) + "\n"
     if problems(changed) or values_of(changed) != {**values_of(text), key: value}:
-        raise Trouble(f"{NAME} can't be changed here: write {key} = {value} into it below [{section}]")
+        raise Trouble(remark("ini-by-editor", line=f"{key} = {value}", section=section))
     return changed
 
 

@@ -10,12 +10,15 @@ import contextlib
 import os
 from collections.abc import Sequence
 from dataclasses import dataclass
+from typing import Union
 
 from raceoffice import system
 from raceoffice.errors import NotSent, Trouble
 from raceoffice.series.folder import Folder
 from raceoffice.series.kept_places import History, Note, Places, history_of
-from raceoffice.wording import joined
+
+# What is said: a fixed word, and its values.
+Said = tuple[str, dict[str, Union[str, int, list[str]]]]
 
 
 @dataclass(frozen=True)
@@ -54,10 +57,10 @@ class Twins:
         # Those of whom it was said that they aren't kept in all their classes.
         self.told: set[str] = set()
 
-    def follow(self, history: History, by: str) -> list[str]:
+    def follow(self, history: History, by: str) -> list[Said]:
         """Ends places of those who are known in another class, and keeps them again if they aren't any more;
         what is said of that."""
-        said = []
+        said = list[Said]()
         for kept in list(history.kept.values()):
             place = Place(self.folder, history, kept)
             if kept.finisher and (place.is_open or kept.finisher not in self.settled):
@@ -65,7 +68,7 @@ class Twins:
                 said += self.agree([place, *others], by) + self.lacking(place, others)
         return said
 
-    def lacking(self, place: Place, others: Sequence[Place]) -> list[str]:
+    def lacking(self, place: Place, others: Sequence[Place]) -> list[Said]:
         """In which other classes she isn't kept, as the window was killed that was about to do it; said once."""
         names = {os.path.basename(os.path.join(self.folder.path, name)) for name in place.kept.also}
         names -= {other.folder.name for other in others}
@@ -73,26 +76,24 @@ class Twins:
         if not names or not is_new or place.kept.window in system.processes():
             return []
         self.told.add(place.kept.finisher)
-        classes = joined(sorted(names), "or")
-        return [f"   Beware: {place.kept.place} of race {place.kept.race} isn't kept in {classes}, since a window was "
-                f"killed. If she may be of {classes}, type ? there."]
+        return [("twin-lacking", {"mark": place.kept.place, "race": place.kept.race, "classes": sorted(names)})]
 
-    def agree(self, places: Sequence[Place], by: str) -> list[str]:
+    def agree(self, places: Sequence[Place], by: str) -> list[Said]:
         """Makes the places of one finisher agree; what is said of that."""
         if places[0].is_open:
             self.settled.discard(places[0].kept.finisher)
         else:
             self.settled.add(places[0].kept.finisher)
         known = next((place for place in places if place.is_known), None)
-        said = []
+        said = list[Said]()
         for place in places:
             what = ""
             if known and place.is_open:
-                what = "is dropped"
+                what = "twin-dropped"
             elif not known and place.is_left and any(other.is_open for other in places):
-                what = "keeps her place again"
+                what = "twin-kept"
             if what and self.is_noted(place, known, by):
-                said.append(f"   {place.folder.name}: {place.kept.place} {what}.")
+                said.append((what, {"class_name": place.folder.name, "mark": place.kept.place}))
         return said
 
     def is_noted(self, place: Place, known: Place | None, by: str) -> bool:

@@ -148,6 +148,10 @@ def marks_by_race(waiting: Sequence[Unread]) -> str:
 
 def places_by_race(waiting: Sequence[Unread]) -> list[str]:
     """The places of each race."""
-    races = sorted({unread.race for unread in waiting})
-    return [remark("places-of-race", marks=[unread.mark for unread in waiting if unread.race == race], race=race)
-            for race in races]
+    return marks_of_races([(unread.race, unread.mark) for unread in waiting])
+
+
+def marks_of_races(places: Sequence[tuple[int, str]]) -> list[str]:
+    """Places, each a race and a mark, of each race."""
+    races = sorted({race for race, _ in places})
+    return [remark("places-of-race", marks=[mark for other, mark in places if other == race], race=race) for race in races]

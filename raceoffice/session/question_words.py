@@ -33,6 +33,12 @@ class Words:
         return f"RACE {self.text('race')} COUNTS ALREADY. " if self.values["counts"] else ""
 
 
+def by_whom(since: str) -> str:
+    """When and by whom something was done, in words: `11:20 Ann` as `Ann at 11:20`."""
+    time, _, name = since.partition(" ")
+    return f"{name} at {time}"
+
+
 def of_line(words: Words) -> str:
     """A line that was typed in words that may mean several."""
     return f"This may be {joined(words.all('lines'), 'or')}. Is {words.text('line')} meant?"
@@ -66,7 +72,7 @@ def of_unlisted(words: Words) -> str:
 
 def of_unknown(words: Words) -> str:
     """Finishers without a sail, each with who has kept her place."""
-    kept = [f"{mark} (kept by {since})" for mark, since in zip(words.all("marks"), words.all("since"))]
+    kept = [f"{mark} (kept by {by_whom(since)})" for mark, since in zip(words.all("marks"), words.all("since"))]
     who = "a finisher" if len(kept) == 1 else "finishers"
     return f"{joined(kept)}: {who} without a sail would be left out. Score it all the same?"
 
@@ -143,6 +149,11 @@ def of_same_line(words: Words) -> str:
             "more?")
 
 
+def of_tapped_too(words: Words) -> str:
+    """Another device's tap was refused, as she was in the order by the one that is undone."""
+    return f"{words.text('by')} has tapped {words.boat()}, too. Strike her all the same?"
+
+
 def of_others(words: Words) -> str:
     """Others were recorded after a finisher was seen, and before she was."""
     others, sail = words.boats("others"), words.boat()
@@ -194,7 +205,7 @@ WORDS: dict[str, Callable[[Words], str]] = {
     "undo": of_undo,
     "drop-place": of_dropping, "keep-place-again": of_keeping,
     # Only pages ask these.
-    "sent-already": of_same_line, "others-recorded": of_others,
+    "sent-already": of_same_line, "others-recorded": of_others, "tapped-too": of_tapped_too,
     # Before an office is opened.
     "use-copy": of_copy, "not-continued": of_difference, "new-rules": of_rules,
     "take-over": of_taking_over, "remove-boat": of_removal,

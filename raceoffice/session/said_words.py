@@ -6,7 +6,7 @@ from collections.abc import Callable, Iterable
 
 from raceoffice.program.messages import move_words, refusal
 from raceoffice.session.dialogue import Said, Value
-from raceoffice.session.question_words import Words
+from raceoffice.session.question_words import Words, by_whom
 from raceoffice.wording import count, joined, ordinal
 
 
@@ -107,7 +107,7 @@ def of_declared(words: SaidWords) -> str:
 # Finishers without a sail
 
 def of_known(words: SaidWords) -> str:
-    return (f"{words.text('mark')} of race {words.text('race')} is {words.text('sail')}, by {words.text('since')}: "
+    return (f"{words.text('mark')} of race {words.text('race')} is {words.text('sail')}, by {by_whom(words.text('since'))}: "
             f"entry {words.text('entry')}, {words.text('line')}.")
 
 
@@ -120,8 +120,8 @@ def of_two_boats(words: SaidWords) -> str:
 
 
 def of_ended(words: SaidWords) -> str:
-    return (f"   {words.text('mark')} of race {words.text('race')} is dropped by {words.text('since')}: "
-            f"{words.text('why')}.")
+    return (f"   {words.text('mark')} of race {words.text('race')} is dropped by "
+            f"{by_whom(words.text('since'))}: {words.text('why')}.")
 
 
 def of_kept(words: SaidWords) -> str:
@@ -149,6 +149,22 @@ def of_bad_line(words: SaidWords) -> str:
 
 def of_unread_places(words: SaidWords) -> str:
     return f"   Beware: {words.text('fault')}. A finisher without a sail may be missing."
+
+
+# A finisher who is kept in several classes
+
+def of_twin_dropped(words: SaidWords) -> str:
+    return f"   {words.text('class_name')}: {words.text('mark')} is dropped."
+
+
+def of_twin_kept(words: SaidWords) -> str:
+    return f"   {words.text('class_name')}: {words.text('mark')} keeps her place again."
+
+
+def of_twin_lacking(words: SaidWords) -> str:
+    classes = joined(words.all("classes"), "or")
+    return (f"   Beware: {words.text('mark')} of race {words.text('race')} isn't kept in {classes}, since a window was "
+            f"killed. If she may be of {classes}, type ? there.")
 
 
 # A race that is to be taken away, or is shown
@@ -236,6 +252,7 @@ WORDS: dict[str, Callable[[SaidWords], str]] = {
     "place-known": of_place_known, "two-boats": of_two_boats, "place-ended": of_ended, "place-kept": of_kept,
     "place-kept-again": of_kept_again, "place-dropped": of_dropped, "still-kept": of_still_kept,
     "places-line": of_bad_line, "places-unread": of_unread_places,
+    "twin-dropped": of_twin_dropped, "twin-kept": of_twin_kept, "twin-lacking": of_twin_lacking,
     "nothing-there": of_nothing_there, "plan": of_plan, "plan-places": of_plan_places, "plan-stays": of_plan_stays,
     "plan-resailed": of_resailing, "plan-jury": of_plan_jury, "taken-away": of_taken_away, "stopped": of_stop,
     "race-state": of_race, "race-unread": of_race_unread, "race-missing": of_race_missing,

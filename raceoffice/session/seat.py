@@ -7,7 +7,7 @@ from collections.abc import Callable, Iterable
 from dataclasses import dataclass, field
 from time import monotonic
 
-from raceoffice.errors import Gone, NotSent, Trouble
+from raceoffice.errors import Gone, NotSent, Trouble, said_of
 from raceoffice.program.journal import Race
 from raceoffice.program.link import Link
 from raceoffice.remarks import remark
@@ -68,7 +68,7 @@ class Seat:
     def office(self) -> Link:
         """The link to the office; a Trouble if there is none."""
         if not self.link:
-            raise Gone("no office is open")
+            raise Gone(remark("no-office"))
         return self.link
 
     def disconnect(self) -> None:
@@ -99,7 +99,7 @@ class Seat:
         try:
             self.folder.log(self.name, self.number, self.role, line, answer)
         except Trouble as trouble:
-            self.say_of("log-fault", WARNING, fault=str(trouble))
+            self.say_of("log-fault", WARNING, fault=said_of(trouble))
 
     # What it knows
 
@@ -116,7 +116,8 @@ class Seat:
                 how = self.history.end(unread.race, unread.mark)
                 self.say_of("place-ended" if "why" in how else "place-known", **how)
         if followed := self.twins.follow(self.history, self.places.by):
-            self.say_all(followed)
+            for what, values in followed:
+                self.say_of(what, **values)
             self.look_at_places()
 
     def look_at_journal(self) -> None:
@@ -130,7 +131,7 @@ class Seat:
             wrong, what = "", "places-line"
             values: dict[str, str | int] = {"number": next(iter(self.history.faults), 0)}
         except Trouble as trouble:
-            wrong, what, values = str(trouble), "places-unread", {"fault": str(trouble)}
+            wrong, what, values = str(trouble), "places-unread", {"fault": said_of(trouble)}
         if self.once.is_new("places", wrong or self.history.fault):
             self.say_of(what, WARNING, **values)
 
@@ -204,7 +205,7 @@ class Seat:
             self.drop(waiting, why)
         except NotSent as fault:
             kept = [unread.mark for unread in waiting]
-            self.say_of("still-kept", WARNING, fault=str(fault), marks=kept)
+            self.say_of("still-kept", WARNING, fault=said_of(fault), marks=kept)
 
     def keep_again(self, unread: Unread) -> None:
         """Keeps a place again as it was kept before."""

@@ -1,6 +1,8 @@
 """How what was done last is taken back: by the one line that reverses it, or at the place that was kept."""
 from __future__ import annotations
 
+from collections.abc import Collection
+
 from raceoffice.errors import NotSent
 from raceoffice.program.journal import Race, Series
 from raceoffice.program.messages import ROLES
@@ -80,13 +82,13 @@ def reversal(facts: Facts, number: int) -> str:
     return as_before(command, before, facts.race(rest[0]), sail)
 
 
-def later_entry(facts: Facts, number: int) -> Remark | None:
-    """The first entry after another that is about the same boat and race, in words; None if there is none. SCORE and
-    UNSCORE are about their race alone."""
+def later_entry(facts: Facts, number: int, but: Collection[str] = ()) -> Remark | None:
+    """The first entry after another that is about the same boat and race, and isn't one of some, in words; None if there
+    is none. SCORE and UNSCORE are about their race alone."""
     about = what_about(facts.commands[number - 1])
     for at, entry in enumerate(facts.sheet.journal[number:], number + 1):
         _, _, role, line = entry.split(maxsplit=3)
-        if what_about(line) == about:
+        if what_about(line) == about and entry not in but:
             return remark("undo-later", number=at, line=line, by=ROLES[role])
     return None
 

@@ -20,6 +20,9 @@ START = f'<script type="{KIND}" id="{ID}">\n'
 END = "</script>"
 # What the program reads of a journal at most, and how many series are worked out.
 JOURNAL, ENTRIES, SERIES = 1 << 20, 8192, 100
+# The most characters of a block: thirty times as many as that of 500 boats, 40 races and a full journal has. To read one
+# takes thirty times its size of memory.
+BLOCK = 12 << 20
 SHOWN = re.compile("[A-Za-z0-9-]+(?: [A-Za-z0-9-]+)*")
 PROGRAM = re.compile("(?:[0-9a-f]{64})?")
 MOMENT = re.compile(r"[0-9]{4}-[0-9]{2}-[0-9]{2}T[0-9]{2}:[0-9]{2}:[0-9]{2}\+00:00")
@@ -79,6 +82,8 @@ def block_of(page: str) -> str:
     end = page.find(END, begin)
     if end < 0:
         raise ForeignPage("the block has no end")
+    if end - begin > BLOCK:
+        raise ForeignPage(f"the block is longer than {BLOCK:,} characters, and that of no page is")
     return page[begin:end]
 
 
@@ -90,7 +95,7 @@ def whole_number(text: str) -> int:
 
 
 def no_number(text: str) -> float:
-    raise ValueError(f"{text[:20]} is no whole number")
+    raise ValueError(f"{quoted(text)} is no whole number")
 
 
 def value_of(text: str) -> object:

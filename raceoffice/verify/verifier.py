@@ -9,7 +9,7 @@ from collections.abc import Callable, Iterable, Sequence
 from dataclasses import dataclass
 
 from raceoffice import characters, system
-from raceoffice.characters import quoted, unbroken, with_spaces
+from raceoffice.characters import quoted
 from raceoffice.decisions.points import Decided, decided
 from raceoffice.errors import ForeignPage, NoTable, Trouble, Unsure
 from raceoffice.files import opened_at_once
@@ -26,9 +26,10 @@ from raceoffice.results.html.race import one_race
 from raceoffice.results.html.sealing import Carried, seal_words
 from raceoffice.results.snapshot import Snapshot, labelled
 from raceoffice.series.settings import Settings, rows_of, settings_of
-from raceoffice.terminal import Progress, put_out, say_json, sentence, visible, width, wrapped
+from raceoffice.terminal import Progress, put_out, say_json, sentence, width
 from raceoffice.traces import guarded
 from raceoffice.verify import page_data
+from raceoffice.verify.own_words import explained, laid_out, stale
 from raceoffice.verify.page_data import Kept, found_in, moment_of, still_to_come, wrong_confirmation
 from raceoffice.verify.visible import Seen, difference, first_of, place, standing_of
 from raceoffice.wording import count
@@ -186,8 +187,10 @@ def compare_tables(rebuilt: Rebuilt) -> None:
                  for row in view.standing.rows for boat in [view.boat(row.sail)]}
         try:
             standing = standing_of(table, sails, view.standing.races) if view.standing.races else None
-        except (ValueError, NoTable) as cause:
-            raise ForeignPage(f"{unbroken(characters.shortly(view.label, characters.QUOTED))}: {cause}") from None
+        except NoTable as cause:
+            raise ForeignPage(f"{quoted(view.label)}: {explained(cause)}") from None
+        except ValueError as cause:
+            raise ForeignPage(f"{quoted(view.label)}: {cause}") from None
         if standing not in (None, view.standing):
             assert standing is not None
             at = first_of([repr(row) for row in standing.rows],
@@ -217,7 +220,7 @@ def value_of(rebuilt: Rebuilt, program: str) -> dict[str, object]:
     series = [{"name": view.label, "boats": len(view.standing.rows), "races": len(view.standing.races),
                "entries": view.series.entries, "state": view.settings.state, "seal": seal_words(view),
                "changed": view.changed.isoformat(), "program": view.program,
-               "beware": [*map(with_spaces, bewares(view))]}
+               "beware": bewares(view)}
               for view in rebuilt.views]
     return {"series": series, "program": digest_of(program)}
 
@@ -227,12 +230,11 @@ def report(rebuilt: Rebuilt, program: str) -> list[str]:
     lines = []
     for view in rebuilt.views:
         rows, races = len(view.standing.rows), len(view.standing.races)
-        lines += [f"   {unbroken(characters.shortly(view.label, characters.QUOTED))}: {count(rows, 'boat')}, {count(races, 'race')}, "
+        lines += [f"   Class {quoted(view.label)}: {count(rows, 'boat')}, {count(races, 'race')}, "
                   f"{count(view.series.entries, 'entry', 'entries')}, {view.settings.state}. "
                   "Scored again: every cell is the same.",
                   f"   Seal {seal_words(view)}",
                   f"   Last changed {view.when(view.changed)}, by the page's own word."]
-        lines += [f"   Beware: {characters.shortly(text, MESSAGE)}" for text in bewares(view)]
     ours, theirs = digest_of(program), {view.program for view in rebuilt.views}
     same = theirs == {ours}
     lines.append(f"   Program: the same that scored the page, SHA-256 {ours}" if same else
@@ -241,18 +243,27 @@ def report(rebuilt: Rebuilt, program: str) -> list[str]:
     return lines
 
 
+def warnings(rebuilt: Rebuilt, page: str) -> list[str]:
+    """What of a verified page isn't as it seems. It comes before the verdict: no number of these takes that and the seal
+    off the screen."""
+    return [f"{page}: Beware: {characters.shortly(text, MESSAGE)}" for view in rebuilt.views for text in bewares(view)]
+
+
 def bewares(view: Snapshot) -> list[str]:
     """What of a verified page isn't what it seems, or what the scores don't have as they should."""
     shown = view.settings
     texts = [view.name, shown.title, shown.group, shown.club, shown.reason]
     texts += [text for boat in view.boats.values() for text in (boat.helm, boat.name, boat.club)]
     texts += rows_of(view.decided.text)
-    odd = [text for text in texts if characters.has_odd(text)]
-    found = [f"{unbroken(characters.shortly(text, characters.QUOTED))} has a sign that isn't seen, or that turns or strikes others"
-             for text in odd[:BEWARES]]
-    if len(odd) > BEWARES:
-        found.append(f"and so have {len(odd) - BEWARES} other texts")
-    return [*view.decided.stale, *found]
+    odd = [f"{quoted(text)} has a sign that isn't seen, or that turns or strikes others"
+           for text in texts if characters.has_odd(text)]
+    return [*first_ones(stale(view.decided), "decisions"), *first_ones(odd, "texts")]
+
+
+def first_ones(texts: list[str], called: str) -> list[str]:
+    """The first of some texts, and how many others there are."""
+    more = len(texts) - BEWARES
+    return [*texts[:BEWARES], f"and so have {more} other {called}"] if more > 0 else texts
 
 
 def opened_for_reading(path: str, flags: int) -> int:
@@ -290,8 +301,8 @@ class Outcome:
 def name_shown(path: str) -> str:
     """The name of a file. It may be words that somebody chose: so it is on one line, and in quotation marks that it can't
     close if it has more than letters, digits and what most names have."""
-    escaped = path.replace("\\", "\\\\").replace('"', '\\"')
-    return path if PLAIN_NAME.fullmatch(path) else unbroken(f'"{escaped}"')
+    escaped = path.replace("\\", "\\\\").replace('"', '\\"').replace(characters.LIKE_A_SPACE, "\\u2423")
+    return path if PLAIN_NAME.fullmatch(path) else f'"{escaped}"'
 
 
 def outcome(verifier: Verifier, path: str) -> Outcome:
@@ -299,15 +310,20 @@ def outcome(verifier: Verifier, path: str) -> Outcome:
     try:
         with guarded("", ForeignPage, Unsure, ValueError):
             rebuilt = verifier.verified(text_of_page(path))
-            return Outcome(VERIFIED, (f"{name_shown(path)}: verified.", *report(rebuilt, verifier.program)),
+            said = (*warnings(rebuilt, name_shown(path)), f"{name_shown(path)}: verified.", *report(rebuilt, verifier.program))
+            return Outcome(VERIFIED, said,
                            {"page": path, "result": "verified", **value_of(rebuilt, verifier.program)})
     except ForeignPage as odd:
         status, what, why = DIFFERS, "NOT VERIFIED", characters.shortly(str(odd), MESSAGE)
-    except (Unsure, Trouble, ValueError) as trouble:
-        status, what, why = UNSURE, "not verified", characters.shortly(str(trouble), MESSAGE)
+    except Unsure as unsure:
+        status, what, why = UNSURE, "not verified", characters.shortly(str(unsure), MESSAGE)
+    except Trouble as trouble:
+        status, what, why = UNSURE, "not verified", characters.shortly(explained(trouble), MESSAGE)
+    except ValueError as fault:
+        status, what, why = UNSURE, "not verified", quoted(str(fault))
     return Outcome(status, (f"{name_shown(path)}: {what}: {sentence(why)}",),
                    {"page": path, "result": "differs" if status == DIFFERS else "unsure",
-                    "why": with_spaces(why)})
+                    "why": why})
 
 
 def verify(pages: Sequence[str], program: str, is_json: bool = False) -> int:
@@ -322,12 +338,6 @@ def verify(pages: Sequence[str], program: str, is_json: bool = False) -> int:
     if is_json:
         say_json([one.value for one in found])
     return worst(one.status for one in found)
-
-
-def laid_out(lines: Sequence[str], columns: int) -> str:
-    """What is said, in lines of a terminal. What was read of a page is never broken, so that no line begins with words
-    of it, as VERIFIED."""
-    return with_spaces(wrapped(visible("\n".join(map(characters.plainly, lines))), columns))
 
 
 def worst(statuses: Iterable[int]) -> int:

@@ -7,7 +7,7 @@ import re
 from collections.abc import Iterator
 from dataclasses import dataclass, field
 
-from raceoffice.characters import QUOTED, quoted, shortly, unbroken
+from raceoffice.characters import QUOTED, quoted
 from raceoffice.program.standing import Row, Score, Standing
 
 # Parts that end a text; all others are inside one.
@@ -20,6 +20,7 @@ TAG = re.compile("<([^<>]*)>")
 CLASS = re.compile('class="([^"]*)"')
 # A number of a sign that is too long for one.
 LONG = re.compile("&#[xX]?[0-9a-fA-F]{8}")
+HEAD = re.compile("[A-Z][A-Za-z0-9]{0,9}")
 # Signs before those in which two texts differ.
 BEFORE = 20
 # Parts inside one another, and signs of a cell to which more are added. The package's pages have fewer.
@@ -132,20 +133,21 @@ def longer(text: str, more: str) -> str:
 def place(table: Table, row: int, column: int) -> str:
     """Where a cell is, in words."""
     heads = table.heads
-    head = named(heads[column]) if column < len(heads) else f"column {column + 1}"
+    head = head_of(heads[column]) if column < len(heads) else f"column {column + 1}"
     if row == 0:
         return f"{name_of(table)}, the heading {head}"
-    sail = f" ({named(table.sail(row))})" if table.sail(row) else ""
+    sail = f" ({quoted(table.sail(row))})" if table.sail(row) else ""
     return f"{name_of(table)}, row {row}{sail}, {head}"
 
 
+def head_of(text: str) -> str:
+    """A heading: one of this package's own as it is."""
+    return text if HEAD.fullmatch(text) else quoted(text)
+
+
 def name_of(table: Table) -> str:
-    return named(table.caption.partition(":")[0]) or "a table"
-
-
-def named(text: str) -> str:
-    """A name that is read from a page, on one line."""
-    return unbroken(shortly(text, QUOTED))
+    name = table.caption.partition(":")[0]
+    return quoted(name) if name else "a table"
 
 
 def first_of(found: list[str], wanted: list[str]) -> int | None:
@@ -215,7 +217,7 @@ def row_of(table: Table, at: int, sails: dict[str, str], races: int) -> Row:
     for number, cell in enumerate(cells[4:4 + races], 1):
         score = SCORE.fullmatch(cell)
         if not score:
-            raise ValueError(f"{table.sail(at)} has {quoted(cell)} in column {number} of the races")
+            raise ValueError(f"{quoted(table.sail(at))} has {quoted(cell)} in column {number} of the races")
         scores.append(Score(score[1] or score[2], score[3] or "", bool(score[2])))
     return Row(int(rank[1]), bool(rank[2]), sail, net[1], tuple(scores))
 
@@ -224,6 +226,6 @@ def standing_of(table: Table, sails: dict[str, str], races: tuple[int, ...]) -> 
     """A page's overall table as the program's table. `sails` has the sail of each text of its cell."""
     heads = table.heads[4:4 + len(races)]
     if heads != [f"R{number}" for number in races]:
-        raise ValueError(f"the races are {' '.join(heads)}")
+        raise ValueError(f"the races are {quoted(' '.join(heads))}")
     return Standing(races, tuple(row_of(table, at, sails, len(races))
                                  for at in range(1, len(table.rows))))

@@ -20,7 +20,7 @@ from raceoffice.web.copies_shown import CopiesShown, journal_shown
 from raceoffice.web.kept_office import KeptOffice
 from raceoffice.web.requests import Wrong
 from raceoffice.web.room import Room
-from raceoffice.web.states import Values, question_of, said_of
+from raceoffice.web.states import Values, question_of, remarks_in, said_of
 from raceoffice.web.sticks import sticks_shown
 from raceoffice.web.taps import NoTap, Sent, Tap
 
@@ -139,4 +139,4 @@ def notices(folder: Folder) -> list[Logged]:
 
 def points_of(points: list[announce.Open]) -> list[Values]:
     """What is open, as a page gets it."""
-    return [{"kind": point.kind, "values": point.values, "text": point.text} for point in points]
+    return [{"kind": point.kind, "values": point.values, "text": point.text, **remarks_in(point.values)} for point in points]

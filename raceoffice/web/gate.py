@@ -84,6 +84,8 @@ class Gate:
         self.written, self.is_heard = time.monotonic(), False
         # Tries at a secret by address; lines and questions by device.
         self.entering, self.writing, self.asking = Rate(10, 0.2), Rate(60, 12), Rate(400, 60)
+        # Taps that are refused stay in the register: they are few.
+        self.refused = Rate(100, 0.5)
         # Called when devices have been put out.
         self.told_out: Callable[[], None] = lambda: None
         if path:

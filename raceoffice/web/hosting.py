@@ -145,9 +145,11 @@ def news_head(more: Mapping[str, str]) -> bytes:
 
 
 async def end_of(reader: asyncio.StreamReader) -> None:
-    """Waits for the end of a connection on which nothing is expected any more."""
-    while await reader.read(HEAD):
-        pass
+    """Waits for the end of a connection on which nothing is expected any more. One that sends a lot all the same is at
+    its end, too."""
+    come = 0
+    while come <= HEAD and (piece := await reader.read(HEAD)):
+        come += len(piece)
 
 
 def send_or_cut(writer: asyncio.StreamWriter, data: bytes) -> None:

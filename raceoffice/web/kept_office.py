@@ -15,8 +15,8 @@ from raceoffice.program.messages import move_text
 from raceoffice.remarks import Remark, in_a_row, remark
 from raceoffice.series import settings
 from raceoffice.series.folder import Folder, Lock, clock
-from raceoffice.series.health import disk_fault, faults, notes, summary
-from raceoffice.series.remove_boat import moves_without, removal_of, take_out
+from raceoffice.series.health import disk_fault, faults, journal_fault, notes, summary
+from raceoffice.series.remove_boat import also_changed, moves_without, removal_of, take_out
 from raceoffice.session.dialogue import Question
 from raceoffice.session.question_words import question
 from raceoffice.terminal import sentence
@@ -211,6 +211,9 @@ class KeptOffice:
         """Takes a boat out of the journal, for which the office is closed and opened again: the dated copy that has her
         still. What goes and whom that moves is asked while the office is open. `by` is who does."""
         fresh = self.folder_alone()
+        # Once it is closed, an office that can't be kept couldn't be opened again.
+        if fault := journal_fault(fresh) or disk_fault(fresh):
+            raise NotSent(fault)
         if asked := question_of_rules(fresh):
             ask(asked)
         wanted = question_of_removal(fresh, sail)
@@ -258,14 +261,15 @@ class KeptOffice:
 
 
 def question_of_removal(folder: Folder, sail: str) -> Question:
-    """What is asked before a boat is taken out: the entries that go, and whom that moves; NotSent if she can't be."""
+    """What is asked before a boat is taken out: the entries that go, whom that moves, and what else it changes; NotSent if
+    she can't be."""
     try:
         found = removal_of(folder, sail)
-        moves = moves_without(folder, found)
+        moves, also = moves_without(folder, found), also_changed(folder, found)
     except Trouble as trouble:
         raise NotSent(*trouble.said) from None
     lines = [" ".join(line.split()[2:]) for line in found.about.values()]
-    return question("remove-boat", str, sail=sail, lines=lines, moves=map(move_text, moves))
+    return question("remove-boat", str, sail=sail, lines=lines, moves=map(move_text, moves), also=also)
 
 
 def is_yes(_: Question) -> bool:

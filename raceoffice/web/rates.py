@@ -27,6 +27,11 @@ class Rate:
             raise Wrong(429, "too many requests: wait a moment")
         self.left[name] = (left - 1, now)
 
+    def check(self, name: str) -> None:
+        """Wrong if no try is left."""
+        if self.left_of(name, self.now()) < 1:
+            raise Wrong(429, "too many requests: wait a moment")
+
     def pause(self, name: str) -> float:
         """Takes one try, and says after how many seconds it has its turn: those that come too often queue."""
         now = self.now()

@@ -4,26 +4,27 @@ from __future__ import annotations
 import contextlib
 import copy
 import os
+import re
 import threading
 import time
 from collections.abc import Callable, Sequence
 
 from raceoffice import system
-from raceoffice.errors import NoSeat, NotSent, Trouble, as_trouble
-from raceoffice.files import PRIVATE, PRIVATE_MODE
+from raceoffice.errors import NoSeat, NotSent, Served, Trouble, as_trouble
+from raceoffice.files import PRIVATE, PRIVATE_MODE, text_if_any
 from raceoffice.program.link import Link, Sheet
-from raceoffice.remarks import remark
+from raceoffice.remarks import packed, remark
 from raceoffice.series.folder import Folder
 from raceoffice.series.kept_places import History, Places
 from raceoffice.series.lost_lines import as_kept
-from raceoffice.session.dialogue import Said
 from raceoffice.session.facts import Facts
 from raceoffice.session.question_words import question
+from raceoffice.session.undo import later_entry
 from raceoffice.traces import guarded
 from raceoffice.web.finish_order import line_in_order
 from raceoffice.web.states import (Values, boats_of, moves_of, races_of, rules_of, said_of, standing_of, unlisted)
 from raceoffice.web.tap_session import DROPPED, TapSession
-from raceoffice.web.taps import PLACED, Register, Sent, Tap, number_of
+from raceoffice.web.taps import PLACED, Register, Sent, Tap, number_of, said_again
 from raceoffice.web.timed_taps import TimedTap, is_timed_tap, sheets_shown, with_typed_times
 from raceoffice.web.timed_undo import timed_undo
 
@@ -34,18 +35,24 @@ LOOK, AGAIN, LATER = 0.1, 1.0, 5.0
 PATIENCE = 5.0
 # Entries of the journal that are shown.
 SHOWN = 60
+ADDRESS = re.compile("https?://[A-Za-z0-9.:_-]+/")
 
 
 class Room:
-    """A class with its office. `changed` is called when something that is shown is another."""
+    """A class with its office. `changed` is called when something that is shown is another; `address` is where it
+    is served."""
 
-    def __init__(self, folder: Folder, changed: Callable[[], None]) -> None:
+    def __init__(self, folder: Folder, changed: Callable[[], None], address: str = "") -> None:
         self.folder, self.changed = folder, changed
         # One tap at a time, and one look at a time; who needs both takes them in this order.
         self.lock, self.looking = threading.RLock(), threading.RLock()
         folder.make_private()
-        self.held = held_alone(folder)
-        self.register = Register(folder.file(PRIVATE, "web.taps"))
+        self.held = held_alone(folder, address)
+        try:
+            self.register = Register(folder.file(PRIVATE, "web.taps"))
+        except Trouble:
+            os.close(self.held)
+            raise
         self.sessions: dict[str, TapSession] = {}
         self.reader: Link | None = None
         # Links with a line that the office may still take.
@@ -146,7 +153,7 @@ class Room:
     def session(self, role: str) -> TapSession:
         """The session of a role, linked to the office; a Trouble if the office isn't open."""
         if self.folder.is_closing():
-            raise Trouble("the office is being closed")
+            raise Trouble(remark("office-closing"))
         if role not in self.sessions:
             self.sessions[role] = TapSession(self.folder, role, self.register, self.see)
         session = self.sessions[role]
@@ -190,12 +197,12 @@ class Room:
     def look(self) -> None:
         """Reads the journal if its file has grown, and the places that windows keep."""
         if self.folder.is_closing():
-            raise Trouble("the office is being closed")
+            raise Trouble(remark("office-closing"))
         if self.reader is None:
             self.reader = self.folder.link()
             self.log("came")
         elif heard(self.reader) is not None:
-            raise Trouble("the office has gone")
+            raise Trouble(remark("office-lost"))
         self.see(self.reader)
         if self.places.state() != self.places_seen:
             with self.looking:
@@ -213,7 +220,7 @@ class Room:
     def do(self, role: str, name: str, tap: Tap) -> Values:
         """Does a tap once; what came of it. The same tap again gets the same answer."""
         if not self.lock.acquire(timeout=PATIENCE):
-            raise Trouble("another line is being sent: wait")
+            raise Trouble(remark("line-before"))
         try:
             if done := self.done(tap):
                 return done
@@ -238,7 +245,7 @@ class Room:
                 link.close()
                 self.late.remove(link)
         if self.late:
-            raise Trouble("the office hasn't answered a line yet")
+            raise Trouble(remark("line-unanswered"))
 
     def give_up(self, session: TapSession, trouble: Trouble) -> None:
         """Leaves an office that doesn't answer, or has gone."""
@@ -300,7 +307,8 @@ class Room:
             # No line was needed, as for a race of which nothing is recorded.
             session.note_begin(tap.id, tap.line)
             sent = self.register.sent[tap.id]
-        said = [[one.text, one.kind, one.what, one.values] for one in session.said]
+        said = [[one.text, one.kind, one.what, {name: packed(value) for name, value in one.values.items()}]
+                for one in session.said]
         answer = sent.answer or (session.answer if is_timed else "") or ("NOTED" if is_taken else "NO")
         self.register.end(sent.id, answer, session.mark, said)
         with self.looking:
@@ -322,6 +330,7 @@ class Room:
             if not self.folder.settings.handicap or len(rest) != 1:
                 raise NotSent(remark("times-form"))
             return tap.line
+        self.check_undo(session, tap)
         if "?" in first or first in ("UNDO", "ABANDON"):
             return tap.line
         if tap.undoes and not self.is_undoable(tap):
@@ -340,6 +349,19 @@ class Room:
         """The line that undoes a tap for a sheet of times; empty if it was none for one."""
         sent = self.register.sent.get(tap.undoes)
         return timed_undo(session, sent) if sent and is_timed_tap(self.folder, sent.line) else ""
+
+    def check_undo(self, session: TapSession, tap: Tap) -> None:
+        """Keeps an undo from taking back what somebody else has done: NotSent if they have changed the boat's place, or
+        code, since. If another device has tapped the same finisher, it is asked."""
+        sent, journal = self.register.sent.get(tap.undoes), session.facts.sheet.journal
+        number = number_of(sent, journal) if sent and sent.entry else 0
+        if not sent or not number:
+            return
+        if later := later_entry(session.facts, number, self.register.entries_by(sent.by, journal)):
+            raise NotSent(later)
+        if by := self.register.who_tapped_too(sent):
+            sail = sent.line.split()[2]
+            session.is_agreed(question("tapped-too", session.facts.called, sail=sail, by=by))
 
     def is_undoable(self, tap: Tap) -> bool:
         """Whether a tap that is to be undone has put an entry into the journal, or kept a place."""
@@ -360,14 +382,20 @@ class Room:
             session.is_agreed(question("sent-already", session.facts.called, line=line, entry=later[-1]))
 
 
-def held_alone(folder: Folder) -> int:
-    """The file that says that a web serves this class. Two would not know of each other's taps."""
+def held_alone(folder: Folder, address: str = "") -> int:
+    """The file that says that a web serves this class, and where. Two would not know of each other's taps."""
     path = folder.file(PRIVATE, "web.lock")
     with as_trouble("file-unused", name=path):
         file = os.open(path, os.O_RDWR | os.O_CREAT | system.NO_LINK, PRIVATE_MODE)
     if not system.take_lock(file):
         os.close(file)
-        raise Trouble(f"{folder.path} is served to browsers already, by another raceoffice serve")
+        other = text_if_any(path, 200)
+        raise Served(remark("served-at", name=folder.path, address=other) if ADDRESS.fullmatch(other) else
+                     remark("served-already", name=folder.path))
+    # On a full disk nobody learns where it is served.
+    with contextlib.suppress(OSError):
+        os.ftruncate(file, 0)
+        os.pwrite(file, address.encode(), 0)
     return file
 
 
@@ -389,7 +417,7 @@ def outcome_of(sent: Sent, is_again: bool, journal: Sequence[str] = ()) -> Value
     """What came of a tap, for its device. Its entry has another number once a boat was taken out before it."""
     first = sent.answer.split()[0]
     outcome = {"NO": "refused", "NOTED": "noted"}.get(first, "taken")
-    said = [Said(*one) for one in sent.said]
+    said = [said_again(one) for one in sent.said]
     entry = number_of(sent, journal) if sent.own and journal else sent.entry
     return {"outcome": outcome, "answer": sent.answer, "line": sent.line, "entry": entry,
             "mark": sent.mark, "said": said_of(said), "again": is_again}

@@ -52,7 +52,13 @@ OWN = {"UNDO", "ABANDON"}
 
 def being_opened() -> Wrong:
     """What a class answers before its office is there: whoever asks comes again."""
-    return Wrong(503, "this class is being opened")
+    said = remark("class-opening")
+    return Wrong(503, said, said=remarks_of([said]))
+
+
+def no_such_class() -> Wrong:
+    said = remark("no-class")
+    return Wrong(404, said, said=remarks_of([said]))
 
 
 class Routes:
@@ -211,7 +217,7 @@ class Routes:
 
     def one(self, name: str) -> Class:
         if name not in self.office.classes:
-            raise being_opened() if name in self.office.to_come else Wrong(404, "there is no such class")
+            raise being_opened() if name in self.office.to_come else no_such_class()
         return self.office.classes[name]
 
     def room(self, name: str) -> Room:
@@ -239,8 +245,11 @@ class Routes:
         offices = [{"class": name, "said": remarks_of(one.office.said), "open": one.office.is_there(),
                     "is_kept_here": one.office.keeping is not None}
                    for name, one in self.office.classes.items()]
+        offices += [{"class": name, "said": remarks_of(one.said), "open": False, "is_kept_here": False}
+                    for name, one in self.office.left_out.items()]
+        served = [*self.office.classes, *self.office.left_out]
         return reply_of({"devices": shown, "keys": sorted(self.gate.keys), "board": self.office.address,
-                         "offices": offices, "beside": series_beside.series_beside(self.office.parent, self.office.classes)})
+                         "offices": offices, "beside": series_beside.series_beside(self.office.parent, served)})
 
     def results(self, one: Class) -> Reply:
         """How the results stand, what is open, and the journal with its copies."""
@@ -249,7 +258,7 @@ class Routes:
     def export(self, form: str, some: list[Class]) -> Reply:
         """The results of a class as a file, or of all; what keeps a part from being shown is said."""
         if not (found := some or list(self.office.classes.values())):
-            raise Wrong(404, "there is no such class")
+            raise no_such_class()
         return download(form, [one.room.folder for one in found], self.office.tell)
 
     # What is written
@@ -280,6 +289,7 @@ class Routes:
                 self.gate.revoke(str(request.values().get("mark", "")))
                 return reply_of({})
             case ["open", name]:
+                self.office.add_again(name)
                 return self.open(request, self.room(name))
             case ["close", name]:
                 return self.close(request, self.room(name))
@@ -312,7 +322,11 @@ class Routes:
     def line(self, request: Request, role: str, device: Device, room: Room) -> Reply:
         tap = tap_of(request.values())
         check_command(tap.line, role)
+        if tap.id not in room.register.sent:
+            self.gate.refused.check(device.mark)
         done = room.do(role, device.name, tap)
+        if is_idle(done):
+            self.gate.refused.pause(device.mark)
         return reply_of(done | {"version": room.version, "now": now()})
 
     def preview(self, request: Request, role: str, room: Room) -> Reply:
@@ -513,6 +527,11 @@ def tap_of(values: dict[str, Any]) -> Tap:
     if tap.at > LATEST:
         raise NotSent(remark("no-clock"))
     return tap
+
+
+def is_idle(done: Values) -> bool:
+    """Whether a tap was refused, or there was nothing to do for it: the register grows, and no journal does."""
+    return done["outcome"] == "refused" or done["outcome"] == "noted" and str(done["line"]).startswith("ABANDON ")
 
 
 def agreed_of(request: Request) -> tuple[Question, ...]:

@@ -14,8 +14,9 @@ import webbrowser
 from dataclasses import dataclass
 
 from raceoffice import system
-from raceoffice.errors import Trouble
+from raceoffice.errors import Served, Trouble
 from raceoffice.results.http_answers import addresses
+from raceoffice.results.source import need_own_names
 from raceoffice.series.folder import Folder, clock
 from raceoffice.session.dialogue import Question
 from raceoffice.terminal import question, say, say_if_heard
@@ -76,9 +77,19 @@ class Web:
     # Its beginning
 
     def open_all(self) -> None:
-        """Opens the office of each class, one after another: what is asked is asked here."""
+        """Opens the office of each class, one after another: what is asked is asked here. A class that can't be served
+        keeps out no other."""
+        need_own_names([folder.name for folder in self.folders])
         for folder in self.folders:
-            self.office.add(folder).office.open(ask_here)
+            try:
+                self.office.add(folder).office.open(ask_here)
+            except Trouble as why:
+                # The first folder's file of devices is that of whoever serves it. Nothing is open yet.
+                if len(self.folders) == 1 or isinstance(why, Served) and folder is self.folders[0]:
+                    raise
+                self.office.leave_out(folder, why)
+        if self.folders and not self.office.classes:
+            raise Trouble("no class can be served")
 
     def links(self) -> dict[str, str]:
         """New links: of the roles that have none yet, and of those that were asked for."""

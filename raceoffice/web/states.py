@@ -1,7 +1,7 @@
 """What a page shows of a class, as values."""
 from __future__ import annotations
 
-from collections.abc import Iterable, Sequence
+from collections.abc import Iterable, Mapping, Sequence
 
 from raceoffice.program.journal import Race
 from raceoffice.program.messages import moved
@@ -90,10 +90,15 @@ def value_shown(value: Value) -> object:
 
 def question_of(asked: Question) -> Values:
     """A question as a page gets it."""
-    remarks = {name: remarks_of([value])[0] for name, value in asked.values.items() if isinstance(value, Remark)}
-    return {"kind": asked.kind, "values": asked.values, "text": asked.text, **({"remarks": remarks} if remarks else {})}
+    return {"kind": asked.kind, "values": asked.values, "text": asked.text, **remarks_in(asked.values)}
 
 
 def said_of(said: Sequence[Said]) -> list[Values]:
-    return [{"text": one.text.strip(), "kind": one.kind, "what": one.what, "values": one.values}
+    return [{"text": one.text.strip(), "kind": one.kind, "what": one.what, "values": one.values, **remarks_in(one.values)}
             for one in said if one.text.strip()]
+
+
+def remarks_in(values: Mapping[str, object]) -> Values:
+    """The values that are remarks, by their names; nothing if none is."""
+    remarks = {name: remarks_of([value])[0] for name, value in values.items() if isinstance(value, Remark)}
+    return {"remarks": remarks} if remarks else {}

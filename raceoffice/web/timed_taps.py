@@ -17,10 +17,11 @@ from raceoffice.remarks import remark
 from raceoffice.series.folder import Folder
 from raceoffice.series.race_sheets import races_with_sheet, sheet_name
 from raceoffice.series.read_list import bytes_of
+from raceoffice.series.sender import not_taken
 from raceoffice.session.sending import is_meant, transmit
 from raceoffice.session.facts import Facts
 from raceoffice.terminal import sentence
-from raceoffice.web.states import Values
+from raceoffice.web.states import Values, remarks_of
 from raceoffice.web.tap_session import TapSession
 from raceoffice.web.timed_undo import lines_back
 
@@ -79,13 +80,13 @@ class TimedTap:
     def are_taken(self, lines: Sequence[str]) -> bool:
         """Sends lines; whether all that the tap is about were taken. After a refusal no more is sent of that boat, and
         the others go on. The answer of a tap is that to its own boat."""
-        before, answers, stopped = self.session.answer, list[tuple[str, str]](), set[str]()
-        for sail, line in [(line.split()[2], line) for line in lines]:
-            if sail in stopped:
-                continue
-            if not transmit(self.session, line):
-                stopped.add(sail)
-            answers.append((sail, self.session.answer))
+        before, answers = self.session.answer, list[tuple[str, str]]()
+
+        def is_line_taken(line: str) -> bool:
+            is_good = transmit(self.session, line)
+            answers.append((line.split()[2], self.session.answer))
+            return is_good
+        not_taken(lines, is_line_taken)
         own = [answer for sail, answer in answers if self.sail in ("", sail)]
         refused = [answer for answer in own if answer.startswith("NO ")]
         self.session.answer = next(iter(refused or own[-1:]), before)
@@ -132,8 +133,9 @@ class TimedTap:
             return own
         for entry in [entry for entry in unrated if self.sail in ("", entry.sail)]:
             # She alone waits for her rating.
-            fault = f"{sheet_name(self.race.number)}, row {entry.number}: {entry.sail} has no rating"
-            self.session.say_of("sheet-waits", fault=fault)
+            fault = remark("timing-9", sail=entry.sail)
+            self.session.say_of("sheet-waits", fault=remark("list-row", name=sheet_name(self.race.number), row=entry.number,
+                                                            fault=fault))
         if self.session.role == "SCORER":
             self.say_left_out(found.strangers)
         return own + [line for line in found.lines if line not in own]
@@ -185,12 +187,14 @@ def sheets_shown(folder: Folder) -> dict[int, Values]:
     races = races_with_sheet(folder) if folder.settings.handicap else []
     nights = nights_of(folder) if races else ()
     for race in races:
+        wrong: Sequence[str]
         try:
-            rows, wrong = entries_of(bytes_of(folder.file(sheet_name(race))), sheet_name(race))
+            rows, faults = entries_of(bytes_of(folder.file(sheet_name(race))), sheet_name(race))
+            wrong = [*faults]
         except (NotThere, Trouble) as trouble:
-            rows, wrong = [], [str(trouble)]
+            rows, wrong = [], trouble.said
         starts = sorted({row.cells["start"] for row in rows if row.cells["start"]})
-        found[race] = {"start": starts[0] if len(starts) == 1 else "", "wrong": wrong,
+        found[race] = {"start": starts[0] if len(starts) == 1 else "", "wrong": remarks_of(wrong),
                        "rows": {row.sail: row_shown(row, race in nights) for row in rows if row.is_timed or row.code}}
     return found
 

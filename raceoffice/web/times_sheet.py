@@ -13,11 +13,12 @@ from raceoffice.corrected.times import RULES, Rules
 from raceoffice.corrected.write_sheet import SheetOfRace, is_form, with_rule
 from raceoffice.errors import NotSent, NotThere, Trouble
 from raceoffice.files import edited_text, replace_whole
+from raceoffice.remarks import remark
 from raceoffice.series.folder import Folder
 from raceoffice.series.race_sheets import SHEETS, sheet_name
 from raceoffice.series.read_list import bytes_of
 from raceoffice.session.facts import Facts
-from raceoffice.web.states import Values
+from raceoffice.web.states import Values, remarks_of
 
 # What a page may change, by the rating system, and all that it shows.
 CHANGED = {"tcf": ["start", "elapsed"], "py": ["start", "laps", "elapsed"], "tod": ["start", "distance", "elapsed"]}
@@ -48,14 +49,14 @@ def rules_of(folder: Folder) -> Rules:
 def sheet_shown(folder: Folder, facts: Facts, number: str) -> Values:
     """The sheet of a race with a row for each boat that is entered; or what is wrong with it."""
     if not folder.settings.handicap:
-        raise NotSent("a sheet of times belongs to a series by corrected time")
+        raise NotSent(remark("sheet-untimed"))
     race = facts.race(number).number
     data, rules = data_of(folder, race), rules_of(folder)
     found, wrong = entries_of(data, sheet_name(race)) if data else ([], [])
     rows = {entry.sail: {**{key: entry.cells[key] for key in SHOWN}, "code": entry.code} for entry in found}
     empty = {**{key: "" for key in SHOWN}, "code": ""}
     sails = [*facts.boats, *(sail for sail in rows if sail not in facts.boats)]
-    return {"race": race, "tag": tag_of(data), "wrong": wrong, "columns": CHANGED[rules.system],
+    return {"race": race, "tag": tag_of(data), "wrong": remarks_of(wrong), "columns": CHANGED[rules.system],
             "overnight": race in rules.overnight, "rounding": rules.rounding,
             "rows": [{"sail": sail, **rows.get(sail, empty)} for sail in sails]}
 
@@ -65,13 +66,13 @@ def save_sheet(folder: Folder, facts: Facts, values: Mapping[str, Any]) -> Value
     number = str(values.get("race", ""))
     shown = sheet_shown(folder, facts, number)
     if shown["wrong"]:
-        raise NotSent("the sheet can't be read: put it right first")
+        raise NotSent(remark("sheet-unread"))
     sheet = SheetOfRace(folder, facts.race(number).number)
     before = sheet.data
     put_rows(sheet, facts, values.get("rows"), CHANGED[rules_of(folder).system])
     # The web may have died after it had written just this.
     if sheet.data != before and values.get("tag") != shown["tag"]:
-        raise NotSent("the sheet has been changed meanwhile: look again")
+        raise NotSent(remark("sheet-changed"))
     put_night(folder, facts.race(number).number, values.get("overnight", shown["overnight"]))
     if sheet.data != before:
         sheet.write()
@@ -82,7 +83,7 @@ def put_night(folder: Folder, race: int, is_overnight: object) -> None:
     """Has times/rules.ini say whether a race goes on past midnight."""
     nights, path = rules_of(folder).overnight, folder.file(SHEETS, RULES)
     if not isinstance(is_overnight, bool):
-        raise NotSent("overnight has to be true or false")
+        raise NotSent(remark("sheet-odd"))
     if is_overnight == (race in nights):
         return
     wanted = sorted({*nights, race} if is_overnight else {*nights} - {race})
@@ -95,23 +96,23 @@ def put_night(folder: Folder, race: int, is_overnight: object) -> None:
 def put_rows(sheet: SheetOfRace, facts: Facts, rows: object, columns: Sequence[str]) -> None:
     """Changes what a page gives of each boat."""
     if not isinstance(rows, dict):
-        raise NotSent("the rows are missing")
+        raise NotSent(remark("sheet-odd"))
     for sail, cells in rows.items():
         if sail not in facts.boats or not isinstance(cells, dict):
-            raise NotSent(f"{str(sail)[:20]} isn't entered")
+            raise NotSent(remark("not-entered", sail=str(sail)[:20]))
         put_cells(sheet, sail, cells, columns)
         row = sheet.row(sail)
         if cells.get("elapsed") and (held := sheet.cell(row, "finish") or sheet.cell(row, "code")):
-            raise NotSent(f"{sail} has {held} in {sheet.name} already: strike or clear her first")
+            raise NotSent(remark("sheet-has", sail=sail, before=held, name=sheet.name))
 
 
 def put_cells(sheet: SheetOfRace, sail: str, cells: Mapping[str, Any], columns: Sequence[str]) -> None:
     """Changes what a page gives of one boat; NotSent if that isn't of its form, or if the system doesn't take it."""
-    if left := [key for key in cells if key not in columns]:
-        raise NotSent(f"{sail}: {left[0][:20]!r} can't be changed here")
+    if any(key not in columns for key in cells):
+        raise NotSent(remark("sheet-odd"))
     for key in columns:
         text = str(cells.get(key, "")).strip().replace(",", ".")
         if text and not is_form(key, text):
-            raise NotSent(f"{sail}: {text[:20]!r} isn't {FORMS[key][1]}")
+            raise NotSent(remark("sheet-boat", sail=sail, written=text[:20], wanted=FORMS[key][1]))
         if key in cells:
             sheet.give(sail, key, text)

@@ -13,6 +13,7 @@ from raceoffice.remarks import remark, system_remark
 from raceoffice.results.http_answers import Board
 from raceoffice.results.source import need_own_names
 from raceoffice.series.folder import Folder
+from raceoffice.terminal import sentence
 from raceoffice.traces import guarded
 from raceoffice.web.declarations import Declarations
 from raceoffice.web.gate import Gate
@@ -36,6 +37,13 @@ class Class:
     results: Declarations
 
 
+@dataclass(frozen=True)
+class LeftOut:
+    """A class that can't be served: its folder, and why."""
+    path: str
+    said: tuple[str, ...]
+
+
 @dataclass
 class WebOffice:
     """The classes by the names of their folders. `address` is what devices open, `parent` the folder in which
@@ -49,6 +57,8 @@ class WebOffice:
     live_board: LiveBoard | None = None
     is_ending: threading.Event = field(default_factory=threading.Event)
     to_come: set[str] = field(default_factory=set)
+    # The classes that can't be served, each with why.
+    left_out: dict[str, LeftOut] = field(default_factory=dict)
 
     def __post_init__(self) -> None:
         self.news, self.board_news = Hub(self.versions, AT_ONCE, self.gate.lets_in), PageNews(self.board, SOON)
@@ -63,7 +73,7 @@ class WebOffice:
         """One more class. The first one's folder keeps who may write."""
         with self.lock:
             need_own_names([*self.classes, folder.name])
-            room = Room(folder, self.news.wake)
+            room = Room(folder, self.news.wake, self.address)
             # A version is never lower than before the web was started again, also if the clock was set back.
             room.version = max(room.version, int(self.gate.clock.now() * 1000))
             office = KeptOffice(folder, lambda text: self.tell_of(folder.name, text))
@@ -72,6 +82,7 @@ class WebOffice:
                 self.gate.move(folder.file(PRIVATE, "web.json"))
             self.classes = {**self.classes, folder.name: found}
             self.to_come.discard(folder.name)
+            self.left_out.pop(folder.name, None)
             rooms = [one.room for one in self.classes.values()]
             old, self.live_board = self.live_board, LiveBoard(rooms, self.board, self.board_news.wake, self.tell)
             if old:
@@ -79,6 +90,17 @@ class WebOffice:
         threading.Thread(target=room.watch, daemon=True).start()
         self.news.wake()
         return found
+
+    def leave_out(self, folder: Folder, why: Trouble) -> None:
+        """Goes on without a class. The scorer's page says why, and opens it once that is put right."""
+        self.left_out[folder.name] = LeftOut(folder.path, why.said)
+        self.to_come.discard(folder.name)
+        self.tell(f"Beware: {folder.name} isn't served. {sentence(why)} Put that right, and open it on the scorer's page.")
+
+    def add_again(self, name: str) -> None:
+        """Serves a class that was left out; a Trouble says why it still can't be."""
+        if name in self.left_out:
+            self.add(Folder(self.left_out[name].path))
 
     def tell_of(self, name: str, text: str) -> None:
         """What an office says, with the class before each line."""

@@ -9,10 +9,11 @@ from typing import Any
 
 import browser
 from devices import Chromium, Device
-from raceoffice.remarks import ENGLISH, Remark, Value as RemarkValue, remark
+from raceoffice.remarks import ENGLISH, Remark, Value as RemarkValue, in_a_row, remark
 from raceoffice.session.dialogue import NOTE, Said, Value
+from raceoffice.session.question_words import question
 from raceoffice.session.said_words import WORDS as SAID, said
-from raceoffice.web.states import remarks_of, said_of
+from raceoffice.web.states import question_of, remarks_of, said_of
 from stub_office import OPEN as OPEN_POINTS, StubOffice
 from test_web_texts import REMARKED_OTHERWISE, SAID_OTHERWISE, fields_of, remarks_made, values_said
 from web_office import SAILS
@@ -24,11 +25,11 @@ OPEN = "document.querySelector('dialog[open]') !== null"
 # Values of what the office says, and what they are of some kinds
 OF_SAID: dict[str, Value] = {
     "answer": "NO 8", "boats": 300, "coded": 12, "command": "raceoffice amended cup", "counts": 0, "digits": "101",
-    "entry": 8192, "fault": "office/places: No space left on device", "file": "entries.csv", "finished": 288,
-    "held": ("OCS", "ZFP"), "holds": "OCS", "line": "BEFORE 40 GBR101 NED12", "lines": ("STRIKE 40 GBR101",),
+    "entry": 8192, "fault": remark("file-unwritten", name="office/places", why=remark("system-ENOSPC")), "file": "entries.csv", "finished": 288,
+    "held": ("OCS", "ZFP"), "holds": "OCS", "class_name": "fleet", "classes": ("fleet", "cruisers"), "line": "BEFORE 40 GBR101 NED12", "lines": ("STRIKE 40 GBR101",),
     "listed": 0, "mark": "?77", "marks": ("?77", "?78"), "missing": 300, "name": "times/race-40.csv", "next": 1,
     "number": 1000, "others": ("NED101", "FRA101"), "place": 288, "race": 40, "sail": "GBR101", "sails": ("GBR101", "NED12"),
-    "since": "Ann at 11:20", "state": "final", "tied": 1, "unread": 2, "why": ""}
+    "since": "11:20 Ann", "state": "final", "tied": 1, "unread": 2, "why": ""}
 OTHER_VALUES: dict[str, Value] = {"race-missing boats": ("GBR101 Ann", "NED12 Bea ZFP"), "taken-away lines": 12}
 
 # In the page: what of its words can't be read whole. A text has to be within the window, within its button, and
@@ -350,8 +351,8 @@ OF_REMARKS: dict[str, RemarkValue] = {
     "minutes": "10", "seconds": "60", "copy": "kept/2026-11-28-120000Z.txt",
     "boats": "300 boats", "entries": "8192 entries", "rules": "RRS A5.2", "since": "13:00", "process": "12345", "path": "/media/ann",
     "held": 12, "others": "101?", "numbers": "12\u201314", "had": 12, "more": 2, "entry": 12,
-    "places": ["?1 in race 3", "?1 in race 4"], "was": "15:07:31",
-    "roundings": ["half-up", "down"]}
+    "places": ["?1 in race 3", "?1 in race 4"], "was": "15:07:31", "address": "http://10.0.0.5:8080/",
+    "rule": "A8.1", "roundings": ["half-up", "down"]}
 PLACED: dict[str, RemarkValue] = {"name": "series.ini", "line": 12}
 # Remarks that are alike in some languages
 ALIKE = {"office-summary", "journal-in-file", "takes-limit", "wanted-handicap", "wanted-absent", "wanted-state", "key-club", "key-rating"}
@@ -398,6 +399,23 @@ class Looks(Looking):
                 self.assertEqual(device.run(CUT), [])
             device.close()
 
+    def test_taken_out(self) -> None:
+        """Before a boat is taken out each language says which sheets and which places that changes."""
+        also = in_a_row(remark("removal-sheets", names=["times/race-3.csv"]),
+                        remark("removal-places", places=[remark("places-of-race", marks=["?77"], race=3)]))
+        asked = question("remove-boat", str, sail="GBR7", lines=["SCORER ENTER GBR7"], moves=[], also=also)
+        for language in LANGUAGES:
+            device = self.device("scorer", 320, 640, language)
+            self.office.line = 409, {"outcome": "asked", "said": [], "question": question_of(asked)}
+            device.click("#score")
+            device.until(OPEN)
+            shown = device.text("dialog[open]")
+            with self.subTest(language=language):
+                self.assertEqual([text for text in ("times/race-3.csv", "?77", "ENTER GBR7") if text not in shown], [])
+                self.assertEqual("She is taken out" in shown, language == "en")
+                self.assertEqual(device.run(CUT), [])
+            device.close()
+
     def test_remarks(self) -> None:
         """Each language has words of its own for whatever isn't taken, which can be read whole at 320 pixels."""
         everything = all_remarks()
@@ -426,6 +444,26 @@ class Looks(Looking):
         device.until("Object.values(localStorage).some(kept => kept.includes('NED 12 ist nicht gemeldet.'))")
         device.click("#list li.refused button")
         device.until("document.querySelector('dialog[open]')?.textContent.includes('NED 12 ist nicht gemeldet.')")
+        device.close()
+
+    def test_sheet_in_german(self) -> None:
+        """A sheet of times that can't be read, in words of the page; so is who keeps a place, and since when."""
+        self.office.classes = ["cruisers"]
+        self.office.sheet_wrong = remarks_of([remark("sheet-cell", name="times/race-2.csv", row=3, column="Ziel", written="15:07",
+                                                     wanted=remark("wanted-finish"))])
+        self.addCleanup(self.office.sheet_wrong.clear)
+        device = self.device("scorer", 390, 844, "de")
+        device.until("!!document.querySelector('#tab-times')")
+        device.click("#tab-times")
+        device.until("!!document.querySelector('.step.wrong')")
+        self.assertEqual(device.text(".step.wrong"),
+                         "times/race-2.csv, Zeile 3, Spalte Ziel: „15:07“. Nötig: eine Uhrzeit mit Sekunden, wie 15:07:31.")
+        self.office.line = 409, {"outcome": "asked", "said": [], "question": {
+            "kind": "score-unknown", "text": "", "values": {"race": 2, "marks": ["?1"], "since": ["11:20 Ann"]}}}
+        device.click("#tab-races")
+        device.click("#score")
+        device.until(OPEN)
+        self.assertIn("Ann um 11:20", device.text("dialog[open]"))
         device.close()
 
     def test_two_classes(self) -> None:

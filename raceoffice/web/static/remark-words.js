@@ -16,7 +16,7 @@ export function moveOf(words) {
 }
 
 // A value of one: another remark, which is a sentence if its English is, several values, a sail
-function valueWords(name, value) {
+export function valueWords(name, value) {
   if (Array.isArray(value)) return value.map(one => valueWords(name, one));
   if (value?.kind !== undefined) return /[.?]$/.test(value.text) ? sentence(remarkWords(value)) : remarkWords(value);
   return name === "sail" ? spaced(value) : value;

@@ -4,6 +4,7 @@
 import {hasText, ordinal, text} from "./texts.js";
 import {moveWords} from "./moves.js";
 import {refusalOf, shownValues} from "./questions.js";
+import {valueWords} from "./remark-words.js";
 
 const NUMBERED = ["entered", "taken-away", "plan"];
 // The kinds of which some values change the words; each gives the rest of the key.
@@ -21,8 +22,10 @@ const MADE = {
   "moved": values => moveWords({...values, net_before: values.before}),
 };
 
-function shown(what, values) {
+function shown(what, values, remarks) {
   const found = shownValues(values);
+  for (const [name, remark] of Object.entries(remarks)) found[name] = valueWords(name, remark);
+  if ("since" in values) found.since = byWhom(values.since);
   if (NUMBERED.includes(what)) found.n = values.boats ?? (Array.isArray(values.lines) ? values.lines.length : values.lines);
   if (what === "finished") found.place = ordinal(values.place + values.unread);
   if (what === "race-unread") found.place = ordinal(values.place);
@@ -30,12 +33,18 @@ function shown(what, values) {
   return found;
 }
 
+// When and by whom something was done: "11:20 Ann"; a time alone stays as it is.
+export function byWhom(since) {
+  const [time, ...name] = since.split(" ");
+  return name.length ? text("common.byWhom", {time, name: name.join(" ")}) : since;
+}
+
 // One thing that was said
-function wordsOfSaid({what, values, text: words}) {
+function wordsOfSaid({what, values, text: words, remarks = {}}) {
   if (what in MADE) return MADE[what](values, words);
   const key = `said.${what}${VARIANTS[what]?.(values) ?? ""}`;
   if (!what || !hasText(key)) return words.trim();
-  const found = [text(key, shown(what, values))];
+  const found = [text(key, shown(what, values, remarks))];
   if (values.unread) found.push(text("said.unreadAhead", {n: values.unread}));
   if ("entry" in values && "missing" in values) found.push(text("said.tally", values));
   return (values.entry && !("mark" in values) ? `OK ${values.entry}  ` : "") + found.join(" ");

@@ -6,7 +6,7 @@ import {ask, me, newId} from "./office.js";
 import {here, path, state} from "./desk.js";
 import {choose, say} from "./dialogs.js";
 import {agreedOf, wordsOf} from "./questions.js";
-import {remarkSentences, troubleWords} from "./remark-words.js";
+import {remarkSentences, troubleWords, valueWords} from "./remark-words.js";
 import {spaced} from "./sails.js";
 
 const STATES = ["provisional", "final", "amended"];
@@ -36,7 +36,7 @@ export async function lookAtResults(draw) {
 
 // What is open
 
-function pointWords({kind, values, text: english}) {
+function pointWords({kind, values, text: english, remarks = {}}) {
   switch (kind) {
     case "boats-unnamed":
       return text("results.boatsUnnamed", {n: values.sails.length, sails: values.sails.map(spaced)});
@@ -46,7 +46,7 @@ function pointWords({kind, values, text: english}) {
       return text("results.finishersUnknown", {n: values.marks.length,
         marks: values.marks.map((mark, at) => text("results.markInRace", {mark, race: values.races[at]}))});
     case "places-unread":
-      return text("results.placesUnread", values);
+      return text("results.placesUnread", remarks.fault ? {fault: valueWords("fault", remarks.fault)} : values);
     default:
       return english;
   }

@@ -6,7 +6,7 @@ import {ask, newId, now} from "./office.js";
 import {choose, say} from "./dialogs.js";
 import {agreedOf, refusalOf, wordsOf} from "./questions.js";
 import {moveOf, remarkSentences, troubleWords} from "./remark-words.js";
-import {saidWords} from "./said-words.js";
+import {byWhom, saidWords} from "./said-words.js";
 import {rulesWords} from "./rules-words.js";
 
 const TRIES = 6;
@@ -19,15 +19,16 @@ function inWords(question) {
   const rules = ([exclude, absent, scp, handicap]) => rulesWords({exclude, absent, scp, handicap: handicap === "yes"});
   const {before, now} = question.values, values = {...question.values};
   if (Array.isArray(now)) Object.assign(values, {before: rules(before), now: rules(now)});
+  if (Array.isArray(values.since)) values.since = values.since.map(byWhom);
   for (const [name, remark] of Object.entries(question.remarks ?? {})) [values[name]] = remarkSentences([remark]);
   return {...question, values};
 }
 
 // Asks a question of the office; "yes" if somebody agrees.
 export function agrees(question, said = []) {
-  const {lines = [], moves = []} = question.kind === "line-of-several" ? {} : question.values;
-  const more = lines.length || moves.length ? moves.map(moveOf).join("\n") : saidWords(said).join("\n");
-  return choose(text("common.isThatRight"), [wordsOf(inWords(question)), lines.length ? element("p", {class: "mono"}, lines.join("\n")) : null, more],
+  const asked = inWords(question), {lines = [], moves = [], also = ""} = question.kind === "line-of-several" ? {} : asked.values;
+  const more = lines.length || moves.length ? [also, ...moves.map(moveOf)].filter(Boolean).join("\n") : saidWords(said).join("\n");
+  return choose(text("common.isThatRight"), [wordsOf(asked), lines.length ? element("p", {class: "mono"}, lines.join("\n")) : null, more],
     [{value: "", label: text("common.no")}, {value: "yes", label: text("common.yes"), look: "main"}]);
 }
 
