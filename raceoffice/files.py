@@ -101,15 +101,15 @@ def write_fresh(path: str, data: bytes, mode: int, kept: int | None) -> None:
         os.fsync(number)
 
 
-def replace_whole(path: str, data: bytes, is_public: bool = False) -> None:
+def replace_whole(path: str, data: bytes, is_public: bool = False, is_linked: bool = True) -> None:
     """Makes a file hold these bytes, so that whoever reads it finds the old ones or the new.
 
-    They are on the disk when it is done. An old file's mode stays, and so does a link. A new file is
-    this account's alone; of a public one the umask decides.
+    They are on the disk when it is done. An old file's mode stays, and so does a link, unless `is_linked` is false: then the
+    file takes its place. A new file is this account's alone; of a public one the umask decides.
     """
     fresh = ""
     try:
-        place = place_of(path)
+        place = place_of(path) if is_linked else path
         kept = mode_of(place)
         folder = os.path.dirname(place) or "."
         # A name that nobody can guess: in a shared folder another account may have put a file there.

@@ -395,6 +395,9 @@ ENGLISH: dict[str, str | tuple[str, str] | tuple[str, str, str]] = {
     "ratings-missing-tod": "{name}, row {row}: no column of ratings. It is headed Rating",
     "timing-8": "the rating isn't one of the system",
     "timing-9": "{sail} has no rating",
+    "rating-odd": "{sail}: {written} isn't a rating of the system",
+    "start-missing": "her start isn't recorded, or is after her finish",
+    "sheet-fault": "the sheet waits: {why}",
     "timing-10": "a time can't be read",
     "timing-11": "neither an elapsed time, nor a start and a finish",
     "timing-12": "an elapsed time and a finish",
@@ -421,6 +424,8 @@ ENGLISH: dict[str, str | tuple[str, str] | tuple[str, str, str]] = {
     "setting-long": "{key} has more than {most} letters",
     "rounding-wrong": "{written} is no rounding, which are {roundings:or}",
     "rounding-changed": "somebody else has changed the rounding meanwhile: look again",
+    "zone-in-race": "race {race} has a start and doesn't count yet: its times are those of this time zone. Score or abandon "
+                    "it first",
     "rules-refused": "the program refuses these rules",
     "list-not-whole": "the list didn't come whole",
     "list-too-long": "the list is longer than {most} bytes",

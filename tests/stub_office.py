@@ -71,13 +71,21 @@ def state(name: str, version: int) -> dict[str, Any]:
             "races": {"1": race(22, True, codes={SAILS[22]: "OCS"}), "2": open_race},
             "standing": {"races": [1], "rows": rows()},
             "last": {"at": NOON, "moves": moves(rows(SAILS[9]), rows()), "line": f"CLEAR 1 {SAILS[9]}", "role": "JURY"},
-            "unlisted": ["USA4", "NED12345"], "journal": [f"1 1 SCORER ENTER {SAILS[0]}"]}
+            "unlisted": ["USA4", "NED12345"], "journal": [f"1 1 SCORER ENTER {SAILS[0]}"], "decisions": decisions(),
+            "unfinished": [{"id": "0" * 32, "lines": [f"BEFORE 2 {SAILS[5]} {SAILS[0]}"]}]}
 
 
 def verdict() -> dict[str, Any]:
     """A decision without a line of its own, which the scores have."""
     return {"words": "race 1 GBR7 PRP 30%: 7.0 points", "kept": True, "race": 1, "sail": "GBR7", "kind": "PRP", "how": "30%",
             "points": "7.0", "held": "7.0", "why": [], "note": "hearing 4"}
+
+
+def decisions() -> list[dict[str, Any]]:
+    """The decisions of a class: one that is in the scores, one that isn't as it has to be, and a row that is none."""
+    return [verdict() | {"row": "race 1 GBR7 PRP 30% # hearing 4"},
+            verdict() | {"row": "race 1 GBR101 DPI 2", "sail": "GBR101", "kind": "DPI", "how": "2", "kept": False, "held": "6.0", "note": ""},
+            wrong_shown(NO_DECISION) | {"row": "race 2 K12"}]
 
 
 def devices() -> dict[str, Any]:
@@ -105,7 +113,10 @@ def results() -> dict[str, Any]:
 OPEN: list[dict[str, Any]] = [
     {"kind": "boats-unnamed", "values": {"sails": ["USA4", "USA5"]}, "text": ""},
     {"kind": "race-unscored", "values": {"race": 2, "finished": 7, "held": [f"{SAILS[7]} OCS", f"{SAILS[8]} RET"]}, "text": ""},
-    {"kind": "finishers-unknown", "values": {"races": ["2"], "marks": ["?1"]}, "text": ""}]
+    {"kind": "finishers-unknown", "values": {"races": ["2"], "marks": ["?1"]}, "text": ""},
+    {"kind": "decision-stale", "values": {"race": 1, "sail": "GBR101", "kind": "DPI", "how": "2", "points": "7.0", "held": "6.0", "why": ""},
+     "text": ""},
+    {"kind": "decisions-unread", "values": {"fault": str(NO_DECISION)}, "text": "", "remarks": {"fault": remarks_of([NO_DECISION])[0]}}]
 
 
 class QuietServer(http.server.ThreadingHTTPServer):
@@ -150,8 +161,6 @@ class StubOffice:
         known: dict[str, Any] = {
             "state": lambda name: state(name, self.version), "devices": lambda _: devices(),
             "results": lambda _: results(), "listed": lambda _: {"columns": ["name", "helm", "club", "rating"]},
-            "rulings": lambda _: [verdict() | {"row": "race 1 GBR7 PRP 30% # hearing 4"},
-                                  wrong_shown(NO_DECISION) | {"row": "race 2 K12"}],
             "preview": lambda _: self.preview, "ruling": lambda _: {**self.preview, "line": values["line"], "verdict": verdict(), "why": []},
             "key": lambda _: {"link": self.address("/office/in#finish.secret"), "code": [[1, 0, 1], [0, 1, 0], [1, 0, 1]]},
             "settings": lambda _: {"wrong": [], "keys": [], "rules": "", "settings": state("cup", 1)["settings"], "note": []},
@@ -161,7 +170,8 @@ class StubOffice:
                 for sail in SAILS]},
             "rules": lambda _: self.effect() if values else self.kept(),
             "list": lambda _: {"wrong": [], "done": remarks_of([remark("list-semicolons"), remark("list-above", n=2)]), "text": "Sail\nGBR 7\n",
-                               "heads": ["Boat", "Number"], "is_sail_known": False, "boats": [["GBR 7", "Sea Pink", "J. Hale", ""]]}}
+                               "heads": ["Boat", "Number"], "is_sail_known": False, "boats": [["GBR 7", "Sea Pink", "J. Hale", "", "1050"]],
+                               "ratings": ["PY"]}}
         first, _, rest = what.partition("/")
         if first in ("line", "declare"):
             return self.line

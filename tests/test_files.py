@@ -15,6 +15,7 @@ import helpers
 from raceoffice import files, system
 from raceoffice.errors import Trouble
 from raceoffice.program.replay import digest_of
+from raceoffice.series import log
 from raceoffice.series.folder import Folder
 
 
@@ -144,12 +145,14 @@ class Added(helpers.Series):
                 self.assertEqual(read.read(), left)
 
     def test_endless(self) -> None:
-        """Of a file with a terabyte of zeros no more is read than has room, and a log of that kind is none."""
+        """Of a file with a terabyte of zeros no more is read than has room, and of such a log its end."""
         with open(self.path, "wb") as file:
             file.truncate(1 << 40)
         self.assertEqual(len(files.text_if_any(self.path)), files.LARGEST_SHOWN)
-        os.truncate(self.path, (64 << 20) + 1)
-        self.assertRaisesRegex(Trouble, "office.log is longer than 67,108,864 bytes", self.folder.logged)
+        with mock.patch.object(log, "READ_OF_END", 1 << 20):
+            self.assertEqual(self.folder.logged(), [])
+            self.log("SHOW")
+            self.assertEqual([entry.line for entry in self.folder.logged()], ["SHOW"])
 
     def test_torn(self) -> None:
         """A line that a power cut has torn is never joined by the next, and counts nowhere."""

@@ -204,7 +204,7 @@ class EnteredAgain(Removals):
 
     def check_typed_again(self, stop: int) -> None:
         self.put([*AT_THE_END[:3], HERS[0]])
-        self.places.keep_ahead(history_of(self.folder).waiting.all[0], Race(1, [["GBR101"]]), 4)
+        self.places.keep_ahead(history_of(self.folder).waiting.all[0], "USA4", 4)
         self.put(AT_THE_END)
         for closes in (False, True, True):
             self.assertEqual((self.ahead(), self.noted()), ([{"GBR101"}], ["out"]), stop)
@@ -229,7 +229,7 @@ class EnteredAgain(Removals):
         self.take_out()
         self.begin()
         self.put([*AT_THE_END[:3], "FINISH 2 GBR101", *HERS])
-        self.places.keep_ahead(history_of(self.folder).waiting.all[0], Race(1, [["GBR101"]]), 5)
+        self.places.keep_ahead(history_of(self.folder).waiting.all[0], "USA4", 5)
         self.take_out("GBR7")
         self.assertEqual([command_of(line) for line in self.folder.kept()[3:]], HERS)
         self.assertEqual((self.ahead(), self.noted()), ([{"GBR101"}], ["out", "out"]))

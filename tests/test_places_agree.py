@@ -4,6 +4,7 @@ from __future__ import annotations
 import json
 import os
 import unittest
+from typing import Any
 from unittest import mock
 
 import helpers
@@ -148,6 +149,40 @@ class Agreeing(helpers.Series):
         finish.do("7")
         finish.do("101")
         self.assertEqual((self.asked, self.session().unread.places(finish.race)), (["undo"], {"?1": "2nd"}))
+
+    # A strike that is undone
+
+    def test_undo_of_a_strike_before_its_line(self) -> None:
+        """A window is killed before the line that takes a strike back, or the line is refused: a boat that finishes by
+        the same line later is behind the place that was kept meanwhile."""
+        self.open()
+        ways: list[dict[str, Any]] = [{"side_effect": KeyboardInterrupt}, {"return_value": False}]
+        for race, killed in enumerate(ways, 1):
+            finish, other = self.session(), self.session("SCORER")
+            finish.at = other.at = race
+            for typed in ("101", "33", f"strike {race} 33"):
+                finish.do(typed)
+            other.do("?")
+            with mock.patch("raceoffice.session.undo.transmit", **killed):
+                if race == 1:
+                    self.assertRaises(KeyboardInterrupt, finish.do, "undo")
+                else:
+                    self.assertFalse(finish.do("undo").is_taken)
+            other.do("33")
+            self.assertEqual(other.unread.places(other.race), {"?1": "2nd"})
+            other.do("?1 7")
+            self.assertEqual(other.race.order, [["GBR101"], ["GBR7"], ["GBR33"]])
+
+    def test_undo_of_a_strike_after_its_line(self) -> None:
+        """A window is killed as soon as the office has the line that takes a strike back."""
+        self.open()
+        finish, other = self.session(), self.session("SCORER")
+        for typed in ("101", "33", "strike 1 33"):
+            finish.do(typed)
+        other.do("?")
+        with mock.patch("raceoffice.session.sending.look_after", side_effect=KeyboardInterrupt):
+            self.assertRaises(KeyboardInterrupt, finish.do, "undo")
+        self.assertEqual(self.session("SCORER").unread.places(self.session().race), {"?1": "3rd"})
 
     # One who is kept in two classes
 

@@ -98,6 +98,16 @@ class Copies(helpers.Series):
         os.mkfifo(path)
         self.assertEqual(answered("read", path, "").fault, f"{path} is no plain file")
 
+    def test_prepared_stick(self) -> None:
+        """A link that somebody has put on the stick leads nowhere: what it names stays, and the copy takes its place."""
+        path, other = os.path.join(self.here, *COPY), os.path.join(self.here, "own.txt")
+        for what, before in (("save", ""), ("replace", "my own words\n")):
+            self.write(before, "own.txt")
+            os.symlink(other, path)
+            self.assertEqual(answered(what, path, "x\n").fault, "")
+            self.assertEqual((self.text("own.txt"), os.path.islink(path), self.text(*COPY)), (before, False, "x\n"))
+            os.remove(path)
+
     def test_of_another(self) -> None:
         """Places that go on otherwise than these are left on the second disk, and it is said; those of
         another series are no part of what is restored."""

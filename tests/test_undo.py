@@ -10,6 +10,7 @@ from raceoffice.program.codes import CODES
 from raceoffice.program.journal import Series
 from raceoffice.program.link import Sheet
 from raceoffice.series.folder import Folder
+from raceoffice.series.kept_places import History
 from raceoffice.session.facts import Facts
 from raceoffice.session.undo import reversal
 
@@ -33,7 +34,8 @@ class Undoing(helpers.Series):
 
     def undone(self, *lines: str, last: int = 1, **more: str) -> str:
         """The line that takes back the last of these, or the last but some."""
-        return reversal(self.facts(*lines, **more), len(BOATS) + len(lines) - last + 1)
+        facts = self.facts(*lines, **more)
+        return reversal(facts, len(BOATS) + len(lines) - last + 1, History.read(b"", facts.commands))
 
     def test_one_line(self) -> None:
         self.assertEqual(self.undone("FINISH 1 GBR7"), "STRIKE 1 GBR7")

@@ -233,6 +233,12 @@ class Pages(helpers.Series):
             self.verifier = verifier.Verifier(helpers.PROGRAM)
             self.assertIn("row 2 (", self.odd(written))
 
+    def test_alike(self) -> None:
+        """Sail and helm of one boat read as those of another, and each row is still the program's."""
+        folder = self.make("alike", "Sail,Helm\nGBR 7,1 Smith\nGBR 7 1,Smith\nGBR 9,Z\n", title="Autumn Cup")
+        self.write(journal_of(folder, "FINISH 1 GBR71", "FINISH 1 GBR7", "FINISH 1 GBR9", "SCORE 1"), "alike", "journal.txt")
+        self.verifier.verified(self.page("alike"))
+
     def test_programs(self) -> None:
         """Another program is named apart; without any, or with one that isn't regatta, nothing is."""
         self.write(self.page(), "page.html")

@@ -138,6 +138,13 @@ class Late(Web):
             self.assertIn(self.name(sail="GBR 7", name="A", was=odd)[0], (422,), odd)
         self.assertEqual(self.list(), wanted)
 
+    def test_one_name_corrected(self) -> None:
+        """A page sends what was changed alone, with all that it showed: her other names stay."""
+        was = {"name": BOATS[1][1], "helm": BOATS[1][2]}
+        self.assertEqual(self.name(sail="GBR 7", helm="J. Hales", was=was)[1]["changed"], True)
+        wanted = LIST.replace(f"GBR 7,{BOATS[1][1]},{BOATS[1][2]}\n", f"GBR 7,{BOATS[1][1]},J. Hales\n")
+        self.assertEqual(self.list(), wanted)
+
     def test_attacks(self) -> None:
         """What is typed is one cell, and no formula; what is no text, or too long, changes nothing."""
         self.enter()

@@ -221,10 +221,12 @@ class Attacks(unittest.TestCase):
 
         shown, long = [], "W" * 30
         first = come("iPhone")
-        for name, role in (("iPhone", "finish"), ("IPHONE ", "scorer"), (long, "jury"), (long, "jury")):
+        unseen = ("iPhone\u3164", "\u2800i\u034fPhone")
+        for name, role in (("iPhone", "finish"), ("IPHONE ", "scorer"), (long, "jury"), (long, "jury"),
+                           *((name, "finish") for name in unseen)):
             come(name, role)
             shown.append(self.name)
-        self.assertEqual(shown, ["iPhone (2)", "IPHONE (3)", long, "W" * 26 + " (2)"])
+        self.assertEqual(shown, ["iPhone (2)", "IPHONE (3)", long, "W" * 26 + " (2)", *(f"iPhone ({at})" for at in (4, 5))])
         again = come("iPhone", Cookie=first.cookie)
         self.assertEqual((self.name, is_known(first), is_known(again)), ("iPhone", False, True))
 

@@ -115,7 +115,7 @@ class First(Web):
         self.assertEqual(scorer.ask("GET", "/")[0], 301)
         data = base64.b64encode(GERMAN.encode("latin-1")).decode()
         found = scorer.ask("POST", "/office/scorer/list", {"data": data})[1]
-        self.assertEqual(found["boats"][0], ["GER 412", "Möwe", "H. Jansen", ""])
+        self.assertEqual(found["boats"][0], ["GER 412", "Möwe", "H. Jansen", "", "101.5"])
         given = {"title": "Herbstpokal", "exclude": "4", "absent": "a53", "zone": "UTC"}
         made = scorer.ask("POST", "/office/scorer/new", {"name": "herbst", "text": found["text"],
                                                           "settings": given})[1]

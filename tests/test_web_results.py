@@ -10,7 +10,7 @@ from typing import Any
 import helpers
 from raceoffice.series import settings
 from raceoffice.web.downloads import attached
-from web_devices import SAILS, Web, new_id
+from web_devices import SAILS, Device, Web, new_id
 
 DECLARE, RESULTS = "/office/scorer/declare/cup", "/office/scorer/results/cup"
 FORMS = {"html": ("--html",), "csv": ("--csv",), "semicolons": ("--semicolons", "--csv"), "json": ("--json",)}
@@ -71,13 +71,50 @@ class Declared(Results):
         table = question["values"].pop("table")
         self.assertRegex(table, "^[0-9a-f]{12}$")
         self.assertEqual(question["values"], {"state": "final", "races": ["2"], "sails": ["USA4"], "marks": ["?1"],
-                                              "faults": []})
+                                              "faults": [], "decisions": []})
         window = self.window("final", "cup")
         self.assertEqual(window.read(r"\[y/N\] $"),
                          "".join(f"{point['text']}\n" for point in found["open"]) + f"{question['text']} [y/N] ")
         window.type("n")
         window.rest()
         self.assertEqual(self.notices(), [])
+
+    def test_decision_out_of_date(self) -> None:
+        """GBR 7 was 2nd, with 1.5 points more by a DPI: 3.5. NED 12 was ahead of her: 3rd, she scores 4.5. All pages that
+        show the standing say that the journal still has 3.5, and so does what is open, until that is sent."""
+        self.sail()
+        jury, again = self.device("jury", "Eve"), [{"kind": "correction", "values": {"race": 1}}]
+
+        def send() -> None:
+            shown = jury.ask("POST", "/office/jury/ruling/cup", {"line": "race 1 GBR7 DPI 1.5"})[1]
+            given = {"line": "race 1 GBR7 DPI 1.5", "lines": shown["lines"], "tag": shown["tag"], "id": new_id(), "agreed": again}
+            self.assertEqual(jury.ask("POST", "/office/jury/decide/cup", given)[0], 200)
+
+        def held(device: Device) -> list[tuple[str, str, bool]]:
+            return [(one["points"], one["held"], one["kept"]) for one in device.state()["decisions"]]
+
+        send()
+        self.assertEqual((held(jury), self.shown()["open"]), ([("3.5", "3.5", True)], []))
+        for line in ("STRIKE 1 NED12", "BEFORE 1 NED12 GBR7"):
+            self.scorer.tap(line, agreed=again)
+        self.assertEqual([held(jury), held(self.scorer)], [[("4.5", "3.5", False)]] * 2)
+        self.assertNotIn("decisions", self.finish.state())
+        point, = self.shown()["open"]
+        self.assertEqual((point["kind"], point["values"]), ("decision-stale", {
+            "race": 1, "sail": "GBR7", "kind": "DPI", "how": "1.5", "points": "4.5", "held": "3.5", "why": ""}))
+        self.assertEqual(self.declare("final")[1]["question"]["values"]["decisions"], ["1 GBR7 DPI 4.5 3.5"])
+        window = self.window("final", "cup")
+        self.assertEqual(window.read(r"\[y/N\] $"), (
+            "decisions.txt, line 1: race 1 GBR7 DPI 1.5: 4.5 points by the scores as they are, and the journal has 3.5 points. "
+            "`raceoffice decisions send cup` sends what is lacking.\nAre the results final all the same? [y/N] "))
+        window.type("n")
+        window.rest()
+        send()
+        self.assertEqual((held(self.scorer), self.shown()["open"]), ([("4.5", "4.5", True)], []))
+        # What somebody changes with an editor is seen as well.
+        self.write("race 1 GBR7 DPI 2\nrace 1 K12\n", "cup", "decisions.txt")
+        helpers.until("the other decision", lambda: [one.get("points") for one in jury.state()["decisions"]] == ["5.0", None])
+        self.assertEqual([point["kind"] for point in self.shown()["open"]], ["decision-stale", "decisions-unread"])
 
     def test_asked_first(self) -> None:
         """Nothing is declared before somebody has agreed, to just what is open and to just this table."""

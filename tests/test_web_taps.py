@@ -120,7 +120,6 @@ class Once(Web):
         self.assertEqual(self.journal()[5:], ["FINISH BEFORE 1 GBR7 NED12", "FINISH CLEAR 1 GBR33"])
         scorer.tap("STRIKE 1 NED12")
         self.assertEqual(finish.tap("UNDO", undoes=taps["FINISH 1 NED12"])[0], 422)
-        self.assertEqual(finish.tap("UNDO", undoes=new_id())[0], 422)
         self.assertEqual(len(self.journal()), 8)
 
     def test_undo_beside_others(self) -> None:
@@ -301,6 +300,18 @@ class Renumbered(unittest.TestCase):
             self.assertEqual(again.moments(left), {(1, "GBR7"): (5, "Ann")})
         # Without her finish the tap has no entry any more.
         self.assertEqual(outcome_of(sent[finished], True, left[:3])["entry"], 0)
+
+    def test_learnt(self) -> None:
+        """The web dies before it has noted the entry of an answer. Once the next one has read the journal, the entry is
+        known to all that come later, whoever is taken out."""
+        register = self.opened()
+        unsent, id = self.begun(register, "PENALTY 1 GBR7 ZFP", 4), self.begun(register, "PENALTY 1 GBR7 ZFP", 4)
+        register.end(id, "OK 5 1 0.0")
+        self.opened().learn(self.JOURNAL)
+        left, register = [line for line in self.JOURNAL if "USA4" not in line], self.opened()
+        self.assertEqual(outcome_of(register.sent[id], True, left)["entry"], 3)
+        # It isn't taken for that of a tap that was begun before, and never sent.
+        self.assertEqual(register.found(register.sent[unsent], left), 0)
 
     def test_older_journal(self) -> None:
         """An older journal was put in place of a newer one: an entry that looks like one of a tap that was answered

@@ -26,8 +26,9 @@ def moment(clock: str) -> int:
     return int(found.timestamp() * 1000) + 700
 
 
-@helpers.needs_times
-class Timed(Web):
+class Prepared(Web):
+    """The web over a class by corrected time."""
+
     def prepare(self) -> None:
         self.write(ENTRIES, "cup", "entries.csv")
         self.write(settings.filled_in({"title": "Autumn Cup", "program": helpers.PROGRAM, "zone": "UTC",
@@ -35,6 +36,9 @@ class Timed(Web):
         os.mkdir(os.path.join(self.here, "cup", "times"))
         self.write(f"[times]\nsystem = tcf\nprogram = {helpers.TIMES}\n", "cup", "times", "rules.ini")
 
+
+@helpers.needs_times
+class Timed(Prepared):
     def finish(self, device: Device, sail: str, clock: str, id: str = "") -> Any:
         return device.tap(f"FINISH 1 {sail}", id, at=moment(clock))[1]
 
@@ -58,11 +62,11 @@ class Timed(Web):
         self.assertEqual(scorer.tap("mark 1 9 dnf")[1]["outcome"], "taken")
         race = scorer.state()["races"]["1"]
         self.assertEqual(race["order"], [["GBR7"], ["GBR101"], ["NED12"]])
-        self.assertEqual(race["sheet"], {"start": "14:00:00", "wrong": [], "rows": {
-            "GBR101": {"finish": "15:00:00", "code": "", "elapsed": 3600},
-            "GBR7": {"finish": "15:05:00", "code": "", "elapsed": 3900},
-            "NED12": {"finish": "14:48:01", "code": "", "elapsed": 2881},
-            "FRA9": {"finish": "", "code": "DNF", "elapsed": None}}})
+        self.assertEqual(race["sheet"], {"start": "14:00:00", "wrong": [], "why": [], "rows": {
+            "GBR101": {"finish": "15:00:00", "code": "", "elapsed": 3600, "why": []},
+            "GBR7": {"finish": "15:05:00", "code": "", "elapsed": 3900, "why": []},
+            "NED12": {"finish": "14:48:01", "code": "", "elapsed": 2881, "why": []},
+            "FRA9": {"finish": "", "code": "DNF", "elapsed": None, "why": []}}})
         self.assertEqual(race["at"]["GBR7"], moment("15:05:00"))
         # She has finished already, and isn't moved by another tap.
         self.assertEqual(ann.tap("FINISH 1 GBR7", at=moment("15:06:00"))[0], 422)
@@ -309,6 +313,37 @@ class Timed(Web):
         self.assertEqual(ann.tap("FINISH 1 FRA9", agreed=[said["question"]], at=at)[1]["outcome"], "taken")
         self.assertEqual(self.journal()[-1], "FINISH TIME 1 FRA9 4320")
 
+    def test_who_moved(self) -> None:
+        """A start that is corrected after scoring shows whom all its lines have moved: from 14:00 GBR 101 has 3,600 s and
+        GBR 7 3,900 s x 0.900 = 3,510 s; from 13:20 they have 6,000 s and 6,300 s x 0.900 = 5,670 s, and from 14:50 600 s and
+        810 s. Codes stay, and one start for another moves nobody."""
+        ann, scorer = self.device("finish"), self.device("scorer")
+        ann.tap("START 1 14:00:00")
+        for sail, clock in (("GBR101", "15:00:00"), ("GBR7", "15:05:00")):
+            self.finish(ann, sail, clock)
+        for sail in ("NED12", "FRA9"):
+            ann.tap(f"MARK 1 {sail} DNF")
+        self.assertEqual(scorer.tap("SCORE 1")[1]["outcome"], "taken")
+        for start, moved in (("13:20:00", []), ("14:50:00", [("GBR101", 2, 1), ("GBR7", 1, 2)]),
+                             ("14:49:00", [("GBR101", 2, 1), ("GBR7", 1, 2)])):
+            tap = f"START 1 {start}"
+            asked = ann.tap(tap)[1]["question"]
+            self.assertEqual(ann.tap(tap, agreed=[asked])[1]["outcome"], "taken")
+            last = scorer.state()["last"]
+            if moved:
+                self.assertEqual(sorted((one["sail"], one["was"], one["rank"]) for one in last["moves"]), moved)
+                self.assertEqual((last["line"], last["role"]), ("START 1 14:50:00", "FINISH"))
+
+    def test_a_time_that_waits(self) -> None:
+        """Before a race is scored it is said whose time is in the sheet alone."""
+        self.write(ENTRIES.replace("1.250", ""), "cup", "entries.csv")
+        ann, scorer = self.device("finish"), self.device("scorer")
+        ann.tap("START 1 14:00")
+        for sail in ("NED12", "GBR101"):
+            self.finish(ann, sail, "15:00:00")
+        asked = scorer.tap("SCORE 1")[1]
+        self.assertEqual([one["values"] for one in asked["said"] if one["what"] == "sheet-waits"], [{"fault": "NED 12 Windhover"}])
+
     def test_crash(self) -> None:
         """The web dies between the sheet and its line: the tap that comes again sends it, once."""
         ann, id = self.device("finish"), new_id()
@@ -341,7 +376,8 @@ class Timed(Web):
         self.finish(ann, "GBR101", "15:00:00")
         scorer.tap("ENTER USA4", agreed=[{"kind": "enter-unlisted", "values": {"sail": "USA4"}}])
         self.finish(ann, "USA4", "15:01:00")
-        self.assertEqual(self.finish(ann, "GBR7", "15:05:00")["outcome"], "taken")
+        done = self.finish(ann, "GBR7", "15:05:00", id := new_id())
+        self.assertEqual((done["outcome"], done["entry"]), ("taken", 7))
         asked = scorer.again().ask("POST", "/office/scorer/remove/cup", {"sail": "USA4", "agreed": []})[1]["question"]
         said = asked["remarks"]["also"]["values"]["said"]
         self.assertEqual([(one["kind"], one["values"]) for one in said], [("removal-sheets", {"names": ["times/race-1.csv"]})])
@@ -350,6 +386,8 @@ class Timed(Web):
                                         "NED12,14:00:00,,", "FRA9,14:00:00,,"])
         done = self.finish(ann.again(), "NED12", "14:48:01")
         self.assertEqual((done["outcome"], done["answer"]), ("taken", "OK 7 1= 0.0"), done)
+        # Her entry was the seventh.
+        self.assertEqual(self.finish(ann.again(), "GBR7", "15:05:00", id)["entry"], 6)
         self.assertEqual(self.journal(), ["FINISH TIME 1 GBR101 3600", "FINISH TIME 1 GBR7 3510", "FINISH TIME 1 NED12 3601"])
 
     def test_left_out(self) -> None:
@@ -374,7 +412,7 @@ class Lines(unittest.TestCase):
         """A refusal stops the lines about that boat alone, and the answer is that to the boat of the tap."""
         answers = {"STRIKE 1 A": "NO 7", "TIME 1 B 20": "OK 8", "TIME 1 C 30": "OK 9"}
         for sail, answer in (("B", "OK 8"), ("A", "NO 7"), ("", "NO 7"), ("C", "OK 9"), ("D", "before")):
-            session, sent = mock.Mock(answer="before"), []
+            session, sent = mock.MagicMock(answer="before"), []
 
             def transmit(seat: Any, line: str) -> bool:
                 sent.append(line)

@@ -8,6 +8,8 @@ from dataclasses import dataclass, field
 from raceoffice.program.codes import OF_JURY
 from raceoffice.program.replay import Line
 
+HOLDING = ("MARK", "PENALTY", "REDRESS", "CLEAR")
+
 
 @dataclass
 class Holding:
@@ -47,9 +49,26 @@ class Holding:
                     or any(role == "JURY" for _, role in self.penalties))
 
     @property
+    def kinds(self) -> tuple[object, ...]:
+        """What she holds, whoever gave it."""
+        return self.code, sorted(kind for kind, _ in self.penalties), self.redress
+
+    @property
     def is_points(self) -> bool:
         """Whether her redress is a number of points, as a decision's is."""
         return self.redress[:1].isdigit()
+
+
+@dataclass(frozen=True)
+class Known:
+    """The entries of a journal of which a page knows that they are of decisions, or of other lines."""
+    of_decisions: frozenset[str] = frozenset()
+    of_others: frozenset[str] = frozenset()
+
+
+def about(journal: Sequence[str], race: int, sail: str) -> list[str]:
+    """The entries by which a boat holds something in a race, or no longer does."""
+    return [entry for entry in journal if entry.split()[3] in HOLDING and entry.split()[4:6] == [str(race), sail]]
 
 
 def holdings(journal: Sequence[str]) -> defaultdict[tuple[int, str], Holding]:
@@ -57,7 +76,7 @@ def holdings(journal: Sequence[str]) -> defaultdict[tuple[int, str], Holding]:
     found: defaultdict[tuple[int, str], Holding] = defaultdict(Holding)
     for entry in journal:
         _, _, role, command, *rest = entry.split()
-        if command in ("MARK", "PENALTY", "REDRESS", "CLEAR"):
+        if command in HOLDING:
             found[int(rest[0]), rest[1]].take(role, command, rest[2] if len(rest) > 2 else "")
     return found
 
@@ -71,8 +90,8 @@ def marked(race: int, sail: str, code: str, role: str = "SCORER") -> Line:
 
 
 def restored(race: int, sail: str, held: Holding) -> list[Line]:
-    """The lines that give back what CLEAR took with a redress: her code and her penalties, each in
-    the role that gave it."""
+    """The lines that give back what CLEAR took with a redress: her code and her penalties, each in the role that gave
+    it."""
     code = [marked(race, sail, held.code, held.role)] if held.code else []
     return code + [Line(role, f"PENALTY {race} {sail} {kind}") for kind, role in held.penalties]
 

@@ -7,10 +7,10 @@ a decision adds is worked out here, by the rules that each function names.
 from __future__ import annotations
 
 from collections.abc import Sequence
-from dataclasses import dataclass
+from dataclasses import dataclass, replace
 
 from raceoffice.decisions.decision_lines import AVERAGES, NAME, PENALTIES, Ruling, ruling_text, rulings_of
-from raceoffice.decisions.held import Holding, cleared, holdings, marked, reinstated, restored
+from raceoffice.decisions.held import Holding, Known, about, cleared, holdings, marked, reinstated, restored
 from raceoffice.errors import Trouble
 from raceoffice.program.codes import AS_DNF, OF_JURY
 from raceoffice.program.journal import Race, Series
@@ -152,16 +152,30 @@ def without(ruling: Ruling, held: Holding) -> list[Line]:
     return lines + ([marked(race, sail, "DNF")] if ruling.kind in OUT and not held.code else [])
 
 
-def taken_out(ruling: Ruling, journal: Sequence[str]) -> list[Line]:
-    """The lines after which a journal has nothing of a decision that is taken out: her points go, and what was
-    beneath them is given back. The DNF of a boat with a place, which is TLE or NSC, goes too. What REINSTATE took
-    away doesn't come back."""
-    held, series = holdings(journal)[ruling.key], Series.read(list(journal))
-    is_placed = ruling.kind in OUT and held.code == "DNF" and series.race(ruling.race).is_in_order(ruling.sail)
-    if ruling.kind == "REINSTATE" or not (held.is_points or is_placed):
+def taken_out(ruling: Ruling, journal: Sequence[str], known: Known = Known()) -> list[Line]:
+    """The lines after which a boat holds what she would without a decision that is taken out. What REINSTATE took away
+    doesn't come back."""
+    race, sail = ruling.key
+    held, kept = holdings(journal)[ruling.key], beneath(ruling, journal, known)
+    if ruling.kind == "REINSTATE" or held.kinds == kept.kinds:
         return []
-    kept = Holding("", "", penalties=held.penalties) if is_placed else held
-    return [cleared(ruling.race, ruling.sail), *restored(ruling.race, ruling.sail, kept)]
+    redress = [Line("JURY", f"REDRESS {race} {sail} {kept.redress}")] if kept.redress else []
+    return [*([cleared(race, sail)] if held.is_any else []), *restored(race, sail, kept), *redress]
+
+
+def beneath(ruling: Ruling, journal: Sequence[str], known: Known) -> Holding:
+    """What a boat would hold without a decision. If its lines aren't known, her points are the decision's, and so is the
+    DNF of a boat with a place, if that is TLE or NSC."""
+    entries = about(journal, *ruling.key)
+    others = [entry for entry in entries if entry not in known.of_decisions]
+    last, is_known = {entry.split()[3]: entry for entry in others}, len(others) < len(entries)
+    kept = holdings(others)[ruling.key]
+    if kept.is_points and (last["REDRESS"] not in known.of_others or not is_known):
+        kept = replace(kept, redress="")
+    is_placed = Series.read(list(journal)).race(ruling.race).is_in_order(ruling.sail)
+    if not is_known and ruling.kind in OUT and kept.code == "DNF" and is_placed and last["MARK"] not in known.of_others:
+        kept = replace(kept, code="")
+    return kept
 
 
 def verdict(ruling: Ruling, held: Holding, figures: Figures) -> Verdict:

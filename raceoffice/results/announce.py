@@ -6,11 +6,13 @@ from collections.abc import Mapping, Sequence
 from dataclasses import dataclass
 
 from raceoffice.characters import utf8
+from raceoffice.decisions.points import Verdict
 from raceoffice.errors import Trouble
 from raceoffice.files import edited_text, replace_whole
 from raceoffice.program.journal import Race, Series
 from raceoffice.program.link import Sheet
 from raceoffice.remarks import remark
+from raceoffice.results.decisions_now import FILE, DecisionsNow
 from raceoffice.series import entry_list, settings
 from raceoffice.series.folder import Folder
 from raceoffice.series.kept_places import kept_now
@@ -46,13 +48,14 @@ def sheet_now(folder: Folder) -> Sheet:
 
 # What is open
 
-def open_points(folder: Folder, sheet: Sheet) -> list[Open]:
-    """Boats without a name, races that aren't scored, finishers without a sail."""
+def open_points(folder: Folder, sheet: Sheet, decisions: DecisionsNow | None = None) -> list[Open]:
+    """Boats without a name, races that aren't scored, finishers without a sail, decisions that aren't in the scores as
+    they have to be."""
     series, names = Series.read(list(sheet.journal)), entry_list.read_if_there(folder.entries)
     unnamed = without_name(series.boats, names)
     left = [race for _, race in sorted(series.races.items()) if race.is_recorded and not race.counts]
     return [*([of_unnamed(folder, unnamed)] if unnamed else []), *(of_race(race, names) for race in left),
-            *of_places(folder)]
+            *of_places(folder), *of_decisions(folder, sheet, decisions or DecisionsNow(folder))]
 
 
 def without_name(boats: Sequence[str], names: Names) -> list[str]:
@@ -93,6 +96,21 @@ def of_places(folder: Folder) -> list[Open]:
     return [*(kept if waiting else []), *(wrong if fault else [])]
 
 
+def of_decisions(folder: Folder, sheet: Sheet, decisions: DecisionsNow) -> list[Open]:
+    """The decisions whose points aren't those that they come to now, and what of their file can't be read."""
+    found = decisions.look(sheet)
+    wrong = [Open("decisions-unread", {"fault": why}, f"Beware: {why}.") for why in found.wrong]
+    return [*(of_decision(folder, verdict) for verdict in found.verdicts if not verdict.is_kept), *wrong]
+
+
+def of_decision(folder: Folder, verdict: Verdict) -> Open:
+    ruling = verdict.ruling
+    values: dict[str, Value] = {"race": ruling.race, "sail": ruling.sail, "kind": ruling.kind, "how": ruling.how, "points": verdict.points,
+              "held": verdict.held, "why": verdict.why or ""}
+    sending = "" if verdict.why else f" `{folder.command('decisions send')}` sends what is lacking."
+    return Open("decision-stale", values, f"{FILE}, line {ruling.line}: {verdict}.{sending}")
+
+
 # Before and after
 
 def asked_of(state: str, points: Sequence[Open], mark: str = "") -> Question:
@@ -102,9 +120,11 @@ def asked_of(state: str, points: Sequence[Open], mark: str = "") -> Question:
         values = [point.values[name] for point in points if point.kind == kind]
         return tuple(text for value in values for text in (value if isinstance(value, tuple) else [str(value)]))
 
+    decisions = [" ".join(str(point.values[name]) for name in ("race", "sail", "kind", "points", "held"))
+                 for point in points if point.kind == "decision-stale"]
     return question("announce", str, state=state, table=mark, races=all_of("race-unscored", "race"),
-                    sails=all_of("boats-unnamed", "sails"),
-                    marks=all_of("finishers-unknown", "marks"), faults=all_of("places-unread", "fault"))
+                    sails=all_of("boats-unnamed", "sails"), marks=all_of("finishers-unknown", "marks"),
+                    faults=(*all_of("places-unread", "fault"), *all_of("decisions-unread", "fault")), decisions=decisions)
 
 
 def need_reason(state: str, reason: str) -> str:

@@ -1,11 +1,12 @@
-"""The files of the sheets of times, by their races, and how a boat's row is taken out of them."""
+"""The files of the sheets of times, by their races, and how a boat's row, or all of an abandoned race, is taken out of
+them."""
 from __future__ import annotations
 
 import contextlib
 import os
-from collections.abc import Mapping, Sequence
+from collections.abc import Collection, Mapping, Sequence
 
-from raceoffice.errors import Trouble
+from raceoffice.errors import NotNow, Trouble
 from raceoffice.files import replace_whole
 from raceoffice.series.entry_list import plain
 from raceoffice.series.folder import Folder
@@ -15,6 +16,8 @@ from raceoffice.series.read_list import as_csv, bytes_of, table_of
 SHEETS = "times"
 # An empty one is that of the boat above.
 CARRIED = ("start", "laps", "distance")
+# What is recorded of a boat while she races.
+RECORDED = ("start", "finish", "elapsed", "laps", "code")
 
 
 def sheet_name(race: int) -> str:
@@ -85,3 +88,38 @@ def carried(cells: Sequence[str], places: Sequence[int]) -> dict[int, str]:
 def filled(cells: Sequence[str], owed: Mapping[int, str]) -> list[str]:
     """A row with these cells where it has none. A code that stands for a start stays."""
     return [cell if cell.strip() else owed.get(at, cell) for at, cell in enumerate(cells)]
+
+
+def sheet_without_race(folder: Folder, race: int, jury: Collection[str]) -> bytes:
+    """The sheet of a race without what is recorded there; nothing if there is nothing, or if it can't be read. BFD stays
+    (RRS 30.4), and so do the codes of boats that hold decisions of the jury."""
+    if not folder.settings.handicap or race not in races_with_sheet(folder):
+        return b""
+    try:
+        held = table_of(bytes_of(folder.file(sheet_name(race))))
+    except (Trouble, OSError):
+        return b""
+    before = rows_without([held.heads, *(row for _, row in held.rows)], "", held.separator != ",")
+    places = columns(before[0], SHEET)
+    if "sail" not in places:
+        return b""
+    recorded = [places[key] for key in RECORDED if key in places]
+    after = [before[0], *(row_without_race(row, recorded, plain(row[places["sail"]]) in jury) for row in before[1:])]
+    return as_csv(after) if after != before else b""
+
+
+def row_without_race(row: Sequence[str], recorded: Collection[int], is_jury: bool) -> list[str]:
+    """A boat's row without what is recorded of her in a race. A code may stand in place of a time."""
+    def stays(text: str) -> bool:
+        return text.isalpha() and (is_jury or text.upper() == "BFD")
+    return ["" if at in recorded and not stays(cell.strip()) else cell for at, cell in enumerate(row)]
+
+
+def clear_sheet(folder: Folder, race: int, cleared: bytes) -> None:
+    """Takes an abandoned race out of its sheet. The sheet as it was is kept beside it."""
+    path = folder.file(sheet_name(race))
+    try:
+        replace_whole(f"{path.removesuffix('.csv')}-abandoned.csv", bytes_of(path))
+        replace_whole(path, cleared)
+    except Trouble as trouble:
+        raise NotNow(*trouble.said) from None

@@ -167,11 +167,16 @@ def text_of_copy(path: str) -> str:
 
 def save_to(path: str, text: str) -> None:
     """Makes a file hold a journal, or places, that go on where the file ends."""
-    held = text_of_copy(path)
+    held = "" if os.path.islink(path) else text_of_copy(path)
     if not text.removeprefix(VERSION).startswith(held.removeprefix(VERSION)):
         raise Trouble(remark("copy-other-lines", path=path))
     if text != held:
-        replace_whole(path, text.encode())
+        put_copy(path, text)
+
+
+def put_copy(path: str, text: str) -> None:
+    """Writes a copy. What is on a stick may be somebody else's: a link there leads nowhere, and the copy takes its place."""
+    replace_whole(path, text.encode(), is_linked=False)
 
 
 def answered(what: str, path: str, text: str) -> Answer:
@@ -184,7 +189,7 @@ def answered(what: str, path: str, text: str) -> Answer:
         if what == "save":
             save_to(path, text)
         elif what == "replace":
-            replace_whole(path, text.encode())
+            put_copy(path, text)
         elif what == "read":
             found = text_of_copy(path)
         return Answer(device=os.stat(place).st_dev, text=found, written=written_at(path))

@@ -1,10 +1,8 @@
 """Finishers whose sails aren't known: each keeps her place until she is."""
 from __future__ import annotations
 
-import contextlib
-import itertools
 import re
-from collections.abc import Mapping, Sequence, Set
+from collections.abc import Sequence, Set
 from dataclasses import dataclass
 
 from raceoffice.errors import NotSent
@@ -14,21 +12,17 @@ from raceoffice.wording import ordinal
 
 # How one is called until she is known: ?1, or what was typed of her sail as 101?, and 101?2 for another.
 MARK = re.compile(r"([A-Z0-9-]{0,12})\?([1-9][0-9]{0,3})?")
-# Lines that change the order of a race in which places can be kept.
-ORDERING = ("FINISH", "TIE", "BEFORE", "STRIKE")
 
 
 @dataclass(frozen=True)
 class Unread:
     """One of them: how she is called in her race, and the boats that are ahead of her.
-    `typed` is what was typed of her sail, `since` by whom and when her place was kept. `behind` are the boats
-    that had finished before her."""
+    `typed` is what was typed of her sail, `since` by whom and when her place was kept."""
     mark: str
     race: int
     ahead: Set[str]
     typed: str = ""
     since: str = ""
-    behind: Set[str] = frozenset()
 
     def place(self, race: Race) -> int:
         """How many groups of the order are ahead of her."""
@@ -40,54 +34,6 @@ class Unread:
         behind = race.order[self.place(race):]
         return (f"BEFORE {race.number} {sail} {behind[0][0]}" if behind
                 else f"FINISH {race.number} {sail}")
-
-
-@dataclass(frozen=True)
-class Kept:
-    """How a place was kept: behind which boats, and how many entries the journal had."""
-    behind: Set[str]
-    entries: int
-
-
-def ahead_by_journal(kept: Mapping[str, Kept], number: int, journal: Sequence[str]) -> dict[str, Set[str]]:
-    """The boats that are ahead of each place of a race now. Each place stands in the order that the journal
-    has made since it was kept. Boats that aren't in the order stay as they were."""
-    race, due = Race(number), dict[int, list[str]]()
-    for mark, place in kept.items():
-        due.setdefault(min(place.entries, len(journal)), []).append(mark)
-    for at, line in enumerate([*journal, ""]):
-        put_in(race.order, due.get(at, []), kept)
-        command, of, *words = [*line.split(), "", ""]
-        if command in ORDERING and of == str(number):
-            # A journal that was edited by hand may have any line.
-            with contextlib.suppress(ValueError, StopIteration):
-                race.follow([command, *filter(None, words)])
-                move_up(race.order, words[0], kept)
-    return {mark: ahead_of(race.order, mark, kept[mark].behind) for mark in kept}
-
-
-def put_in(order: list[list[str]], marks: Sequence[str], kept: Mapping[str, Kept]) -> None:
-    """Puts places into an order, each behind its boats and the places that are there already."""
-    for mark in marks:
-        last = max((at for at, group in enumerate(order, 1) if kept[mark].behind & set(group)), default=0)
-        places = list(itertools.takewhile(lambda group: group[0] in kept, order[last:]))
-        order.insert(last + len(places), [mark])
-
-
-def move_up(order: list[list[str]], sail: str, kept: Mapping[str, Kept]) -> None:
-    """Moves a boat that has just come into an order ahead of places that are behind her by their notes, if none
-    of those who finished after them is between."""
-    at = next((at for at, group in enumerate(order) if group == [sail]), 0)
-    while at and order[at - 1][0] in kept and sail in kept[order[at - 1][0]].behind:
-        order[at - 1], order[at] = order[at], order[at - 1]
-        at -= 1
-
-
-def ahead_of(order: Sequence[Sequence[str]], mark: str, behind: Set[str]) -> Set[str]:
-    """The boats ahead of a place in an order, and those of `behind` that aren't there."""
-    at = list(order).index([mark])
-    there = {sail for group in order for sail in group}
-    return {sail for group in order[:at] for sail in group if MARK.fullmatch(sail) is None} | (behind - there)
 
 
 @dataclass(frozen=True)

@@ -4,6 +4,7 @@ from __future__ import annotations
 from raceoffice.errors import NotSent
 from raceoffice.program.journal import Plan, Race, plan_of_abandoning
 from raceoffice.remarks import remark
+from raceoffice.series.race_sheets import clear_sheet, sheet_without_race
 from raceoffice.session.answers import changes_said, plan_said
 from raceoffice.session.parse import MAY
 from raceoffice.session.seat import Done, Seat
@@ -14,15 +15,21 @@ from raceoffice.wording import count
 def abandon(seat: Seat, race: Race) -> bool:
     """Takes a race away, after a question; whether all its lines were taken."""
     plan, kept = plan_of_abandoning(race), seat.unread.marks(race.number)
-    needed = {line.split()[0] for line in plan.lines} | ({"STRIKE"} if kept else set())
+    sheet = sheet_without_race(seat.folder, race.number, plan.jury)
+    needed = {line.split()[0] for line in plan.lines} | ({"STRIKE"} if kept or sheet else set())
     if barred := sorted(needed - MAY[seat.role]):
         raise NotSent(remark("abandon-role", race=race.number, lines=barred, role=seat.role.lower()))
     if not needed:
         seat.say_of("nothing-there", race=race.number)
         return True
     seat.tell_all(plan_said(seat.facts, race, plan, kept, seat.prefix))
-    if not seat.ask(seat.question("abandon", race=race.number, lines=plan.lines, marks=kept)):
+    asked = seat.question("abandon", race=race.number, lines=plan.lines, marks=kept) if plan.lines or kept else \
+        seat.question("clear-sheet", race=race.number)
+    if not seat.ask(asked):
         return seat.not_sent()
+    if sheet:
+        # What it had would be sent again by the next tap.
+        clear_sheet(seat.folder, race.number, sheet)
     before, length = seat.facts.standing, len(seat.facts.sheet.journal)
     if not is_sent(seat, race, plan):
         return False

@@ -118,6 +118,10 @@ def of_abandoning(words: Words) -> str:
     return "Send them?" if words.all("lines") else "Drop the places?"
 
 
+def of_clearing(words: Words) -> str:
+    return f"Clear the sheet of times of race {words.text('race')}?"
+
+
 def of_place(words: Words) -> str:
     return f"{words.text('mark')} keeps a place. Is she {words.boat()}?"
 
@@ -152,6 +156,12 @@ def of_same_line(words: Words) -> str:
 def of_tapped_too(words: Words) -> str:
     """Another device's tap was refused, as she was in the order by the one that is undone."""
     return f"{words.text('by')} has tapped {words.boat()}, too. Strike her all the same?"
+
+
+def of_start(words: Words) -> str:
+    """A start that was tapped before the race got another one, and that comes later."""
+    return (f"Race {words.text('race')} has another start by now: {words.text('start')}. Put {words.text('written')} in its "
+            "place?")
 
 
 def of_others(words: Words) -> str:
@@ -189,7 +199,7 @@ def of_taking_over(words: Words) -> str:
 def of_announcing(words: Words) -> str:
     """Before results are provisional, final or amended; what is open is said before."""
     state, races = words.text("state"), words.all("races")
-    if words.all("marks") or words.all("faults"):
+    if words.all("marks") or words.all("faults") or words.all("decisions"):
         return f"Are the results {state} all the same?"
     without = f" without {'that race' if len(races) == 1 else 'those races'}" if races else ""
     return f"Are the results {state}{without}?"
@@ -201,11 +211,13 @@ WORDS: dict[str, Callable[[Words], str]] = {
     "score-unknown": of_unknown, "score-only-codes": of_codes, "score-penalised": of_penalties,
     "score-missing": of_missing, "unscore": of_unscore, "correction": of_correction,
     "clear-several": of_clear, "redress-unplaced": of_redress, "abandon": of_abandoning,
+    "clear-sheet": of_clearing,
     "place-is": of_place, "place-unanswered": of_unanswered, "finished-after": of_finished_after,
     "undo": of_undo,
     "drop-place": of_dropping, "keep-place-again": of_keeping,
     # Only pages ask these.
     "sent-already": of_same_line, "others-recorded": of_others, "tapped-too": of_tapped_too,
+    "start-since": of_start,
     # Before an office is opened.
     "use-copy": of_copy, "not-continued": of_difference, "new-rules": of_rules,
     "take-over": of_taking_over, "remove-boat": of_removal,

@@ -183,10 +183,13 @@ class Seat:
 
     # The places that it keeps
 
-    def keep(self, race: Race, typed: str, twin: Twin = Twin()) -> str:
-        """Keeps the place of a finisher at the end of the order as it is now; how she is called. `twin` says in
-        which other classes she is kept."""
-        mark = self.places.keep(race, typed, len(self.facts.sheet.journal), twin)
+    def keep(self, race: Race, typed: str, twin: Twin = Twin(), later: str = "") -> str:
+        """Keeps the place of a finisher at the end of the order as it is now, or just ahead of `later`, who finished after
+        her; how she is called. `twin` says in which other classes she is kept."""
+        if later:
+            ahead = self.history.order(race.number).boats_before(later)
+            race = Race(race.number, [[sail] for sail in ahead])
+        mark = self.places.keep(race, typed, len(self.facts.sheet.journal), twin, later)
         self.look_at_places()
         # What is on the disk may not be readable just then: she is kept all the same.
         kept = next((unread for unread in self.unread.of(race.number) if unread.mark == mark), None)

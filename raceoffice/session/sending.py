@@ -27,18 +27,23 @@ def keep_ahead(seat: Seat, line: str) -> None:
     """Asks of a boat that was struck or taken out, and that finishes again, whether she is behind now those who were
     behind her. If so, their places are ahead of her."""
     command, *rest = line.split()
-    if command != "FINISH" or len(rest) != 2:
+    if [command, len(rest)] not in (["FINISH", 2], ["BEFORE", 3]) or command not in MAY[seat.role]:
         return
     # Nothing may be left of a race whose only boat was taken out.
     race = seat.facts.race_of(line) or Race(race_number(rest[0]))
     if race.is_in_order(rest[1]):
         return
-    for unread in seat.unread.of(race.number):
-        # Otherwise somebody who finished after her stands between.
-        is_last = unread.place(race) == len(race.order)
-        if rest[1] in unread.behind and is_last and seat.is_yes(
-                seat.question("finished-after", mark=unread.mark, sail=rest[1])):
-            seat.places.keep_ahead(unread, race, len(seat.facts.sheet.journal))
+    if stale := seat.history.line_of_return(race.number, rest[1]):
+        # Else the entry of this line would be taken for that one's.
+        seat.places.take_back(stale, "never sent")
+    ahead = seat.history.order(race.number).ahead_before(line)
+    places = [unread for unread in seat.unread.of(race.number) if unread.mark in ahead]
+    for unread in places:
+        if not seat.is_yes(seat.question("finished-after", mark=unread.mark, sail=rest[1])):
+            # She is ahead of all who came since, too.
+            seat.places.note_back(race.number, line, len(seat.facts.sheet.journal), unread.mark)
+            return
+        seat.places.keep_ahead(unread, rest[1], len(seat.facts.sheet.journal))
 
 
 def transmit(seat: Seat, line: str, unread: Unread | None = None) -> bool:

@@ -7,6 +7,7 @@ from raceoffice.errors import NotSent
 from raceoffice.program.journal import Race, Series
 from raceoffice.program.messages import ROLES
 from raceoffice.remarks import Remark, remark
+from raceoffice.series.kept_places import History
 from raceoffice.series.lost_lines import as_kept
 from raceoffice.series.unknown_finishers import Unread
 from raceoffice.session.dialogue import NOTE
@@ -29,11 +30,13 @@ def undo(seat: Seat) -> bool:
     kept = as_kept(done.line)
     if seat.facts.commands[done.number - 1:done.number] != [kept]:
         raise NotSent(remark("undo-gone", line=done.line))
-    line = reversal(seat.facts, done.number)
+    line = reversal(seat.facts, done.number, seat.history)
+    if done.unread and (level := level_entry(seat.facts, done.number)):
+        raise NotSent(level)
     if not seat.is_yes(seat.question("undo", line=kept, by=line)) or not is_meant(seat, line):
         return seat.not_sent()
     if not done.unread:
-        return transmit(seat, line)
+        return send_back(seat, line)
     # The place is kept again as soon as the boat has left it, whoever looks next.
     leaving = seat.places.note_leaving(done.unread, line, len(seat.facts.sheet.journal))
     is_taken = transmit(seat, line)
@@ -43,6 +46,18 @@ def undo(seat: Seat) -> bool:
         if leaving.key in seat.history.ended:
             seat.places.take_back(leaving, "refused")
     seat.done = Done(why=remark("undo-place", mark=done.unread.mark))
+    return is_taken
+
+
+def send_back(seat: Seat, line: str) -> bool:
+    """Sends the line that takes another back; whether it was taken. A boat that was struck comes back where she was,
+    also among the places that were kept since."""
+    if line.split()[0] not in ("FINISH", "BEFORE"):
+        return transmit(seat, line)
+    note = seat.places.note_back(int(line.split()[1]), line, len(seat.facts.sheet.journal))
+    is_taken = transmit(seat, line)
+    if not is_taken:
+        seat.places.take_back(note, "refused")
     return is_taken
 
 
@@ -63,8 +78,9 @@ def undo_place(seat: Seat, unread: Unread, what: str) -> bool:
     return True
 
 
-def reversal(facts: Facts, number: int) -> str:
-    """The line that takes back an entry of the journal; NotSent says why none does."""
+def reversal(facts: Facts, number: int, history: History) -> str:
+    """The line that takes back an entry of the journal; NotSent says why none does. `history` are the places that are
+    kept in the class."""
     line = facts.commands[number - 1]
     command, *rest = line.split()
     if command == "ENTER":
@@ -76,7 +92,8 @@ def reversal(facts: Facts, number: int) -> str:
     race, sail = int(rest[0]), rest[1]
     before = Series.read(list(facts.sheet.journal[:number - 1])).race(race)
     if command == "STRIKE":
-        return back_in_order(before, facts.race(rest[0]), sail)
+        return (f"TIME {race} {sail} {before.times[sail]}" if sail in before.times
+                else history.order(race).line_back(race, sail))
     if command in FINISHING:
         return f"STRIKE {race} {sail}"
     return as_before(command, before, facts.race(rest[0]), sail)
@@ -99,16 +116,16 @@ def what_about(line: str) -> list[str]:
     return [*rest[:2], str(command in FINISHING)] if command not in ("SCORE", "UNSCORE") else rest
 
 
-def back_in_order(before: Race, now: Race, sail: str) -> str:
-    """The line that gives a boat the place that she had before she was struck."""
-    if sail in before.times:
-        return f"TIME {now.number} {sail} {before.times[sail]}"
-    at = next(at for at, group in enumerate(before.order) if sail in group)
-    ahead = {other for group in before.order[:at] for other in group}
-    level = [other for other in before.order[at] if now.is_in_order(other)]
-    if level:
-        return f"TIE {now.number} {sail} {level[0]}"
-    return Unread("", now.number, ahead).line(sail, now)
+def level_entry(facts: Facts, number: int) -> Remark | None:
+    """The entry that has put another boat level with that of an entry, in words: she is level with whoever was there.
+    None if there is none."""
+    _, race, sail, *_ = facts.commands[number - 1].split()
+    level = next((group for group in facts.race(race).order if sail in group), list[str]())
+    for at, line in enumerate(facts.commands[number:], number + 1):
+        if line.split()[:2] == ["TIE", race] and line.split()[2] in level:
+            _, _, role, _ = facts.sheet.journal[at - 1].split(maxsplit=3)
+            return remark("undo-later", number=at, line=line, by=ROLES[role])
+    return None
 
 
 def as_before(command: str, before: Race, now: Race, sail: str) -> str:

@@ -183,10 +183,10 @@ def compare_tables(rebuilt: Rebuilt) -> None:
     if len(tables) != len(wanted):
         raise ForeignPage(f"the page has {count(len(tables), 'overall table')}, and not {len(wanted)}")
     for table, view in zip(tables, wanted):
-        sails = {" ".join(f"{boat.sail} {boat.helm or boat.name}".split()): row.sail
-                 for row in view.standing.rows for boat in [view.boat(row.sail)]}
+        boats = [(" ".join(f"{boat.sail} {boat.helm or boat.name}".split()), row.sail)
+                 for row in view.standing.rows for boat in [view.boat(row.sail)]]
         try:
-            standing = standing_of(table, sails, view.standing.races) if view.standing.races else None
+            standing = standing_of(table, boats, view.standing.races) if view.standing.races else None
         except NoTable as cause:
             raise ForeignPage(f"{quoted(view.label)}: {explained(cause)}") from None
         except ValueError as cause:

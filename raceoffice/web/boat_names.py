@@ -66,13 +66,13 @@ def system_of(folder: Folder) -> str:
 
 def name_boat(folder: Folder, facts: Facts, values: Mapping[str, Any], by: str) -> bool:
     """Adds, completes or corrects the row of a boat that is entered; whether the list is another then. What it has is
-    replaced only if that is what was shown (`was`). `by` is who does."""
+    replaced only if that is what was shown (`was`), and what isn't given stays. `by` is who does."""
     sail = text_given(values, "sail").translate(RAISED)
     if plain(sail) not in facts.boats:
         raise NotSent(remark("not-entered", sail=sail[:20]) if sail else remark("no-sail-entered"))
     shown = values.get("was", {})
     was = {key: text_given(shown, key) for key in KEYS if isinstance(shown, dict) and key in shown}
-    given = {key: text for key in KEYS if (text := text_given(values, key)) or was.get(key)}
+    given = {key: text for key in KEYS if (text := text_given(values, key)) or key in values and was.get(key)}
     try:
         data = list_of(folder)
         places = places_of(folder, data)

@@ -57,7 +57,7 @@ class Declarations:
         return {"state": notice.state, "reason": notice.reason,
                 "since": int(since.timestamp() * 1000) if since else 0,
                 "is_changed": is_changed_since(logged, notice.state, sheet.table),
-                "open": points_of(announce.open_points(self.folder, sheet)),
+                "open": points_of(announce.open_points(self.folder, sheet, self.room.decisions)),
                 "is_open": is_open, "journal": journal_shown(self.folder, is_open, self.office.warned()),
                 "copies": self.copies.look(self.office.second_trouble()) | sticks_shown(self.folder)}
 
@@ -94,7 +94,7 @@ class Declarations:
             raise NotSent(remark("reason-long", most=announce.LONGEST))
         self.look()
         sheet = self.sheet()
-        points = announce.open_points(self.folder, sheet) if state != "provisional" else []
+        points = announce.open_points(self.folder, sheet, self.room.decisions) if state != "provisional" else []
         declared = len(notices(self.folder))
         # A yes is one to this table, and to what was declared when it was given.
         asked = announce.asked_of(state, points, mark_of((*sheet.table, str(declared))))

@@ -1,9 +1,11 @@
 """Where a finisher belongs if others were recorded between her tap and its arrival."""
 from __future__ import annotations
 
-from collections.abc import Mapping
+import itertools
+from collections.abc import Mapping, Sequence
 
 from raceoffice.program.journal import Race
+from raceoffice.series.unknown_finishers import MARK
 from raceoffice.session.dialogue import Question
 from raceoffice.session.facts import Facts
 from raceoffice.session.question_words import question
@@ -41,6 +43,29 @@ def line_in_order(facts: Facts, moments: Moments, tap: Tap, line: str) -> str:
     others = [boat for group in groups_after(race, tap.behind) for boat in group]
     raise Elsewhere(question("others-recorded", facts.called, race=race.number, sail=sail, others=others,
                              ahead=later[0] if later else ""), clock)
+
+
+def later_in_order(facts: Facts, times: Mapping[str, int], tap: Tap, race: Race) -> str:
+    """Who finished next after the one whose place a tap keeps, by the clock; empty if she is after all. Elsewhere asks
+    if others were recorded since the tap. `race` has the places that are kept in its order; `times` says when each boat
+    and place there was tapped."""
+    after = groups_after(race, tap.behind or "")
+    others = [name for group in after for name in group if MARK.fullmatch(name) is None]
+    later = [group[0] for group in later_groups(after, times, tap.at)]
+    last = [times.get(name, tap.at) for name in others[-1:]]
+    if not later and all(at + CLOSE <= tap.at for at in last):
+        return ""
+    if tap.by_clock:
+        return next(iter(later), "")
+    clock = f"BEFORE {race.number} ? {later[0]}" if later else tap.line
+    raise Elsewhere(question("others-recorded", facts.called, race=race.number, sail="?", others=others,
+                             ahead=next(iter(later), "")), clock)
+
+
+def later_groups(groups: Sequence[Sequence[str]], times: Mapping[str, int], at: int) -> list[Sequence[str]]:
+    """Those at the end of an order that finished later than a moment by the clock."""
+    found = itertools.takewhile(lambda group: min(times.get(name, at) for name in group) > at, reversed(groups))
+    return list(found)[::-1]
 
 
 def groups_after(race: Race, behind: str) -> list[list[str]]:

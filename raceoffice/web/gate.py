@@ -19,6 +19,7 @@ from collections.abc import Callable, Iterable
 from dataclasses import asdict, dataclass
 from typing import Any
 
+from raceoffice.characters import replaced
 from raceoffice.errors import NotThere, Trouble
 from raceoffice.files import read_whole, replace_whole
 from raceoffice.results.http_answers import addresses
@@ -66,8 +67,10 @@ def device_of(values: dict[str, Any]) -> Device:
 
 
 def plain_name(name: str) -> str:
-    """The name of a device, on one line, and without signs that would turn a line of the log."""
-    return " ".join("".join(filter(str.isprintable, name)).split())[:NAME]
+    """The name of a device, on one line, without signs that would turn a line of the log, and without those that aren't
+    seen: it would look like another's."""
+    seen = replaced("".join(filter(str.isprintable, name)), lambda sign: "")
+    return " ".join(seen.split())[:NAME]
 
 
 class Gate:

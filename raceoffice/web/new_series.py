@@ -13,17 +13,19 @@ from collections.abc import Mapping, Sequence
 from typing import Any
 
 from raceoffice import system
-from raceoffice.corrected.times import RULES
+from raceoffice.corrected.ratings import rating_faults
+from raceoffice.corrected.times import RULES, SYSTEMS
 from raceoffice.corrected.write_sheet import rules_text, write_rules
 from raceoffice.errors import NotSent, NotThere, Trouble, as_trouble
 from raceoffice.files import read_whole
 from raceoffice.remarks import Remark, remark
 from raceoffice.series import settings
 from raceoffice.series.create import make
-from raceoffice.series.entry_list import rating_note
+from raceoffice.series.entry_list import problems, rating_note
+from raceoffice.series.headings import rating_columns
 from raceoffice.series.mend_list import NAME, mended
 from raceoffice.series.race_sheets import SHEETS
-from raceoffice.series.read_list import LARGEST
+from raceoffice.series.read_list import LARGEST, table_of
 from raceoffice.web.states import Values, remarks_of, rules_of
 
 FOLDER = re.compile(r"[a-z0-9][a-z0-9-]{0,23}")
@@ -45,8 +47,12 @@ def list_shown(values: Mapping[str, Any]) -> Values:
         raise NotSent(remark("list-too-long", most=f"{LARGEST:,}"))
     column = values.get("column")
     found = mended(data, column if isinstance(column, int) and not isinstance(column, bool) else None)
-    boats = [[boat.sail, boat.name, boat.helm, boat.club] for boat in found.boats]
+    table = table_of(found.data) if found.boats else None
+    ratings = list(rating_columns(table.heads).values()) if table else []
+    boats = [[boat.sail, boat.name, boat.helm, boat.club, *(table.cell(row, at) for at in ratings)]
+             for boat, (_, row) in zip(found.boats, table.rows)] if table else []
     return {"wrong": remarks_of(found.wrong), "done": remarks_of(found.done), "heads": found.heads, "boats": boats,
+            "ratings": [table.heads[at] for at in ratings] if table else [],
             "is_sail_known": found.is_sail_known, "text": found.data.decode("utf-8", "replace")}
 
 
@@ -91,15 +97,25 @@ def without_place(wrong: Remark) -> Remark:
 
 
 def settings_shown(values: Mapping[str, Any]) -> Values:
-    """What settings mean, in words, or what is wrong with them."""
+    """What settings mean, in words, or what is wrong with them; and what there is to know of the ratings in the list:
+    by corrected time each boat without one that the system takes."""
     given = settings_given(values.get("settings"))
     if wrong := wrong_settings({"title": "A title", **given}):
         return {**wrong, "rules": "", "note": []}
     shown = settings.settings_of({"title": "A title", **given})
-    data = str(values.get("text", "")).encode()
-    note = rating_note(data, NAME, shown.handicap) if data else None
     return {"wrong": [], "keys": [], "rules": shown.in_words(), "settings": rules_of(shown),
-            "note": remarks_of([note] if note else [])}
+            "note": remarks_of(rating_notes(list_given(values), shown.handicap, str(values.get("system", ""))))}
+
+
+def rating_notes(data: bytes, is_rated: bool, system: str) -> list[Remark]:
+    """What there is to know of the ratings in a list; nothing of one that isn't whole."""
+    if not data or problems(data, NAME):
+        return []
+    if note := rating_note(data, NAME, is_rated):
+        return [note]
+    if is_rated and system in SYSTEMS and not rating_columns(table_of(data).heads, system):
+        return [remark(f"ratings-missing-{system}", name=NAME, row=table_of(data).first)]
+    return rating_faults(data, NAME, system) if is_rated and system in SYSTEMS else []
 
 
 def folder_made(parent: str, values: Mapping[str, Any]) -> str:

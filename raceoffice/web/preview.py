@@ -11,7 +11,8 @@ from dataclasses import dataclass
 
 from raceoffice.characters import utf8
 from raceoffice.decisions import decision_lines
-from raceoffice.decisions.points import Decided, Verdict, decided, taken_out
+from raceoffice.decisions.held import Known
+from raceoffice.decisions.points import OUT, Decided, Verdict, decided, taken_out
 from raceoffice.errors import NotSent, Trouble
 from raceoffice.files import replace_whole
 from raceoffice.program.replay import Line, scored
@@ -28,18 +29,23 @@ from raceoffice.web.states import Values, moves_of, remarks_of, rows_of
 LINE = re.compile(r"^decisions\.txt, line (\d+): ")
 NOTE = 200
 CHANGED = remark("decisions-changed")
+# The entries that are of decisions, and those of other taps, as the register knows them.
+Entries = tuple[frozenset[str], frozenset[str]]
+NO_ENTRIES: Entries = (frozenset(), frozenset())
 
 
 @dataclass(frozen=True)
 class Ruled:
     """What a decision comes to: the text of decisions.txt before it and with it, what it is called, its points and
-    what the journal holds, the lines that it takes, and why it can't be given."""
+    what the journal holds, the lines that it takes, and why it can't be given. `stays` is the race and boat of a decision
+    that takes away for good."""
     before: str
     text: str
     name: str
     verdict: Values
     lines: tuple[Line, ...]
     why: tuple[Remark, ...]
+    stays: str = ""
 
 
 def opened_settings(folder: Folder) -> Settings:
@@ -65,6 +71,15 @@ def preview(folder: Folder, facts: Facts, lines: Sequence[Line]) -> Values:
             "counts": any(race in facts.standing.races for race in map(race_of, lines))}
 
 
+def why_refused(folder: Folder, facts: Facts, lines: Sequence[Line]) -> Sequence[str]:
+    """Why the program would refuse one of these lines; empty if it takes them all."""
+    try:
+        scored(folder.program, options_of(folder), facts.sheet.journal, lines)
+    except Trouble as trouble:
+        return trouble.said
+    return ()
+
+
 def effect_of_rules(folder: Folder, facts: Facts, options: list[str]) -> Values:
     """Whom other rules would move, by a replay of the journal that is on the disk, and which decisions would be
     out of date; or why the program refuses them."""
@@ -85,25 +100,37 @@ def race_of(line: Line) -> int:
     return int(number[0]) if number and number[0].isdecimal() else 0
 
 
-def decide(folder: Folder, facts: Facts, ruling: str, note: str = "") -> Ruled:
-    """What a decision comes to, and which lines it takes; NotSent if it isn't one. `note` is written after it."""
+def decide(folder: Folder, facts: Facts, ruling: str, known: Entries = NO_ENTRIES, note: str = "") -> Ruled:
+    """What a decision comes to, and which lines it takes; NotSent if it isn't one. `note` is written after it, and
+    `known` are the entries of earlier decisions."""
     before = decision_lines.read(folder.path)
     text, name = with_ruling(before, facts, ruling, note)
-    found = decided(folder.program, options_of(folder), facts.sheet.journal, text)
+    first, options = lines_before(before, ruling, facts, known), options_of(folder)
+    journal = scored(folder.program, options, facts.sheet.journal, first).journal if first else facts.sheet.journal
+    found = decided(folder.program, options, journal, text)
     mine = [verdict for verdict in found.verdicts if str(verdict.ruling) == name]
     why = [*found.wrong, *(verdict.why for verdict in mine if verdict.why)]
     values = verdict_shown(mine[0], note) if mine else {}
-    return Ruled(before, text, name, values, tuple(found.lines), tuple(why))
+    new = decision_lines.rulings_of(ruling)[0][0]
+    stays = f"{new.race} {new.sail}" if new.kind == "REINSTATE" else ""
+    return Ruled(before, text, name, values, (*first, *found.lines), tuple(why), stays)
 
 
-def take_out(folder: Folder, facts: Facts, row: str, is_begun: bool = False) -> Ruled:
+def lines_before(text: str, ruling: str, facts: Facts, known: Entries) -> list[Line]:
+    """What comes before an amended decision: the DNF that TLE or NSC gave her goes, unless it is one of these again."""
+    new = decision_lines.rulings_of(ruling)[0][0]
+    old = next((one for one in decision_lines.rulings_of(text)[0] if one.key == new.key), new)
+    return taken_out(old, facts.sheet.journal, Known(*known)) if old.kind in OUT and new.kind not in OUT else []
+
+
+def take_out(folder: Folder, facts: Facts, row: str, known: Entries = NO_ENTRIES, is_begun: bool = False) -> Ruled:
     """What it takes to take a row out of decisions.txt. One that can't be read has no lines in the journal. If it
     `is_begun`, the row may have gone already."""
     before = decision_lines.read(folder.path)
     if not row or not (has_row(before, row) or is_begun):
         raise NotSent(remark("decision-gone"))
     ruling = next(iter(decision_lines.rulings_of(row)[0]), None)
-    lines = taken_out(ruling, facts.sheet.journal) if ruling else []
+    lines = taken_out(ruling, facts.sheet.journal, Known(*known)) if ruling else []
     return Ruled(before, without_row(before, row), row, {}, tuple(lines), ())
 
 
@@ -153,10 +180,12 @@ def keep_decisions(folder: Folder, found: Ruled) -> None:
 def decisions_shown(folder: Folder, facts: Facts) -> list[Values]:
     """The decisions of the class, and what each comes to now."""
     text = decision_lines.read(folder.path)
-    if not text.strip():
-        return []
-    found, rows = decided(folder.program, options_of(folder), facts.sheet.journal, text), lines_of(text)
-    shown = []
+    return decided_shown(decided(folder.program, options_of(folder), facts.sheet.journal, text)) if text.strip() else []
+
+
+def decided_shown(found: Decided) -> list[Values]:
+    """Decisions with what each comes to, and what of their file can't be read."""
+    shown, rows = [], lines_of(found.text)
     for verdict in found.verdicts:
         row = rows[verdict.ruling.line - 1].strip()
         shown.append(verdict_shown(verdict, row.partition("#")[2].strip()) | {"row": row})

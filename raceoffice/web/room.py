@@ -12,8 +12,11 @@ from collections.abc import Callable, Sequence
 from raceoffice import system
 from raceoffice.errors import NoSeat, NotSent, Served, Trouble, as_trouble
 from raceoffice.files import PRIVATE, PRIVATE_MODE, text_if_any
+from raceoffice.program.journal import Race
 from raceoffice.program.link import Link, Sheet
+from raceoffice.program.standing import Standing
 from raceoffice.remarks import packed, remark
+from raceoffice.results.decisions_now import FILE, DecisionsNow
 from raceoffice.series.folder import Folder
 from raceoffice.series.kept_places import History, Places
 from raceoffice.series.lost_lines import as_kept
@@ -21,11 +24,13 @@ from raceoffice.session.facts import Facts
 from raceoffice.session.question_words import question
 from raceoffice.session.undo import later_entry
 from raceoffice.traces import guarded
-from raceoffice.web.finish_order import line_in_order
+from raceoffice.web.finish_order import line_in_order, later_in_order
+from raceoffice.web.preview import decided_shown
+from raceoffice.web.sheet_waits import with_reasons
 from raceoffice.web.states import (Values, boats_of, moves_of, races_of, rules_of, said_of, standing_of, unlisted)
 from raceoffice.web.tap_session import DROPPED, TapSession
 from raceoffice.web.taps import PLACED, Register, Sent, Tap, number_of, said_again
-from raceoffice.web.timed_taps import TimedTap, is_timed_tap, sheets_shown, with_typed_times
+from raceoffice.web.timed_taps import TimedTap, boats_waiting, is_timed_tap, sheets_shown, with_typed_times
 from raceoffice.web.timed_undo import timed_undo
 
 # Seconds between two looks at whether the journal has grown, and between two tries at an office that isn't
@@ -57,7 +62,7 @@ class Room:
         self.reader: Link | None = None
         # Links with a line that the office may still take.
         self.late: list[Link] = []
-        self.facts, self.names = Facts(folder), self.names_now()
+        self.facts, self.decisions, self.files = Facts(folder), DecisionsNow(folder), self.files_now()
         self.places, self.history = Places(folder), History()
         self.places_seen: object = None
         self.trouble, self.version = "the office isn't open yet", int(time.time() * 1000)
@@ -77,11 +82,11 @@ class Room:
     # What is shown
 
     def see(self, link: Link) -> Facts:
-        """What the office shows now. It is asked only if the journal's file or the entry list is another: the
-        file has each entry before that is answered."""
+        """What the office shows now. It is asked only if the journal's file, the entry list or decisions.txt is
+        another: the journal's file has each entry before that is answered."""
         with self.looking:
             size = self.size_now()
-            if size != self.size or self.trouble or self.names != self.names_now():
+            if size != self.size or self.trouble or self.files != self.files_now():
                 sheet = link.sheet()
                 self.take(sheet)
                 self.size = size
@@ -91,9 +96,9 @@ class Room:
         """Takes over what an office shows; those who wait learn of it if it is new."""
         before, was_open = self.facts, not self.trouble
         self.openings += not was_open
-        if self.names != (names := self.names_now()) or not was_open:
+        if self.files != (files := self.files_now()) or not was_open:
             # An office that has come may have other settings, too.
-            self.names, fresh = names, Facts(self.folder)
+            self.files, fresh = files, Facts(self.folder)
         elif before.sheet == sheet and was_open:
             return
         else:
@@ -108,12 +113,9 @@ class Room:
         self.look_at_places()
         self.news()
 
-    def names_now(self) -> object:
-        """What is another whenever the entry list is."""
-        with contextlib.suppress(OSError):
-            found = os.stat(self.folder.entries)
-            return found.st_mtime_ns, found.st_size
-        return None
+    def files_now(self) -> list[object]:
+        """What is another whenever the entry list or decisions.txt is."""
+        return [stamp_of(self.folder.entries), stamp_of(self.folder.file(FILE))]
 
     def look_at_places(self) -> bool:
         """Reads the places that are kept; whether they are others. If that can't be, those stay that were
@@ -138,13 +140,15 @@ class Room:
             "boats": boats_of(facts), "races": self.races(facts)}
         if is_whole:
             found |= {"standing": standing_of(facts.standing), "last": self.last,
-                      "unlisted": unlisted(facts), "journal": facts.sheet.journal[-SHOWN:]}
+                      "unlisted": unlisted(facts), "journal": facts.sheet.journal[-SHOWN:],
+                      "unfinished": self.register.unfinished(facts.sheet.journal),
+                      "decisions": decided_shown(self.decisions.look(facts.sheet))}
         return found
 
     def races(self, facts: Facts) -> Values:
         """The races of which anything is recorded, with their sheets of times if the class has some."""
         moments = self.register.moments(facts.sheet.journal)
-        sheets = sheets_shown(self.folder)
+        sheets = with_reasons(self.folder, sheets_shown(self.folder))
         return {number: values | ({"sheet": sheets[int(number)]} if int(number) in sheets else {})
                 for number, values in races_of(facts, self.history.waiting, moments, sheets).items()}
 
@@ -271,6 +275,7 @@ class Room:
     def settle(self) -> None:
         """Notes what came of each tap that was begun and never ended, as the journal has it now."""
         with self.lock:
+            self.register.learn(self.facts.sheet.journal)
             for sent in [one for one in self.register.sent.values() if not one.answer and one.line.split()]:
                 answer, mark = self.answer_found(sent)
                 if answer:
@@ -280,7 +285,7 @@ class Room:
         """The answer to something that was begun and never ended, by the journal or by the places that are
         kept; and the place that it is about. Empty if nothing came of it."""
         first, *rest = sent.line.split()
-        if "/" not in sent.id and is_timed_tap(self.folder, sent.line):
+        if "/" not in sent.id and self.is_for_sheet(sent.id, sent.line, sent.role):
             # It may take several lines, each of which has a note of its own: what is left of them is still to be done.
             return "", ""
         if "?" not in first:
@@ -299,8 +304,13 @@ class Room:
 
     def done_now(self, session: TapSession, tap: Tap) -> Values:
         """Does a tap; what came of it."""
-        line = self.line_of(session, tap)
-        is_timed = is_timed_tap(self.folder, line)
+        if tap.undoes:
+            # What came of that one is known before it is undone.
+            self.done(Tap(tap.undoes, ""))
+        line, before, last = self.line_of(session, tap), self.facts.standing, self.last
+        if line.startswith("SCORE ") and (waiting := boats_waiting(self.folder, self.facts.race(line.split()[1]))):
+            session.say_of("sheet-waits", fault=", ".join(map(self.facts.called, waiting)))
+        is_timed = self.is_for_sheet(tap.id, line, session.role)
         is_taken = TimedTap(session, line).is_taken() if is_timed else session.is_tap_taken(line)
         sent = self.register.sent.get(tap.id)
         if sent is None:
@@ -310,11 +320,23 @@ class Room:
         said = [[one.text, one.kind, one.what, {name: packed(value) for name, value in one.values.items()}]
                 for one in session.said]
         answer = sent.answer or (session.answer if is_timed else "") or ("NOTED" if is_taken else "NO")
+        # Whoever looked at the journal before the answer was noted hasn't learnt whose its last entries are.
+        self.register.learn(self.facts.sheet.journal)
+        if is_timed:
+            # It has the entry of the line that was answered so.
+            sent.own = next((part.own for part in self.register.parts(sent.id) if part.answer == answer), "")
         self.register.end(sent.id, answer, session.mark, said)
         with self.looking:
             self.look_at_places()
+            if session.is_of_several:
+                self.last = self.change_of(before, sent.line, session.role) or last
         self.news()
         return outcome_of(sent, False, self.facts.sheet.journal)
+
+    def change_of(self, before: Standing, line: str, role: str) -> Values:
+        """Whom a tap of several lines has moved in all, as each of them alone has moved others; empty if nobody."""
+        moves = moves_of(before, self.facts.standing, self.facts)
+        return {"at": int(time.time() * 1000), "moves": moves, "line": line, "role": role} if moves else {}
 
     def line_of(self, session: TapSession, tap: Tap) -> str:
         """The line of a tap, of which it is clear that it is meant, and where a finisher belongs."""
@@ -331,13 +353,18 @@ class Room:
                 raise NotSent(remark("times-form"))
             return tap.line
         self.check_undo(session, tap)
+        if first.endswith("?") and len(rest) == 1 and tap.behind is not None:
+            session.later = self.later_of_place(session, tap, rest[0])
         if "?" in first or first in ("UNDO", "ABANDON"):
             return tap.line
         if tap.undoes and not self.is_undoable(tap):
             raise NotSent(remark("undo-nothing"))
+        if tap.undoes and self.register.sent[tap.undoes].line.startswith("STRIKE "):
+            # Only the office knows where she was among the places that are kept.
+            return "UNDO"
         typed, times = with_typed_times(self.folder, tap.line)
         line = session.line(typed)
-        if is_timed_tap(self.folder, line):
+        if self.is_for_sheet(tap.id, line, session.role):
             return f"{line} {times}".rstrip()
         if line.startswith("FINISH "):
             moments = self.register.moments(self.facts.sheet.journal)
@@ -345,10 +372,24 @@ class Room:
         self.ask_again(session, tap, line)
         return line
 
+    def later_of_place(self, session: TapSession, tap: Tap, number: str) -> str:
+        """Who finished after the one whose place a tap keeps; empty if nobody who is recorded did."""
+        race = session.facts.race(number).number
+        order = session.history.order(race).standing(session.unread.marks(race))
+        moments = self.register.moments(self.facts.sheet.journal)
+        times = {sail: at for (of, sail), (at, _) in moments.items() if of == race}
+        times |= {mark: at for (of, mark), at in self.register.moments_of_places().items() if of == race}
+        return later_in_order(session.facts, times, tap, Race(race, order))
+
     def line_of_undo(self, session: TapSession, tap: Tap) -> str:
         """The line that undoes a tap for a sheet of times; empty if it was none for one."""
         sent = self.register.sent.get(tap.undoes)
-        return timed_undo(session, sent) if sent and is_timed_tap(self.folder, sent.line) else ""
+        return timed_undo(session, sent) if sent and self.is_for_sheet(sent.id, sent.line, sent.role) else ""
+
+    def is_for_sheet(self, id: str, line: str, role: str) -> bool:
+        """Whether a tap is one for a sheet of times. A decision's lines are the office's alone: so it takes nothing out of a
+        sheet, and all that it took away can be given back."""
+        return is_timed_tap(self.folder, line, role) and not self.register.is_of_decision(id)
 
     def check_undo(self, session: TapSession, tap: Tap) -> None:
         """Keeps an undo from taking back what somebody else has done: NotSent if they have changed the boat's place, or
@@ -376,8 +417,10 @@ class Room:
         if words[0] in PLACED and race and race.is_in_order(words[2]):
             # The office refuses it (8).
             return
-        commands, wanted = session.facts.commands, as_kept(line)
-        later = [at for at, text in enumerate(commands[tap.seen:], tap.seen + 1) if text == wanted]
+        commands, wanted, journal = session.facts.commands, as_kept(line), session.facts.sheet.journal
+        # A finisher whose tap was undone may be tapped again on the same device.
+        own = self.register.entries_by(session.name, journal) if words[0] in PLACED else ()
+        later = [at for at, text in enumerate(commands[tap.seen:], tap.seen + 1) if text == wanted and journal[at - 1] not in own]
         if later:
             session.is_agreed(question("sent-already", session.facts.called, line=line, entry=later[-1]))
 
@@ -397,6 +440,14 @@ def held_alone(folder: Folder, address: str = "") -> int:
         os.ftruncate(file, 0)
         os.pwrite(file, address.encode(), 0)
     return file
+
+
+def stamp_of(path: str) -> object:
+    """What is another whenever a file is; None if there is none."""
+    with contextlib.suppress(OSError):
+        found = os.stat(path)
+        return found.st_mtime_ns, found.st_size
+    return None
 
 
 def heard(link: Link) -> bytes | None:

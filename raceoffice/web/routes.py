@@ -20,11 +20,11 @@ from raceoffice.series.entry_list import plain
 from raceoffice.series.folder import Folder
 from raceoffice.session.confirm import questions
 from raceoffice.session.dialogue import Question
-from raceoffice.session.parse import COMMANDS, MAY
+from raceoffice.session.parse import COMMANDS, FIRST, MAY
 from raceoffice.terminal import sentence
 from raceoffice.traces import guarded
-from raceoffice.web import (boat_names, new_series, preview, qr, rulings, series_beside, series_settings, sticks,
-                            times_sheet)
+from raceoffice.web import (boat_names, corrections, new_series, preview, qr, rulings, series_beside, series_settings,
+                            sticks, times_sheet)
 from raceoffice.web.declarations import Unasked
 from raceoffice.web.downloads import download
 from raceoffice.web.finish_order import Elsewhere
@@ -293,6 +293,8 @@ class Routes:
                 return self.open(request, self.room(name))
             case ["close", name]:
                 return self.close(request, self.room(name))
+            case ["correct", name]:
+                return self.correct(request, device, self.room(name))
             case ["declare", name]:
                 return self.declare(request, device, self.one(name))
             case ["list"]:
@@ -354,6 +356,16 @@ class Routes:
         """Keeps a decision in decisions.txt, or takes it out, and sends the lines that it takes. The same again gets
         the same answer."""
         done = rulings.decide(room, request.values(), device.name)
+        return reply_of({"outcome": "taken", "done": done, "version": room.version})
+
+    @staticmethod
+    def correct(request: Request, device: Device, room: Room) -> Reply:
+        """Sends the lines of a correction, or leaves what is left of one."""
+        values = request.values()
+        if values.get("leave") is True:
+            corrections.leave_rest(room, values)
+            return reply_of({"outcome": "left", "version": room.version})
+        done = corrections.correct(room, values, device.name)
         return reply_of({"outcome": "taken", "done": done, "version": room.version})
 
     # What the scorer may do beside lines
@@ -531,7 +543,7 @@ def tap_of(values: dict[str, Any]) -> Tap:
 
 def is_idle(done: Values) -> bool:
     """Whether a tap was refused, or there was nothing to do for it: the register grows, and no journal does."""
-    return done["outcome"] == "refused" or done["outcome"] == "noted" and str(done["line"]).startswith("ABANDON ")
+    return done["outcome"] == "refused" or done["outcome"] == "noted" and str(done["line"]).startswith(("ABANDON ", "UNDO"))
 
 
 def agreed_of(request: Request) -> tuple[Question, ...]:
@@ -558,7 +570,8 @@ def check_command(line: str, role: str) -> None:
     """Only lines of the role's own kinds reach a session: no ROLE, SHOW or QUIT."""
     first, *rest = line.split() or [""]
     command = COMMANDS.get(first, first)
-    if rest and rest[-1] in COMMANDS and command not in MAY[role]:
+    if rest and rest[-1] in COMMANDS and first not in FIRST:
+        # A boat, and then her code
         command = COMMANDS[rest[-1]]
     own = OWN | ({"START", "TIMES"} if "FINISH" in MAY[role] else set())
     if command not in MAY[role] | own and "?" not in command:

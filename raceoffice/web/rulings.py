@@ -20,15 +20,16 @@ from raceoffice.web.room import Room
 from raceoffice.web.series_settings import tag_of
 from raceoffice.web.states import Values, remarks_of
 from raceoffice.web.tap_session import Asked
-from raceoffice.web.taps import NoTap, Tap
+from raceoffice.web.taps import NoTap, Tap, part_id
 
 
 def ruled(room: Room, values: Mapping[str, Any], is_begun: bool = False) -> preview.Ruled:
     """The decision that a request gives, with its note, or the row of one that it takes out."""
+    known = room.register.known_in(room.facts.sheet.journal)
     if values.get("out") is True:
-        return preview.take_out(room.folder, room.facts, str(values.get("line", "")).strip(), is_begun)
+        return preview.take_out(room.folder, room.facts, str(values.get("line", "")).strip(), known, is_begun)
     note = preview.note_of(str(values.get("note", "")))
-    return preview.decide(room.folder, room.facts, one_line(values, "line"), note)
+    return preview.decide(room.folder, room.facts, one_line(values, "line"), known, note)
 
 
 def one_line(values: Mapping[str, Any], name: str) -> str:
@@ -91,7 +92,7 @@ class Decision:
         for asked in asked_first(self.room, found.lines):
             if asked not in self.tap.agreed:
                 raise Asked(asked, [])
-        self.room.register.decide(self.tap.id, found.lines)
+        self.room.register.decide(self.tap.id, found.lines, found.stays)
         if not self.is_out:
             self.keep(found)
         return found.lines
@@ -123,4 +124,4 @@ def tap_of(values: Mapping[str, Any]) -> Tap:
 
 def part_of(tap: Tap, at: int, line: str = "") -> Tap:
     """The tap of one line of a decision."""
-    return Tap(f"{tap.id[:-3]}{at:03x}", line, tap.at, agreed=tap.agreed)
+    return Tap(part_id(tap.id, at), line, tap.at, agreed=tap.agreed)

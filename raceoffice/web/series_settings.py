@@ -27,6 +27,7 @@ from raceoffice.web import preview
 from raceoffice.web.kept_office import KeptOffice
 from raceoffice.web.new_series import GIVEN, setting_given, wrong_in, wrong_settings
 from raceoffice.web.states import Values, remarks_of, rules_of
+from raceoffice.web.timed_taps import sheets_shown
 
 # What pages show as soon as it is saved.
 AT_ONCE = ("title", "class", "club")
@@ -106,11 +107,20 @@ def effect(folder: Folder, facts: Facts, values: Mapping[str, Any]) -> Values:
     before = settings.DEFAULTS | settings.values_of(text)
     if wrong := wrong_settings(before | given):
         return wrong
+    need_no_race(folder, facts, given.get("zone", before["zone"]) != before["zone"])
     wanted, opened = settings.settings_of(before | given), preview.opened_settings(folder)
     found: Values = {"wrong": [], "keys": [], "rules": wanted.in_words(), "settings": rules_of(wanted),
                      "at_once": [key for key in AT_ONCE if given.get(key, before[key]) != before[key]],
                      "at_opening": waiting(folder, wanted, opened)}
     return found | preview.effect_of_rules(folder, facts, wanted.options()) | effect_of_rounding(folder, facts, values)
+
+
+def need_no_race(folder: Folder, facts: Facts, is_zone: bool) -> None:
+    """NotSent if the time zone would change while a race is on: the times of one race are by one clock."""
+    sheets = sheets_shown(folder) if is_zone and facts.sheet.journal else {}
+    for race in [race for race, sheet in sheets.items() if sheet["start"] or sheet["rows"]]:
+        if not facts.race(str(race)).counts:
+            raise NotSent(remark("zone-in-race", race=race))
 
 
 def effect_of_rounding(folder: Folder, facts: Facts, values: Mapping[str, Any]) -> Values:

@@ -1,9 +1,10 @@
 """The session of one role whose answers come with each tap, and whose lines go through the register."""
 from __future__ import annotations
 
+import contextlib
 import os
 import time
-from collections.abc import Callable, Sequence
+from collections.abc import Callable, Iterator, Sequence
 
 from raceoffice.errors import NotSent, Trouble
 from raceoffice.program.journal import Race
@@ -26,6 +27,8 @@ from raceoffice.web.taps import Register, Sent, Tap, last_numbers, number_of
 
 # How the register has a place that was dropped, or kept again.
 DROPPED, KEPT_AGAIN = "NONE", "AGAIN"
+# How the register has a tap that was undone before it came, and an undo that had nothing to take back.
+UNDONE = "UNDO"
 # Seconds for which a tap waits, in all, for windows that write places: one may have been stopped. Others wait for the tap.
 PLACES = 2.0
 # What isn't asked of somebody who taps Undo.
@@ -48,6 +51,8 @@ class TapSession(Session):
         self.register, self.see = register, see
         self.said: list[Said] = []
         self.tap, self.lines, self.mark, self.answer = Tap("", ""), 0, "", ""
+        # Who finished after the one whose place the tap keeps, if somebody is recorded who did.
+        self.later = ""
         # Whether a tap may take several lines, each of which has a note of its own.
         self.is_of_several = False
         # The boats that aren't entered, whose rows in sheets of times were said to be left out.
@@ -63,6 +68,26 @@ class TapSession(Session):
             self.disconnect()
             raise
 
+    @contextlib.contextmanager
+    def in_role(self, role: str) -> Iterator[None]:
+        """Sends what follows from a line of this role in the role that sends it. After a fault the next line has a link of
+        its own."""
+        own = self.role
+        if role == own:
+            yield
+            return
+        self.office().ask(f"ROLE {role}")
+        self.role = role
+        try:
+            yield
+        except BaseException:
+            if not self.unanswered:
+                self.disconnect()
+            raise
+        finally:
+            self.role = own
+        self.office().ask(f"ROLE {own}")
+
     def look_at_journal(self) -> None:
         self.facts = self.see(self.office())
 
@@ -71,7 +96,7 @@ class TapSession(Session):
         if asked.kind == "place-is":
             # Who taps a boat doesn't mean a place: that has taps of its own.
             return False
-        if asked in self.tap.agreed or self.tap.line == "UNDO" and asked.kind in MEANT_BY_UNDO:
+        if asked in self.tap.agreed or self.tap.undoes and asked.kind in MEANT_BY_UNDO:
             return True
         raise Asked(asked, self.said)
 
@@ -80,7 +105,7 @@ class TapSession(Session):
     def begin(self, tap: Tap, name: str) -> None:
         """Begins with a tap of a device."""
         self.tap, self.name, self.lines, self.mark, self.answer, self.at = tap, name, 0, "", "", None
-        self.is_of_several = tap.line.startswith("ABANDON ")
+        self.is_of_several, self.later = tap.line.startswith("ABANDON "), ""
         self.twins.end = time.monotonic() + PLACES
         self.places = Places(self.folder, name, self.twins.end)
         self.said.clear()
@@ -104,9 +129,22 @@ class TapSession(Session):
         return keep_or_send(self, mark, [word.lower() for word in rest[1:]])
 
     def undo_tap(self) -> bool:
-        """Takes back what another tap has done."""
-        self.done = self.done_by(self.register.sent.get(self.tap.undoes))
+        """Takes back what another tap has done. One of which nothing came isn't done any more, should it still come."""
+        sent = self.register.sent.get(self.tap.undoes)
+        if self.tap.undoes and self.is_without_effect(sent):
+            if sent is None or not sent.answer:
+                self.note_begin(self.tap.undoes, UNDONE)
+                self.register.end(self.tap.undoes, "NOTED")
+            return True
+        self.done = self.done_by(sent)
         return undo(self)
+
+    def is_without_effect(self, sent: Sent | None) -> bool:
+        """Whether a tap is known to have done nothing. By corrected time a line may be refused, or be without an answer,
+        and its sheet be written."""
+        if sent is None or sent.line == UNDONE:
+            return True
+        return not self.folder.settings.handicap and not sent.answer.startswith(("OK ", "NOTED"))
 
     def done_by(self, sent: Sent | None) -> Done:
         """What a tap has done; NotSent if nothing stands of it."""
@@ -123,11 +161,14 @@ class TapSession(Session):
 
     # What is noted in the register before it is done
 
+    def sent_now(self, id: str, line: str) -> Sent:
+        """What the register is to have of a line, as the journal is now."""
+        journal = self.facts.sheet.journal
+        return Sent(id, self.role, line, self.tap.at, self.name, len(journal), os.getpid(), numbers=last_numbers(journal))
+
     def note_begin(self, id: str, line: str) -> None:
         """Notes, on the disk, that a line is about to be sent, or something else to be done."""
-        journal = self.facts.sheet.journal
-        self.register.begin(Sent(id, self.role, line, self.tap.at, self.name, len(journal), os.getpid(),
-                                 numbers=last_numbers(journal)))
+        self.register.begin(self.sent_now(id, line))
 
     @property
     def is_begun(self) -> bool:
@@ -139,9 +180,9 @@ class TapSession(Session):
         """Whether the lines of this tap are noted: what comes before them was done then."""
         return f"{self.tap.id}/0" in self.register.decisions
 
-    def note_lines(self, lines: Sequence[str]) -> None:
+    def note_lines(self, lines: Sequence[Line]) -> None:
         """Notes the lines of a tap of several, before the first is sent."""
-        self.register.decide(f"{self.tap.id}/0", [Line(self.role, line) for line in lines])
+        self.register.decide(f"{self.tap.id}/0", lines)
 
     def note_back(self, lines: Sequence[str]) -> None:
         """Notes by which lines this tap is undone, before anything is taken away."""
@@ -175,9 +216,9 @@ class TapSession(Session):
         self.register.end(id, self.answer, self.mark)
         return self.answer
 
-    def keep(self, race: Race, typed: str, twin: Twin = Twin()) -> str:
+    def keep(self, race: Race, typed: str, twin: Twin = Twin(), later: str = "") -> str:
         self.note_begin(self.tap.id, f"{typed}? {race.number}")
-        self.mark = super().keep(race, typed, twin)
+        self.mark = super().keep(race, typed, twin, later or self.later)
         return self.mark
 
     def drop(self, waiting: list[Unread], why: str) -> None:

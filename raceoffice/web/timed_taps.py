@@ -3,9 +3,7 @@ of that goes to the office as lines."""
 from __future__ import annotations
 
 import dataclasses
-import datetime
 import functools
-import zoneinfo
 from collections.abc import Sequence
 
 from raceoffice.corrected.sheets import Entry, entries_of, with_seconds
@@ -13,6 +11,8 @@ from raceoffice.corrected.times import Rules, Sheets
 from raceoffice.corrected.write_sheet import SheetOfRace, is_for_sheet
 from raceoffice.errors import NotNow, NotSent, NotThere, Trouble
 from raceoffice.program.codes import OF_JURY
+from raceoffice.program.journal import Race
+from raceoffice.program.replay import Line
 from raceoffice.remarks import remark
 from raceoffice.series.folder import Folder
 from raceoffice.series.race_sheets import races_with_sheet, sheet_name
@@ -21,6 +21,8 @@ from raceoffice.series.sender import not_taken
 from raceoffice.session.sending import is_meant, transmit
 from raceoffice.session.facts import Facts
 from raceoffice.terminal import sentence
+from raceoffice.web.race_start import by_clock_of_start, clock_of_race, clock_text, was_given_before
+from raceoffice.web.row_changes import cells_of, is_answered, is_made, note_tapped_too
 from raceoffice.web.states import Values, remarks_of
 from raceoffice.web.tap_session import TapSession
 from raceoffice.web.timed_undo import lines_back
@@ -31,18 +33,19 @@ DAY = 86400
 TIMED = ("START", "TIMES", "FINISH", "ELAPSED", "STRIKE", "MARK", "CLEAR")
 
 
-def is_timed_tap(folder: Folder, line: str) -> bool:
-    """Whether a tap is one for the sheet. What the jury gives is none."""
+def is_timed_tap(folder: Folder, line: str, role: str) -> bool:
+    """Whether a tap is one for the sheet. What the jury gives is none, and of what is in a sheet it clears codes alone."""
     words = line.split() or [""]
-    return folder.settings.handicap and words[0] in TIMED and not (words[0] == "MARK" and words[-1] in OF_JURY)
+    taps = ("CLEAR",) if role == "JURY" else TIMED
+    return folder.settings.handicap and words[0] in taps and not (words[0] == "MARK" and words[-1] in OF_JURY)
 
 
 class TimedTap:
     """One tap for the sheet of its race.
 
-    The web may die between any two steps. The register has the tap before the sheet is written, its lines once it
-    was, and each line before it is sent. So the same tap again doesn't write a sheet that has it already, and sends
-    what is left.
+    The web may die between any two steps. The register has the tap before the sheet is written, with what it changes
+    there, its lines once it was, and each line before it is sent. So the same tap again doesn't write a sheet that has, or
+    had, what it makes of it, and sends what is left.
     """
 
     def __init__(self, session: TapSession, line: str) -> None:
@@ -59,23 +62,54 @@ class TimedTap:
 
     def is_taken(self) -> bool:
         """Writes what was tapped into the sheet, and sends the lines that differ; whether all were taken."""
-        if not self.is_written:
-            sheet = SheetOfRace(self.folder, self.race.number)
-            before = sheet.cells(self.sail)
-            self.change(sheet)
-            # All lines of a tap are about one race: what is asked of one is asked of all.
-            if not is_meant(self.session, self.likely_line()):
-                return self.session.not_sent()
-            if not self.is_begun or before != sheet.cells(self.sail):
-                # Otherwise the sheet was written at an earlier try.
-                self.session.note_back(lines_back(self.command, self.race, self.sail, before))
-            self.session.note_begin(self.session.tap.id, " ".join([self.command, str(self.race.number), *self.rest]))
-            write(sheet)
+        sent = self.session.register.sent.get(self.session.tap.id)
+        if self.is_decided and not (sent and sent.made):
+            # The office refuses it, and says why.
+            return transmit(self.session, " ".join([self.command, str(self.race.number), *self.rest]))
+        if not self.is_written and not self.is_sheet_written():
+            return self.session.not_sent()
         lines = self.lines()
         if not self.is_written:
-            self.session.note_lines(lines)
+            self.session.note_lines([Line(self.role_of(line), line) for line in lines])
         self.session.is_of_several = True
         return self.are_taken(lines)
+
+    def is_sheet_written(self) -> bool:
+        """Writes what was tapped into the sheet, if that hasn't had it from an earlier try; whether that is meant."""
+        sheet, register = SheetOfRace(self.folder, self.race.number), self.session.register
+        before, sent = cells_of(sheet, self.sail), register.sent.get(self.session.tap.id)
+        if sent and is_made(register, sent, before):
+            # Somebody may have changed it since.
+            return True
+        if sent and sent.made and before != sent.was and not self.is_first_finish:
+            raise NotSent(remark("sheet-changed"))
+        self.change(sheet)
+        # All lines of a tap are about one race: what is asked of one is asked of all.
+        if not is_meant(self.session, self.likely_line()):
+            return False
+        after = cells_of(sheet, self.sail)
+        if self.sail and (not self.is_begun or before != after):
+            # An older package may have written the sheet at an earlier try.
+            self.session.note_back(lines_back(self.command, self.race, self.sail, before))
+        line = " ".join([self.command, str(self.race.number), *self.rest])
+        register.begin(dataclasses.replace(self.session.sent_now(self.session.tap.id, line), was=before, made=after))
+        write(sheet)
+        return True
+
+    @property
+    def is_decided(self) -> bool:
+        """Whether only the jury may change what she holds."""
+        is_of_jury = self.race.codes.get(self.sail) in OF_JURY or self.sail in self.race.redress
+        return self.session.role != "JURY" and self.command in ("MARK", "CLEAR") and is_of_jury
+
+    def role_of(self, line: str) -> str:
+        """The role that sends a line: what the sheet gives back of a boat that the jury clears is the committee's."""
+        return "SCORER" if self.session.role == "JURY" and not line.startswith("CLEAR ") else self.session.role
+
+    @property
+    def is_first_finish(self) -> bool:
+        """Whether it takes nothing away, whatever the sheet has by now."""
+        return self.command == "FINISH" and len(self.rest) == 1
 
     def are_taken(self, lines: Sequence[str]) -> bool:
         """Sends lines; whether all that the tap is about were taken. After a refusal no more is sent of that boat, and
@@ -83,7 +117,8 @@ class TimedTap:
         before, answers = self.session.answer, list[tuple[str, str]]()
 
         def is_line_taken(line: str) -> bool:
-            is_good = transmit(self.session, line)
+            with self.session.in_role(self.role_of(line)):
+                is_good = transmit(self.session, line)
             answers.append((line.split()[2], self.session.answer))
             return is_good
         not_taken(lines, is_line_taken)
@@ -102,9 +137,7 @@ class TimedTap:
     def change(self, sheet: SheetOfRace) -> None:
         """Changes the sheet as it was tapped; NotSent if that can't be."""
         if self.command == "START":
-            text = self.rest[0] if self.rest else clock_text(self.folder, self.session.tap.at)
-            self.rest = [text]
-            sheet.start(text, self.session.facts.boats)
+            self.start(sheet)
         elif self.command == "TIMES" and not sheet.rows:
             raise NotSent(remark("no-sheet", race=self.race.number))
         elif self.command == "ELAPSED":
@@ -112,7 +145,7 @@ class TimedTap:
         elif self.command == "FINISH" and self.is_given_back:
             sheet.give_back(self.sail, self.rest[1])
         elif self.command == "FINISH":
-            sheet.finish(self.sail, *(self.rest[1:] or [clock_text(self.folder, self.session.tap.at)]))
+            self.finish(sheet)
         elif self.command == "STRIKE":
             if not (sheet.take_finish(self.sail) or self.sail in self.race.times or self.is_begun):
                 raise NotSent(remark("no-finish", boat=self.session.facts.called(self.sail), race=self.race.number))
@@ -120,6 +153,32 @@ class TimedTap:
             sheet.code(self.sail, self.rest[-1])
         elif self.command == "CLEAR":
             sheet.code(self.sail, "")
+
+    def start(self, sheet: SheetOfRace) -> None:
+        """Gives the race its start. If it has had another one since the tap, that is asked."""
+        register, at, before = self.session.register, self.session.tap.at, sheet.starts
+        text = self.rest[0] if self.rest else clock_text(self.folder, at)
+        self.rest = [text]
+        sheet.start(text, self.session.facts.boats)
+        if before != sheet.starts and before and not was_given_before(register, self.race.number, before[0], at):
+            self.session.is_yes(self.session.question("start-since", race=self.race.number, start=before[0],
+                                                      written=sheet.starts[0]))
+        by_clock_of_start(self.folder, register, self.race.number, sheet, at)
+
+    def finish(self, sheet: SheetOfRace) -> None:
+        """Gives the boat her finish. A tap at a boat that has another one is noted."""
+        try:
+            sheet.finish(self.sail, *(self.rest[1:] or [self.clock(sheet)]))
+        except NotSent:
+            if self.is_first_finish and sheet.cell(sheet.row(self.sail), "finish"):
+                note_tapped_too(self.session, f"FINISH {self.race.number} {self.sail}")
+            raise
+
+    def clock(self, sheet: SheetOfRace) -> str:
+        """The moment of the tap by the clock of the race."""
+        own = with_seconds("start", sheet.cell(sheet.row(self.sail), "start"))
+        start = own or (sheet.starts[0] if len(sheet.starts) == 1 else "")
+        return clock_of_race(self.folder, self.session.register, self.race.number, start, self.session.tap.at)
 
     def lines(self) -> list[str]:
         """The lines after which the journal is as the sheet says. Without a start there are none yet."""
@@ -138,7 +197,8 @@ class TimedTap:
                                                             fault=fault))
         if self.session.role == "SCORER":
             self.say_left_out(found.strangers)
-        return own + [line for line in found.lines if line not in own]
+        others = [line for line in found.lines if line not in own]
+        return own + [line for line in others if self.session.role != "JURY" or line.split()[2] == self.sail]
 
     def say_left_out(self, sails: Sequence[str]) -> None:
         """Says whose rows are left out, until they are others once."""
@@ -147,11 +207,13 @@ class TimedTap:
                 self.session.say_of("row-left-out", sail=sail, name=sheet_name(self.race.number))
 
     def own_lines(self) -> list[str]:
-        """The lines that aren't those of a finish or a code in the sheet. What somebody else has taken away since an
-        earlier try isn't taken away again."""
-        is_held = bool(self.race.held(self.sail)) or not self.is_begun
+        """The lines that aren't those of a finish or a code in the sheet. What somebody else has taken away or given since
+        an earlier try isn't taken away again."""
+        line, sent = f"{self.command} {self.race.number} {self.sail}", self.session.register.sent[self.session.tap.id]
+        # If there is nothing to clear, the office says so.
+        is_held = bool(self.race.held(self.sail)) or not self.is_begun and not sent.was.get("code")
         if self.command == "STRIKE" and self.sail in self.race.times or self.command == "CLEAR" and is_held:
-            return [f"{self.command} {self.race.number} {self.sail}"]
+            return [] if is_answered(self.session, sent) else [line]
         return []
 
 
@@ -173,13 +235,6 @@ def with_typed_times(folder: Folder, typed: str) -> tuple[str, str]:
     return " ".join(words[:3]), " ".join(times)
 
 
-def clock_text(folder: Folder, at: int) -> str:
-    """A moment as the clock of the race office shows it, in the zone of the series."""
-    zone = folder.settings.zone
-    moment = datetime.datetime.fromtimestamp(at / 1000, datetime.timezone.utc)
-    return moment.astimezone(zoneinfo.ZoneInfo(zone) if zone else None).strftime("%H:%M:%S")
-
-
 def sheets_shown(folder: Folder) -> dict[int, Values]:
     """The sheets of a class by corrected time, by their races: the start, and each boat's finish, elapsed time
     and code; or what is wrong with one."""
@@ -197,6 +252,12 @@ def sheets_shown(folder: Folder) -> dict[int, Values]:
         found[race] = {"start": starts[0] if len(starts) == 1 else "", "wrong": remarks_of(wrong),
                        "rows": {row.sail: row_shown(row, race in nights) for row in rows if row.is_timed or row.code}}
     return found
+
+
+def boats_waiting(folder: Folder, race: Race) -> list[str]:
+    """The boats whose times or codes are in the sheet of a race, and not in the journal."""
+    rows = sheets_shown(folder).get(race.number, {}).get("rows")
+    return [sail for sail in rows if sail not in race.times and sail not in race.codes] if isinstance(rows, dict) else []
 
 
 def races_waiting(folder: Folder, facts: Facts, sail: str) -> list[int]:

@@ -4,8 +4,9 @@ from __future__ import annotations
 import os
 import unittest
 
+import web_devices
 from devices import Device
-from web_office import BOATS, SAILS, WebTrial, finishes
+from web_office import BOATS, FOLKBOATS, SAILS, WebTrial, entries_of, finishes
 
 # Two races: the boats in the order in which they finish.
 FIRST = list(range(22))
@@ -146,6 +147,20 @@ class Desks(WebTrial):
         self.assertEqual(self.journal()[-6:], [
             "SCORER FINISH 3 GBR101", "SCORER FINISH 3 GBR33", "SCORER TIE 3 NED12 GBR33",
             "SCORER STRIKE 1 GBR101", "SCORER STRIKE 1 GBR33", "SCORER STRIKE 1 NED12"])
+        # All of race 3 belongs to race 4, a code and a penalty, too.
+        for line in ("mark 3 den61 RET", "penalty 3 ned12 ZFP"):
+            scorer.type("#typed", line)
+            scorer.press("Send")
+            scorer.until(f"document.querySelector('#typed').value === '' && document.querySelector('.order').textContent.includes('{line[-3:]}')")
+        scorer.click("#other-race")
+        scorer.until("document.querySelector('dialog[open] #codes-too')?.checked")
+        scorer.run("document.querySelectorAll('dialog[open] select')[1].value = '4'")
+        scorer.choose("yes")
+        scorer.until("document.querySelectorAll('.order tbody tr').length === 0")
+        self.assertEqual(self.journal()[-10:], [
+            "SCORER FINISH 4 GBR101", "SCORER FINISH 4 GBR33", "SCORER TIE 4 NED12 GBR33", "SCORER PENALTY 4 NED12 ZFP",
+            "SCORER CLEAR 3 NED12", "SCORER MARK 4 DEN61 RET", "SCORER CLEAR 3 DEN61",
+            "SCORER STRIKE 3 GBR101", "SCORER STRIKE 3 GBR33", "SCORER STRIKE 3 NED12"])
         self.need_no_faults()
 
     def point(self, scorer: Device, sail: str, what: str, how: str, other: str) -> None:
@@ -227,6 +242,55 @@ class Desks(WebTrial):
         scorer.until("[...document.querySelectorAll('.chip')].some(one => one.textContent === 'open')")
         kept = [self.text("cup", "kept", name) for name in os.listdir(os.path.join(self.here, "cup", "kept"))]
         self.assertIn(self.text("cup", "journal.txt"), kept)
+
+
+class TwoClasses(WebTrial):
+    """A scorer's and a jury's desk with two classes."""
+    classes = {"cup": entries_of(BOATS), "fleet": entries_of(FOLKBOATS)}
+
+    def sail(self, desk: web_devices.Device, name: str, *sails: str) -> None:
+        for line in (*(f"FINISH 1 {sail}" for sail in sails), "SCORE 1"):
+            others = [boat[0].replace(" ", "") for boat in (BOATS if name == "cup" else FOLKBOATS)]
+            missing = [sail for sail in others if sail not in sails]
+            desk.tap(line, name=name, agreed=[{"kind": "score-missing", "values": {"race": 1, "sails": missing}}])
+
+    def test_decisions(self) -> None:
+        """A DPI that is out of date shows at once on the pages that are open. What the jury kept, and what it is just
+        choosing, is of one class: the other has neither."""
+        desk = web_devices.Device(self.port, "scorer").come(self.links["scorer"], "Ada")
+        self.sail(desk, "cup", *SAILS[:4])
+        self.sail(desk, "fleet", "GBR33", "NED80")
+        jury, scorer = self.device("jury", "Protest room"), self.device("scorer", "Bea’s laptop")
+        jury.until("!!document.querySelector('#race option')")
+        jury.click("#boat")
+        jury.click("dialog [data-sail=GBR7]")
+        jury.click("#what-DPI")
+        # As the page writes it in other languages
+        jury.type("#takes", "1,5")
+        jury.click("#send")
+        jury.choose("yes")
+        jury.until("document.querySelectorAll('.kept li').length === 1")
+        self.assertEqual(jury.count("#stale") + scorer.count("#stale"), 0)
+        # GBR 7 was 2nd, and is 3rd.
+        for line in ("STRIKE 1 NED12", "BEFORE 1 NED12 GBR7"):
+            desk.tap(line, agreed=[{"kind": "correction", "values": {"race": 1}}])
+        for device in (jury, scorer):
+            device.until("!!document.querySelector('#stale')")
+        self.assertIn("Race 1, GBR 7: DPI 1.5. 4.5 points by the scores as they are. The journal has 3.5.", scorer.text("#stale"))
+        jury.click("#boat")
+        jury.click("dialog [data-sail=GBR33]")
+        jury.click("#what-DSQ")
+        jury.click("[data-key=fleet]")
+        jury.until("document.querySelector('#title').textContent.includes('Folkboats')")
+        self.assertEqual((jury.count(".kept li"), jury.count("#preview"), jury.count("#stale"), jury.text("#boat")), (0, 0, 0, "Choose …"))
+        jury.click("[data-key=cup]")
+        jury.click("#send-lacking")
+        jury.click("#send")
+        jury.choose("yes")
+        for device in (jury, scorer):
+            device.until("!document.querySelector('#stale')")
+        self.assertEqual(self.journal()[-2:], ["JURY CLEAR 1 GBR7", "JURY REDRESS 1 GBR7 4.5"])
+        self.need_no_faults()
 
 
 if __name__ == "__main__":

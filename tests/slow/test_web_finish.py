@@ -14,7 +14,7 @@ from web_office import BOATS, FOLKBOATS, WebTrial, entries_of, finishes
 
 ROWS = "#list li .sail"
 # What is by sail, and may be empty
-ANY = {"at", "by", "codes", "penalties", "redress", "times", "last", "asked"}
+ANY = {"at", "by", "codes", "penalties", "redress", "times", "last", "asked", "decisions", "unfinished"}
 UNSENT = "document.querySelectorAll('#list li.unsent').length === {}"
 
 
@@ -196,6 +196,7 @@ class Finish(WebTrial):
         ann.until("document.querySelector('#link').dataset.state === 'away'")
         ben.tap("GBR33")
         self.settle(ben)
+        ann.click("#unread")
         ann.tap("GBR7")
         ann.tap("NED12")
         ben.tap("FRA9")
@@ -204,15 +205,15 @@ class Finish(WebTrial):
         self.settle(ben)
         line.mend()
         ann.until("!!document.querySelector('dialog[open]')")
-        self.assertIn("Where did GBR 7 finish?", ann.text("dialog"))
-        self.assertIn("By the clock GBR 7 is just ahead of FRA 9.", ann.text("dialog"))
+        self.assertIn("Where did ? finish?", ann.text("dialog"))
+        self.assertIn("By the clock ? is just ahead of FRA 9.", ann.text("dialog"))
         ann.choose("clock")
         ann.until("document.querySelectorAll('#list li.refused').length === 1")
         self.assertIn("She is in the finishing order of this race already.", ann.text("#list li.refused"))
         self.assertEqual(self.journal(), ["FINISH FINISH 1 GBR101", "FINISH FINISH 1 GBR33", "FINISH FINISH 1 FRA9",
                                           "FINISH FINISH 1 NED12", "FINISH BEFORE 1 GBR7 FRA9"])
-        ben.until("document.querySelectorAll('#list li').length === 5")
-        self.assertEqual(ben.texts(ROWS), ["GBR 101", "GBR 33", "GBR 7", "FRA 9", "NED 12"])
+        ben.until("document.querySelectorAll('#list li').length === 6")
+        self.assertEqual(ben.texts(ROWS), ["GBR 101", "GBR 33", "?1", "GBR 7", "FRA 9", "NED 12"])
 
 
     def test_a_first_visit(self) -> None:
@@ -343,7 +344,80 @@ class Timed(WebTrial):
         for sail, sign in (("NED12", "in the sheet only"), ("GBR101", "✓")):
             ann.until(f"document.querySelector('#list li[data-sail={sail}] .end i')?.textContent === '{sign}'")
         self.assertEqual([line.split()[3] for line in self.journal()], ["GBR101"])
+        ann.run("document.querySelector('#list li[data-sail=NED12] button').click()")
+        ann.until("!!document.querySelector('dialog[open] p')?.textContent")
+        self.assertRegex(ann.text("dialog[open] p"), r"^in the sheet only: entries\.csv, row 4: NED\s12 has no rating")
+        ann.choose("")
+        sue.click("#late")
+        for sure in ("", "yes"):
+            sue.type("dialog input", "DEN 5")
+            sue.choose("yes")
+            sue.until("document.querySelector('dialog[open] h2')?.textContent === 'Enter her without a rating?'")
+            sue.choose(sure)
+        sue.until("document.querySelector('dialog[open]')?.textContent.includes('DEN 5')")
+        sue.choose("yes")
+        sue.until("document.querySelector('.missing').textContent.includes('DEN 5')")
         sue.until("[...document.querySelectorAll('.waits')].some(one => one.textContent.endsWith('in the journal yet: NED 12'))")
+        self.need_no_faults()
+
+    def test_a_start_that_is_odd(self) -> None:
+        """A start that isn't typed whole is asked for again, and one that is still to come is asked about."""
+        ann = self.phone()
+        ann.click("#start")
+        ann.until("!!document.querySelector('dialog[open] input')")
+        ann.choose("at")
+        ann.until("document.querySelector('dialog[open] .wrong')?.textContent.includes('11:05:00')")
+        for answer, start in (("", "Start"), ("yes", "23:59:59")):
+            ann.type("dialog[open] input", "23:59:59")
+            ann.choose("at")
+            ann.until("document.querySelector('dialog[open] h2')?.textContent.endsWith('Is the start at 23:59:59?')")
+            ann.choose(answer)
+            ann.until(f"!document.querySelector('dialog[open]') && document.querySelector('#start').textContent === '{start}'")
+            if not answer:
+                ann.click("#start")
+        self.settle(ann)
+        self.assertIn("GBR101,23:59:59,,", self.text("cup", "times", "race-1.csv"))
+        self.need_no_faults()
+
+    def test_a_sail_that_was_not_read(self) -> None:
+        """The moment of ? stays on the phone, also while the page is away, and is her finish once she is known. Undo of that
+        asks again who she was; a ? that was nobody's, or is undone, leaves nothing."""
+        ann = self.started()
+        ann.tap("GBR101")
+        ann.click("#unread")
+        ann.until("document.querySelector('#list li.unread')?.innerText.includes('?1')")
+        moment = ann.texts("#list li.unread .end b")[0]
+        ann.until("new Date().toTimeString().slice(0, 8) > " + repr(moment))
+        ann.tap("NED12")
+        self.settle(ann)
+        ann.reload()
+        ann.until("document.querySelectorAll('#list li').length === 3")
+        self.assertEqual(ann.texts("#list li .sail"), ["GBR 101", "?1", "NED 12"])
+        for after in ("undo", "rest"):
+            ann.click("#list li.unread button")
+            ann.choose("known")
+            ann.tap("GBR7")
+            self.settle(ann)
+            ann.until("!document.querySelector('#list li.unread')")
+            self.assertIn(f"GBR7,00:00:00,{moment},", self.text("cup", "times", "race-1.csv"))
+            self.assertEqual(ann.texts("#list li .sail"), ["GBR 101", "GBR 7", "NED 12"])
+            if after == "undo":
+                ann.click("#undo")
+                self.settle(ann)
+                ann.until("document.querySelectorAll('#list li.unread').length === 1")
+                self.assertIn("GBR7,00:00:00,,", self.text("cup", "times", "race-1.csv"))
+                # A finger that bounces is none.
+                ann.run("new Promise(done => setTimeout(done, 500))")
+        ann.click("#unread")
+        ann.until("document.querySelector('#list li.unread')?.innerText.includes('?2')")
+        ann.click("#undo")
+        ann.until("!document.querySelector('#list li.unread')")
+        ann.run("new Promise(done => setTimeout(done, 500))")
+        ann.click("#unread")
+        ann.click("#list li.unread button")
+        ann.choose("drop")
+        ann.until("!document.querySelector('#list li.unread')")
+        self.assertEqual(self.journal().count("FINISH STRIKE 1 GBR7"), 1)
         self.need_no_faults()
 
     def test_strike_is_undone(self) -> None:

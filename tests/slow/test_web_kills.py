@@ -47,10 +47,11 @@ Held = dict[str, bytes]
 
 @dataclass(frozen=True)
 class Sent:
-    """A request of a page: the role, its address, and its values. Without values it is a GET."""
+    """A request of a page: the role, its address, its values, and the device. Without values it is a GET."""
     role: str
     rest: tuple[str, ...]
     values: dict[str, Any] | None = None
+    by: str = BY
 
 
 class Trial(Served):
@@ -232,7 +233,7 @@ def answer_to(routes: Routes, sent: Sent) -> tuple[int, Any]:
         if sent.values is None:
             reply: Reply = getattr(routes, sent.rest[0])(*sent.rest[1:-1], [routes.one(sent.rest[-1])])
         else:
-            reply = routes.write(request, sent.role, Device("", sent.role, BY, 0, 0), list(sent.rest))
+            reply = routes.write(request, sent.role, Device("", sent.role, sent.by, 0, 0), list(sent.rest))
     except NotSent as why:
         return 422, str(why)
     except Asked as asked:
@@ -349,8 +350,7 @@ class Order(Trial):
             self.each_step(Sent("SCORER", ("export", form, "cup")), victims=("web",))
 
 
-@helpers.needs_times
-class Time(Trial):
+class Prepared(Trial):
     """A class by corrected time."""
 
     def setUp(self) -> None:
@@ -363,6 +363,11 @@ class Time(Trial):
         self.write("Sail,Start,Finish,Code\nGBR101,14:00:00,15:00:00,\nGBR7,14:00:00,15:05:00,\n", "cup", "times", "race-1.csv")
         self.folder = Folder(self.folder.path)
         self.words = ("--handicap",)
+
+
+@helpers.needs_times
+class Time(Prepared):
+    """What pages change of a class by corrected time."""
 
     def test_sheet(self) -> None:
         """Starts are put in, and the times are sent that follow from them: 3,600 s x 1.000, and from 14:10 3,300 s

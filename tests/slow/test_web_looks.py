@@ -245,7 +245,7 @@ class Looking(unittest.TestCase):
         yield "results"
         self.office.line = 409, {"outcome": "asked", "said": [], "open": OPEN_POINTS, "question": {
             "kind": "announce", "text": "", "values": {"state": "amended", "table": "", "races": ["2"], "sails": [],
-                                                       "marks": ["?1"], "faults": []}}}
+                                                       "marks": ["?1"], "faults": [], "decisions": ["1 GBR101 DPI 7.0 6.0"]}}}
         device.type("#reason", "A boat is reinstated")
         device.click("#declare-amended")
         device.until(OPEN)
@@ -469,15 +469,31 @@ class Looks(Looking):
     def test_two_classes(self) -> None:
         """Two classes at one line at 320 pixels, in each language."""
         for language in LANGUAGES:
-            self.office.classes = ["cup", "fleet"]
-            device = self.device("finish", 320, 640, language)
-            for at in (0, 1):
-                device.run(f"document.querySelectorAll('.race')[{at}].click()")
-                device.click("dialog [data-race='2']")
-                device.until("!document.querySelector('dialog')")
+            self.see_two(320, language)
+
+    def see_two(self, width: int, language: str) -> None:
+        """Two classes on a phone: all can be read."""
+        self.office.classes = ["cup", "fleet"]
+        device = self.device("finish", width, 640, language)
+        for at in (0, 1):
+            device.run(f"document.querySelectorAll('.race')[{at}].click()")
+            device.click("dialog [data-race='2']")
+            device.until("!document.querySelector('dialog')")
+        with self.subTest(language=language, width=width):
+            device.until("document.querySelectorAll('#list li').length === 16")
+            self.assertEqual(device.run(CUT), [])
+        device.close()
+
+    def test_head(self) -> None:
+        """On a laptop of 1366 pixels the scorer's tabs are in one line with two classes."""
+        self.office.classes = ["cup", "cruisers"]
+        for language in ("en", "de", "fr"):
+            device = self.device("scorer", 1366, 768, language)
+            device.click("[data-key=cruisers]")
+            device.until("!!document.querySelector('#tab-times')")
             with self.subTest(language=language):
-                device.until("document.querySelectorAll('#list li').length === 16")
-                self.assertEqual(device.run(CUT), [])
+                self.assertEqual(device.run("[...document.querySelectorAll('.top > *')].filter(part => part.getClientRects().length && "
+                                            "part.getBoundingClientRect().top > document.querySelector('#tabs').getBoundingClientRect().bottom).length"), 0)
             device.close()
 
     def test_contrast(self) -> None:
@@ -494,6 +510,8 @@ class Looks(Looking):
         try:
             for width, height in ((390, 844), (1280, 900)):
                 self.each_state(width, height, lambda device: device.run(CUT) + device.run(COVERED))
+            for width in (390, 320):
+                self.see_two(width, "en")
         finally:
             self.chromium = usual
 

@@ -2,8 +2,7 @@
 // What the scorer's and the jury's page share: their classes, what the office shows of each, and lines.
 import {byId, element, fill} from "./elements.js";
 import {languageField, loadTexts, text} from "./texts.js";
-import {comeIn, followNews, me} from "./office.js";
-import {stateFollower} from "./states.js";
+import {comeIn, followNews, me, stateFollower} from "./office.js";
 import {sendLine} from "./sending.js";
 import {spaced} from "./sails.js";
 
@@ -16,6 +15,14 @@ export const state = () => states[here];
 export const boatOf = sail => state()?.boats.find(boat => boat[0] === sail);
 export const path = what => `${what}/${encodeURIComponent(here)}`;
 export const send = (line, more) => sendLine(here, line, state().entries, more);
+
+// A class by its name, if there are several; "" otherwise
+export function groupOf(name) {
+  return me?.classes.length > 1 ? me.classes.find(one => one.class === name)?.group ?? "" : "";
+}
+
+// What is asked, with the class that it is about if there are several
+export const withClass = (words, name = here) => [groupOf(name), words].filter(Boolean).join(": ");
 
 // A boat by her sail and name
 export function called(sail) {

@@ -24,7 +24,7 @@ function askWhether(item) {
 
 // Others were recorded since she was tapped: where did she finish?
 function askWhere(item) {
-  const sail = item.line.split(" ")[2], [command, , , other] = (item.byClock ?? "").split(" ");
+  const [mark, , boat] = item.line.split(" "), sail = boat ?? mark, [command, , , other] = (item.byClock ?? "").split(" ");
   const isAhead = command === "BEFORE";
   const byClock = {value: "clock", label: text("finish.byClock", {sail: spaced(other ?? "")}), look: "main"};
   return choose(text("finish.whereDidSheFinish", {sail: spaced(sail)}),
@@ -36,7 +36,7 @@ function askWhere(item) {
 // Whoever goes by the clock once goes by it for all that were tapped before now.
 function goByClock(name) {
   for (const item of queue.of(name)) {
-    const isFinisher = item.line.startsWith("FINISH") && ["asked", "unsent"].includes(item.state);
+    const isFinisher = /^(FINISH|\?) /.test(item.line) && ["asked", "unsent"].includes(item.state);
     if (isFinisher) queue.change(item, {state: "unsent", by_clock: true});
   }
 }

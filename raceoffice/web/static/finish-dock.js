@@ -5,12 +5,12 @@ import {text} from "./texts.js";
 import {isOpen} from "./dialogs.js";
 import {short} from "./sails.js";
 import {lastBoat} from "./race-view.js";
-import {isTimed, page, raceNow, sailing, setDigits, setMode} from "./finish-state.js";
-import {askStart, buzz, tapUnread, undo} from "./finish-taps.js";
+import {isTimed, lastTap, page, raceNow, sailing, setDigits, setMode} from "./finish-state.js";
+import {buzz, tapUnread, undo} from "./finish-taps.js";
 import {startGridAgain} from "./finish-grid.js";
 
 export function drawDock() {
-  const tap = page.undoable.at(-1), level = lastFinisher(), timed = sailing().find(one => isTimed(one.class));
+  const tap = lastTap(), level = lastFinisher(), timed = sailing().find(one => isTimed(one.class));
   fill(byId("acts"),
     element("button", {type: "button", id: "undo", class: "undo", disabled: !tap, onclick: undo}, tap ? undoWords(tap.line) : text("finish.undo")),
     timed ? startButton(timed.class) : modeButton("level", !level, () => ({kind: "level", class: level.class, sail: level.sail})),
@@ -21,7 +21,9 @@ export function drawDock() {
 // The start of a race by corrected time, and when it was
 function startButton(name) {
   const {start} = raceNow(name);
-  return element("button", {type: "button", id: "start", class: start ? "set" : "main", "aria-label": `${text("finish.start")} ${start}`, onclick: () => askStart(name)},
+  // It is there before somebody presses it without a connection.
+  import("./finish-start.js").catch(() => {});
+  return element("button", {type: "button", id: "start", class: start ? "set" : "main", "aria-label": `${text("finish.start")} ${start}`, onclick: async () => (await import("./finish-start.js")).askStart(name)},
     start || text("finish.start"));
 }
 

@@ -7,7 +7,7 @@ import {choose} from "./dialogs.js";
 import {kindOf, spaced} from "./sails.js";
 import {refusalOf} from "./questions.js";
 import {duration, finishers, heldBy} from "./race-view.js";
-import {askedItem, boatNamed, page, queue, raceNow} from "./finish-state.js";
+import {askedItem, boatNamed, isHere, named, page, queue, raceNow, shownLine} from "./finish-state.js";
 import {answer} from "./finish-answers.js";
 import {askFinisher, askStrike, askUnread, buzz} from "./finish-taps.js";
 
@@ -87,12 +87,12 @@ function unreadRow(name, row) {
 }
 
 function refusedRow(item) {
-  const sail = item.line.split(" ")[2];
+  const [, number, sail] = shownLine(item).split(" ");
   return element("li", {class: "refused", "data-key": item.id},
     element("button", {type: "button", class: "finisher", onclick: () => showRefused(item)},
-      element("span", {class: "place", "aria-hidden": "true"}, "✕"), element("span", {class: "sail"}, sail ? spaced(sail) : item.line),
+      element("span", {class: "place", "aria-hidden": "true"}, "✕"), element("span", {class: "sail"}, sail ? named(item.class, sail) : item.line),
       element("span", {class: "name"}, refusalOf(item.answer, item.words)),
-      element("span", {class: "end"}, element("b", {}, timeOfDay(item.at)), element("i", {}, text("finish.refused")))));
+      element("span", {class: "end"}, element("b", {}, timeOfDay(item.at)), element("i", {}, !number || isHere(item) ? text("finish.refused") : `${text("common.race")} ${number}`))));
 }
 
 async function showRefused(item) {

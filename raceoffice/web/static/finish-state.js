@@ -1,7 +1,8 @@
 'use strict';
 // What the finish page knows: its classes, which race of each it records, and what somebody is about to tap.
-import {now} from "./office.js";
+import {newId, now} from "./office.js";
 import {text} from "./texts.js";
+import {spaced} from "./sails.js";
 import {atTheLine, isIn, lineThatUndoes, withTaps} from "./race-view.js";
 import {Queue} from "./queue.js";
 
@@ -11,6 +12,7 @@ export const LATE = 1200;
 const STALE = 3600e3;
 // How many taps can be undone
 const UNDOABLE = 12;
+const DAY = 864e5;
 
 export function kept(key, usual) {
   try { return JSON.parse(localStorage.getItem(key)) ?? usual; } catch { return usual; }
@@ -23,6 +25,7 @@ export function keep(key, value) {
 // `mode` is what the next tap on a boat means: {kind: finish, level, before, known, code or round}.
 export const page = {
   classes: [], states: {}, races: kept("races", {}), rounded: kept("rounded", {}), undoable: kept("undoable", []),
+  moments: kept("moments", []).filter(one => now() - one.at < DAY),
   mode: {kind: "finish"}, digits: "", link: "away", redraw: () => {}};
 
 export const queue = new Queue(item => { forgetIfShown(item); page.redraw(); });
@@ -37,6 +40,9 @@ export function stateOf(item) {
   return page.link !== "live" || now() - item.at > LATE ? "unsent" : "way";
 }
 
+// The line of an item as the race shows it: of an undo that the office works out, the one that it most likely is
+export const shownLine = item => item.shown || item.line;
+
 // A tap that was answered goes once the race that the office shows has it.
 export function forgetIfShown(item) {
   if (item.state !== "done") return;
@@ -50,10 +56,42 @@ export function forgetIfShown(item) {
 // The race of a class that is being recorded, with the taps of this device
 export function raceNow(name) {
   const number = page.races[name];
-  const items = queue.of(name).filter(item => !["refused", "gone"].includes(item.state)
-    && Number(item.line.split(" ")[1]) === number);
+  const items = queue.of(name).filter(item => !["refused", "gone"].includes(item.state) && isHere(item)).map(item => ({...item, line: shownLine(item)}));
   const race = page.states[name]?.races?.[number];
-  return withTaps(isTimed(name) ? atTheLine(race) : race, items, stateOf);
+  const found = withTaps(isTimed(name) ? atTheLine(race) : race, items, stateOf);
+  for (const one of momentsOf(name).filter(one => !one.by)) {
+    found.unread.push({...one, after: found.order.filter(([sail]) => (found.at[sail] ?? 0) <= one.at).length});
+  }
+  return found;
+}
+
+// By corrected time this device keeps the moment of a sail that wasn't read. `by` is the tap that says who she was.
+const momentsOf = name => page.moments.filter(one => one.class === name && one.race === page.races[name]);
+
+function keepMoments(moments) {
+  page.moments = moments;
+  keep("moments", moments);
+  page.redraw();
+}
+
+export function addMoment(name) {
+  const one = {id: newId(), class: name, race: page.races[name], mark: `?${momentsOf(name).length + 1}`, at: now()};
+  noteUndoable({id: one.id, class: name, line: `? ${one.race}`});
+  keepMoments([...page.moments, one]);
+}
+
+// Whose a moment was, by a line; nobody's without one
+export function endMoment(name, mark, line) {
+  const found = momentsOf(name).find(one => one.mark === mark);
+  found.by = line ? addTap(name, line, {at: found.at}).id : "-";
+  keepMoments(page.moments);
+}
+
+// Takes back what a tap did to a moment; whether that was all.
+export function undoMoment({id}) {
+  const before = page.moments;
+  keepMoments(before.filter(one => one.id !== id).map(one => one.by === id ? {...one, by: ""} : one));
+  return page.moments.length < before.length;
 }
 
 // Whether a class is scored by corrected time: each tap has its time, and level or ahead are nothing there.
@@ -63,6 +101,15 @@ export function isTimed(name) {
 
 // The classes of which a race is being recorded
 export const sailing = () => page.classes.filter(one => page.races[one.class]);
+
+// A sail, with her class if there are several: two may have one sail
+export const named = (name, sail) => page.classes.length > 1 ? `${spaced(sail)} ${page.classes.find(one => one.class === name).group}` : spaced(sail);
+
+// Whether a line is about the race of its class that is shown
+export const isHere = item => Number(shownLine(item).split(" ")[1]) === page.races[item.class];
+
+// The last tap that can be undone, of the races that are shown
+export const lastTap = () => page.undoable.findLast(isHere);
 
 export function boatNamed(name, sail) {
   const found = page.states[name]?.boats.find(boat => boat[0] === sail) ?? [sail, "", ""];
@@ -80,11 +127,15 @@ export function addTap(name, line, more = {}) {
   const race = raceNow(name), number = page.races[name];
   const item = queue.add({class: name, line: line.replace("#", number), seen: page.states[name]?.entries ?? 0, ...more});
   if (!more.undoes && !line.startsWith("START")) {
-    const undoable = {id: item.id, class: name, line: item.line, back: lineThatUndoes(item.line, race)};
-    page.undoable = [...page.undoable, undoable].slice(-UNDOABLE);
-    keep("undoable", page.undoable);
+    noteUndoable({id: item.id, class: name, line: item.line, back: lineThatUndoes(item.line, race)});
   }
   page.redraw();
+  return item;
+}
+
+function noteUndoable(tap) {
+  page.undoable = [...page.undoable, tap].slice(-UNDOABLE);
+  keep("undoable", page.undoable);
 }
 
 export function setMode(mode) {

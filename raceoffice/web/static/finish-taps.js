@@ -5,7 +5,7 @@ import {text} from "./texts.js";
 import {choose, dialogOf, say} from "./dialogs.js";
 import {CODES, PENALTIES, spaced} from "./sails.js";
 import {heldBy, isIn, lastBoat} from "./race-view.js";
-import {addTap, isTimed, keep, page, queue, raceNow, sailing, setMode} from "./finish-state.js";
+import {addMoment, addTap, endMoment, isTimed, keep, lastTap, named, page, queue, raceNow, sailing, setMode, undoMoment} from "./finish-state.js";
 
 // Milliseconds: how long a finger may bounce on one boat
 const BOUNCE = 400;
@@ -47,6 +47,7 @@ function finish(name, sail) {
   page.digits = "";
   if (mode.kind === "level") addTap(name, `TIE # ${sail} ${mode.sail}`);
   else if (mode.kind === "before") addTap(name, `BEFORE # ${sail} ${mode.sail}`);
+  else if (mode.kind === "known" && isTimed(name)) endMoment(name, mode.mark, `FINISH # ${sail}`);
   else if (mode.kind === "known") addTap(name, `${mode.mark} # ${sail}`);
   else addTap(name, `FINISH # ${sail}`, {behind: lastBoat(race)});
 }
@@ -60,32 +61,43 @@ function flipRounded(name, sail) {
   page.redraw();
 }
 
-// A finisher whose sail wasn't read: her place is kept.
+// A finisher whose sail wasn't read: her place is kept, or by corrected time her moment.
 export function tapUnread() {
   const open = sailing(), name = open.length === 1 ? open[0].class : page.mode.class;
   if (!name) {
     say(text(open.length ? "finish.whichClass" : "finish.chooseRace"));
     return;
   }
-  if (isTimed(name)) {
-    say(text("finish.correctedTime"), true);
-    return;
-  }
   if (isBounce("?")) return;
   buzz([35, 50, 35]);
-  addTap(name, "? #", {behind: lastBoat(raceNow(name))});
+  if (isTimed(name)) addMoment(name);
+  else addTap(name, "? #", {behind: lastBoat(raceNow(name))});
 }
 
 // Takes back the last tap of this device.
 export function undo() {
-  const tap = page.undoable.at(-1);
+  const tap = lastTap();
   if (!tap) return;
-  const item = queue.find(tap.id), isUnsent = item && ["unsent", "asked", "refused"].includes(item.state);
-  page.undoable = page.undoable.slice(0, -1);
+  const item = queue.find(tap.id), isOpen = queue.unsent.includes(item);
+  page.undoable = page.undoable.filter(one => one !== tap);
   keep("undoable", page.undoable);
   buzz(60);
-  if (isUnsent) queue.drop(item);
+  if (undoMoment(tap)) {
+    setMode({kind: "finish"});
+    return;
+  }
+  if (item?.state === "refused" || isOpen && !item.isSent) queue.drop(item);
+  else if (isOpen) undoSent(tap, item);
   else addTap(tap.class, tap.back || "UNDO", {undoes: tap.id});
+}
+
+// Takes back a tap that was sent and not answered: the office alone knows whether it has taken it.
+function undoSent(tap, item) {
+  // A sheet of times may be half written: such a tap is done whole before it is taken back.
+  const isLeft = isTimed(tap.class) && item.state !== "asked";
+  if (!isLeft) item.state = "gone";
+  addTap(tap.class, "UNDO", {undoes: tap.id, shown: tap.back});
+  if (!isLeft) queue.drop(item);
 }
 
 // A code or a penalty for a boat
@@ -96,7 +108,7 @@ export async function askCode(name, sail) {
   page.redraw();
   const box = element("div", {class: "codes"}, [...CODES.filter(code => code !== "DNC"), ...PENALTIES].map(code => codeButton(code, text(`code.${code}`))),
     held.length ? codeButton("CLEAR", held.join(" "), text("finish.clear")) : null);
-  const code = await choose(text("finish.whichCode", {sail: spaced(sail)}), box, [{value: "", label: text("common.cancel")}]);
+  const code = await choose(text("finish.whichCode", {sail: named(name, sail)}), box, [{value: "", label: text("common.cancel")}]);
   if (!code) return;
   buzz(35);
   if (code === "CLEAR") addTap(name, `CLEAR # ${sail}`);
@@ -111,11 +123,18 @@ function codeButton(code, words, label = code) {
 // What can be done about a finisher of the list
 export async function askFinisher(name, sail) {
   const places = [{value: "before", label: text("finish.insertAhead")}, {value: "level", label: text("finish.insertLevel")}];
-  const done = await choose(spaced(sail), [], [...(isTimed(name) ? [] : places), {value: "code", label: text("finish.codeOrPenalty")}, {value: "strike", label: text("finish.strikeHer"), look: "bad"},
+  const done = await choose(named(name, sail), whyWaiting(name, sail), [...(isTimed(name) ? [] : places), {value: "code", label: text("finish.codeOrPenalty")}, {value: "strike", label: text("finish.strikeHer"), look: "bad"},
     {value: "", label: text("common.cancel")}], "stack");
   if (done === "strike") strike(name, sail);
   else if (done === "code") askCode(name, sail);
   else if (done) setMode({kind: done, class: name, sail});
+}
+
+// Why her time is in the sheet alone, once that has come
+function whyWaiting(name, sail) {
+  const {waiting, sheet} = raceNow(name), part = element("p", {});
+  if (waiting?.includes(sail)) import("./sheet-why.js").then(({showWhy}) => showWhy(part, sheet, sail)).catch(() => {});
+  return part;
 }
 
 function strike(name, sail) {
@@ -125,25 +144,17 @@ function strike(name, sail) {
 
 // After a swipe or a long press
 export async function askStrike(name, sail) {
-  const done = await choose(text("finish.strikeQuestion", {sail: spaced(sail)}), text("finish.strikeMeans"),
+  const done = await choose(text("finish.strikeQuestion", {sail: named(name, sail)}), text("finish.strikeMeans"),
     [{value: "", label: text("common.no")}, {value: "yes", label: text("finish.strike"), look: "bad"}]);
   if (done === "yes") strike(name, sail);
 }
 
 // What can be done about a place that is kept
 export async function askUnread(name, mark) {
-  const done = await choose(text("finish.whoWas", {mark}), text("finish.placeIsKept"), [
+  const done = await choose(text("finish.whoWas", {mark}), text(isTimed(name) ? "finish.timeIsKept" : "finish.placeIsKept"), [
     {value: "known", label: text("finish.tapHerNext"), look: "main"}, {value: "drop", label: text("finish.nobody"), look: "bad"},
     {value: "", label: text("finish.notYet")}], "stack");
   if (done === "known") setMode({kind: "known", class: name, mark});
-  if (done === "drop") addTap(name, `${mark} # NONE`);
-}
-
-// The start of a race by corrected time: now, or a time of the clock.
-export async function askStart(name) {
-  const field = element("input", {type: "time", step: "1", "aria-label": text("finish.startTime"), value: raceNow(name).start});
-  const done = await choose(text("finish.startOf", {number: page.races[name]}), element("label", {class: "field"}, text("finish.startTime"), field), [
-    {value: "", label: text("common.cancel")}, {value: "at", label: text("finish.startAt")}, {value: "now", label: text("finish.startNow"), look: "main"}]);
-  if (done === "now") addTap(name, "START #");
-  else if (done === "at" && field.value) addTap(name, `START # ${field.value}`);
+  if (done === "drop" && isTimed(name)) endMoment(name, mark, "");
+  else if (done === "drop") addTap(name, `${mark} # NONE`);
 }

@@ -4,8 +4,7 @@
 import {byId, fill} from "./elements.js";
 import {loadTexts, text, timeOfDay} from "./texts.js";
 import {isOpen} from "./dialogs.js";
-import {comeIn, countUnsentBy, followNews, me, now} from "./office.js";
-import {stateFollower} from "./states.js";
+import {comeIn, countUnsentBy, followNews, me, now, stateFollower} from "./office.js";
 import {LATE, askedItem, forgetIfShown, isWaiting, keep, kept, page, queue} from "./finish-state.js";
 import {answer} from "./finish-answers.js";
 import {lastTapAt} from "./finish-taps.js";

@@ -16,6 +16,8 @@ export const isOther = what => what in OTHERS;
 // The decision of which decisions.txt has this kind
 export const whatOf = kind => Object.keys(OTHERS).find(what => (OTHERS[what].kind ?? what) === kind);
 export const takesOf = what => (LINES[what] ?? OTHERS[what])?.takes ?? "";
+// Points as they are typed in this or another language: 1,5 is 1.5. Races are parted by commas.
+const dotted = takes => takes.replace(/^(\d{1,3}),(\d)$/, "$1.$2");
 export const usualOf = what => OTHERS[what]?.usual ?? "";
 
 // What stands on the button of a decision: its code, or the key of a word
@@ -27,10 +29,10 @@ export function headOf(what) {
 // The line of a decision; "" while something is still to be said.
 export function lineOf({race, sail, what, takes}) {
   if (!race || !sail || !what || (takesOf(what) && !takes)) return "";
-  if (isOther(what)) return `race ${race} ${sail} ${OTHERS[what].kind ?? what} ${takes}`.trim();
+  if (isOther(what)) return `race ${race} ${sail} ${OTHERS[what].kind ?? what} ${takesOf(what) === "races" ? takes : dotted(takes)}`.trim();
   if (what === "CLEAR") return `CLEAR ${race} ${sail}`;
   if (what !== "POINTS") return `${LINES[what].first} ${race} ${sail} ${what}`;
-  return /^\d{1,3}([.,]\d)?$/.test(takes) ? `REDRESS ${race} ${sail} ${takes.replace(",", ".")}` : "";
+  return /^\d{1,3}([.,]\d)?$/.test(takes) ? `REDRESS ${race} ${sail} ${dotted(takes)}` : "";
 }
 
 // What can be reopened: {number, sail, code, how} for what the jury gave, and for penalties

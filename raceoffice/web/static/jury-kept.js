@@ -1,5 +1,6 @@
 'use strict';
-// The decisions that are kept without a line of their own: what each comes to, its note, and what can be done about it.
+// The decisions that are kept without a line of their own: what each comes to, its note, what can be done about it, and
+// which aren't in the scores as they have to be.
 import {element} from "./elements.js";
 import {points, text} from "./texts.js";
 import {spaced} from "./sails.js";
@@ -12,6 +13,22 @@ export function verdictWords({race, sail, kind, how, points: wanted, held, kept,
   if (kept) return `${line}. ${wanted ? text("jury.comesTo", {points: points(wanted)}) : text("jury.isDone")}`;
   const due = wanted ? text("jury.comesTo", {points: points(wanted)}) : text("jury.toBeSent");
   return `${line}. ${due} ${held ? text("jury.scoresHave", {points: points(held)}) : text("jury.scoresHaveNone")}`;
+}
+
+const isStale = one => !one.kept && one.kind;
+
+// What the scores lack of the decisions, for a scorer, who can't send it
+export function stalePart(decisions = []) {
+  const stale = decisions.filter(isStale);
+  return stale.length ? element("div", {class: "waits", id: "stale"}, stale.map(one => element("p", {}, verdictWords(one))),
+    element("p", {}, text("jury.sendsLacking"))) : null;
+}
+
+// The same for the jury: the first that can be sent is put into the form, with whom that moves.
+export function lackingPart(decisions, amend) {
+  const stale = decisions.filter(isStale), first = stale.find(one => !one.why.length);
+  return stale.length ? element("div", {class: "waits", id: "stale"}, element("p", {}, text("jury.outOfDate", {n: stale.length})),
+    first ? element("button", {type: "button", id: "send-lacking", onclick: () => amend(first)}, text("jury.sendLacking")) : null) : null;
 }
 
 function rowOf(one, actions) {

@@ -9,11 +9,11 @@ import {saidWords} from "./said-words.js";
 import {agrees, isTriedAgain, told} from "./sending.js";
 import {agreedOf} from "./questions.js";
 import {remarkSentences, troubleWords} from "./remark-words.js";
-import {beginDesk, called, drawClasses, path, send, state} from "./desk.js";
+import {beginDesk, called, drawClasses, here, path, send, state} from "./desk.js";
 import {findBoat} from "./boat-finder.js";
 import {lastChange, standingTable} from "./standing.js";
 import {LINES, OTHERS, headOf, heldDecisions, isOther, lineOf, takesOf, usualOf, whatOf} from "./jury-decisions.js";
-import {keptPart, verdictWords} from "./jury-kept.js";
+import {keptPart, lackingPart, verdictWords} from "./jury-kept.js";
 import {previewBox} from "./jury-preview.js";
 
 // Milliseconds: until a preview is asked for after a choice and after a letter, and for its answer
@@ -22,8 +22,11 @@ const SOON = 250, TYPED = 400, LONG = 30000;
 const NOTE = 200;
 
 // `out` is the row of a decision that is to be taken out
-const form = {race: 0, sail: "", what: "", takes: "", note: "", out: ""};
-let shown = null, decisions = [], asked = 0, timer = 0;
+const EMPTY = {race: 0, sail: "", what: "", takes: "", note: "", out: ""};
+// What is to be decided, and in which class
+const form = {...EMPTY, class: ""};
+let shown = null, asked = 0, timer = 0;
+const decisions = () => state().decisions ?? [];
 
 function askSoon(milliseconds) {
   shown = null;
@@ -68,7 +71,6 @@ async function sendDecision() {
   if (!done || done.outcome === "refused") return;
   say(saidWords(done.said).slice(0, 3).join("\n") || text("jury.kept"));
   nothing();
-  lookAtDecisions();
 }
 
 // A decision without a line of its own: it is kept if it still comes to what was shown. What the office asks is
@@ -84,7 +86,6 @@ async function decide(agreed) {
       agreed.push(agreedOf(done.question));
     } else if (!await isTriedAgain(done.status, tries++)) {
       say(troubleWords(done), true);
-      lookAtDecisions();
       return null;
     }
   }
@@ -141,7 +142,7 @@ const takeOut = one => change({race: one.race ?? form.race, sail: one.sail ?? fo
 
 // What was given is taken back: of a decision that is kept its points and its row, of another all that she holds.
 function reopen({number, sail, code}) {
-  const kept = decisions.find(one => code === "RDG" && one.race === Number(number) && one.sail === sail);
+  const kept = decisions().find(one => code === "RDG" && one.race === Number(number) && one.sail === sail);
   if (kept) takeOut(kept);
   else change({race: Number(number), sail, what: "CLEAR", takes: ""});
 }
@@ -157,7 +158,7 @@ function heldRow(one) {
 function heldPart() {
   const held = heldDecisions(state().races);
   const rows = held.length ? held.map(heldRow) : element("tr", {}, element("td", {class: "soft"}, text("jury.nothingYet")));
-  return [element("h3", {}, text("jury.heldSoFar")), element("table", {class: "held", "aria-label": text("jury.heldSoFar")}, element("tbody", {}, rows)), keptPart(decisions, {amend, takeOut})];
+  return [element("h3", {}, text("jury.heldSoFar")), element("table", {class: "held", "aria-label": text("jury.heldSoFar")}, element("tbody", {}, rows)), keptPart(decisions(), {amend, takeOut})];
 }
 
 function standingPart() {
@@ -169,6 +170,7 @@ function standingPart() {
 function draw() {
   document.title = text("role.JURY");
   drawClasses();
+  if (form.class !== here) beginClass();
   if (!state()) {
     byId("title").textContent = text("role.JURY");
     fill(byId("page"), element("main", {class: "card"}, element("p", {}, text("desk.notOpenYet"))));
@@ -178,7 +180,7 @@ function draw() {
   const numbers = Object.keys(state().races).map(Number);
   form.race ||= Math.max(0, ...numbers);
   fill(byId("page"), element("main", {class: "desk"},
-    element("section", {class: "pane", "aria-labelledby": "decision-title"}, element("h2", {id: "decision-title"}, text("jury.decision")), decisionForm(numbers), heldPart()),
+    element("section", {class: "pane", "aria-labelledby": "decision-title"}, element("h2", {id: "decision-title"}, text("jury.decision")), lackingPart(decisions(), amend), decisionForm(numbers), heldPart()),
     element("section", {class: "pane", "aria-label": text("desk.standing")}, previewBox(wanted(), shown && {...shown, verdict: verdictOf(shown)}, form.sail, {send: sendDecision, drop: nothing}), standingPart())));
   openOthers();
 }
@@ -190,10 +192,12 @@ function openOthers() {
   if (isOther(form.what)) document.querySelector("details").open = true;
 }
 
-async function lookAtDecisions() {
-  const found = await ask(path("rulings"), undefined, LONG);
-  decisions = found.list ?? [];
-  draw();
+// Another class has other races and boats: what was chosen isn't meant there, and an answer on its way is about the other.
+function beginClass() {
+  Object.assign(form, EMPTY, {class: here});
+  shown = null;
+  asked++;
+  clearTimeout(timer);
 }
 
-beginDesk(draw).then(lookAtDecisions);
+beginDesk(draw);

@@ -68,7 +68,8 @@ class EntryList {
   }
 
   table() {
-    const heads = ["common.sail", "common.boat", "new.helm", "new.club"].map(key => element("th", {scope: "col"}, text(key)));
+    const heads = [...["common.sail", "common.boat", "new.helm", "new.club"].map(key => text(key)), ...this.found.ratings ?? []]
+      .map(words => element("th", {scope: "col"}, words));
     const rows = this.found.boats.map(boat => element("tr", {}, boat.map((words, at) => element(at ? "td" : "th", at ? {} : {scope: "row"}, words))));
     return element("div", {class: "boats", tabindex: "0", role: "region", "aria-label": text("new.entryList")},
       element("table", {"aria-label": text("new.entryList")}, element("thead", {}, element("tr", {}, heads)), element("tbody", {}, rows)));
@@ -104,7 +105,7 @@ function meaningOf(list) {
   const shown = element("div", {class: "meaning", id: "meaning", role: "status"});
   let asked = 0;
   async function look(form) {
-    const mine = ++asked, said = await ask("settings", {settings: settingsOf(new FormData(form)), text: list.found?.text ?? ""}, READING);
+    const mine = ++asked, said = await ask("settings", {settings: settingsOf(new FormData(form)), text: list.found?.text ?? "", system: form.elements.system.value}, READING);
     if (mine !== asked) return;
     const wrong = said.status === 200 ? wrongWords(said) : [troubleWords(said)];
     fill(shown, element("h3", {}, text("new.meaning")), wrong.length ? element("p", {class: "wrong"}, wrong.join("\n")) : element("p", {}, rulesWords(said.settings)),

@@ -1,5 +1,5 @@
 'use strict';
-// What a page asks of the office: values, who this device is, the office's clock, and news.
+// What a page asks of the office: values, who this device is, the office's clock, news, and what there is to show then.
 import {text} from "./texts.js";
 
 export const role = location.pathname.split("/")[2];
@@ -7,8 +7,9 @@ export const role = location.pathname.split("/")[2];
 export let me = null;
 
 // Milliseconds: how long an answer may take; how much slower than the quickest one an answer may be from which
-// the clock is learnt; and after how long without a sign of life a connection is taken for dead.
-const PATIENCE = 8000, SLOWER = 50, SILENT = 12000, LOOK = 3000;
+// the clock is learnt; after how long without a sign of life a connection is taken for dead; and until a state is asked for
+// again if nobody answered.
+const PATIENCE = 8000, SLOWER = 50, SILENT = 12000, LOOK = 3000, AGAIN = 1000;
 
 let clockAhead = 0, quickest = Infinity, unsentCount = () => 0, unsentHeard = 0;
 
@@ -103,4 +104,44 @@ export function followNews(seen, told) {
   setInterval(lookAgain, LOOK);
   addEventListener("online", open);
   document.addEventListener("visibilitychange", () => { if (!document.hidden && Date.now() - heard > SILENT / 2) open(); });
+}
+
+// Gives a function for news, which has the versions of all classes. It asks for one state at a time, so that an
+// older answer never comes after a newer one, and again until there is an answer. `isNeeded(name, version)` says
+// whether a state is another than the one that is shown, `take(name, state)` takes it over, and `draw()` comes last.
+export function stateFollower(isNeeded, take, draw) {
+  let isAtWork = false, news = null;
+
+  // Asks for all states that are needed; whether each was answered.
+  async function askAll(versions) {
+    let isWhole = true;
+    for (const [name, version] of Object.entries(versions)) {
+      if (!isNeeded(name, version)) continue;
+      const state = await ask(`state/${encodeURIComponent(name)}`);
+      if (state.status === 200) take(name, state);
+      else isWhole = false;
+    }
+    return isWhole;
+  }
+
+  async function work() {
+    if (isAtWork || !news) return;
+    isAtWork = true;
+    const versions = news;
+    news = null;
+    const isWhole = await askAll(versions);
+    isAtWork = false;
+    draw();
+    if (!isWhole) {
+      news ??= versions;
+      setTimeout(work, AGAIN);
+    } else {
+      work();
+    }
+  }
+
+  return versions => {
+    news = versions;
+    work();
+  };
 }

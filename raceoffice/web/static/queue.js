@@ -104,7 +104,8 @@ export class Queue {
 
   // Sends one item; whether the next may follow.
   async sendItem(item) {
-    this.change(item, {state: "sending"});
+    // From now on the office may have taken it, whatever becomes of the answer.
+    this.change(item, {state: "sending", isSent: true});
     const {id, line, at, seen, behind, agreed, by_clock, undoes} = item;
     const said = await ask(`line/${encodeURIComponent(item.class)}`, {id, line, at, seen, behind, agreed, by_clock, undoes});
     // Somebody may have dropped it meanwhile.

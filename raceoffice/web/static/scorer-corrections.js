@@ -4,12 +4,13 @@ import {element} from "./elements.js";
 import {text} from "./texts.js";
 import {choose, say} from "./dialogs.js";
 import {CODES, PENALTIES, spaced} from "./sails.js";
-import {called, heldIn, isIn, missingFrom, raceNumbered, send, state} from "./desk.js";
+import {called, heldIn, here, isIn, missingFrom, raceNumbered, send, state} from "./desk.js";
+import {correctByHand} from "./finish-by-hand.js";
 import {saidWords} from "./said-words.js";
 import {findBoat} from "./boat-finder.js";
-import {linesOfLevel, linesOfMove, linesOfOtherRace, linesOfSwap} from "./corrections.js";
+import {lines} from "./scorer-unfinished.js";
+import {linesOfLevel, linesOfMove, linesOfSwap} from "./corrections.js";
 
-const RACES = 40;
 const cancel = () => ({value: "", label: text("common.cancel")});
 
 // Sends a line, and says what the office said of it.
@@ -19,29 +20,20 @@ export async function line(words, more) {
   return done;
 }
 
-// Sends the lines of one correction one after another. What was agreed to for one holds for all. Whether all
-// were taken; if one isn't, it is said which are left.
-export async function lines(several) {
-  const agreed = [];
-  let seen = state().entries;
-  for (const [at, words] of several.entries()) {
-    const done = await send(words, {agreed, seen});
-    if (!done || done.outcome === "refused") {
-      if (at > 0) await choose(text("scorer.stopped"), [text("scorer.notSent"), element("p", {class: "mono"}, several.slice(at).join("\n"))],
-        [{value: "ok", label: text("finish.understood"), look: "main"}]);
-      return false;
-    }
-    seen = Math.max(seen, done.entry ?? 0);
-  }
-  say(text("scorer.linesSent", {n: several.length}));
-  return true;
-}
+// Whether anything of a boat is in the order, or in the sheet of times
+const hasFinished = (race, sail) => isIn(race, sail) || Boolean(race.sheet?.rows[sail]?.finish || race.sheet?.rows[sail]?.elapsed);
 
-function choicesOf(race, sail, held) {
+// Times make the order of a class by corrected time: no boat is put ahead of another, or level.
+function placesOf(race, sail) {
+  if (state().handicap) return [["time", "scorer.herTime"], ...(hasFinished(race, sail) ? [["strike", "scorer.strikeHer", "bad"]] : [])];
   const there = [["ahead", "finish.insertAhead"], ["level", "finish.insertLevel"], ["move", "scorer.moveHer"], ["swap", "scorer.swapHer"],
     ["strike", "scorer.strikeHer", "bad"]];
   const away = [["last", "scorer.finishedLast"], ["into", "scorer.finishedAhead"]];
-  return [...(isIn(race, sail) ? there : away), ["code", "finish.codeOrPenalty"], ...(held.length ? [["clear", "scorer.clearHer", "bad"]] : [])]
+  return isIn(race, sail) ? there : away;
+}
+
+function choicesOf(race, sail, held) {
+  return [...placesOf(race, sail), ["code", "finish.codeOrPenalty"], ...(held.length ? [["clear", "scorer.clearHer", "bad"]] : [])]
     .map(([value, key, look]) => ({value, label: text(key), look}));
 }
 
@@ -52,6 +44,7 @@ export async function correct(number, sail) {
     [...choicesOf(race, sail, held), cancel()], "stack");
   const single = {strike: `STRIKE ${number} ${sail}`, clear: `CLEAR ${number} ${sail}`, last: `FINISH ${number} ${sail}`}[done];
   if (single) line(single);
+  else if (done === "time") typeTime(race, number, sail);
   else if (done === "code") askCode(number, sail);
   else if (done === "ahead" || done === "level") insertAt(race, number, sail, done);
   else if (done === "into") putInto(race, number, sail);
@@ -63,6 +56,12 @@ async function askCode(number, sail) {
   const done = await choose(text("finish.whichCode", {sail: called(sail)}), [],
     [...[...CODES, ...PENALTIES].map(code => ({value: code, label: element("span", {}, code, element("small", {}, ` ${text(`code.${code}`)}`))})), cancel()]);
   if (done) line(`${PENALTIES.includes(done) ? "PENALTY" : "MARK"} ${number} ${sail} ${done}`);
+}
+
+// A boat as the sheet of times has her; an elapsed time only if that was given
+function typeTime(race, number, sail) {
+  const {finish = "", elapsed = "", code = ""} = race.sheet?.rows[sail] ?? {};
+  return correctByHand(here, number, {sail, finish, elapsed: finish ? "" : elapsed ?? "", code});
 }
 
 async function insertAt(race, number, sail, how) {
@@ -96,8 +95,14 @@ async function swapWith(race, number, sail) {
   else say(text("scorer.areLevel", {one: spaced(sail), other: spaced(other)}));
 }
 
-// A boat that finished after all others
+// A boat that finished after all others, or at a time that is asked for
 export async function addFinisher(number) {
+  if (state().handicap) {
+    const race = raceNumbered(number);
+    const finisher = await findBoat(text("scorer.addFinisher"), missingFrom(race).filter(sail => !hasFinished(race, sail)));
+    if (finisher) typeTime(race, number, finisher);
+    return;
+  }
   const sail = await findBoat(text("scorer.whoFinishedLast"), missingFrom(raceNumbered(number)), text("scorer.elsewhereHint"));
   if (sail) line(`FINISH ${number} ${sail}`);
 }
@@ -106,16 +111,4 @@ export async function addFinisher(number) {
 export async function resolve(number, mark) {
   const sail = await findBoat(text("finish.whoWas", {mark}), missingFrom(raceNumbered(number)), text("scorer.nobodyHint", {line: `${mark} ${number} none`}));
   if (sail) line(`${mark} ${number} ${sail}`);
-}
-
-// Finishers that were recorded in the wrong race
-export async function toOtherRace(number) {
-  const race = raceNumbered(number), field = element("select", {"aria-label": text("common.race")},
-    Array.from({length: RACES}, (_, at) => at + 1).filter(one => one !== number).map(one => element("option", {value: one}, one)));
-  const from = element("select", {"aria-label": text("scorer.fromBoat")}, race.order.flat().map(sail => element("option", {value: sail}, called(sail))));
-  const done = await choose(text("scorer.otherRace"), [element("label", {class: "field"}, text("scorer.fromBoat"), from),
-    element("label", {class: "field"}, text("scorer.belongTo"), field)], [cancel(), {value: "yes", label: text("scorer.putThem"), look: "main"}]);
-  if (done !== "yes") return;
-  const sails = race.order.flat(), chosen = sails.slice(sails.indexOf(from.value));
-  lines(linesOfOtherRace(race, number, Number(field.value), chosen));
 }

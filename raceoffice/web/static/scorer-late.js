@@ -11,6 +11,7 @@ import {findBoat} from "./boat-finder.js";
 import {agreedOf} from "./questions.js";
 import {agrees} from "./sending.js";
 import {line} from "./scorer-corrections.js";
+import {sendTimesAgain} from "./scorer-retimed.js";
 
 const FIELDS = {name: "scorer.boatName", helm: "new.helm", club: "new.club", rating: "scorer.rating"};
 // Letters of a name
@@ -41,15 +42,25 @@ function namesIn(fields) {
 
 async function putIntoList(sail, names, was = {}) {
   const done = await ask(path("listed"), {sail: spaced(sail), ...names, was}, LONG);
-  if (done.status === 200) say(text("scorer.isListed", {sail: spaced(sail)}));
-  else say(`${text("scorer.isNotListed", {sail: spaced(sail)})}\n${troubleWords(done)}`, true);
+  if (done.status === 200) {
+    say(text("scorer.isListed", {sail: spaced(sail)}));
+    if (names.rating) sendTimesAgain(sail);
+  } else say(`${text("scorer.isNotListed", {sail: spaced(sail)})}\n${troubleWords(done)}`, true);
+}
+
+// Whether a boat has a rating, needs none, or is meant to have none
+async function isRatingMeant(field) {
+  return !field || field.value.trim() !== "" || await choose(text("scorer.noRating"), text("scorer.noRatingMeans"),
+    [button("", text("common.no")), button("yes", text("common.yes"), "main")]) === "yes";
 }
 
 // Asks for a boat, enters her, and puts her names into the list once that was taken.
 export async function enterLate() {
   const fields = await nameFields(), sail = element("input", {placeholder: "GBR 123", autocomplete: "off"});
   const inside = [text("scorer.lateMeans"), element("label", {class: "field"}, text("common.sail"), sail), ...shown(fields)];
-  const done = await choose(text("scorer.lateEntry"), inside, [button("", text("common.cancel")), button("yes", text("scorer.enterHer"), "main")]);
+  const asked = () => choose(text("scorer.lateEntry"), inside, [button("", text("common.cancel")), button("yes", text("scorer.enterHer"), "main")]);
+  let done = await asked();
+  while (done === "yes" && !await isRatingMeant(fields.rating)) done = await asked();
   const typed = sail.value.replace(/\s/g, ""), names = namesIn(fields);
   if (done !== "yes" || !typed) return;
   const sent = await line(`ENTER ${typed}`);

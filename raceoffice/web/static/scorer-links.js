@@ -7,6 +7,7 @@ import {choose, hush, say} from "./dialogs.js";
 import {agreedOf} from "./questions.js";
 import {remarkWords, troubleWords} from "./remark-words.js";
 import {agrees} from "./sending.js";
+import {withClass} from "./desk.js";
 import {codePicture} from "./qr.js";
 
 const ROLES = ["FINISH", "JURY", "SCORER"];
@@ -106,7 +107,7 @@ export function linksPage() {
 // Offices
 
 async function closeOffice(name) {
-  const done = await choose(text("office.closeQuestion"), text("office.closeMeans"),
+  const done = await choose(withClass(text("office.closeQuestion"), name), text("office.closeMeans"),
     [{value: "", label: text("common.no")}, {value: "yes", label: text("office.closeIt"), look: "bad"}]);
   if (done !== "yes") return;
   await ask(`close/${encodeURIComponent(name)}`, {}, CLOSING);
@@ -145,7 +146,7 @@ function officeStep(one) {
     ? element("button", {type: "button", class: "bad", onclick: () => closeOffice(one.class)}, text("office.closeForToday"))
     : element("button", {type: "button", class: "main", onclick: () => openOffice(one.class)}, text("office.open"));
   return element("section", {class: "step", "data-key": one.class},
-    element("h2", {}, one.class, " ", element("span", {class: `chip ${one.open ? "good" : "bad"}`}, text(one.open ? "office.stateOpen" : "office.stateClosed"))),
+    element("h2", {}, withClass(one.class, one.class), " ", element("span", {class: `chip ${one.open ? "good" : "bad"}`}, text(one.open ? "office.stateOpen" : "office.stateClosed"))),
     element("pre", {class: "mono linktext", tabindex: "0", "aria-label": text("office.itsWords")}, one.said.slice(-14).map(remarkWords).join("\n")), one.open && !one.is_kept_here ? element("p", {class: "waits"}, text("office.joined")) : null, element("div", {class: "acts"}, buttons));
 }
 
@@ -158,7 +159,7 @@ async function serveToo(name) {
 }
 
 function besideStep(some) {
-  const row = one => element("li", {"data-key": one.name}, `${one.title} (${text(`results.state.${one.state}`)}) `,
+  const row = one => element("li", {"data-key": one.name}, `${one.name}: ${one.title} (${text(`results.state.${one.state}`)}) `,
     element("button", {type: "button", "data-name": one.name, onclick: () => serveToo(one.name)}, text("office.openToo", {name: one.name})));
   return element("section", {class: "step", id: "beside"}, element("h2", {}, text("office.beside")), element("ul", {}, some.map(row)));
 }

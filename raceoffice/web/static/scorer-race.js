@@ -3,9 +3,12 @@
 import {byId, element} from "./elements.js";
 import {ordinal, text, timeOfDay} from "./texts.js";
 import {kindOf, spaced} from "./sails.js";
-import {boatOf, called, heldIn, missingFrom, raceNumbered} from "./desk.js";
+import {boatOf, called, heldIn, missingFrom, raceNumbered, state} from "./desk.js";
+import {stalePart} from "./jury-kept.js";
 import {finishers, waitingIn} from "./race-view.js";
-import {addFinisher, correct, line, resolve, toOtherRace} from "./scorer-corrections.js";
+import {addFinisher, correct, line, resolve} from "./scorer-corrections.js";
+import {finishersOf, toOtherRace} from "./scorer-other-race.js";
+import {unfinishedPart} from "./scorer-unfinished.js";
 import {correctNames, enterLate, takeOut, unlistedPart} from "./scorer-late.js";
 
 // What was compared with the paper on this page: "RACE SAIL"
@@ -31,7 +34,12 @@ function boatRow(race, number, sail, place, placeWords) {
     element("td", {class: "place", "aria-label": placeWords}, place),
     element("th", {class: "sail", scope: "row"}, element("button", {type: "button", class: "quiet", onclick: () => correct(number, sail)}, spaced(sail))),
     element("td", {class: "name"}, [boat?.[1], boat?.[2]].filter(Boolean).join(" · ")), element("td", {}, held.map(codeTag)),
-    element("td", {class: "time", title: race.by[sail]}, timeOfDay(race.at[sail])));
+    element("td", {class: "time", title: race.by[sail]}, timeIn(race, sail)));
+}
+
+// Her finish as the sheet of times has it, or the time of her tap
+function timeIn(race, sail) {
+  return state().handicap ? race.sheet?.rows[sail]?.finish : timeOfDay(race.at[sail]);
 }
 
 function unreadRow(number, {gap, place}) {
@@ -95,7 +103,7 @@ function actions(race, number, isEmpty) {
     : element("button", {type: "button", class: "main", id: "score", disabled: isEmpty, onclick: () => line(`SCORE ${number}`)}, text("scorer.score", {number}));
   return element("div", {class: "acts"}, count,
     element("button", {type: "button", id: "add", onclick: () => addFinisher(number)}, text("scorer.addFinisher")),
-    element("button", {type: "button", id: "other-race", disabled: !race.order.length, onclick: () => toOtherRace(number)}, text("scorer.otherRaceShort")),
+    element("button", {type: "button", id: "other-race", disabled: !finishersOf(race).length, onclick: () => toOtherRace(number)}, text("scorer.otherRaceShort")),
     element("span", {class: "grow"}),
     element("button", {type: "button", class: "quiet bad", id: "abandon", disabled: isEmpty, onclick: () => line(`ABANDON ${number}`)}, text("scorer.abandon")));
 }
@@ -109,6 +117,7 @@ export function racePane(number, draw) {
     element("header", {}, element("h2", {id: "race-title"}, `${text("common.race")} ${number} `),
       element("span", {class: `chip ${race.counts ? "good" : "wait"}`}, text(race.counts ? "scorer.counts" : "scorer.doesntCount")),
       element("span", {class: "soft"}, counts)),
-    actions(race, number, !rows.length), rows.length ? comparedLine(race, number) : null, missingParts(race, away),
+    unfinishedPart(), actions(race, number, !rows.length), rows.length ? comparedLine(race, number) : null, missingParts(race, away),
+    stalePart(state().decisions),
     orderTable(rows), awayPart(race, number, away), unlistedPart(), typedForm(), entriesPart());
 }

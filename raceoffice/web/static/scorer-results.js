@@ -3,10 +3,11 @@
 import {byId, element} from "./elements.js";
 import {date, list, text, timeOfDay} from "./texts.js";
 import {ask, me, newId} from "./office.js";
-import {here, path, state} from "./desk.js";
+import {here, path, state, withClass} from "./desk.js";
 import {choose, say} from "./dialogs.js";
 import {agreedOf, wordsOf} from "./questions.js";
 import {remarkSentences, troubleWords, valueWords} from "./remark-words.js";
+import {verdictWords} from "./jury-kept.js";
 import {spaced} from "./sails.js";
 
 const STATES = ["provisional", "final", "amended"];
@@ -47,6 +48,10 @@ function pointWords({kind, values, text: english, remarks = {}}) {
         marks: values.marks.map((mark, at) => text("results.markInRace", {mark, race: values.races[at]}))});
     case "places-unread":
       return text("results.placesUnread", remarks.fault ? {fault: valueWords("fault", remarks.fault)} : values);
+    case "decision-stale":
+      return `${verdictWords({...values, why: remarks.why ? [remarks.why] : []})} ${remarks.why ? "" : text("jury.sendsLacking")}`.trim();
+    case "decisions-unread":
+      return remarks.fault ? remarkSentences([remarks.fault])[0] : english;
     default:
       return english;
   }
@@ -62,7 +67,7 @@ const openList = points => element("ul", {class: "waits open-points"}, points.ma
 // Declaring
 
 async function agreesTo({question, open}) {
-  const inside = [element("p", {}, wordsOf(question)), open.length ? element("h3", {}, text("results.stillOpen")) : null,
+  const inside = [element("p", {}, withClass(wordsOf(question))), open.length ? element("h3", {}, text("results.stillOpen")) : null,
     open.length ? openList(open) : null];
   return await choose(text("common.isThatRight"), inside,
     [{value: "", label: text("common.no")}, {value: "yes", label: text("common.yes"), look: "main"}]) === "yes";

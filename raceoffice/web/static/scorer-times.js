@@ -4,11 +4,12 @@
 import {element} from "./elements.js";
 import {text} from "./texts.js";
 import {ask} from "./office.js";
-import {choose, say} from "./dialogs.js";
+import {say} from "./dialogs.js";
 import {remarkSentences, troubleWords} from "./remark-words.js";
 import {saidWords} from "./said-words.js";
 import {sendLine} from "./sending.js";
-import {CODES, spaced} from "./sails.js";
+import {correctByHand} from "./finish-by-hand.js";
+import {spaced} from "./sails.js";
 import {state} from "./desk.js";
 
 const RACES = 40;
@@ -22,41 +23,6 @@ function duration(seconds) {
   if (seconds === undefined || seconds === null) return "";
   const two = value => String(value).padStart(2, "0");
   return `${Math.floor(seconds / HOUR)}:${two(Math.floor(seconds % HOUR / MINUTE))}:${two(seconds % MINUTE)}`;
-}
-
-// A time of the clock as it is typed: 150731, 15.07.31 or 15:07:31
-function clockOf(typed) {
-  const digits = typed.replace(/[.,\s]/g, ":");
-  return /^\d{6}$/.test(digits) ? digits.replace(/(..)(..)(..)/, "$1:$2:$3") : digits;
-}
-
-// The lines that give a boat a finish or a code, correct what she has, or take it out
-function linesFor(race, row, {finish, code}) {
-  const lines = [], of = `${race} ${row.sail}`;
-  if (code) return code === row.code ? [] : [`MARK ${of} ${code}`];
-  if (row.code) lines.push(`CLEAR ${of}`);
-  if (!finish && (row.finish || row.elapsed)) lines.push(`STRIKE ${of}`);
-  if (finish && row.elapsed) lines.push(`STRIKE ${of}`);
-  if (finish && finish !== row.finish) lines.push(["FINISH", of, finish, row.finish].filter(Boolean).join(" "));
-  return lines;
-}
-
-// Asks for the finish or the code of a boat, and sends what follows; whether anything was sent.
-async function correctByHand(name, race, row) {
-  const finish = element("input", {id: "hand-finish", value: row.finish, autocomplete: "off", inputmode: "text", placeholder: "15:07:31"});
-  const code = element("select", {id: "hand-code"}, ["", ...CODES].map(one =>
-    element("option", {value: one, selected: one === row.code}, one || text("times.noCode"))));
-  const done = await choose(`${spaced(row.sail)}: ${text("times.byHand")}`, [text("times.handMeans"),
-    element("label", {class: "field"}, text("times.clock"), finish), element("label", {class: "field"}, text("times.code"), code)],
-  [{value: "", label: text("common.cancel")}, {value: "out", label: text("times.takeOut"), look: "bad"}, {value: "save", label: text("times.handSave"), look: "main"}]);
-  if (!done) return false;
-  const given = done === "out" ? {finish: "", code: ""} : {finish: clockOf(finish.value.trim()), code: code.value};
-  for (const line of linesFor(race, row, given)) {
-    const sent = await sendLine(name, line, state()?.entries ?? 0);
-    if (!sent || sent.outcome === "refused") break;
-    say(saidWords(sent.said).slice(0, 3).join("\n") || text("times.saved"));
-  }
-  return true;
 }
 
 // The sheet of one race in a form

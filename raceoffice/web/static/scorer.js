@@ -20,7 +20,9 @@ const isShown = name => name !== "times" || state()?.handicap;
 const RACES = 40;
 // Milliseconds between two looks at the devices, or at the results
 const LOOK = 4000;
-let tab = "races", number = 0;
+let tab = "races";
+// The race that is shown of each class
+const shownRaces = {};
 
 function standingPane() {
   const {standing, last, settings} = state(), isEmpty = !standing.races.length;
@@ -32,8 +34,8 @@ function standingPane() {
 
 function raceTab(one) {
   const found = state().races[one], words = text(found?.counts ? "scorer.counts" : found ? "scorer.open" : "scorer.new");
-  return element("button", {type: "button", "data-key": one, class: found?.counts ? "counts" : "", "aria-current": one === number ? "true" : null,
-    "aria-label": `${text("common.race")} ${one}: ${words}`, onclick: () => { number = one; draw(); }}, one, element("small", {}, words));
+  return element("button", {type: "button", "data-key": one, class: found?.counts ? "counts" : "", "aria-current": one === shownRaces[here] ? "true" : null,
+    "aria-label": `${text("common.race")} ${one}: ${words}`, onclick: () => { shownRaces[here] = one; draw(); }}, one, element("small", {}, words));
 }
 
 function emptyPage() {
@@ -44,10 +46,10 @@ function emptyPage() {
 function racesPage() {
   if (!state()) return emptyPage();
   const numbers = Object.keys(state().races).map(Number), most = Math.min(RACES, Math.max(0, ...numbers) + 1);
-  number ||= numbers.filter(one => !state().races[one].counts).at(-1) || Math.max(1, ...numbers);
+  shownRaces[here] ||= numbers.filter(one => !state().races[one].counts).at(-1) || Math.max(1, ...numbers);
   return element("main", {class: "desk"},
     element("nav", {class: "races", "aria-label": text("common.races")}, Array.from({length: most}, (_, at) => raceTab(at + 1))),
-    racePane(number, draw), standingPane());
+    racePane(shownRaces[here], draw), standingPane());
 }
 
 // What is looked at while a tab is shown

@@ -1,0 +1,86 @@
+"""The scorer's corrections that take several lines, as a boat that is moved: one request, whose lines are sent once.
+
+A process may be killed between any two steps. All lines are in the register before the first is sent: the same request again
+sends what is left of them. Until somebody does that, or leaves the rest, the scorer's page shows what is left.
+"""
+from __future__ import annotations
+
+from collections.abc import Mapping, Sequence
+from typing import Any
+
+from raceoffice.errors import NotSent
+from raceoffice.program.replay import Line
+from raceoffice.web import preview
+from raceoffice.web.requests import Wrong
+from raceoffice.web.room import Room
+from raceoffice.web.rulings import asked_first, tap_of
+from raceoffice.web.states import Values
+from raceoffice.web.tap_session import Asked
+from raceoffice.web.taps import LINE, Tap, correction_of, part_id
+
+# The lines that a correction may have, and how many at most.
+KINDS = ("STRIKE", "FINISH", "TIE", "BEFORE", "TIME", "TIMES", "MARK", "PENALTY", "CLEAR")
+MOST = 4000
+
+
+def correct(room: Room, values: Mapping[str, Any], name: str) -> list[Values]:
+    """Sends the lines of a correction, or what is left of them; what came of each. The same again gets the same answer.
+    `name` is the device's."""
+    tap, lines = tap_of(values), lines_in(values)
+    with room.lock:
+        room.session("SCORER").look()
+        try:
+            room.register.under_way = tap.id
+            return sent_whole(room, tap, lines, name)
+        finally:
+            room.register.under_way = ""
+            room.news()
+
+
+def leave_rest(room: Room, values: Mapping[str, Any]) -> None:
+    """Leaves a correction as it is: what is left of it isn't shown any more."""
+    tap = tap_of(values)
+    with room.lock:
+        if room.register.decisions.get(correction_of(tap.id)):
+            room.register.decide(correction_of(tap.id), [])
+        room.news()
+
+
+def lines_in(values: Mapping[str, Any]) -> list[Line]:
+    """The lines of a request."""
+    found = values.get("lines")
+    if not isinstance(found, list) or len(found) > MOST:
+        raise Wrong(400, "this is no correction")
+    for line in found:
+        if not isinstance(line, str) or not LINE.fullmatch(line) or line.split()[:1] not in [[kind] for kind in KINDS]:
+            raise Wrong(400, "this is no line of a correction")
+    return [Line("SCORER", " ".join(line.split())) for line in found]
+
+
+def sent_whole(room: Room, tap: Tap, given: Sequence[Line], name: str) -> list[Values]:
+    """Sends each line of a correction that wasn't sent yet; what came of each. After a refusal no more is sent."""
+    key = correction_of(tap.id)
+    if key not in room.register.decisions:
+        check(room, tap, given)
+        room.register.decide(key, given)
+    held, found = room.register.decisions[key], list[Values]()
+    for at, line in enumerate(held or given):
+        if not held and part_id(tap.id, at) not in room.register.sent:
+            # The rest was left.
+            break
+        found.append(room.do("SCORER", name, Tap(part_id(tap.id, at), line.text, tap.at, agreed=tap.agreed)))
+        if found[-1]["outcome"] == "refused":
+            break
+    if held and (len(found) == 1 or found[-1]["outcome"] != "refused"):
+        # Nothing is left of it, or nothing was done.
+        room.register.decide(key, [])
+    return found
+
+
+def check(room: Room, tap: Tap, lines: Sequence[Line]) -> None:
+    """Asks what the office asks of the lines before the first is sent; NotSent if the program would refuse one."""
+    for asked in asked_first(room, lines):
+        if asked not in tap.agreed:
+            raise Asked(asked, [])
+    if not room.folder.settings.handicap and (refused := preview.why_refused(room.folder, room.facts, lines)):
+        raise NotSent(*refused)

@@ -1,0 +1,124 @@
+"""What taps have changed of a row in a sheet of times, or of a start, as the register has it: so a tap that comes again
+is done once, and an undo takes away nothing that somebody else has recorded since."""
+from __future__ import annotations
+
+import itertools
+
+from raceoffice.corrected.write_sheet import SheetOfRace
+from raceoffice.errors import NotSent
+from raceoffice.remarks import Remark, remark
+from raceoffice.program.messages import ROLES
+from raceoffice.series.race_sheets import sheet_name
+from raceoffice.session.undo import what_about
+from raceoffice.web.tap_session import TapSession
+from raceoffice.web.taps import Register, Sent, finisher_of
+
+# Taps that change a boat's row.
+OF_ROW = ("FINISH", "ELAPSED", "STRIKE", "MARK", "CLEAR")
+Cells = dict[str, str]
+
+
+def row_of(line: str) -> tuple[str, str] | None:
+    """The race and the boat whose row a line changes; without a boat if it changes the start of all. None if it changes
+    neither."""
+    command, *rest = line.split()
+    if command == "START" and rest:
+        return rest[0], ""
+    return (rest[0], rest[1]) if command in OF_ROW and len(rest) > 1 else None
+
+
+def cells_of(sheet: SheetOfRace, sail: str) -> Cells:
+    """What a tap may change of a boat, or of the start if there is no boat."""
+    return sheet.cells(sail) if sail else {"start": " ".join(sheet.starts)}
+
+
+def taps_since(register: Register, sent: Sent) -> list[Sent]:
+    """The taps for the same row that were begun after another, in their order."""
+    later = itertools.takewhile(lambda one: one is not sent, reversed(register.sent.values()))
+    return [one for one in later if "/" not in one.id and row_of(one.line) == row_of(sent.line)][::-1]
+
+
+def is_made(register: Register, sent: Sent, now: Cells) -> bool:
+    """Whether the sheet has, or had, what a tap was to make of it: `now` is what it has, and the next tap has noted what it
+    had then."""
+    if row_of(sent.line) is None:
+        return True
+    # Only taps for the sheet have noted what it had.
+    since = [one.was for one in taps_since(register, sent) if one.made]
+    return bool(sent.made) and (since[0] if since else now) == sent.made
+
+
+def is_answered(session: TapSession, sent: Sent) -> bool:
+    """Whether the journal has another line about the same of the boat since a tap was begun."""
+    own = {part.own for part in session.register.parts(sent.id)}
+    return any(sent.is_before(entry, number) and entry not in own and is_about_same(sent.line, entry.split(maxsplit=3)[3])
+               for number, entry in enumerate(session.facts.sheet.journal, 1))
+
+
+# What an undo may not take away
+
+def need_none_since(session: TapSession, sent: Sent) -> None:
+    """NotSent if somebody else has recorded something about the same of the boat since a tap."""
+    if later := other_since(session, sent):
+        raise NotSent(later)
+
+
+def other_since(session: TapSession, sent: Sent) -> Remark | None:
+    """What another device, or somebody in a window, has recorded since about the same of the boat; None if nothing."""
+    register = session.register
+    others = [one for one in taps_since(register, sent) if one.by != sent.by and has_changed(one)
+              and is_in_way(sent.line, one.line)]
+    mains = {one.id for one in others}
+    # Whoever changes a start or another row sends what follows from it for all boats.
+    known = {one.own for one in register.sent.values() if is_part(register, one) and main_of(one) not in mains}
+    known |= register.entries_by(sent.by, session.facts.sheet.journal)
+    for number, entry in enumerate(session.facts.sheet.journal, 1):
+        _, _, role, line = entry.split(maxsplit=3)
+        if sent.is_before(entry, number) and entry not in known and is_in_way(sent.line, line):
+            return remark("undo-later", number=number, line=line, by=ROLES[role])
+    return remark("sheet-changed") if others else None
+
+
+def has_changed(one: Sent) -> bool:
+    """Whether a tap was done and has changed something: another finish at the same moment hasn't."""
+    is_done = one.answer.startswith(("OK ", "NOTED"))
+    return is_done and (not one.changed_nothing or bool(one.entry) and not finisher_of(one.line))
+
+
+def is_about_same(line: str, other: str) -> bool:
+    """Whether two lines are about the same boat's place, or her code."""
+    return what_about(line) == what_about(other)
+
+
+def is_in_way(line: str, other: str) -> bool:
+    """Whether the undo of a line would take away something of another: a code that comes back takes a place, too."""
+    return is_about_same(line, other) or line.startswith("CLEAR ") and what_about(line)[:2] == what_about(other)[:2]
+
+
+def is_part(register: Register, one: Sent) -> bool:
+    """Whether it is a line of a tap for a sheet of times."""
+    main = register.sent.get(main_of(one))
+    return "/" in one.id and main is not None and main.line.split()[0] in (*OF_ROW, "START", "TIMES")
+
+
+def main_of(one: Sent) -> str:
+    """The tap of which this is a line."""
+    return one.id.partition("/")[0]
+
+
+def need_finish(session: TapSession, sent: Sent) -> None:
+    """NotSent if a boat has another finish in the sheet than a tap has given her."""
+    race, sail = session.facts.race(sent.line.split()[1]), sent.line.split()[2]
+    held = cells_of(SheetOfRace(session.folder, race.number), sail)
+    if sent.made and any(held[key] not in ("", sent.made[key]) for key in ("finish", "elapsed")):
+        raise NotSent(remark("finish-changed", sail=sail, was=sent.made["finish"] or sent.made["elapsed"],
+                             name=sheet_name(race.number)))
+
+
+def note_tapped_too(session: TapSession, line: str) -> None:
+    """Notes that a device has tapped a boat who has another finish in the sheet: her undo is asked about. Once is
+    enough."""
+    last = next((one for one in reversed(session.register.sent.values())
+                 if "/" not in one.id.removesuffix("/too") and finisher_of(one.line) == finisher_of(line)), None)
+    if last and (last.by != session.name or not last.answer.startswith("NO ")):
+        session.register.refuse(session.sent_now(f"{session.tap.id}/too", line))

@@ -1,0 +1,46 @@
+"""Why the times of boats are in the sheet of a race, and not in the journal yet."""
+from __future__ import annotations
+
+from collections.abc import Mapping
+from typing import Any
+
+from raceoffice.corrected.ratings import faults_in_race
+from raceoffice.corrected.times import Rules
+from raceoffice.errors import Trouble
+from raceoffice.remarks import Remark, remark
+from raceoffice.series.entry_list import plain, problems
+from raceoffice.series.folder import Folder
+from raceoffice.series.read_list import bytes_of, name_of
+from raceoffice.web.states import Values, remarks_of
+
+
+def with_reasons(folder: Folder, sheets: Mapping[int, Values]) -> dict[int, Values]:
+    """The sheets of a class with what keeps all boats of each from being sent, `why`, and what keeps one, in her row."""
+    return {race: with_reason(sheet, *of_ratings(folder, race)) for race, sheet in sheets.items()}
+
+
+def with_reason(sheet: Values, faults: list[Remark], alone: Mapping[str, Remark]) -> Values:
+    rows: Mapping[str, Any] = sheet["rows"] if isinstance(sheet["rows"], dict) else {}
+    shown = {sail: row | {"why": remarks_of(why_waiting(sail, row, alone))} for sail, row in rows.items()}
+    return sheet | {"why": sheet["wrong"] or remarks_of(faults[:1]), "rows": shown}
+
+
+def why_waiting(sail: str, row: Mapping[str, Any], alone: Mapping[str, Remark]) -> list[Remark]:
+    """What keeps a boat that has a time from being sent, whatever the others have."""
+    if row["code"]:
+        return []
+    if row["elapsed"] is None:
+        return [remark("start-missing")]
+    return [alone[sail]] if sail in alone else []
+
+
+def of_ratings(folder: Folder, race: int) -> tuple[list[Remark], dict[str, Remark]]:
+    """What is wrong with the ratings of a race: for all boats, and for those that have none."""
+    try:
+        data, system = bytes_of(folder.entries), Rules.read(folder).system
+        if wrong := problems(data, folder.entries):
+            return wrong[:1], {}
+        faults, alone = faults_in_race(data, name_of(folder.entries), race, system)
+    except Trouble as trouble:
+        return [remark("sheet-fault", why=trouble.said[0])], {}
+    return faults, {plain(sail): why for sail, why in alone.items()}

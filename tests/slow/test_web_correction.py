@@ -1,0 +1,96 @@
+"""Corrections of several lines on the scorer's page in Chromium: the network, the page or the web is lost in between, and the
+boat is where she was, or where she was put, or the page says what is left."""
+from __future__ import annotations
+
+import json
+import unittest
+
+import web_devices
+from devices import Device
+from raceoffice.web.taps import part_id
+from web_office import SAILS, WebTrial, finishes
+
+ROW = ".order tr[data-sail={}]"
+ORDER = "[...document.querySelectorAll('.order tbody tr')].map(row => row.dataset.sail).join(' ')"
+MOVE = ["STRIKE 1 NED12", "BEFORE 1 NED12 GBR101"]
+TAPS = ("cup", "office", "web.taps")
+
+
+class Correction(WebTrial):
+    """A boat is moved in a race of three."""
+
+    def setUp(self) -> None:
+        super().setUp()
+        finish = web_devices.Device(self.port, "finish").come(self.links["finish"], "Ann")
+        for sail in SAILS[:3]:
+            finish.tap(f"FINISH 1 {sail}")
+
+    def shown(self, device: Device, *sails: str) -> None:
+        device.until(f"{ORDER} === {json.dumps(' '.join(sails))}")
+
+    def move(self, device: Device) -> None:
+        """Puts the third boat ahead of the first."""
+        self.shown(device, *SAILS[:3])
+        device.click(f"{ROW.format('NED12')} th button")
+        device.choose("move")
+        device.choose("ahead")
+        device.click("dialog [data-sail=GBR101]")
+
+    def test_answer_lost(self) -> None:
+        """The answer is lost, and the page is left: the move is whole."""
+        line = self.line()
+        bea = self.device("scorer", "Bea", port=line.own)
+        line.loses_answer = True
+        self.move(bea)
+        bea.until("document.querySelector('#link').dataset.state === 'away'")
+        bea.ask("Page.navigate", url="about:blank")
+        line.mend()
+        bea.open(self.address("/office/scorer/", line.own))
+        self.shown(bea, "NED12", "GBR101", "GBR7")
+        self.assertEqual(self.journal()[3:], [f"SCORER {line}" for line in MOVE])
+
+    def test_sent_again(self) -> None:
+        """The answer is lost, and the network comes back: the page sends the same again, and says what was sent."""
+        line = self.line()
+        bea = self.device("scorer", "Bea", port=line.own)
+        line.loses_answer = True
+        self.move(bea)
+        bea.until("document.querySelector('#link').dataset.state === 'away'")
+        line.mend()
+        bea.until("document.body.textContent.includes('2 lines sent')")
+        self.shown(bea, "NED12", "GBR101", "GBR7")
+        self.assertEqual(self.journal()[3:], [f"SCORER {line}" for line in MOVE])
+
+    def half_done(self) -> None:
+        """The web dies after the first of two lines."""
+        raw, id = web_devices.Device(self.port, "scorer").come(self.links["scorer"], "Cy"), web_devices.new_id()
+        raw.tap(MOVE[0], part_id(id, 0))
+        self.kill_web()
+        note = json.dumps({"id": f"{id}/lines", "lines": [["SCORER", line] for line in MOVE]})
+        noted = self.text(*TAPS).splitlines()
+        self.write("\n".join([*noted[:-2], note, *noted[-2:], ""]), *TAPS)
+        self.start()
+
+    def test_completed(self) -> None:
+        """What is left of a move is said, and a button sends it."""
+        bea = self.device("scorer", "Bea")
+        self.shown(bea, *SAILS[:3])
+        self.half_done()
+        bea.until("document.querySelector('.unfinished .mono')?.textContent === 'BEFORE 1 NED12 GBR101'")
+        bea.click(".finish-it")
+        self.shown(bea, "NED12", "GBR101", "GBR7")
+        bea.until("!document.querySelector('.unfinished')")
+        self.assertEqual(self.journal(), [*finishes(*SAILS[:3]), *(f"SCORER {line}" for line in MOVE)])
+
+    def test_left(self) -> None:
+        """Or it is left, by another button."""
+        bea = self.device("scorer", "Bea")
+        self.half_done()
+        bea.click(".leave-it")
+        bea.until("!document.querySelector('.unfinished')")
+        self.shown(bea, "GBR101", "GBR7")
+        self.assertEqual(self.journal()[3:], [f"SCORER {MOVE[0]}"])
+
+
+if __name__ == "__main__":
+    unittest.main()

@@ -1,0 +1,177 @@
+"""The jury's page in a class by order of finishing and in one by corrected time: a decision that is taken out leaves all as
+it was, and nothing that the jury does takes anything out of a sheet of times but a code that it clears."""
+from __future__ import annotations
+
+import itertools
+import os
+import unittest
+from typing import Any
+
+import helpers
+from raceoffice.series import settings
+from test_web_timed import moment
+from web_devices import Web, new_id
+
+# In the order in which they finish; GBR8 and GBR9 don't.
+SAILS = [f"GBR{number}" for number in range(1, 10)]
+# What each boat holds in race 1 beside her place.
+HELD = [("FINISH", "PENALTY 1 GBR2 ZFP"), ("FINISH", "MARK 1 GBR3 OCS"), ("SCORER", "MARK 1 GBR4 DNF"),
+        ("JURY", "REDRESS 1 GBR5 1.5"), ("JURY", "MARK 1 GBR6 DSQ"), ("FINISH", "MARK 1 GBR7 RET"),
+        ("FINISH", "MARK 1 GBR8 DNF")]
+# A decision, and what it is amended to. With RULINGS in the environment there are more.
+AMENDED = [("TLE last+2", "DPI 2"), ("NSC", "AVG 2")]
+if "RULINGS" in os.environ:
+    AMENDED += [("DPI 2", "TLE last+2"), ("TLE 5", "NSC"), ("AVG 2", "TLE 5"), ("DUTY all", "PRP"), ("SCP 10%", "T1")]
+
+
+@helpers.needs_times
+class Rulings(Web):
+    words = ("cup", "hcap")
+
+    def prepare(self) -> None:
+        self.write("Sail,TCF\n" + "".join(f"{sail},1.000\n" for sail in SAILS), "cup", "entries.csv")
+        for name, handicap in (("cup", "no"), ("hcap", "yes")):
+            os.makedirs(os.path.join(self.here, name, "times"), exist_ok=True)
+            self.write(self.text("cup", "entries.csv"), name, "entries.csv")
+            self.write(settings.filled_in({"title": "Autumn Cup", "program": helpers.PROGRAM, "zone": "UTC", "absent": "a53",
+                                           "handicap": handicap}), name, "series.ini")
+        self.write(f"[times]\nsystem = tcf\nprogram = {helpers.TIMES}\n", "hcap", "times", "rules.ini")
+
+    def sail_races(self) -> None:
+        """Two races of either class, which count."""
+        self.devices = {role: self.device(role.lower(), role) for role in ("FINISH", "JURY", "SCORER")}
+        for race in (1, 2):
+            self.yes("FINISH", f"START {race} 14:00", "hcap")
+            for at, sail in enumerate(SAILS[:7]):
+                for name in self.words:
+                    self.yes("FINISH", f"FINISH {race} {sail}", name, at=moment(f"15:0{at}:00"))
+        for role, line in HELD:
+            for name in self.words:
+                self.yes(role, line, name)
+        for name in self.words:
+            self.yes("SCORER", "SCORE 1", name)
+            self.yes("SCORER", "SCORE 2", name)
+
+    def yes(self, role: str, line: str, name: str, **more: Any) -> Any:
+        """The answer to a tap of which all questions are answered by yes."""
+        agreed: list[Any] = []
+        while (found := self.devices[role].tap(line, name=name, agreed=agreed, **more))[0] == 409:
+            agreed.append(found[1]["question"])
+        return found[1]
+
+    def ruled(self, name: str, line: str, out: bool = False) -> list[str]:
+        """Decides as the page does; the lines that were taken. `refused` if it can't be given."""
+        jury, given, agreed = self.devices["JURY"], {"line": line, "out": out}, list[Any]()
+        shown = jury.ask("POST", f"/office/jury/ruling/{name}", given)[1]
+        if shown.get("why") or "refused" in shown or "said" in shown:
+            return ["refused"]
+        before, id = self.journal(name), new_id()
+        while True:
+            status, done = jury.ask("POST", f"/office/jury/decide/{name}", {
+                **given, "lines": shown["lines"], "tag": shown["tag"], "id": id, "agreed": agreed})
+            if status != 409:
+                break
+            agreed.append(done["question"])
+        self.assertEqual((status, [one for one in done.get("done", []) if one["outcome"] != "taken"]), (200, []), (line, done))
+        return self.journal(name)[len(before):]
+
+    def shown(self, name: str) -> Any:
+        """The standing, and what is recorded of race 1."""
+        state = self.devices["SCORER"].state(name)
+        return {"standing": state["standing"], **{key: state["races"]["1"][key] for key in ("order", "codes", "penalties",
+                                                                                         "redress")}}
+
+    def sheet(self) -> list[str]:
+        return self.text("hcap", "times", "race-1.csv").splitlines()
+
+    def test_taken_out(self) -> None:
+        """Each decision is kept, amended and taken out of a boat that has a place, one with a penalty, a code, a code and
+        redress in points, or nothing. The scores are those of the other class all the time, and at the end as before."""
+        self.sail_races()
+        before, sheet = {name: self.shown(name) for name in self.words}, self.sheet()
+        for sail, (first, second) in itertools.product(("GBR1", "GBR2", "GBR3", "GBR4", "GBR5", "GBR6", "GBR9"), AMENDED):
+            for kind in (first, second):
+                lines = [self.ruled(name, f"race 1 {sail} {kind}") for name in self.words]
+                scores = [self.shown(name)["standing"]["rows"] for name in self.words]
+                self.assertEqual((lines[0], scores[0]), (lines[1], scores[1]), (sail, kind))
+                # DSQ is cleared first, and OCS isn't a boat that is too late.
+                is_barred = sail == "GBR6" or sail == "GBR3" and kind[:3] in ("TLE", "NSC")
+                self.assertEqual(lines[0] == ["refused"], is_barred, (sail, kind))
+            for name in self.words:
+                if sail != "GBR6":
+                    self.ruled(name, self.text(name, "decisions.txt").strip(), True)
+                self.assertEqual(self.shown(name), before[name], (name, sail, first, second))
+            self.assertEqual(self.sheet(), sheet)
+        self.assertEqual(self.yes("SCORER", "TIMES 1", "hcap")["outcome"], "noted")
+
+    def test_points(self) -> None:
+        """Of 9 boats one that doesn't finish has 10 points, and in race 1 under RRS A5.3 8 came: 9."""
+        self.sail_races()
+        for name in self.words:
+            for kind, points in (("NSC", "9.0"), ("TLE 5", "5.0"), ("DPI 2", "3.0")):
+                self.ruled(name, f"race 1 GBR1 {kind}")
+                row = next(row for row in self.shown(name)["standing"]["rows"] if row["sail"] == "GBR1")
+                self.assertEqual((row["scores"][0][0], row["scores"][1][0]), (points, "1.0"), (name, kind))
+
+    def test_reinstated(self) -> None:
+        """REINSTATE of a boat that had retired after she had finished: she is RET again, in the sheet, too."""
+        self.sail_races()
+        row = "GBR7,14:00:00,15:06:00,RET"
+        for name in self.words:
+            self.yes("JURY", "MARK 1 GBR7 DSQ", name)
+            self.assertEqual(self.ruled(name, "race 1 GBR7 REINSTATE"), ["JURY CLEAR 1 GBR7", "FINISH MARK 1 GBR7 RET"])
+            self.assertEqual(self.shown(name)["codes"]["GBR7"], "RET")
+            # An average over it is amended, and taken out: what REINSTATE took away doesn't come back.
+            for kind in ("AVG 2", "AVG all"):
+                self.assertNotEqual(self.ruled(name, f"race 1 GBR7 {kind}"), ["refused"])
+            self.ruled(name, "race 1 GBR7 AVG all", True)
+            self.assertEqual((self.shown(name)["codes"]["GBR7"], "GBR7" in self.shown(name)["redress"]), ("RET", False))
+            self.assertIn(row, self.sheet())
+
+    def test_cleared(self) -> None:
+        """The jury clears a code that a boat was given after she had finished: her time follows, as the committee's line."""
+        self.sail_races()
+        before = self.journal("hcap")
+        done = self.yes("JURY", "CLEAR 1 GBR3", "hcap")
+        self.assertEqual((done["outcome"], self.journal("hcap")[len(before):]),
+                         ("taken", ["JURY CLEAR 1 GBR3", "SCORER TIME 1 GBR3 3720"]), done)
+        self.assertEqual((self.sheet()[3], self.shown("hcap")["order"][2]), ("GBR3,14:00:00,15:02:00,", ["GBR3"]))
+        # Its own lines are the jury's again, and hers are nobody else's.
+        self.assertEqual(self.yes("JURY", "PENALTY 1 GBR1 SCP", "hcap")["outcome"], "taken")
+        self.assertEqual(self.journal("hcap")[-1], "JURY PENALTY 1 GBR1 SCP")
+
+    def test_not_the_jurys(self) -> None:
+        """A code that isn't the jury's to give, and what the committee may not change, are refused (4, 10) with nothing
+        written: the next tap sends nothing of it."""
+        self.sail_races()
+        before, sheet = self.journal("hcap"), self.sheet()
+        for role, line, answer in [("JURY", f"MARK 1 GBR1 {code}", "NO 4") for code in ("RET", "DNF", "OCS", "DNS", "DNC")] + [
+                ("FINISH", "MARK 1 GBR6 RET", "NO 10"), ("SCORER", "CLEAR 1 GBR6", "NO 10"), ("FINISH", "CLEAR 1 GBR5", "NO 10")]:
+            done = self.yes(role, line, "hcap")
+            self.assertEqual((done["outcome"], done["answer"], self.sheet()), ("refused", answer, sheet), line)
+        self.yes("SCORER", "TIMES 1", "hcap")
+        self.assertEqual(self.journal("hcap"), before)
+
+    def test_resent(self) -> None:
+        """The web dies between the jury's line and the committee's: the tap that comes again sends what is left, once."""
+        self.sail_races()
+        before, id = self.journal("hcap"), new_id()
+        self.yes("JURY", "CLEAR 1 GBR3", "hcap", id=id)
+        self.kill()
+        self.cut_register(id)
+        self.serve()
+        self.devices = {role: device.again() for role, device in self.devices.items()}
+        for _ in range(2):
+            done = self.yes("JURY", "CLEAR 1 GBR3", "hcap", id=id)
+            self.assertEqual((done["outcome"], self.journal("hcap")[len(before):]),
+                             ("taken", ["JURY CLEAR 1 GBR3", "SCORER TIME 1 GBR3 3720"]), done)
+
+    def cut_register(self, id: str) -> None:
+        """Takes the answers to a tap out of the register, as if the web had died before it noted them."""
+        path = ("hcap", "office", "web.taps")
+        kept = [line for line in self.text(*path).splitlines() if id not in line or '"answer"' not in line]
+        self.write("\n".join(kept) + "\n", *path)
+
+
+if __name__ == "__main__":
+    unittest.main()
