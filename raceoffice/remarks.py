@@ -344,6 +344,7 @@ ENGLISH: dict[str, str | tuple[str, str] | tuple[str, str, str]] = {
     "undo-typed": "somebody has typed for {mark} in race {race} since",
     "undo-enter": "{sail} stays while the office is open. When it is closed, raceoffice remove takes her out",
     "undo-later": "something has been typed about the same since: entry {number}, {line}, by {by}",
+    "undo-level": "{sail} was level with {mark}: say first who {mark} was, or that nobody was there",
     "undo-lines": "no one line does it. Type {lines}",
     "undo-abandon": "race {race} was taken away by {lines}: type again what stays of it",
     # Why a place isn't kept, or nobody is put there

@@ -92,16 +92,21 @@ class LineOrder:
         first = {sail for group in self.groups[:self.at(mark) + 1] for sail in self.boats(group)}
         return first | (self.ahead[mark] - now)
 
-    def ahead_before(self, line: str) -> list[str]:
+    def ahead_before(self, line: str, later: str = "") -> list[str]:
         """The places that a boat was ahead of when she was struck, and that she would come behind by this line if it
-        is taken as it stands. No boat is between."""
+        is taken as it stands, or puts her just ahead of the place `later`. No boat is between."""
         command, _, sail, *other = line.split()
         with contextlib.suppress(ValueError):
-            at = len(self.groups) if command == "FINISH" else self.at(other[0])
+            next_one = [later] if later else other
+            at = self.at(next_one[0]) if next_one else len(self.groups)
             behind = [(where, mark) for where, group in enumerate(self.groups[:at]) for mark in filter(is_mark, group)
                       if sail in self.ahead[mark]]
             return [mark for where, mark in behind if self.are_none_between(where, at)]
         return []
+
+    def places_level_with(self, sail: str) -> list[str]:
+        """The places, open or not, that a boat is level with, or was before she was struck."""
+        return [name for name in self.groups[self.at(sail)] if is_mark(name)]
 
     def line_back(self, number: int, sail: str) -> str:
         """The line that puts a boat that was struck where she was."""
@@ -173,10 +178,11 @@ class LineOrder:
         self.note_ahead(sail)
 
     def is_ahead(self, sail: str, mark: str) -> bool:
-        """Whether a boat that was struck was ahead of all places from there to this one."""
-        end = self.at(mark) + 1 if mark in self.ahead else 0
-        marks = [name for group in self.groups[self.at(sail):end] for name in group if is_mark(name)]
-        return all(sail in self.ahead[other] for other in marks)
+        """Whether a boat that was struck was ahead of a place, and of all places from there to this one."""
+        if mark not in self.ahead:
+            return True
+        marks = [name for group in self.groups[self.at(sail):self.at(mark) + 1] for name in group if is_mark(name)]
+        return mark in marks and all(sail in self.ahead[other] for other in marks)
 
     def is_alone(self, name: str, at: int) -> bool:
         """Whether no boat is where somebody of the list is, nor between there and where a line would put her."""
@@ -187,11 +193,12 @@ class LineOrder:
 
     def ahead_as_before(self, sail: str, at: int) -> int:
         """Where a boat comes that was ahead of places before she was struck, and of which nobody has said that she
-        isn't now."""
+        isn't now. She is behind those who were known then."""
         found = at
         for there in range(at - 1, -1, -1):
             marks = list(filter(is_mark, self.groups[there]))
-            if self.boats(self.groups[there]) or any(sail not in self.ahead[mark] for mark in marks):
+            is_known = bool(marks) and len(marks) < len(self.groups[there])
+            if is_known or self.boats(self.groups[there]) or any(sail not in self.ahead[mark] for mark in marks):
                 break
             found = there if marks else found
         return found

@@ -44,13 +44,13 @@ def keep(seat: Seat, race: Race, typed: str = "", why: str = "", twin: Twin = Tw
     return True
 
 
-def send_or_place(seat: Seat, line: str, is_bare: bool) -> bool:
+def send_or_place(seat: Seat, line: str, is_bare: bool, later: str = "") -> bool:
     """Sends a line, or puts its boat into a place that was kept for her; whether it was taken. `is_bare` says
-    that her sail was typed alone."""
+    that her sail was typed alone, and `later` is a place of which she is just ahead."""
     if unread := kept_as(seat, line, is_bare):
         _, number, sail = line.split()[:3]
         return send_known(seat, seat.facts.race(number), unread, [sail.lower()])
-    return send(seat, line)
+    return send(seat, line, later)
 
 
 def kept_as(seat: Seat, line: str, is_bare: bool) -> Unread | None:

@@ -15,17 +15,18 @@ from raceoffice.session.parse import MAY, race_number
 from raceoffice.session.seat import Done, Seat
 
 
-def send(seat: Seat, line: str) -> bool:
-    """Sends a line after what has to be asked; whether it was taken."""
+def send(seat: Seat, line: str, later: str = "") -> bool:
+    """Sends a line after what has to be asked; whether it was taken. `later` is a place of which its boat is just
+    ahead."""
     if not is_meant(seat, line):
         return seat.not_sent()
-    keep_ahead(seat, line)
+    keep_ahead(seat, line, later)
     return transmit(seat, line)
 
 
-def keep_ahead(seat: Seat, line: str) -> None:
+def keep_ahead(seat: Seat, line: str, later: str = "") -> None:
     """Asks of a boat that was struck or taken out, and that finishes again, whether she is behind now those who were
-    behind her. If so, their places are ahead of her."""
+    behind her. If so, their places are ahead of her. She is known to be just ahead of the place `later`."""
     command, *rest = line.split()
     if [command, len(rest)] not in (["FINISH", 2], ["BEFORE", 3]) or command not in MAY[seat.role]:
         return
@@ -36,7 +37,7 @@ def keep_ahead(seat: Seat, line: str) -> None:
     if stale := seat.history.line_of_return(race.number, rest[1]):
         # Else the entry of this line would be taken for that one's.
         seat.places.take_back(stale, "never sent")
-    ahead = seat.history.order(race.number).ahead_before(line)
+    ahead = seat.history.order(race.number).ahead_before(line, later)
     places = [unread for unread in seat.unread.of(race.number) if unread.mark in ahead]
     for unread in places:
         if not seat.is_yes(seat.question("finished-after", mark=unread.mark, sail=rest[1])):
@@ -44,6 +45,8 @@ def keep_ahead(seat: Seat, line: str) -> None:
             seat.places.note_back(race.number, line, len(seat.facts.sheet.journal), unread.mark)
             return
         seat.places.keep_ahead(unread, rest[1], len(seat.facts.sheet.journal))
+    if later:
+        seat.places.note_back(race.number, line, len(seat.facts.sheet.journal), later)
 
 
 def transmit(seat: Seat, line: str, unread: Unread | None = None) -> bool:

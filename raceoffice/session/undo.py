@@ -92,11 +92,19 @@ def reversal(facts: Facts, number: int, history: History) -> str:
     race, sail = int(rest[0]), rest[1]
     before = Series.read(list(facts.sheet.journal[:number - 1])).race(race)
     if command == "STRIKE":
-        return (f"TIME {race} {sail} {before.times[sail]}" if sail in before.times
-                else history.order(race).line_back(race, sail))
+        return f"TIME {race} {sail} {before.times[sail]}" if sail in before.times else line_back(history, race, sail)
     if command in FINISHING:
         return f"STRIKE {race} {sail}"
     return as_before(command, before, facts.race(rest[0]), sail)
+
+
+def line_back(history: History, race: int, sail: str) -> str:
+    """The line that puts a boat that was struck where she was; NotSent if that is level with somebody who isn't known."""
+    order, marks = history.order(race), history.waiting.marks(race)
+    for mark in order.places_level_with(sail):
+        if mark in marks:
+            raise NotSent(remark("undo-level", sail=sail, mark=mark))
+    return order.line_back(race, sail)
 
 
 def later_entry(facts: Facts, number: int, but: Collection[str] = ()) -> Remark | None:

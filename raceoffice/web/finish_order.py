@@ -2,10 +2,10 @@
 from __future__ import annotations
 
 import itertools
-from collections.abc import Mapping, Sequence
+from collections.abc import Collection, Mapping, Sequence
 
 from raceoffice.program.journal import Race
-from raceoffice.series.unknown_finishers import MARK
+from raceoffice.series.line_order import is_mark
 from raceoffice.session.dialogue import Question
 from raceoffice.session.facts import Facts
 from raceoffice.session.question_words import question
@@ -15,6 +15,8 @@ from raceoffice.web.taps import Tap
 CLOSE = 1000
 # When each finisher was tapped, and on which device, by race and sail.
 Moments = Mapping[tuple[int, str], tuple[int, str]]
+# When each boat and each place of a race was tapped, as far as that is known.
+Times = Mapping[str, int]
 
 
 class Elsewhere(Exception):
@@ -26,34 +28,44 @@ class Elsewhere(Exception):
         self.question, self.clock = asked, clock
 
 
-def line_in_order(facts: Facts, moments: Moments, tap: Tap, line: str) -> str:
-    """The line that puts a finisher where she was seen: after all, or by the clock; Elsewhere asks."""
+def line_in_order(facts: Facts, times: Times, own: Collection[str], tap: Tap, line: str, order: Race) -> tuple[str, str]:
+    """The line that puts a finisher where she was seen, after all or by the clock, and the place that she is just ahead
+    of, if she is of one; Elsewhere asks. `order` has the places that are kept, and `own` are those of her device."""
     _, number, sail = line.split()
     race = facts.race(number)
     last = race.order[-1] if race.order else []
-    is_there = any(sail in group for group in race.order)
-    if tap.behind is None or is_there or tap.behind in last or not last and not tap.behind:
-        return line
-    later, is_after = later_finishers(race, moments, tap.at)
-    if is_after:
-        return line
-    clock = f"BEFORE {race.number} {sail} {later[0]}" if later else line
+    if tap.behind is None or race.is_in_order(sail):
+        return line, ""
+    since = [name for group in groups_after(order, tap.behind) for name in group]
+    close = [name for name in since if is_mark(name) and name not in own and times.get(name, tap.at) + CLOSE > tap.at]
+    later = later_groups(order.order, times, tap.at)
+    is_last = tap.behind in last or not (last or tap.behind) or bool(last) and not later and are_before(last, times, tap.at)
+    if is_last and not close:
+        return line, ""
+    clock, ahead = line_ahead(order, line, later[0]) if later else (line, "")
     if tap.by_clock:
-        return clock
-    others = [boat for group in groups_after(race, tap.behind) for boat in group]
+        return clock, ahead
+    others = [name for name in since if not is_mark(name) or name in close]
+    next_one = ahead or (clock.split()[3] if later else "")
     raise Elsewhere(question("others-recorded", facts.called, race=race.number, sail=sail, others=others,
-                             ahead=later[0] if later else ""), clock)
+                             ahead=next_one), f"BEFORE {number} {sail} {next_one}" if later else line)
 
 
-def later_in_order(facts: Facts, times: Mapping[str, int], tap: Tap, race: Race) -> str:
+def line_ahead(order: Race, line: str, group: Sequence[str]) -> tuple[str, str]:
+    """The line that puts a finisher just ahead of a group, and the place there; empty if a boat is there."""
+    _, number, sail = line.split()
+    ahead = "" if any(not is_mark(name) for name in group) else group[0]
+    boats = [name for after in order.order[order.order.index(list(group)):] for name in after if not is_mark(name)]
+    return f"BEFORE {number} {sail} {boats[0]}" if boats else line, ahead
+
+
+def later_in_order(facts: Facts, times: Times, tap: Tap, race: Race) -> str:
     """Who finished next after the one whose place a tap keeps, by the clock; empty if she is after all. Elsewhere asks
-    if others were recorded since the tap. `race` has the places that are kept in its order; `times` says when each boat
-    and place there was tapped."""
+    if others were recorded since the tap. `race` has the places that are kept in its order."""
     after = groups_after(race, tap.behind or "")
-    others = [name for group in after for name in group if MARK.fullmatch(name) is None]
+    others = [name for group in after for name in group if not is_mark(name)]
     later = [group[0] for group in later_groups(after, times, tap.at)]
-    last = [times.get(name, tap.at) for name in others[-1:]]
-    if not later and all(at + CLOSE <= tap.at for at in last):
+    if not later and are_before(others[-1:], times, tap.at):
         return ""
     if tap.by_clock:
         return next(iter(later), "")
@@ -62,9 +74,15 @@ def later_in_order(facts: Facts, times: Mapping[str, int], tap: Tap, race: Race)
                              ahead=next(iter(later), "")), clock)
 
 
-def later_groups(groups: Sequence[Sequence[str]], times: Mapping[str, int], at: int) -> list[Sequence[str]]:
+def are_before(names: Sequence[str], times: Times, at: int) -> bool:
+    """Whether all of these finished before a moment by so much that nobody has to be asked."""
+    return all(times.get(name, at) + CLOSE <= at for name in names)
+
+
+def later_groups(groups: Sequence[Sequence[str]], times: Times, at: int) -> list[Sequence[str]]:
     """Those at the end of an order that finished later than a moment by the clock."""
-    found = itertools.takewhile(lambda group: min(times.get(name, at) for name in group) > at, reversed(groups))
+    found = itertools.takewhile(lambda group: min([times[name] for name in group if name in times], default=at) > at,
+                                reversed(groups))
     return list(found)[::-1]
 
 
@@ -72,17 +90,3 @@ def groups_after(race: Race, behind: str) -> list[list[str]]:
     """The groups of a race that stand after a boat; all if she isn't there."""
     at = next((at for at, group in enumerate(race.order, 1) if behind in group), 0)
     return race.order[at:]
-
-
-def later_finishers(race: Race, moments: Moments, at: int) -> tuple[list[str], bool]:
-    """The first of the groups at the end of an order that finished later by the clock, if the last one did; and
-    whether she finished after all by so much that nobody has to be asked."""
-    found: list[str] = []
-    is_after = False
-    for group in reversed(race.order):
-        times = [moments[race.number, sail][0] for sail in group if (race.number, sail) in moments]
-        if not times or min(times) <= at:
-            is_after = not found and len(times) == len(group) and max(times) + CLOSE <= at
-            break
-        found = group
-    return found, is_after

@@ -367,19 +367,28 @@ class Room:
         if self.is_for_sheet(tap.id, line, session.role):
             return f"{line} {times}".rstrip()
         if line.startswith("FINISH "):
-            moments = self.register.moments(self.facts.sheet.journal)
-            line = line_in_order(session.facts, moments, tap, line)
+            order = self.order_with_places(session, session.facts.race(line.split()[1]))
+            own = self.register.places_by(session.name, order.number)
+            line, session.later = line_in_order(session.facts, self.times_in(session, order.number), own, tap, line, order)
         self.ask_again(session, tap, line)
         return line
 
     def later_of_place(self, session: TapSession, tap: Tap, number: str) -> str:
         """Who finished after the one whose place a tap keeps; empty if nobody who is recorded did."""
-        race = session.facts.race(number).number
-        order = session.history.order(race).standing(session.unread.marks(race))
-        moments = self.register.moments(self.facts.sheet.journal)
-        times = {sail: at for (of, sail), (at, _) in moments.items() if of == race}
-        times |= {mark: at for (of, mark), at in self.register.moments_of_places().items() if of == race}
-        return later_in_order(session.facts, times, tap, Race(race, order))
+        order = self.order_with_places(session, session.facts.race(number))
+        return later_in_order(session.facts, self.times_in(session, order.number), tap, order)
+
+    def order_with_places(self, session: TapSession, race: Race) -> Race:
+        """The order of a race with the places that are kept."""
+        return Race(race.number, session.history.order(race.number).standing(session.unread.marks(race.number)))
+
+    def times_in(self, session: TapSession, race: int) -> dict[str, int]:
+        """When each boat and each place of a race crossed the line, as far as that is known. A boat that was put into a
+        place did when that was kept."""
+        moments, history = self.register.moments(self.facts.sheet.journal), session.history
+        marks = history.moments(race) | {mark: at for (of, mark), at in self.register.moments_of_places().items() if of == race}
+        boats = {sail: at for (of, sail), (at, _) in moments.items() if of == race}
+        return boats | {sail: marks[mark] for sail, mark in history.boats_in_places(race).items() if mark in marks} | marks
 
     def line_of_undo(self, session: TapSession, tap: Tap) -> str:
         """The line that undoes a tap for a sheet of times; empty if it was none for one."""

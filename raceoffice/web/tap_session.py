@@ -51,7 +51,8 @@ class TapSession(Session):
         self.register, self.see = register, see
         self.said: list[Said] = []
         self.tap, self.lines, self.mark, self.answer = Tap("", ""), 0, "", ""
-        # Who finished after the one whose place the tap keeps, if somebody is recorded who did.
+        # Who finished just after the one whose place the tap keeps, if somebody is recorded who did; or the place that the
+        # boat of the tap is just ahead of.
         self.later = ""
         # Whether a tap may take several lines, each of which has a note of its own.
         self.is_of_several = False
@@ -119,7 +120,7 @@ class TapSession(Session):
             return abandon(self, self.facts.race(rest[0]))
         if "?" in first:
             return self.is_place_taken(first, rest)
-        return send_or_place(self, line, False)
+        return send_or_place(self, line, False, self.later)
 
     def is_place_taken(self, mark: str, rest: Sequence[str]) -> bool:
         """`? 3` keeps a place in race 3; `?1 3 GBR7` or `?1 3 NONE` resolves it."""

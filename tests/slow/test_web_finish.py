@@ -215,6 +215,29 @@ class Finish(WebTrial):
         ben.until("document.querySelectorAll('#list li').length === 6")
         self.assertEqual(ben.texts(ROWS), ["GBR 101", "GBR 33", "?1", "GBR 7", "FRA 9", "NED 12"])
 
+    def test_a_place_meanwhile(self) -> None:
+        """A boat that was tapped without a connection is ahead of a place that the other device has kept since."""
+        line = self.line()
+        ann, ben = self.phone(port=line.own), self.phone("Ben’s tablet", 820, 1180)
+        ann.tap("GBR101")
+        self.settle(ann)
+        ben.until("document.querySelectorAll('#list li').length === 1")
+        line.cut()
+        ann.until("document.querySelector('#link').dataset.state === 'away'")
+        ann.tap("GBR7")
+        time.sleep(0.5)
+        ben.click("#unread")
+        self.settle(ben)
+        line.mend()
+        ann.until("!!document.querySelector('dialog[open]')")
+        self.assertIn("Where did GBR 7 finish?", ann.text("dialog"))
+        self.assertIn("Meanwhile ?1 was recorded. By the clock GBR 7 is just ahead of ?1.", ann.text("dialog"))
+        self.assertIn("By the clock: ahead of ?1", ann.text("dialog"))
+        ann.choose("clock")
+        self.settle(ann)
+        for phone in (ann, ben):
+            phone.until("document.querySelectorAll('#list li').length === 3")
+            self.assertEqual(phone.texts(ROWS), ["GBR 101", "GBR 7", "?1"])
 
     def test_a_first_visit(self) -> None:
         """A phone with an empty cache loads the finish page, in the language with the longest words, in 40 KB."""

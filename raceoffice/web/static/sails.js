@@ -17,7 +17,7 @@ export function parts(sail) {
 // A sail as it is read: GBR 101
 export function spaced(sail) {
   const {letters, rest} = parts(sail);
-  return letters && rest ? `${letters} ${rest}` : sail;
+  return letters && rest && !letters.includes("?") ? `${letters} ${rest}` : sail;
 }
 
 // The digits that somebody would press for a boat, or all of her sail if it has none
