@@ -116,7 +116,7 @@ class Source(unittest.TestCase):
                     self.assertEqual(self.put_in(ast.parse(file.read())), KNOWN.get(name, set()))
 
     def put_in(self, tree: ast.Module) -> set[str]:
-        """What texts have put in them, but for calls that quote."""
+        """What texts have put in them, except by calls that quote."""
         values = [node.value for node in ast.walk(tree) if isinstance(node, ast.FormattedValue)]
         return {ast.unparse(value) for value in values
                 if not (isinstance(value, ast.Call) and isinstance(value.func, ast.Name) and value.func.id in QUOTING)}

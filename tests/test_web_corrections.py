@@ -63,7 +63,7 @@ class Corrections(Web):
         self.assertEqual((len(self.journal()), self.left()), (3, []))
 
     def half_done(self) -> str:
-        """A move of which the web has died after its first line."""
+        """A move, after whose first line the web has died."""
         id = new_id()
         self.scorer.tap(MOVE[0], part_id(id, 0))
         self.kill()

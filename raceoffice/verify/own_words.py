@@ -1,7 +1,7 @@
 """What is said of a page, so that nothing which the page has can be taken for words of this package.
 
 Whatever comes from a page is in quotation marks, cut and without signs that aren't seen. Each line of what is printed
-begins with our own words, also where a long one is broken.
+begins with our own words, even if a long one is broken.
 """
 from __future__ import annotations
 

@@ -70,7 +70,7 @@ class LostUndo(WebTrial):
         self.ended(ann, line, [*finishes("GBR101", "GBR7"), "FINISH STRIKE 1 GBR7"], "GBR 101")
 
     def test_request_lost(self) -> None:
-        """The office has never heard of her: there is no line of her at all."""
+        """Nothing of her has come to the office: there is no line of her at all."""
         ann, line = self.lost("GBR7", is_answer=False)
         self.undone(ann, "GBR 101")
         self.assertEqual([item["line"] for item in json.loads(ann.run(ITEMS))], ["UNDO"])
