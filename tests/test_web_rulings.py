@@ -4,13 +4,14 @@ from __future__ import annotations
 
 import itertools
 import os
+import time
 import unittest
 from typing import Any
 
 import helpers
 from raceoffice.series import settings
 from test_web_timed import moment
-from web_devices import Web, new_id
+from web_devices import Device, Web, new_id
 
 # In the order in which they finish; GBR8 and GBR9 don't.
 SAILS = [f"GBR{number}" for number in range(1, 10)]
@@ -62,18 +63,24 @@ class Rulings(Web):
     def ruled(self, name: str, line: str, out: bool = False) -> list[str]:
         """Decides as the page does; the lines that were taken. `refused` if it can't be given."""
         jury, given, agreed = self.devices["JURY"], {"line": line, "out": out}, list[Any]()
-        shown = jury.ask("POST", f"/office/jury/ruling/{name}", given)[1]
+        shown = self.in_time(jury, f"/office/jury/ruling/{name}", given)[1]
         if shown.get("why") or "refused" in shown or "said" in shown:
             return ["refused"]
         before, id = self.journal(name), new_id()
         while True:
-            status, done = jury.ask("POST", f"/office/jury/decide/{name}", {
+            status, done = self.in_time(jury, f"/office/jury/decide/{name}", {
                 **given, "lines": shown["lines"], "tag": shown["tag"], "id": id, "agreed": agreed})
             if status != 409:
                 break
             agreed.append(done["question"])
         self.assertEqual((status, [one for one in done.get("done", []) if one["outcome"] != "taken"]), (200, []), (line, done))
         return self.journal(name)[len(before):]
+
+    def in_time(self, jury: Device, path: str, values: dict[str, Any]) -> tuple[int, Any]:
+        """The answer, once the device hasn't asked too often."""
+        while (found := jury.ask("POST", path, values))[0] == 429:
+            time.sleep(0.2)
+        return found
 
     def shown(self, name: str) -> Any:
         """The standing, and what is recorded of race 1."""
