@@ -5,10 +5,9 @@ ghost use Rattle.regatta_scores.specs.Sheet.{nothing_held};
 
 use crate::boats::{Averaged, RaceScore};
 use crate::codes::is_dne;
-use crate::marks::mark;
+use crate::marks::{CellMark, mark};
 use crate::points::tenths;
 use crate::sheet::Held;
-use crate::table::Abbrev;
 use regatta_terms::{Code, Redress, Tenths};
 
 /// What came of a boat in a race.
@@ -51,9 +50,9 @@ pub(crate) fn bare_score(plain: Tenths, placed: bool) -> RaceScore
         averaged: Averaged::OverNone,
         dne: false,
         mark: if placed {
-            None
+            CellMark::default()
         } else {
-            Some(Abbrev::Code(Code::Dnc))
+            CellMark::of_code(Code::Dnc)
         },
     }
 }
