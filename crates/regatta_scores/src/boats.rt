@@ -3,7 +3,7 @@ ghost use Rattle.std.specs.Prelude.{◌≡◌, ◌↔◌, true};
 ghost use Rattle.regatta_scores.specs.RaceScores.{ScoresAs};
 
 use crate::items::Items;
-use crate::marks::CellMark;
+use crate::table::Abbrev;
 use regatta_terms::{Redress, Tenths};
 
 /// Over which other races a boat's points in a race are an average (RRS A9).
@@ -30,7 +30,7 @@ pub struct RaceScore {
     /// Whether the score is a disqualification that is not excludable (RRS 90.3(b)).
     pub dne: bool,
     /// The abbreviation in her cell (RRS A10).
-    pub mark: CellMark,
+    pub mark: Option<Abbrev>,
 }
 
 impl RaceScore {

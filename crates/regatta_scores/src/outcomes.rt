@@ -5,9 +5,10 @@ ghost use Rattle.regatta_scores.specs.Sheet.{nothing_held};
 
 use crate::boats::{Averaged, RaceScore};
 use crate::codes::is_dne;
-use crate::marks::{CellMark, mark};
+use crate::marks::mark;
 use crate::points::tenths;
 use crate::sheet::Held;
+use crate::table::Abbrev;
 use regatta_terms::{Code, Redress, Tenths};
 
 /// What came of a boat in a race.
@@ -50,9 +51,9 @@ pub(crate) fn bare_score(plain: Tenths, placed: bool) -> RaceScore
         averaged: Averaged::OverNone,
         dne: false,
         mark: if placed {
-            CellMark::default()
+            None
         } else {
-            CellMark::of_code(Code::Dnc)
+            Some(Abbrev::Code(Code::Dnc))
         },
     }
 }

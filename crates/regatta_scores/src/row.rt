@@ -16,7 +16,7 @@ fn cell(score: &RaceScore, points: Tenths, dropped: bool) -> Cell
 {
     Cell {
         points,
-        mark: score.mark.abbrev(),
+        mark: score.mark,
         dropped,
     }
 }
