@@ -27,9 +27,10 @@ fn letters(mark: Abbrev) -> &'static [u8]
     ensures text { result.now ≡ abbrev_text mark }
     ensures three { length result.now ≡ 3 }
 {
-    match mark {
-        Abbrev::Code(code) => code.text().as_bytes(),
-        Abbrev::Zfp | Abbrev::Scp | Abbrev::Rdg => other_letters(mark),
+    if let Abbrev::Code(code) = mark {
+        code.text().as_bytes()
+    } else {
+        other_letters(mark)
     }
 }
 

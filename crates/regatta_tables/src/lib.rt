@@ -2,6 +2,7 @@
 #![tactic(auto)]
 
 mod cells;
+mod copied;
 mod entries;
 mod journals;
 pub mod laws;

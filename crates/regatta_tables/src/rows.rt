@@ -8,7 +8,7 @@ ghost use Rattle.regatta_terms.specs.Words.{spaced};
 ghost use Rattle.regatta_tables.specs.Lines.{line};
 ghost use Rattle.regatta_tables.specs.TableTexts.{row_words, cell_text, rank_text};
 
-use crate::cells::{CELL_ROOM, put_cell};
+use crate::copied::{LastCell, SPACED_ROOM, put_next};
 use crate::page::{put, put_number, put_piece, put_points};
 use crate::pieces::rank_word;
 use regatta_scores::{Cell, Row};
@@ -19,7 +19,7 @@ use std::alloc::AllocError;
 const HEAD_ROOM: usize = 31;
 
 /// The most bytes of a score, with a space before it and a line feed after it.
-const NEXT_ROOM: usize = CELL_ROOM + 2;
+const NEXT_ROOM: usize = SPACED_ROOM + 1;
 
 /// The bytes of a page: room for a row of a full series.
 pub(crate) const PAGE_ROOM: usize = 600;
@@ -109,10 +109,10 @@ fn put_cells(
         < vec_len out.old + from + length (spaced (map cell_text cells.now))) }
 {
     let mut at = from;
+    let mut last = LastCell::none();
     for cell in cells {
         let place = next_place(page, at, out)?;
-        let place = put(page, place, b' ');
-        at = put_cell(page, place, cell);
+        at = put_next(page, place, cell, &mut last);
     }
     Ok(at)
 }
