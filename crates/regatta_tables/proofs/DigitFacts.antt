@@ -64,7 +64,7 @@ abbrev pub pair_at : ℕ → List ℕ
 pair_at n = get_or PAIRS (n * 2) 0 ∷ get_or PAIRS (n * 2 + 1) 0 ∷ []
 
 abbrev two_of : ℕ → List ℕ
-two_of n = decimal (n / 10) ++ decimal (n % 10)
+two_of n = (48 + n / 10) ∷ (48 + n % 10) ∷ []
 
 all_pairs : map pair_at (range_with_len 0 100) ≡ map two_of (range_with_len 0 100)
 all_pairs = refl
@@ -74,3 +74,4 @@ pair_of n few =
     sym (get_or-map-range_with_len pair_at 0 100 n n [] few (omega arith))
     ∙ ap (λ (pairs : List (List ℕ)). get_or pairs n []) all_pairs
     ∙ get_or-map-range_with_len two_of 0 100 n n [] few (omega arith)
+    ∙ (λ i. sym (one_digit (n / 10) (omega (arith, few))) i ++ sym (digit_text n) i)

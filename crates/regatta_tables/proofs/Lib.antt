@@ -1,3 +1,4 @@
+pub mod CopyFacts
 pub mod CsvFacts
 pub mod DigitFacts
 pub mod JournalFacts

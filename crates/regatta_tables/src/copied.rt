@@ -2,6 +2,7 @@
 
 ghost use Rattle.std.specs.Prelude.{◌≡◌, ◌≤◌, ◌++◌, ◌+◌, ◌-◌, ◌∷◌, length, take, drop, true};
 ghost use Rattle.regatta_tables.specs.TableTexts.{cell_text};
+ghost use Rattle.regatta_tables.specs.declared.copied.TheConstants.{SPACED_ROOM};
 
 use crate::cells::{CELL_ROOM, put_cell};
 use crate::page::{put, put_piece};
