@@ -15,7 +15,7 @@ use regatta_terms::{Code, RaceNo, Redress, Sail, points_word};
 use std::alloc::AllocError;
 
 /// Appends a name and a word.
-#[tactic(auto, using(crate::proofs::Fields::two_pieces))]
+#[tactic(auto, using(crate::proofs::TwoPieces::two_pieces))]
 pub(crate) fn push_word(name: &[u8], word: &[u8], out: &mut Vec<u8>) -> Result<(), AllocError>
     ensures ok { OnOk result (out.new.items ≡ out.old.items ++ (field name.now word.now)) }
     ensures err { OnErr result (take (vec_len out.old) out.new.items ≡ out.old.items) }
@@ -78,8 +78,19 @@ pub(crate) fn push_quoted(word: &[u8], out: &mut Vec<u8>) -> Result<(), AllocErr
     push_pieces(out, &[b"\"", word, b"\""])
 }
 
+/// Appends a name and a word as a string.
+#[tactic(auto, unfolding(crate::specs::Rows::quoted))]
+fn push_string(name: &[u8], word: &[u8], out: &mut Vec<u8>) -> Result<(), AllocError>
+    ensures ok { OnOk result (out.new.items ≡ out.old.items ++ (field name.now (quoted word.now))) }
+    ensures err { OnErr result (take (vec_len out.old) out.new.items ≡ out.old.items) }
+    ensures room { vec_capacity out.old ≤ vec_capacity out.new }
+    ensures full { OnErr result (vec_capacity out.old < vec_len out.old + length (field name.now (quoted word.now))) }
+{
+    push_pieces(out, &[name, b"\"", word, b"\""])
+}
+
 /// Appends a name and a code, or null.
-#[tactic(auto, unfolding(crate::specs::Rows::code_value, crate::specs::Rows::quoted))]
+#[tactic(auto, unfolding(crate::specs::Rows::code_value))]
 pub(crate) fn push_code(
     name: &[u8],
     code: Option<Code>,
@@ -91,13 +102,13 @@ pub(crate) fn push_code(
     ensures full { OnErr result (vec_capacity out.old < vec_len out.old + length (field name.now (code_value code))) }
 {
     match code {
-        Some(code) => push_pieces(out, &[name, b"\"", code.text().as_bytes(), b"\""]),
+        Some(code) => push_string(name, code.text().as_bytes(), out),
         None => push_word(name, b"null", out),
     }
 }
 
 /// Appends a name and an abbreviation, or null.
-#[tactic(auto, unfolding(crate::specs::Rows::mark_value, crate::specs::Rows::quoted))]
+#[tactic(auto, unfolding(crate::specs::Rows::mark_value))]
 pub(crate) fn push_mark(
     name: &[u8],
     mark: Option<Abbrev>,
@@ -109,13 +120,13 @@ pub(crate) fn push_mark(
     ensures full { OnErr result (vec_capacity out.old < vec_len out.old + length (field name.now (mark_value mark))) }
 {
     match mark {
-        Some(mark) => push_pieces(out, &[name, b"\"", mark.text().as_bytes(), b"\""]),
+        Some(mark) => push_string(name, mark.text().as_bytes(), out),
         None => push_word(name, b"null", out),
     }
 }
 
 /// Appends a name and a number, or null.
-#[tactic(auto, unfolding(crate::specs::Rows::number_value, crate::specs::Rows::quoted))]
+#[tactic(auto, unfolding(crate::specs::Rows::number_value))]
 pub(crate) fn push_value(
     name: &[u8],
     number: Option<u32>,
@@ -133,7 +144,7 @@ pub(crate) fn push_value(
 }
 
 /// Appends a name and redress, or null.
-#[tactic(auto, unfolding(crate::specs::Rows::redress_value, crate::specs::Rows::quoted))]
+#[tactic(auto, unfolding(crate::specs::Rows::redress_value))]
 pub(crate) fn push_redress(
     name: &[u8],
     redress: Option<Redress>,
