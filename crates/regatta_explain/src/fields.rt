@@ -11,7 +11,7 @@ ghost use Rattle.regatta_explain.specs.Rows.{number_value, redress_value};
 use itoa::Buffer;
 use regatta_json::{ItemWriter, flag, push_pieces};
 use regatta_scores::Abbrev;
-use regatta_terms::{Code, RaceNo, Redress, Sail, points_word};
+use regatta_terms::{Award, Code, RaceNo, Redress, Sail, points_word};
 use std::alloc::AllocError;
 
 /// Appends a name and a word.
@@ -143,6 +143,16 @@ pub(crate) fn push_value(
     }
 }
 
+/// Appends a name and points given as redress.
+fn push_award(name: &[u8], award: Award, out: &mut Vec<u8>) -> Result<(), AllocError>
+    ensures ok { OnOk result (out.new.items ≡ out.old.items ++ (field name.now (points_text award))) }
+    ensures err { OnErr result (take (vec_len out.old) out.new.items ≡ out.old.items) }
+    ensures room { vec_capacity out.old ≤ vec_capacity out.new }
+    ensures full { OnErr result (vec_capacity out.old < vec_len out.old + length (field name.now (points_text award))) }
+{
+    push_points(name, award.get(), out)
+}
+
 /// Appends a name and redress, or null.
 #[tactic(auto, unfolding(crate::specs::Rows::redress_value))]
 pub(crate) fn push_redress(
@@ -156,7 +166,7 @@ pub(crate) fn push_redress(
     ensures full { OnErr result (vec_capacity out.old < vec_len out.old + length (field name.now (redress_value redress))) }
 {
     match redress {
-        Some(Redress::Points(award)) => push_points(name, award.get(), out),
+        Some(Redress::Points(award)) => push_award(name, award, out),
         Some(Redress::AllRaces) => push_word(name, b"\"ALL\"", out),
         Some(Redress::RacesBefore) => push_word(name, b"\"PRIOR\"", out),
         None => push_word(name, b"null", out),
