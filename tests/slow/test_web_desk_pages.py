@@ -270,7 +270,8 @@ class TwoClasses(WebTrial):
         jury.click("#send")
         jury.choose("yes")
         jury.until("document.querySelectorAll('.kept li').length === 1")
-        self.assertEqual(jury.count("#stale") + scorer.count("#stale"), 0)
+        for device in (jury, scorer):
+            device.until("!document.querySelector('#stale')")
         # GBR 7 was 2nd, and is 3rd.
         for line in ("STRIKE 1 NED12", "BEFORE 1 NED12 GBR7"):
             desk.tap(line, agreed=[{"kind": "correction", "values": {"race": 1}}])
