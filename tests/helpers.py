@@ -255,7 +255,8 @@ class Series(unittest.TestCase):
     """A trial in a folder of its own, with one series `cup`."""
 
     def setUp(self) -> None:
-        holder = tempfile.TemporaryDirectory()
+        # A process that has been told to end may still write into it.
+        holder = tempfile.TemporaryDirectory(ignore_cleanup_errors=True)
         self.addCleanup(holder.cleanup)
         self.here = holder.name
         self.make("cup")
