@@ -105,7 +105,7 @@ def replace_whole(path: str, data: bytes, is_public: bool = False, is_linked: bo
     """Makes a file hold these bytes, so that whoever reads it finds the old ones or the new.
 
     They are on the disk when it is done. An old file's mode stays, and so does a link, unless `is_linked` is false: then the
-    file takes its place. A new file is this account's alone; of a public one the umask decides.
+    file takes its place. A new file is this account's alone, unless it is public: then the umask decides.
     """
     fresh = ""
     try:

@@ -58,7 +58,7 @@ def stale(found: Decided) -> list[str]:
 
 
 def laid_out(lines: Sequence[str], columns: int) -> str:
-    """What is said, in lines of a terminal of so many columns, or each on one line if there is none. None begins with
+    """What is said, folded for a terminal with this many columns, or each on one line if that is 0. None begins with
     words of a page: a line that goes on says so first."""
     plain = [characters.plainly(line) for line in lines]
     return "\n".join(part for line in plain for part in (folded(line, max(columns, NARROW)) if columns else [line]))

@@ -8,7 +8,7 @@ import unittest
 
 import helpers
 import web_devices
-from devices import PATIENCE, Device
+from devices import PATIENCE, Device, Line
 from stub_office import StubOffice
 from web_office import BOATS, FOLKBOATS, WebTrial, entries_of, finishes
 
@@ -184,9 +184,8 @@ class Finish(WebTrial):
         self.settle(ann)
         self.assertEqual(self.journal(), finishes("GBR101", "GBR7", "NED12"))
 
-    def test_two_devices(self) -> None:
-        """Two at one line, one cut off: each boat is in the order once; where the clock says that she was ahead of
-        others, somebody is asked."""
+    def parted(self) -> tuple[Line, Device, Device]:
+        """A phone that lost its connection after GBR 101 had finished, its line, and a tablet that has one."""
         line = self.line()
         ann, ben = self.phone(port=line.own), self.phone("Ben’s tablet", 820, 1180)
         ann.tap("GBR101")
@@ -194,6 +193,12 @@ class Finish(WebTrial):
         ben.until("document.querySelectorAll('#list li').length === 1")
         line.cut()
         ann.until("document.querySelector('#link').dataset.state === 'away'")
+        return line, ann, ben
+
+    def test_two_devices(self) -> None:
+        """Two at one line, one cut off: each boat is in the order once; where the clock says that she was ahead of
+        others, somebody is asked."""
+        line, ann, ben = self.parted()
         ben.tap("GBR33")
         self.settle(ben)
         ann.click("#unread")
@@ -217,13 +222,7 @@ class Finish(WebTrial):
 
     def test_a_place_meanwhile(self) -> None:
         """A boat that was tapped without a connection is ahead of a place that the other device has kept since."""
-        line = self.line()
-        ann, ben = self.phone(port=line.own), self.phone("Ben’s tablet", 820, 1180)
-        ann.tap("GBR101")
-        self.settle(ann)
-        ben.until("document.querySelectorAll('#list li').length === 1")
-        line.cut()
-        ann.until("document.querySelector('#link').dataset.state === 'away'")
+        line, ann, ben = self.parted()
         ann.tap("GBR7")
         time.sleep(0.5)
         ben.click("#unread")
