@@ -2,6 +2,7 @@
 from __future__ import annotations
 
 import datetime
+import os
 import unittest
 from typing import Any
 
@@ -39,8 +40,8 @@ class Races(Prepared):
         self.yes(scorer, "ABANDON 1")
         race = scorer.state()["races"]["1"]
         self.assertEqual((race["order"], race["codes"]), ([], {"GBR7": "BFD", "NED12": "RET"}))
-        self.assertEqual((self.sheet(), self.sheet("race-1-abandoned")),
-                         (["Sail,Start,Finish,Code", "GBR101,,,", "GBR7,,,BFD", "NED12,,,RET", "FRA9,,,"], before))
+        self.assertEqual((self.sheet(), self.abandoned()),
+                         (["Sail,Start,Finish,Code", "GBR101,,,", "GBR7,,,BFD", "NED12,,,RET", "FRA9,,,"], [before]))
         journal = self.journal()
         self.assertEqual(ann.tap("FINISH 1 FRA9", at=moment("15:02:00"))[1]["outcome"], "noted")
         self.assertEqual(self.journal(), journal)
@@ -48,6 +49,28 @@ class Races(Prepared):
         ann.tap("START 1 16:00")
         self.assertEqual(ann.tap("FINISH 1 GBR101", at=moment("17:00:00"))[1]["outcome"], "taken")
         self.assertEqual(self.journal()[len(journal):], ["FINISH TIME 1 GBR101 3600"])
+
+    def abandoned(self) -> list[list[str]]:
+        """The sheets that are kept of a race that was abandoned, the oldest first."""
+        names = sorted(name for name in os.listdir(os.path.join(self.here, "cup", "times")) if "abandoned" in name)
+        for name in names:
+            self.assertRegex(name, r"race-1-abandoned-\d{4}-\d\d-\d\d-\d{6}Z(-\d+)?\.csv")
+        return [self.sheet(name.removesuffix(".csv")) for name in sorted(names, key=lambda name: os.stat(
+            os.path.join(self.here, "cup", "times", name)).st_mtime_ns)]
+
+    def test_abandoned_twice(self) -> None:
+        """A race that is abandoned, sailed again and abandoned again: the sheets of both are kept, each once. A sheet that
+        was kept, but not cleared, as before a crash, isn't kept again."""
+        ann, scorer, kept = self.device("finish"), self.device("scorer"), []
+        for start, finish in (("14:00", "15:00:00"), ("16:00", "17:00:00")):
+            ann.tap(f"START 1 {start}")
+            ann.tap("FINISH 1 GBR101", at=moment(finish))
+            kept.append(self.sheet())
+            self.yes(scorer, "ABANDON 1")
+        self.assertEqual(self.abandoned(), kept)
+        self.write("\n".join(kept[0]) + "\n", "cup", "times", "race-1.csv")
+        self.yes(scorer, "ABANDON 1")
+        self.assertEqual((self.abandoned(), self.sheet()[1:2]), (kept, ["GBR101,,,"]))
 
     def test_abandoned_early(self) -> None:
         """A race of which the sheet alone has something: the start and a finish go after a question."""

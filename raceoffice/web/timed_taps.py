@@ -8,10 +8,10 @@ from collections.abc import Sequence
 
 from raceoffice.corrected.sheets import Entry, entries_of, with_seconds
 from raceoffice.corrected.times import Rules, Sheets
+from raceoffice.corrected.unsent import unsent
 from raceoffice.corrected.write_sheet import SheetOfRace, is_for_sheet
 from raceoffice.errors import NotNow, NotSent, NotThere, Trouble
 from raceoffice.program.codes import OF_JURY
-from raceoffice.program.journal import Race
 from raceoffice.program.replay import Line
 from raceoffice.remarks import remark
 from raceoffice.series.folder import Folder
@@ -254,18 +254,10 @@ def sheets_shown(folder: Folder) -> dict[int, Values]:
     return found
 
 
-def boats_waiting(folder: Folder, race: Race) -> list[str]:
-    """The boats whose times or codes are in the sheet of a race, and not in the journal."""
-    rows = sheets_shown(folder).get(race.number, {}).get("rows")
-    return [sail for sail in rows if sail not in race.times and sail not in race.codes] if isinstance(rows, dict) else []
-
-
 def races_waiting(folder: Folder, facts: Facts, sail: str) -> list[int]:
-    """The races whose sheets have a time of a boat that the journal lacks, and that don't count yet."""
-    rows = {number: sheet["rows"] for number, sheet in sheets_shown(folder).items()}
-    times = {number: held.get(sail) for number, held in rows.items() if isinstance(held, dict)}
-    races = {number: facts.race(str(number)) for number, row in times.items() if row and not row["code"]}
-    return [number for number, race in races.items() if sail not in race.times and not race.counts]
+    """The races that don't count yet, and whose sheets have another time of a boat than the journal."""
+    races = [facts.race(str(number)) for number in races_with_sheet(folder)]
+    return [race.number for race in races if not race.counts and sail in unsent(folder, race.number, facts.sheet.journal).sails]
 
 
 def nights_of(folder: Folder) -> tuple[int, ...]:
