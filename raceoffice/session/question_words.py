@@ -180,9 +180,12 @@ def of_others(words: Words) -> str:
     others, sail = words.boats("others"), words.boat()
     were = f"Meanwhile {joined(others)} {'was' if len(others) == 1 else 'were'} recorded." if others \
         else "The order has been changed meanwhile."
-    if ahead := words.text("ahead"):
-        return f"{were} By the clock {sail} is just ahead of {words.called(ahead)}."
-    return f"{were} By the clock {sail} is after them, too."
+    untimed, ahead = words.boats("untimed"), words.text("ahead")
+    by_clock = f"just ahead of {words.called(ahead)}" if ahead else "after them, too"
+    if not untimed:
+        return f"{were} By the clock {sail} is {by_clock}."
+    told = f" By the clock {sail} is ahead of {words.called(ahead)}." if ahead else ""
+    return f"{were}{told} No tap shows when {joined(untimed)} finished."
 
 
 def of_copy(words: Words) -> str:

@@ -383,9 +383,9 @@ class Room:
     def times_in(self, session: TapSession, race: int) -> dict[str, int]:
         """When each boat and each place of a race crossed the line, as far as that is known. A boat that was put into a
         place did when that was kept."""
-        moments, history = self.register.moments(self.facts.sheet.journal), session.history
+        moments, history = self.register.moments_now(self.facts.sheet.journal), session.history
         marks = history.moments(race) | {mark: at for (of, mark), at in self.register.moments_of_places().items() if of == race}
-        boats = {sail: at for (of, sail), (at, _) in moments.items() if of == race}
+        boats = {sail: at for (of, sail), at in moments.items() if of == race}
         return boats | {sail: marks[mark] for sail, mark in history.boats_in_places(race).items() if mark in marks} | marks
 
     def line_of_undo(self, session: TapSession, tap: Tap) -> str:
