@@ -15,6 +15,7 @@ from raceoffice.remarks import remark
 from raceoffice.series.folder import Folder
 from raceoffice.session.dialogue import Question
 from raceoffice.session.session import Session
+from raceoffice.web.corrections import correct
 from raceoffice.web.finish_order import Elsewhere
 from raceoffice.web.room import Room
 from raceoffice.web.tap_session import Asked
@@ -366,6 +367,78 @@ class AsRecorded(OnWater):
         self.at(300, "Bob", "?1 2 IRL5")
         self.assertEqual(self.at(90, "Ann", "FINISH 2 FRA9", behind="NED12"), "taken")
         self.assertEqual(self.seen(2), [["NED12"], ["IRL5"], ["FRA9"]])
+
+    # Lines that come some time after their boat was seen
+
+    def correct(self, race: int, second: float, lines: str) -> None:
+        """The scorer corrects an order at some second."""
+        sent = [" ".join([first, str(race), *rest]) for first, *rest in map(str.split, lines.split(", "))]
+        done = correct(self.room, {"id": new_id(), "at": 1_000_000 + 1000 * second, "agreed": [], "lines": sent}, "Cy")
+        self.assertEqual([one["outcome"] for one in done], ["taken"] * len(sent))
+
+    def finished(self, race: int, order: str) -> None:
+        """These finish, one every ten seconds."""
+        for at, sail in enumerate(order.split()):
+            self.assertEqual(self.at(10 * at, "Bob", f"FINISH {race} {sail}", behind=None), "taken")
+
+    def untimed(self, second: float, line: str, **more: object) -> object:
+        """Of whom it is said that no tap shows when they finished."""
+        with self.assertRaises(Elsewhere) as found:
+            self.room.do("FINISH", "Ann", Tap.read({"id": new_id(), "line": line, "at": 1_000_000 + 1000 * second, **more}))
+        return found.exception.question.values["untimed"]
+
+    def test_moment_of_a_swap(self) -> None:
+        """The moment of a correction isn't that at which its boats finished."""
+        self.finished(1, "NED12 GBR7 FRA9")
+        self.correct(1, 300, "STRIKE NED12, TIE NED12 GBR7, STRIKE GBR7, BEFORE GBR7 NED12")
+        late = {"line": "FINISH 1 IRL5", "behind": "GBR7"}
+        self.assertEqual(self.at(15, "Ann", **late), (("NED12", "FRA9"), "BEFORE 1 IRL5 FRA9"))
+        self.assertEqual(self.untimed(15, **late), ("NED12",))
+        self.room.close()
+        self.room = self.phone.room = Room(Folder(os.path.join(self.here, "cup")), lambda: None)
+        self.assertEqual(self.at(15, "Ann", **late, by_clock=True), "taken")
+        self.assertEqual(self.seen(1), [["GBR7"], ["NED12"], ["IRL5"], ["FRA9"]])
+        # Whoever is behind her by the scorer's hand is no earlier.
+        self.finished(2, "NED12 GBR7 FRA9")
+        self.correct(2, 300, "STRIKE NED12, FINISH NED12")
+        self.assertEqual(self.at(15, "Ann", "FINISH 2 IRL5", behind="GBR7"), (("FRA9", "NED12"), "BEFORE 2 IRL5 FRA9"))
+        self.assertEqual(self.untimed(15, "FINISH 2 IRL5", behind="GBR7"), ())
+        self.assertEqual(self.untimed(25, "FINISH 2 IRL5", behind="FRA9"), ("NED12",))
+
+    def test_moment_of_a_boat_that_the_scorer_adds(self) -> None:
+        """No clock says where a late boat, or a place, belongs beside a boat that the scorer has added."""
+        ways: list[tuple[str, str]] = [("FINISH {} IRL5", "NED12 FRA9 IRL5"), ("? {}", "NED12 FRA9 ?1")]
+        for race, (form, order) in enumerate(ways, 1):
+            self.finished(race, "NED12")
+            tap, line = {"id": new_id(), "line": f"FINISH {race} FRA9", "at": 1_300_000}, form.format(race)
+            self.assertEqual(self.room.do("SCORER", "Cy", Tap.read(tap))["outcome"], "taken")
+            self.assertEqual(self.at(100, "Ann", line, behind="NED12"), (("FRA9",), line))
+            self.assertEqual(self.untimed(100, line, behind="NED12", by_clock=True), ("FRA9",))
+            self.assertIn(self.at(100, "Ann", line, behind=None), ("taken", "noted"))
+            self.assertEqual(self.seen(race), [[name] for name in order.split()])
+
+    def test_moment_of_an_undo(self) -> None:
+        """A boat whose strike is undone finished when she was tapped, or when her place was kept."""
+        self.finished(1, "NED12 FRA9")
+        self.at(0, "Bob", "FINISH 2 NED12", behind="")
+        self.at(10, "Bob", "? 2", behind="NED12")
+        self.at(300, "Bob", "?1 2 FRA9")
+        for race in (1, 2):
+            struck = Tap.read({"id": new_id(), "line": f"STRIKE {race} FRA9", "at": 1_310_000})
+            self.room.do("FINISH", "Bob", struck)
+            self.at(320, "Bob", "UNDO", undoes=struck.id)
+            self.assertEqual(self.at(90, "Ann", f"FINISH {race} IRL5", behind="NED12"), "taken")
+            self.assertEqual(self.seen(race), [["NED12"], ["FRA9"], ["IRL5"]])
+
+    def test_moment_of_a_boat_by_another(self) -> None:
+        """A boat that is put level with another finished when that did; of one that is put ahead of another it isn't
+        known."""
+        for race, command in enumerate(("TIE", "BEFORE"), 1):
+            self.finished(race, "NED12 FRA9")
+            self.at(300, "Bob", f"{command} {race} GBR7 FRA9")
+            self.at(310, "Bob", f"STRIKE {race} FRA9")
+        self.assertEqual(self.at(90, "Ann", "FINISH 1 IRL5", behind="NED12"), "taken")
+        self.assertEqual(self.untimed(90, "FINISH 2 IRL5", behind="NED12"), ("GBR7",))
 
     def test_late_boat_that_was_struck(self) -> None:
         """A boat that was struck arrives late: by the clock she is ahead of a place that she was behind, or between two

@@ -30,7 +30,7 @@ from raceoffice.web.sheet_waits import with_reasons
 from raceoffice.web.states import (Values, boats_of, moves_of, races_of, rules_of, said_of, standing_of, unlisted)
 from raceoffice.web.tap_session import DROPPED, TapSession
 from raceoffice.web.taps import PLACED, Register, Sent, Tap, number_of, said_again
-from raceoffice.web.timed_taps import TimedTap, boats_waiting, is_timed_tap, sheets_shown, with_typed_times
+from raceoffice.web.timed_taps import TimedTap, is_timed_tap, sheets_shown, with_typed_times
 from raceoffice.web.timed_undo import timed_undo
 
 # Seconds between two looks at whether the journal has grown, and between two tries at an office that isn't
@@ -308,8 +308,6 @@ class Room:
             # What came of that one is known before it is undone.
             self.done(Tap(tap.undoes, ""))
         line, before, last = self.line_of(session, tap), self.facts.standing, self.last
-        if line.startswith("SCORE ") and (waiting := boats_waiting(self.folder, self.facts.race(line.split()[1]))):
-            session.say_of("sheet-waits", fault=", ".join(map(self.facts.called, waiting)))
         is_timed = self.is_for_sheet(tap.id, line, session.role)
         is_taken = TimedTap(session, line).is_taken() if is_timed else session.is_tap_taken(line)
         sent = self.register.sent.get(tap.id)
@@ -385,9 +383,9 @@ class Room:
     def times_in(self, session: TapSession, race: int) -> dict[str, int]:
         """When each boat and each place of a race crossed the line, as far as that is known. A boat that was put into a
         place did when that was kept."""
-        moments, history = self.register.moments(self.facts.sheet.journal), session.history
+        moments, history = self.register.moments_now(self.facts.sheet.journal), session.history
         marks = history.moments(race) | {mark: at for (of, mark), at in self.register.moments_of_places().items() if of == race}
-        boats = {sail: at for (of, sail), (at, _) in moments.items() if of == race}
+        boats = {sail: at for (of, sail), at in moments.items() if of == race}
         return boats | {sail: marks[mark] for sail, mark in history.boats_in_places(race).items() if mark in marks} | marks
 
     def line_of_undo(self, session: TapSession, tap: Tap) -> str:

@@ -378,8 +378,9 @@ class Timed(WebTrial):
             sue.choose(sure)
         sue.until("document.querySelector('dialog[open]')?.textContent.includes('DEN 5')")
         sue.choose("yes")
-        sue.until("document.querySelector('.missing').textContent.includes('DEN 5')")
-        sue.until("[...document.querySelectorAll('.waits')].some(one => one.textContent.endsWith('in the journal yet: NED 12'))")
+        sue.until("document.querySelector('h3 + .missing').textContent.includes('DEN 5')")
+        self.assertEqual(sue.text("#in-sheet").split("\n"), ["In the sheet, and not in the journal yet:", "", "NED 12 Windhover"])
+        self.assertEqual(sue.texts("h3 + .missing button"), ["GBR 7 Sea Pink", "DEN 5"])
         self.need_no_faults()
 
     def test_a_start_that_is_odd(self) -> None:
