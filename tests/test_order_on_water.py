@@ -5,7 +5,7 @@ from __future__ import annotations
 import os
 import random
 import unittest
-from collections.abc import Callable, Mapping, Sequence
+from collections.abc import Callable, Mapping
 from typing import Any
 from unittest import mock
 
@@ -146,12 +146,12 @@ class Scorer(Device):
         super().__init__()
         self.room = room
 
-    def correct(self, lines: Sequence[str]) -> bool:
+    def correct(self, lines: list[str]) -> bool:
         """Sends the lines of a correction; whether it was done."""
         values: dict[str, Any] = {"id": new_id(), "lines": list(lines), "agreed": []}
         while True:
             try:
-                return all(one["outcome"] == "taken" for one in correct(self.room, values, "Cy"))
+                return correct(self.room, values, "Cy")["outcome"] == "taken"
             except Asked as asked:
                 if not self.answer(asked.question):
                     return False
@@ -162,7 +162,7 @@ class Scorer(Device):
         return {"id": ""} if self.correct([f"STRIKE {race} {line.split()[2]}", line]) else None
 
 
-def lines_of_swap(order: Sequence[Sequence[str]], race: int, one: str, other: str) -> list[str]:
+def lines_of_swap(order: list[list[str]], race: int, one: str, other: str) -> list[str]:
     """The lines after which two boats stand where the other stood, as the page has them."""
     boats = [group for group in order if "?" not in group[0]]
     first, second = (one, other) if order.index(group_of(order, one)) < order.index(group_of(order, other)) else (other, one)
@@ -175,7 +175,7 @@ def lines_of_swap(order: Sequence[Sequence[str]], race: int, one: str, other: st
     return [f"STRIKE {race} {first}", f"TIE {race} {first} {second}", f"STRIKE {race} {second}", back]
 
 
-def group_of(order: Sequence[Sequence[str]], sail: str) -> Sequence[str]:
+def group_of(order: list[list[str]], sail: str) -> list[str]:
     return next(group for group in order if sail in group)
 
 
@@ -414,7 +414,7 @@ class AsRecorded(OnWater):
         """The scorer corrects an order at some second."""
         sent = [" ".join([first, str(race), *rest]) for first, *rest in map(str.split, lines.split(", "))]
         done = correct(self.room, {"id": new_id(), "at": 1_000_000 + 1000 * second, "agreed": [], "lines": sent}, "Cy")
-        self.assertEqual([one["outcome"] for one in done], ["taken"] * len(sent))
+        self.assertEqual(done["outcome"], "taken")
 
     def finished(self, race: int, order: str) -> None:
         """These finish, one every ten seconds."""

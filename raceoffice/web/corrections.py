@@ -28,9 +28,9 @@ KINDS = ("STRIKE", "FINISH", "TIE", "BEFORE", "TIME", "TIMES", "MARK", "PENALTY"
 MOST = 4000
 
 
-def correct(room: Room, values: Mapping[str, Any], name: str) -> list[Values]:
-    """Sends the lines of a correction, or what is left of them; what came of each. The same again gets the same answer.
-    `name` is the device's."""
+def correct(room: Room, values: Mapping[str, Any], name: str) -> Values:
+    """Sends the lines of a correction, or what is left of them; what came of each, and whether all were taken. The same
+    again gets the same answer. `name` is the device's."""
     tap, lines = tap_of(values), lines_in(values)
     with room.lock:
         room.session("SCORER").look()
@@ -62,24 +62,29 @@ def lines_in(values: Mapping[str, Any]) -> list[Line]:
     return [Line("SCORER", " ".join(line.split())) for line in found]
 
 
-def sent_whole(room: Room, tap: Tap, given: Sequence[Line], name: str) -> list[Values]:
-    """Sends each line of a correction that wasn't sent yet; what came of each. After a refusal no more is sent."""
-    key = correction_of(tap.id)
-    if key not in room.register.decisions:
+def sent_whole(room: Room, tap: Tap, given: Sequence[Line], name: str) -> Values:
+    """Sends each line of a correction that wasn't sent yet; what came of them, and which are left. After a refusal no more
+    is sent."""
+    key, register = correction_of(tap.id), room.register
+    if key not in register.decisions:
         check(room, tap, given)
-        room.register.decide(key, given)
-    held, found = room.register.decisions[key], list[Values]()
-    for at, line in enumerate(held or given):
-        if not held and part_id(tap.id, at) not in room.register.sent:
-            # The rest was left.
+        register.decide(key, given)
+    is_held, whole, done = bool(register.decisions[key]), register.corrections.get(key, []), list[Values]()
+    for at, line in enumerate(whole):
+        part = Tap(part_id(tap.id, at), line.text, tap.at, agreed=tap.agreed)
+        # Of one that somebody has left nothing more is sent.
+        came = room.do("SCORER", name, part) if is_held else room.done(part)
+        if came is None:
             break
-        found.append(room.do("SCORER", name, Tap(part_id(tap.id, at), line.text, tap.at, agreed=tap.agreed)))
-        if found[-1]["outcome"] == "refused":
+        done.append(came)
+        if came["outcome"] == "refused":
             break
-    if held and (len(found) == 1 or found[-1]["outcome"] != "refused"):
+    is_refused = bool(done) and done[-1]["outcome"] == "refused"
+    if is_held and (len(done) == 1 or not is_refused):
         # Nothing is left of it, or nothing was done.
-        room.register.decide(key, [])
-    return found
+        register.decide(key, [])
+    left = [line.text for line in whole[len(done) - is_refused:]]
+    return {"outcome": "refused" if is_refused else "left" if left else "taken", "done": done, "left": left}
 
 
 def check(room: Room, tap: Tap, lines: Sequence[Line]) -> None:

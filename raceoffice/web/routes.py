@@ -365,8 +365,9 @@ class Routes:
         if values.get("leave") is True:
             corrections.leave_rest(room, values)
             return reply_of({"outcome": "left", "version": room.version})
-        done = corrections.correct(room, values, device.name)
-        return reply_of({"outcome": "taken", "done": done, "version": room.version})
+        found = corrections.correct(room, values, device.name)
+        found["version"] = room.version
+        return reply_of(found)
 
     # What the scorer may do beside lines
 

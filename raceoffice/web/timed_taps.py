@@ -21,7 +21,7 @@ from raceoffice.series.sender import not_taken
 from raceoffice.session.sending import is_meant, transmit
 from raceoffice.session.facts import Facts
 from raceoffice.terminal import sentence
-from raceoffice.web.race_start import by_clock_of_start, clock_of_race, clock_text, was_given_before
+from raceoffice.web.race_start import by_clock_of_start, clock_of_race, clock_text, is_start_seen
 from raceoffice.web.row_changes import cells_of, is_answered, is_made, note_tapped_too
 from raceoffice.web.states import Values, remarks_of
 from raceoffice.web.tap_session import TapSession
@@ -155,15 +155,14 @@ class TimedTap:
             sheet.code(self.sail, "")
 
     def start(self, sheet: SheetOfRace) -> None:
-        """Gives the race its start. If it has had another one since the tap, that is asked."""
-        register, at, before = self.session.register, self.session.tap.at, sheet.starts
+        """Gives the race its start. If it has another one by now than the device showed, that is asked."""
+        register, at, before, race = self.session.register, self.session.tap.at, sheet.starts, self.race.number
         text = self.rest[0] if self.rest else clock_text(self.folder, at)
         self.rest = [text]
         sheet.start(text, self.session.facts.boats)
-        if before != sheet.starts and before and not was_given_before(register, self.race.number, before[0], at):
-            self.session.is_yes(self.session.question("start-since", race=self.race.number, start=before[0],
-                                                      written=sheet.starts[0]))
-        by_clock_of_start(self.folder, register, self.race.number, sheet, at)
+        if before not in ([], sheet.starts) and not is_start_seen(register, race, before[0], self.session.tap, self.session.name):
+            self.session.is_yes(self.session.question("start-since", race=race, start=before[0], written=sheet.starts[0]))
+        by_clock_of_start(self.folder, register, race, sheet, at)
 
     def finish(self, sheet: SheetOfRace) -> None:
         """Gives the boat her finish. A tap at a boat that has another one is noted."""

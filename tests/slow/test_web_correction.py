@@ -73,8 +73,8 @@ class Correction(WebTrial):
         bea.click("dialog [data-sail=NED12]")
         self.shown(bea, *SAILS[:2], SAILS[3], "?", "?", "NED12")
 
-    def half_done(self) -> None:
-        """The web dies after the first of two lines."""
+    def half_done(self) -> str:
+        """The web dies after the first of two lines; the identity of the move."""
         raw, id = web_devices.Device(self.port, "scorer").come(self.links["scorer"], "Cy"), web_devices.new_id()
         raw.tap(MOVE[0], part_id(id, 0))
         self.kill_web()
@@ -82,6 +82,7 @@ class Correction(WebTrial):
         noted = self.text(*TAPS).splitlines()
         self.write("\n".join([*noted[:-2], note, *noted[-2:], ""]), *TAPS)
         self.start()
+        return id
 
     def test_completed(self) -> None:
         """What is left of a move is said, and a button sends it."""
@@ -101,6 +102,27 @@ class Correction(WebTrial):
         bea.click(".leave-it")
         bea.until("!document.querySelector('.unfinished')")
         self.shown(bea, "GBR101", "GBR7")
+        self.assertEqual(self.journal()[3:], [f"SCORER {MOVE[0]}"])
+
+    def test_left_elsewhere(self) -> None:
+        """Another window has left it while this one had no connection: who sends the rest here hears that it isn't sent,
+        and isn't told that it was."""
+        line = self.line()
+        bea = self.device("scorer", "Bea", port=line.own)
+        self.shown(bea, *SAILS[:3])
+        id = self.half_done()
+        bea.until("document.querySelector('.finish-it') !== null")
+        line.cut()
+        bea.until("document.querySelector('#link').dataset.state === 'away'")
+        bea.click(".finish-it")
+        other = web_devices.Device(self.port, "scorer").come(self.links["scorer"], "Di")
+        left = other.ask("POST", "/office/scorer/correct/cup", {"id": id, "at": 1, "lines": [], "leave": True})
+        self.assertEqual(left[1]["outcome"], "left")
+        line.mend()
+        bea.until("document.querySelector('dialog .mono')?.textContent === 'BEFORE 1 NED12 GBR101'")
+        self.assertIn("These lines weren’t sent:", bea.text("dialog"))
+        self.assertNotIn("lines sent", bea.text())
+        bea.choose("ok")
         self.assertEqual(self.journal()[3:], [f"SCORER {MOVE[0]}"])
 
 
