@@ -24,7 +24,7 @@ from raceoffice.session.facts import Facts
 from raceoffice.session.question_words import question
 from raceoffice.session.undo import later_entry
 from raceoffice.traces import guarded
-from raceoffice.web.finish_order import line_in_order, later_in_order
+from raceoffice.web.finish_order import later_in_order, line_in_order, without_place
 from raceoffice.web.preview import decided_shown
 from raceoffice.web.sheet_waits import with_reasons
 from raceoffice.web.states import (Values, boats_of, moves_of, races_of, rules_of, said_of, standing_of, unlisted)
@@ -360,7 +360,10 @@ class Room:
         if tap.undoes and self.register.sent[tap.undoes].line.startswith("STRIKE "):
             # Only the office knows where she was among the places that are kept.
             return "UNDO"
-        typed, times = with_typed_times(self.folder, tap.line)
+        plain, session.later = without_place(tap.line)
+        if session.later:
+            session.unread.one(session.facts.race(plain.split()[1]).number, session.later)
+        typed, times = with_typed_times(self.folder, plain)
         line = session.line(typed)
         if self.is_for_sheet(tap.id, line, session.role):
             if line.startswith("STRIKE ") and not session.is_begun:
