@@ -139,6 +139,46 @@ class Window(Device):
         return {"mark": found.mark, "id": ""} if found.is_taken else None
 
 
+class Scorer(Device):
+    """Somebody who corrects by pointing."""
+
+    def __init__(self, room: Room) -> None:
+        super().__init__()
+        self.room = room
+
+    def correct(self, lines: list[str]) -> bool:
+        """Sends the lines of a correction; whether it was done."""
+        values: dict[str, Any] = {"id": new_id(), "lines": list(lines), "agreed": []}
+        while True:
+            try:
+                return correct(self.room, values, "Cy")["outcome"] == "taken"
+            except Asked as asked:
+                if not self.answer(asked.question):
+                    return False
+                values["agreed"].append({"kind": asked.question.kind, "values": dict(asked.question.values)})
+
+    def send(self, race: int, line: str, undoes: str = "") -> Mapping[str, Any] | None:
+        """Moves a boat by the line that puts her elsewhere."""
+        return {"id": ""} if self.correct([f"STRIKE {race} {line.split()[2]}", line]) else None
+
+
+def lines_of_swap(order: list[list[str]], race: int, one: str, other: str) -> list[str]:
+    """The lines after which two boats stand where the other stood, as the page has them."""
+    boats = [group for group in order if "?" not in group[0]]
+    first, second = (one, other) if order.index(group_of(order, one)) < order.index(group_of(order, other)) else (other, one)
+    group = group_of(order, first)
+    level = next((sail for sail in group if sail != first), "")
+    next_one = boats[boats.index(group) + 1][0]
+    place = order[order.index(group) + 1][0]
+    back = f"TIE {race} {second} {level}" if level else " ".join(
+        [f"BEFORE {race} {second} {first if next_one == second else next_one}", *([place] if "?" in place else [])])
+    return [f"STRIKE {race} {first}", f"TIE {race} {first} {second}", f"STRIKE {race} {second}", back]
+
+
+def group_of(order: list[list[str]], sail: str) -> list[str]:
+    return next(group for group in order if sail in group)
+
+
 class OnWater(helpers.Series):
     def setUp(self) -> None:
         super().setUp()
@@ -148,7 +188,7 @@ class OnWater(helpers.Series):
         self.addCleanup(lambda: self.room.close())
         self.phone, self.window_bob = Phone(self.room, "Ann"), Window(folder, "Bob")
         self.addCleanup(self.window_bob.session.disconnect)
-
+        self.scorer = Scorer(self.room)
 
     def seen(self, race: int) -> list[list[str]]:
         """The order of a race with the places that are kept."""
@@ -374,7 +414,7 @@ class AsRecorded(OnWater):
         """The scorer corrects an order at some second."""
         sent = [" ".join([first, str(race), *rest]) for first, *rest in map(str.split, lines.split(", "))]
         done = correct(self.room, {"id": new_id(), "at": 1_000_000 + 1000 * second, "agreed": [], "lines": sent}, "Cy")
-        self.assertEqual([one["outcome"] for one in done], ["taken"] * len(sent))
+        self.assertEqual(done["outcome"], "taken")
 
     def finished(self, race: int, order: str) -> None:
         """These finish, one every ten seconds."""
@@ -386,6 +426,41 @@ class AsRecorded(OnWater):
         with self.assertRaises(Elsewhere) as found:
             self.room.do("FINISH", "Ann", Tap.read({"id": new_id(), "line": line, "at": 1_000_000 + 1000 * second, **more}))
         return found.exception.question.values["untimed"]
+
+    def swap(self, race: int, one: str, other: str) -> bool:
+        return self.scorer.correct(lines_of_swap(self.seen(race), race, one, other))
+
+    def test_swap_and_places(self) -> None:
+        """Each of two boats stands where the other stood, and the places between stay there."""
+        kept = "FINISH NED12, ?, ?, FINISH GBR7, ?, FINISH FRA9"
+        self.check(1, kept, "NED12 ?1 ?2 GBR7 ?3 FRA9")
+        for one, other, order in (("NED12", "GBR7", "GBR7 ?1 ?2 NED12 ?3 FRA9"), ("FRA9", "GBR7", "FRA9 ?1 ?2 NED12 ?3 GBR7"),
+                                  ("NED12", "GBR7", "FRA9 ?1 ?2 GBR7 ?3 NED12")):
+            self.assertTrue(self.swap(1, one, other))
+            self.assertEqual(self.seen(1), [[name] for name in order.split()])
+        self.check(1, "?2 IRL5, ?3 GBR33, ?1 GBR101", "FRA9 GBR101 IRL5 GBR7 GBR33 NED12")
+        self.check(2, "FINISH NED12, ?, FINISH FRA9, TIE GBR33 NED12", "NED12=GBR33 ?1 FRA9")
+        self.assertTrue(self.swap(2, "NED12", "FRA9"))
+        self.assertEqual(self.seen(2), [["FRA9", "GBR33"], ["?1"], ["NED12"]])
+
+    def test_swap_and_a_place_that_is_known(self) -> None:
+        """Nothing is sent if somebody has said meanwhile who was at the place between."""
+        self.check(1, "FINISH NED12, ?, FINISH FRA9", "NED12 ?1 FRA9")
+        lines = lines_of_swap(self.seen(1), 1, "NED12", "FRA9")
+        self.check(1, "?1 GBR7", "NED12 GBR7 FRA9")
+        self.assertRaises(NotSent, self.scorer.correct, lines)
+        self.assertEqual(self.seen(1), [["NED12"], ["GBR7"], ["FRA9"]])
+
+    def test_move_behind_a_place(self) -> None:
+        """It is asked before anything is sent whether a boat is behind a place now, and after a No nothing is."""
+        self.check(1, "FINISH NED12, ?, FINISH FRA9", "NED12 ?1 FRA9")
+        self.check(2, "FINISH FRA9, FINISH NED12, ?", "FRA9 NED12 ?1")
+        for race, line, order in ((1, "BEFORE 1 NED12 FRA9", "?1 NED12 FRA9"), (2, "FINISH 2 NED12", "FRA9 ?1 NED12")):
+            before, self.scorer.answers, self.scorer.asked = self.seen(race), [False], []
+            self.assertIsNone(self.scorer.send(race, line))
+            self.assertEqual((self.scorer.asked, self.seen(race)), (["?1"], before))
+            self.assertIsNotNone(self.scorer.send(race, line))
+            self.assertEqual(self.seen(race), [[name] for name in order.split()])
 
     def test_moment_of_a_swap(self) -> None:
         """The moment of a correction isn't that at which its boats finished."""
@@ -498,8 +573,9 @@ class AsRecorded(OnWater):
 class Sequence:
     """A race, recorded at random."""
 
-    def __init__(self, race: int, dice: random.Random, devices: list[Device], seen: Callable[[int], list[list[str]]]) -> None:
-        self.race, self.dice, self.devices, self.seen = race, dice, devices, seen
+    def __init__(self, race: int, dice: random.Random, devices: list[Device], scorer: Scorer,
+                 seen: Callable[[int], list[list[str]]]) -> None:
+        self.race, self.dice, self.devices, self.scorer, self.seen = race, dice, devices, scorer, seen
         self.water, self.log = Water(), list[str]()
         for device in devices:
             device.done = []
@@ -516,6 +592,8 @@ class Sequence:
         ways += [self.strike] * 2 if water.boats() else []
         ways += [self.know] * 3 if out and water.marks() else []
         ways += [self.drop] if water.marks() else []
+        if len(water.boats()) > 1:
+            ways += [self.move, self.swap]
         dice.choice(ways)(device)
         order = water.order()
         found = self.seen(self.race)
@@ -552,6 +630,33 @@ class Sequence:
     def ahead(self, device: Device) -> None:
         sail, other = self.out(), self.dice.choice(self.water.boats())
         self.came(device, sail, f"BEFORE {self.race} {sail} {other}", self.water.just_ahead(other))
+
+    def move(self, _: Device) -> None:
+        """The scorer moves a boat ahead of another, or after all."""
+        water, scorer = self.water, self.scorer
+        scorer.asked, scorer.answers = [], [self.dice.random() < 0.5 for _ in range(6)]
+        sail, other = self.dice.sample(water.boats(), 2)
+        is_last = self.dice.random() < 0.3
+        water.here.discard(sail)
+        line = f"FINISH {self.race} {sail}" if is_last else f"BEFORE {self.race} {sail} {other}"
+        self.came(scorer, sail, line, water.last() if is_last else water.just_ahead(other))
+        water.here.add(sail)
+
+    def swap(self, _: Device) -> None:
+        """The scorer swaps two boats."""
+        water = self.water
+        one, other = self.dice.sample(water.boats(), 2)
+        if water.when[one] == water.when[other]:
+            return
+        lines = lines_of_swap(self.seen(self.race), self.race, one, other)
+        self.log.append(str(lines))
+        self.scorer.correct(lines)
+        water.when[one], water.when[other] = water.when[other], water.when[one]
+        for sail in (one, other):
+            water.come(sail, water.when[sail])
+        # The page doesn't know of boats and places that aren't there any more.
+        for device in self.devices:
+            device.done = [done for done in device.done if done[1] not in ("struck", "dropped")]
 
     def level(self, device: Device) -> None:
         sail, other = self.out(), self.dice.choice(self.water.boats())
@@ -748,7 +853,7 @@ class AtRandom(OnWater):
             if race == 1 and seed > first:
                 self.doCleanups()
                 self.setUp()
-            sequence = Sequence(race, random.Random(seed), [self.phone, self.window_bob], self.seen)
+            sequence = Sequence(race, random.Random(seed), [self.phone, self.window_bob], self.scorer, self.seen)
             with self.subTest(seed=seed):
                 for _ in range(STEPS):
                     sequence.step()

@@ -5,12 +5,17 @@ sends what is left of them. Until somebody does that, or leaves the rest, the sc
 """
 from __future__ import annotations
 
-from collections.abc import Mapping, Sequence
+import contextlib
+from collections.abc import Iterator, Mapping, Sequence
 from typing import Any
 
 from raceoffice.errors import NotSent
 from raceoffice.program.replay import Line
+from raceoffice.series.line_order import ORDERING, LineOrder, Meant
+from raceoffice.session.dialogue import Question
+from raceoffice.session.question_words import question
 from raceoffice.web import preview
+from raceoffice.web.finish_order import without_place
 from raceoffice.web.requests import Wrong
 from raceoffice.web.room import Room
 from raceoffice.web.rulings import asked_first, tap_of
@@ -84,8 +89,31 @@ def sent_whole(room: Room, tap: Tap, given: Sequence[Line], name: str) -> Values
 
 def check(room: Room, tap: Tap, lines: Sequence[Line]) -> None:
     """Asks what the office asks of the lines before the first is sent; NotSent if the program would refuse one."""
-    for asked in asked_first(room, lines):
+    plain = [Line(line.role, without_place(line.text)[0]) for line in lines]
+    for asked in [*asked_first(room, plain), *asked_of_places(room, lines)]:
         if asked not in tap.agreed:
             raise Asked(asked, [])
-    if not room.folder.settings.handicap and (refused := preview.why_refused(room.folder, room.facts, lines)):
+    if not room.folder.settings.handicap and (refused := preview.why_refused(room.folder, room.facts, plain)):
         raise NotSent(*refused)
+
+
+def asked_of_places(room: Room, lines: Sequence[Line]) -> Iterator[Question]:
+    """What is asked of boats that are put elsewhere: whether they are behind places now that they were ahead of."""
+    history, orders = room.session("SCORER").history, dict[int, LineOrder]()
+    for line in lines:
+        text, later = without_place(line.text)
+        command, number, sail, *other = [*text.split(), ""][:4]
+        if command not in ORDERING:
+            continue
+        race = room.facts.race(number).number
+        if race not in orders:
+            orders[race] = history.order(race)
+        order, marks = orders[race], history.waiting.marks(race)
+        if later:
+            history.waiting.one(race, later)
+        for mark in order.ahead_before(text, later) if command in ("FINISH", "BEFORE") else []:
+            if mark in marks:
+                yield question("finished-after", room.facts.called, mark=mark, sail=sail)
+                order.ahead[mark].discard(sail)
+        with contextlib.suppress(ValueError):
+            order.follow([command, sail, *filter(None, other)], Meant("back", later) if later else Meant())

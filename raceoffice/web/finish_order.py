@@ -28,6 +28,14 @@ class Elsewhere(Exception):
         self.question, self.clock = asked, clock
 
 
+def without_place(line: str) -> tuple[str, str]:
+    """A line that puts a boat ahead of another, and also just ahead of a place that is kept before that one, as
+    `BEFORE 3 GBR7 FRA9 ?1`: the program's line, and the place. Any other line has none."""
+    words = line.split()
+    is_ahead = len(words) == 5 and words[0] == "BEFORE" and is_mark(words[4])
+    return (" ".join(words[:4]), words[4]) if is_ahead else (line, "")
+
+
 def line_in_order(facts: Facts, times: Times, own: Collection[str], tap: Tap, line: str, order: Race) -> tuple[str, str]:
     """The line that puts a finisher where she was seen, after all or by the clock, and the place that she is just ahead
     of, if she is of one; Elsewhere asks. `order` has the places that are kept, and `own` are those of her device."""

@@ -24,7 +24,7 @@ from raceoffice.session.facts import Facts
 from raceoffice.session.question_words import question
 from raceoffice.session.undo import later_entry
 from raceoffice.traces import guarded
-from raceoffice.web.finish_order import line_in_order, later_in_order
+from raceoffice.web.finish_order import later_in_order, line_in_order, without_place
 from raceoffice.web.preview import decided_shown
 from raceoffice.web.sheet_waits import with_reasons
 from raceoffice.web.states import (Values, boats_of, moves_of, races_of, rules_of, said_of, standing_of, unlisted)
@@ -360,9 +360,15 @@ class Room:
         if tap.undoes and self.register.sent[tap.undoes].line.startswith("STRIKE "):
             # Only the office knows where she was among the places that are kept.
             return "UNDO"
-        typed, times = with_typed_times(self.folder, tap.line)
+        plain, session.later = without_place(tap.line)
+        if session.later:
+            session.unread.one(session.facts.race(plain.split()[1]).number, session.later)
+        typed, times = with_typed_times(self.folder, plain)
         line = session.line(typed)
         if self.is_for_sheet(tap.id, line, session.role):
+            if line.startswith("STRIKE ") and not session.is_begun:
+                # She may have another finish by now than the one that was struck on the device.
+                self.ask_again(session, tap, line)
             return f"{line} {times}".rstrip()
         if line.startswith("FINISH "):
             order = self.order_with_places(session, session.facts.race(line.split()[1]))
@@ -425,8 +431,9 @@ class Room:
             # The office refuses it (8).
             return
         commands, wanted, journal = session.facts.commands, as_kept(line), session.facts.sheet.journal
-        # A finisher whose tap was undone may be tapped again on the same device.
-        own = self.register.entries_by(session.name, journal) if words[0] in PLACED else ()
+        # A finisher whose tap was undone may be tapped again on the same device, and a sheet's finish struck again.
+        is_own_meant = words[0] in PLACED or self.folder.settings.handicap
+        own = self.register.entries_by(session.name, journal) if is_own_meant else ()
         later = [at for at, text in enumerate(commands[tap.seen:], tap.seen + 1) if text == wanted and journal[at - 1] not in own]
         if later:
             session.is_agreed(question("sent-already", session.facts.called, line=line, entry=later[-1]))

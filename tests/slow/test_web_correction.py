@@ -11,7 +11,7 @@ from raceoffice.web.taps import part_id
 from web_office import SAILS, WebTrial, finishes
 
 ROW = ".order tr[data-sail={}]"
-ORDER = "[...document.querySelectorAll('.order tbody tr')].map(row => row.dataset.sail).join(' ')"
+ORDER = "[...document.querySelectorAll('.order tbody tr')].map(row => row.dataset.sail ?? '?').join(' ')"
 MOVE = ["STRIKE 1 NED12", "BEFORE 1 NED12 GBR101"]
 TAPS = ("cup", "office", "web.taps")
 
@@ -60,6 +60,18 @@ class Correction(WebTrial):
         bea.until("document.body.textContent.includes('2 lines sent')")
         self.shown(bea, "NED12", "GBR101", "GBR7")
         self.assertEqual(self.journal()[3:], [f"SCORER {line}" for line in MOVE])
+
+    def test_swap_and_a_place(self) -> None:
+        """Two boats are swapped, and the places that are kept between them stay there."""
+        finish = web_devices.Device(self.port, "finish").come(self.links["finish"], "Ben")
+        for line in ("? 1", "? 1", f"FINISH 1 {SAILS[3]}"):
+            finish.tap(line)
+        bea = self.device("scorer", "Bea")
+        self.shown(bea, *SAILS[:3], "?", "?", SAILS[3])
+        bea.click(f"{ROW.format(SAILS[3])} th button")
+        bea.choose("swap")
+        bea.click("dialog [data-sail=NED12]")
+        self.shown(bea, *SAILS[:2], SAILS[3], "?", "?", "NED12")
 
     def half_done(self) -> str:
         """The web dies after the first of two lines; the identity of the move."""
