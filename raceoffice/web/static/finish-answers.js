@@ -1,18 +1,20 @@
 'use strict';
 // What the office asks about a tap of this device, and what somebody answers.
 import {element} from "./elements.js";
-import {text, timeOfDay} from "./texts.js";
+import {date, text, timeOfDay} from "./texts.js";
+import {momentNow} from "./office.js";
 import {choose} from "./dialogs.js";
 import {spaced} from "./sails.js";
 import {agreedOf, wordsOf} from "./questions.js";
 import {page, queue} from "./finish-state.js";
 
-export async function answer(item) {
-  const done = item.isWhere ? await askWhere(item) : await askWhether(item);
+export async function ask(item) {
+  const done = item.clock ? await askWhen(item) : item.isWhere ? await askWhere(item) : await askWhether(item);
   if (done === "drop") queue.drop(item);
   else if (done === "yes") queue.change(item, {state: "unsent", agreed: [...item.agreed, agreedOf(item.question)]});
   else if (done === "after") queue.change(item, {state: "unsent", behind: null});
   else if (done === "clock") goByClock(item.class);
+  else if (done) takeMoments(item.clock, done === "now");
   queue.send();
   page.redraw();
 }
@@ -20,6 +22,21 @@ export async function answer(item) {
 function askWhether(item) {
   return choose(text("common.isThatRight"), wordsOf(item.question),
     [{value: "drop", label: text("finish.noDrop"), look: "bad"}, {value: "yes", label: text("finish.yesSend"), look: "main"}]);
+}
+
+// The clock of this device was set while the office wasn't reached, before the tap or after it.
+function askWhen(item) {
+  const [mark, , sail] = item.line.split(" ");
+  const label = at => `${date(at)}, ${timeOfDay(at)}`;
+  return choose(text("finish.whenTapped", {sail: spaced(sail ?? mark)}), text("finish.clockWasSet"),
+    [{value: "then", label: label(item.at)}, {value: "now", label: label(momentNow(item))}, {value: "drop", label: text("finish.dropTap"), look: "bad"}], "stack");
+}
+
+// The moments of all taps since the clock was last set before them, by the clock as it was then, or as it is now
+function takeMoments({span}, isNow) {
+  for (const item of queue.items.filter(one => one.clock?.span === span && ["asked", "unsent"].includes(one.state))) {
+    queue.change(item, {state: "unsent", at: isNow ? momentNow(item) : item.at, clock: undefined});
+  }
 }
 
 // Others were recorded since she was tapped: where did she finish?
