@@ -366,6 +366,9 @@ class Room:
         typed, times = with_typed_times(self.folder, plain)
         line = session.line(typed)
         if self.is_for_sheet(tap.id, line, session.role):
+            if line.startswith("STRIKE ") and not session.is_begun:
+                # She may have another finish by now than the one that was struck on the device.
+                self.ask_again(session, tap, line)
             return f"{line} {times}".rstrip()
         if line.startswith("FINISH "):
             order = self.order_with_places(session, session.facts.race(line.split()[1]))
@@ -428,8 +431,9 @@ class Room:
             # The office refuses it (8).
             return
         commands, wanted, journal = session.facts.commands, as_kept(line), session.facts.sheet.journal
-        # A finisher whose tap was undone may be tapped again on the same device.
-        own = self.register.entries_by(session.name, journal) if words[0] in PLACED else ()
+        # A finisher whose tap was undone may be tapped again on the same device, and a sheet's finish struck again.
+        is_own_meant = words[0] in PLACED or self.folder.settings.handicap
+        own = self.register.entries_by(session.name, journal) if is_own_meant else ()
         later = [at for at, text in enumerate(commands[tap.seen:], tap.seen + 1) if text == wanted and journal[at - 1] not in own]
         if later:
             session.is_agreed(question("sent-already", session.facts.called, line=line, entry=later[-1]))
