@@ -184,6 +184,10 @@ class Clocks(Prepared):
         self.assertIn("Europe/Lisbon", self.text("cup", "series.ini"))
         ann.tap("FINISH 1 GBR101", at=utc("2026-10-24T20:00:00"))
         Races.yes(scorer, "SCORE 1")
+        # Nor while boats with several starts are racing, of which none has finished.
+        self.write("Sail,Start,Finish,Code\nGBR101,19:00,,\nGBR7,19:05,,\n", "cup", "times", "race-2.csv")
+        self.assertEqual(scorer.ask("POST", "/office/scorer/save/cup", given)[0], 422)
+        self.write("Sail,Start,Finish,Code\nGBR101,,,\n", "cup", "times", "race-2.csv")
         self.assertEqual(scorer.ask("POST", "/office/scorer/save/cup", given)[0], 200)
 
 

@@ -83,9 +83,12 @@ class Scored(Sent):
         self.assertEqual(self.asked()[0], "score-sheet-fault")
 
     def test_left_out(self) -> None:
-        """A row of a boat that isn't entered is none that could be sent."""
+        """A row of a boat that isn't entered is none that could be sent, and is said to be left out."""
         self.write(SHEET + "USA4,14:00:00,15:00:00,\n", "cup", "times", "race-1.csv")
-        self.assertEqual(self.asked()[0], "score-missing")
+        status, said = self.scorer.tap("SCORE 1")
+        self.assertEqual((status, said["question"]["kind"]), (409, "score-missing"))
+        self.assertEqual([one["values"] for one in said["said"] if one["what"] == "row-left-out"],
+                         [{"sail": "USA4", "name": "times/race-1.csv"}])
 
     def test_abandoned(self) -> None:
         """A race that was abandoned and is sailed again is asked about by its new sheet alone."""

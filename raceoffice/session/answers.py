@@ -7,6 +7,7 @@ from raceoffice.corrected.unsent import in_sheet
 from raceoffice.program.journal import Plan, Race
 from raceoffice.program.messages import ROLES, move_values, rank_of
 from raceoffice.program.standing import Standing, changes
+from raceoffice.series.race_sheets import sheet_name
 from raceoffice.series.unknown_finishers import Waiting
 from raceoffice.session.dialogue import ANSWER, NOTE, REFUSAL, SHOWN, Said
 from raceoffice.session.facts import Facts
@@ -95,7 +96,7 @@ def race_said(facts: Facts, race: Race, unread: dict[str, int], is_to_count: boo
                            boats=[facts.called(sail) + beside_code(race, sail, " ") for sail in missing]))
     if waiting := [sail for sail in away if sail in sheet]:
         found.append(shown("sheet-waits", fault=facts.all_called(waiting)))
-    return found
+    return found + [shown("row-left-out", sail=sail, name=sheet_name(race.number)) for sail in sheet if sail not in facts.boats]
 
 
 def time_in(race: Race, sail: str) -> str:

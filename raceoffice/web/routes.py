@@ -360,8 +360,11 @@ class Routes:
 
     @staticmethod
     def correct(request: Request, device: Device, room: Room) -> Reply:
-        """Sends the lines of a correction, or leaves what is left of one."""
+        """Sends the lines of a correction, asks of them alone, or leaves what is left of one."""
         values = request.values()
+        if values.get("ask") is True:
+            corrections.ask_first(room, values)
+            return reply_of({"outcome": "asked", "version": room.version})
         if values.get("leave") is True:
             corrections.leave_rest(room, values)
             return reply_of({"outcome": "left", "version": room.version})

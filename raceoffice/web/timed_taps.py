@@ -2,6 +2,7 @@
 of that goes to the office as lines."""
 from __future__ import annotations
 
+import contextlib
 import dataclasses
 import functools
 from collections.abc import Sequence
@@ -250,6 +251,16 @@ def sheets_shown(folder: Folder) -> dict[int, Values]:
         starts = sorted({row.cells["start"] for row in rows if row.cells["start"]})
         found[race] = {"start": starts[0] if len(starts) == 1 else "", "wrong": remarks_of(wrong),
                        "rows": {row.sail: row_shown(row, race in nights) for row in rows if row.is_timed or row.code}}
+    return found
+
+
+def races_begun(folder: Folder) -> list[int]:
+    """The races whose sheets have a start, a time or a code, as far as they can be read."""
+    found = []
+    for race in races_with_sheet(folder) if folder.settings.handicap else []:
+        with contextlib.suppress(Trouble):
+            rows, _ = entries_of(bytes_of(folder.file(sheet_name(race))), sheet_name(race))
+            found += [race] if any(row.cells["start"] or row.is_timed or row.code for row in rows) else []
     return found
 
 

@@ -92,6 +92,26 @@ class TimedCorrections(WebTrial):
     def sheet(self, race: int) -> list[str]:
         return self.text("cup", "times", f"race-{race}.csv").splitlines()
 
+    def test_another_race_and_a_no(self) -> None:
+        """After a No, neither sheet has changed: nothing of it is sent by the next tap there."""
+        self.write(SHEET, "cup", "times", "race-2.csv")
+        self.write("Sail,Start,Finish\n", "cup", "times", "race-1.csv")
+        scorer = self.scorer_of(2, 3)
+        scorer.click("#score")
+        scorer.choose("yes")
+        scorer.until("!!document.querySelector('#unscore')")
+        before = [self.sheet(race) for race in (1, 2)]
+        self.move(scorer, "NED12", 1)
+        scorer.until("document.querySelector('dialog[open]')?.textContent.includes('Is this a correction?')")
+        scorer.choose("")
+        scorer.until("!document.querySelector('dialog[open]')")
+        self.assertEqual([self.sheet(race) for race in (1, 2)], before)
+        self.assertEqual([line for line in self.journal() if " 1 " in line], [])
+        self.move(scorer, "NED12", 1)
+        scorer.choose("yes")
+        helpers.until("the other race", lambda: len([line for line in self.journal() if " TIME 1 " in line]) == 3)
+        self.need_no_faults()
+
     def test_another_race(self) -> None:
         """All that was recorded in race 2 goes to race 1 with its times, its start and its codes, and nothing of it stays."""
         self.write(SHEET.replace("Finish\n", "Finish,Code\n") + "FRA 9,14:00:00,,DNF\n", "cup", "times", "race-2.csv")

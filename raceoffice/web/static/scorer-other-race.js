@@ -3,12 +3,12 @@
 // their rows of the sheet.
 import {element} from "./elements.js";
 import {text} from "./texts.js";
-import {ask} from "./office.js";
+import {ask, newId} from "./office.js";
 import {choose, say} from "./dialogs.js";
 import {remarkSentences, troubleWords} from "./remark-words.js";
 import {called, path, raceNumbered, state} from "./desk.js";
 import {atTheLine} from "./race-view.js";
-import {lines} from "./scorer-unfinished.js";
+import {agreedOfLines, lines} from "./scorer-unfinished.js";
 import {linesOfCodes, linesOfOtherRace, linesOfOtherSheet} from "./corrections.js";
 
 const RACES = 40;
@@ -56,7 +56,8 @@ function isTaken(answer) {
   return answer.status === 200;
 }
 
-// Moves rows of a sheet: their starts, laps, distances and elapsed times first, then a line for each finish.
+// Moves rows of a sheet: their starts, laps, distances and elapsed times first, then a line for each finish. What is asked of
+// these lines is asked before.
 async function sheetToOther(number, race, {to, sails, isAll}, codes) {
   const [from, other] = [await sheetOf(number), await sheetOf(to)];
   if (!isTaken(from) || !isTaken(other) || hasTwice(to, sails, other.rows)) return;
@@ -72,8 +73,9 @@ async function sheetToOther(number, race, {to, sails, isAll}, codes) {
     return [row.sail, {...Object.fromEntries(other.columns.map(key => [key, own[key]])), start, elapsed: own.finish ? "" : own.elapsed}];
   });
   const given = {race: to, rows: Object.fromEntries(rows), tag: other.tag, overnight: other.overnight || from.overnight};
-  if (!isTaken(await ask(path("sheet"), given))) return;
-  if (await lines(linesOfOtherSheet(race, number, to, sails, moved, codes)) && isAll) clearStart(number);
+  const several = linesOfOtherSheet(race, number, to, sails, moved, codes), agreed = await agreedOfLines(several);
+  if (!agreed || !isTaken(await ask(path("sheet"), given))) return;
+  if (await lines(several, newId(), agreed) && isAll) clearStart(number);
 }
 
 // Whether one of the boats is in the other sheet already, which is said
