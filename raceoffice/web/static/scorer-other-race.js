@@ -41,10 +41,18 @@ async function asked(number, race, finishers) {
 // Moves finishers to another race.
 export async function toOtherRace(number) {
   const race = raceNumbered(number), found = await asked(number, race, finishersOf(race));
-  if (!found) return;
+  if (!found || haveUnread(race, found)) return;
   const codes = linesOfCodes(race, number, found.to, [...found.sails, ...found.coded]);
   if (state().handicap) sheetToOther(number, race, found, codes);
   else lines(linesOfOtherRace(race, number, found.to, found.sails, codes));
+}
+
+// Whether a place is kept among the boats, which is said: nobody knows of which race she is.
+function haveUnread(race, {sails, isAll}) {
+  const first = race.order.findIndex(group => group.includes(sails[0]));
+  const marks = race.unread.filter(gap => isAll || gap.after > first).map(gap => gap.mark);
+  if (marks.length) say(text("scorer.stillUnread", {n: marks.length, marks}), true);
+  return marks.length > 0;
 }
 
 const filled = values => [...new Set(values.filter(Boolean))];
