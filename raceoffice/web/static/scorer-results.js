@@ -22,7 +22,7 @@ const LONGEST = 200;
 // just declaring
 const known = {found: null, asked: "", isDeclaring: false};
 
-const moment = milliseconds => `${date(milliseconds)}, ${timeOfDay(milliseconds)}`;
+const moment = milliseconds => `${date(milliseconds, state()?.zone)}, ${timeOfDay(milliseconds, state()?.zone)}`;
 const entries = count => text("results.entries", {n: count});
 
 // Asks how the results stand, and has it drawn.
