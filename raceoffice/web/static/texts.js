@@ -77,20 +77,16 @@ export function points(written) {
   return String(written).replace(".", mark);
 }
 
-// A moment by the clock of a zone, as if that were Greenwich's. `zone` is as the state of a class has it: since when its
-// clock is ahead of UTC, and by how much.
-function shown(milliseconds, zone) {
-  const [, ahead] = zone.filter(([since]) => since <= milliseconds).pop() ?? zone[0];
+// A date whose UTC is what the clock of a zone shows. `zone` is as the state of a class has it: since when that clock is ahead
+// of UTC, and by how much.
+export function byClock(milliseconds, zone) {
+  const [, ahead] = zone.findLast(([since]) => since <= milliseconds) ?? zone[0];
   return new Date(milliseconds + ahead);
 }
 
 // A moment of the day, as 14:05:09: sports clocks have 24 hours in every language. Nothing while the zone isn't known.
 export function timeOfDay(milliseconds, zone) {
-  return milliseconds && zone ? shown(milliseconds, zone).toISOString().slice(11, 19) : "";
-}
-
-export function date(milliseconds, zone) {
-  return zone ? shown(milliseconds, zone).toLocaleDateString(language, {dateStyle: "long", timeZone: "UTC"}) : "";
+  return milliseconds && zone ? byClock(milliseconds, zone).toISOString().slice(11, 19) : "";
 }
 
 // The field in which somebody chooses another language: the page begins again with it.
