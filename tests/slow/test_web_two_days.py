@@ -5,7 +5,6 @@ With PICTURES=FOLDER the pictures of the guide are written there.
 """
 from __future__ import annotations
 
-import datetime
 import os
 import re
 import signal

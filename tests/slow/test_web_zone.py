@@ -75,7 +75,7 @@ class Start(Elsewhere):
         super().start()
 
     def type_start(self, ann: Device, minutes: int) -> None:
-        """Types a start so many minutes after what the page's own clock shows."""
+        """Types a start that is `minutes` after what the page's own clock shows."""
         ann.until("document.querySelector('#clock').textContent.length === 8")
         start = datetime.datetime.strptime(ann.text("#clock"), "%H:%M:%S") + datetime.timedelta(minutes=minutes)
         ann.click("#start")
