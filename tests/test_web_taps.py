@@ -389,7 +389,7 @@ class Elsewhere(Web):
         status, said = ann.tap("FINISH 1 NED12", at=now + 15_000, behind="GBR33")
         self.assertEqual((status, said["outcome"], said["clock"]), (409, "elsewhere", "BEFORE 1 NED12 GBR7"))
         self.assertEqual(said["question"]["values"],
-                         {"race": 1, "sail": "NED12", "others": ["GBR7"], "ahead": "GBR7"})
+                         {"race": 1, "sail": "NED12", "others": ["GBR7"], "ahead": "GBR7", "untimed": []})
         self.assertEqual(said["question"]["text"], "Meanwhile GBR 7 Sea Pink was recorded. By the clock "
                          "NED 12 Windhover is just ahead of GBR 7 Sea Pink.")
         ann.tap("FINISH 1 NED12", at=now + 15_000, behind="GBR33", by_clock=True)

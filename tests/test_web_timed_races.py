@@ -103,6 +103,39 @@ class Races(Prepared):
         status, said = ann.tap("START 1 14:05", at=moment("14:06:00"))
         self.assertEqual((status, said["question"]["values"]["start"]), (409, "14:00:00"))
 
+    def test_second_start(self) -> None:
+        """A start that another device has tapped three seconds after the first, and that comes when boats have finished, is
+        asked about: 3,600 s x 1.000, or 3,597 s. A No leaves all as it is, and a Yes is one, also after a restart."""
+        ann, bob = self.device("finish"), self.device("finish", "Bob")
+        self.assertEqual(ann.tap("START 1", at=moment("14:00:00"), was="")[1]["outcome"], "noted")
+        ann.tap("FINISH 1 GBR101", at=moment("15:00:00"))
+        before, id = (self.sheet(), self.journal()), "2" * 32
+        for _ in range(2):
+            status, said = bob.tap("START 1", id, at=moment("14:00:03"), was="")
+            self.assertEqual((status, said["question"]["kind"], said["question"]["values"]),
+                             (409, "start-since", {"race": 1, "start": "14:00:00", "written": "14:00:03"}))
+            self.assertEqual((self.sheet(), self.journal()), before)
+            self.close()
+            self.serve()
+            ann, bob = ann.again(), bob.again()
+        for _ in range(2):
+            self.assertEqual(bob.tap("START 1", id, at=moment("14:00:03"), was="", agreed=[said["question"]])[0], 200)
+            self.assertEqual((self.sheet()[1], self.journal()[1:]),
+                             ("GBR101,14:00:03,15:00:00,", ["FINISH STRIKE 1 GBR101", "FINISH TIME 1 GBR101 3597"]))
+            self.assertEqual(ann.state()["races"]["1"]["sheet"]["start"], "14:00:03")
+
+    def test_start_shown(self) -> None:
+        """Whoever gives another start than the device showed isn't asked, whoever gave that; nor is a device that has given
+        the last one itself and hasn't seen it yet; nor whoever gives the same. One that showed an older start is asked."""
+        ann, bob, scorer = self.device("finish"), self.device("finish", "Bob"), self.device("scorer", "Bea")
+        self.write("Sail,Start,Finish,Code\nGBR101,9:05,,\n", "cup", "times", "race-1.csv")
+        for device, start, was, status in (
+                (ann, "14:00", "9:05", 200), (ann, "14:01", "…", 200), (bob, "14:02", "9:05", 409), (bob, "14:01:00", "", 200),
+                (bob, "14:02", "14:01:00", 200), (ann, "14:03", "14:01:00", 409), (scorer, "14:03", "14:02:00", 200),
+                (bob, "14:05", "14:03:00", 200)):
+            self.assertEqual(device.tap(f"START 1 {start}", at=moment("14:00:00"), was=was)[0], status, (start, was))
+        self.assertEqual(self.sheet()[1], "GBR101,14:05:00,,")
+
 
 @helpers.needs_times
 class Clocks(Prepared):
@@ -151,6 +184,10 @@ class Clocks(Prepared):
         self.assertIn("Europe/Lisbon", self.text("cup", "series.ini"))
         ann.tap("FINISH 1 GBR101", at=utc("2026-10-24T20:00:00"))
         Races.yes(scorer, "SCORE 1")
+        # Nor while boats with several starts are racing, of which none has finished.
+        self.write("Sail,Start,Finish,Code\nGBR101,19:00,,\nGBR7,19:05,,\n", "cup", "times", "race-2.csv")
+        self.assertEqual(scorer.ask("POST", "/office/scorer/save/cup", given)[0], 422)
+        self.write("Sail,Start,Finish,Code\nGBR101,,,\n", "cup", "times", "race-2.csv")
         self.assertEqual(scorer.ask("POST", "/office/scorer/save/cup", given)[0], 200)
 
 

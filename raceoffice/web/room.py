@@ -24,13 +24,13 @@ from raceoffice.session.facts import Facts
 from raceoffice.session.question_words import question
 from raceoffice.session.undo import later_entry
 from raceoffice.traces import guarded
-from raceoffice.web.finish_order import line_in_order, later_in_order
+from raceoffice.web.finish_order import later_in_order, line_in_order, without_place
 from raceoffice.web.preview import decided_shown
 from raceoffice.web.sheet_waits import with_reasons
 from raceoffice.web.states import (Values, boats_of, moves_of, races_of, rules_of, said_of, standing_of, unlisted)
 from raceoffice.web.tap_session import DROPPED, TapSession
 from raceoffice.web.taps import PLACED, Register, Sent, Tap, number_of, said_again
-from raceoffice.web.timed_taps import TimedTap, boats_waiting, is_timed_tap, sheets_shown, with_typed_times
+from raceoffice.web.timed_taps import TimedTap, is_timed_tap, sheets_shown, with_typed_times
 from raceoffice.web.timed_undo import timed_undo
 
 # Seconds between two looks at whether the journal has grown, and between two tries at an office that isn't
@@ -308,8 +308,6 @@ class Room:
             # What came of that one is known before it is undone.
             self.done(Tap(tap.undoes, ""))
         line, before, last = self.line_of(session, tap), self.facts.standing, self.last
-        if line.startswith("SCORE ") and (waiting := boats_waiting(self.folder, self.facts.race(line.split()[1]))):
-            session.say_of("sheet-waits", fault=", ".join(map(self.facts.called, waiting)))
         is_timed = self.is_for_sheet(tap.id, line, session.role)
         is_taken = TimedTap(session, line).is_taken() if is_timed else session.is_tap_taken(line)
         sent = self.register.sent.get(tap.id)
@@ -362,9 +360,15 @@ class Room:
         if tap.undoes and self.register.sent[tap.undoes].line.startswith("STRIKE "):
             # Only the office knows where she was among the places that are kept.
             return "UNDO"
-        typed, times = with_typed_times(self.folder, tap.line)
+        plain, session.later = without_place(tap.line)
+        if session.later:
+            session.unread.one(session.facts.race(plain.split()[1]).number, session.later)
+        typed, times = with_typed_times(self.folder, plain)
         line = session.line(typed)
         if self.is_for_sheet(tap.id, line, session.role):
+            if line.startswith("STRIKE ") and not session.is_begun:
+                # She may have another finish by now than the one that was struck on the device.
+                self.ask_again(session, tap, line)
             return f"{line} {times}".rstrip()
         if line.startswith("FINISH "):
             order = self.order_with_places(session, session.facts.race(line.split()[1]))
@@ -385,9 +389,9 @@ class Room:
     def times_in(self, session: TapSession, race: int) -> dict[str, int]:
         """When each boat and each place of a race crossed the line, as far as that is known. A boat that was put into a
         place did when that was kept."""
-        moments, history = self.register.moments(self.facts.sheet.journal), session.history
+        moments, history = self.register.moments_now(self.facts.sheet.journal), session.history
         marks = history.moments(race) | {mark: at for (of, mark), at in self.register.moments_of_places().items() if of == race}
-        boats = {sail: at for (of, sail), (at, _) in moments.items() if of == race}
+        boats = {sail: at for (of, sail), at in moments.items() if of == race}
         return boats | {sail: marks[mark] for sail, mark in history.boats_in_places(race).items() if mark in marks} | marks
 
     def line_of_undo(self, session: TapSession, tap: Tap) -> str:
@@ -427,8 +431,9 @@ class Room:
             # The office refuses it (8).
             return
         commands, wanted, journal = session.facts.commands, as_kept(line), session.facts.sheet.journal
-        # A finisher whose tap was undone may be tapped again on the same device.
-        own = self.register.entries_by(session.name, journal) if words[0] in PLACED else ()
+        # A finisher whose tap was undone may be tapped again on the same device, and a sheet's finish struck again.
+        is_own_meant = words[0] in PLACED or self.folder.settings.handicap
+        own = self.register.entries_by(session.name, journal) if is_own_meant else ()
         later = [at for at, text in enumerate(commands[tap.seen:], tap.seen + 1) if text == wanted and journal[at - 1] not in own]
         if later:
             session.is_agreed(question("sent-already", session.facts.called, line=line, entry=later[-1]))

@@ -321,9 +321,9 @@ class Timed(WebTrial):
         self.write(f"[times]\nsystem = tcf\nprogram = {helpers.TIMES}\n", "cup", "times", "rules.ini")
         super().start()
 
-    def started(self) -> Device:
+    def started(self, port: int = 0) -> Device:
         """A phone, after a start at midnight."""
-        ann = self.phone()
+        ann = self.phone(port=port)
         ann.click("#start")
         ann.type("dialog input", "00:00:00")
         ann.choose("at")
@@ -378,8 +378,9 @@ class Timed(WebTrial):
             sue.choose(sure)
         sue.until("document.querySelector('dialog[open]')?.textContent.includes('DEN 5')")
         sue.choose("yes")
-        sue.until("document.querySelector('.missing').textContent.includes('DEN 5')")
-        sue.until("[...document.querySelectorAll('.waits')].some(one => one.textContent.endsWith('in the journal yet: NED 12'))")
+        sue.until("document.querySelector('h3 + .missing').textContent.includes('DEN 5')")
+        self.assertEqual(sue.text("#in-sheet").split("\n"), ["In the sheet, and not in the journal yet:", "", "NED 12 Windhover"])
+        self.assertEqual(sue.texts("h3 + .missing button"), ["GBR 7 Sea Pink", "DEN 5"])
         self.need_no_faults()
 
     def test_a_start_that_is_odd(self) -> None:
@@ -399,6 +400,43 @@ class Timed(WebTrial):
                 ann.click("#start")
         self.settle(ann)
         self.assertIn("GBR101,23:59:59,,", self.text("cup", "times", "race-1.csv"))
+        self.need_no_faults()
+
+    def known(self, phone: Device, sail: str) -> None:
+        """Says on a phone who ?1 was."""
+        phone.click("#list li.unread button")
+        phone.choose("known")
+        phone.tap(sail)
+
+    def test_a_moment_comes_back(self) -> None:
+        """The moment of ? is there again once the finish that says who she was is refused, as the scorer has given her one
+        meanwhile, or dropped; and the page may be loaded again. Whoever she was then has it."""
+        line, unread = self.line(), "document.querySelectorAll('#list li.unread').length"
+        ann, sue = self.started(line.own), self.device("scorer", "Sue")
+        ann.click("#unread")
+        ann.until(f"{unread} === 1")
+        moment = ann.texts("#list li.unread .end b")[0]
+        self.settle(ann)
+        line.cut()
+        ann.until("document.querySelector('#link').dataset.state === 'away'")
+        sue.type("#typed", "finish 1 7 00:00:01")
+        sue.press("Send")
+        sue.until("document.querySelectorAll('.order tbody tr').length === 1")
+        self.known(ann, "GBR7")
+        ann.until(f"{unread} === 0")
+        line.mend()
+        ann.until(f"document.querySelectorAll('#list li.refused').length === 1 && {unread} === 1")
+        ann.reload()
+        ann.until(f"{unread} === 1")
+        self.assertEqual(ann.texts("#list li.unread .end b"), [moment])
+        sue.click("#score")
+        sue.choose("yes")
+        sue.until("!!document.querySelector('#unscore')")
+        for answer, left in (("drop", 1), ("yes", 0)):
+            self.known(ann, "NED12")
+            ann.choose(answer)
+            ann.until(f"!document.querySelector('dialog[open]') && {unread} === {left}")
+        helpers.until("her finish", lambda: f"NED12,00:00:00,{moment}," in self.text("cup", "times", "race-1.csv"))
         self.need_no_faults()
 
     def test_a_sail_that_was_not_read(self) -> None:

@@ -9,13 +9,13 @@ import {addTap, page, raceNow} from "./finish-state.js";
 // Asks for the start until it is one.
 export async function askStart(name) {
   for (let wrong = null;;) {
-    const field = element("input", {type: "time", step: "1", "aria-label": text("finish.startTime"), value: raceNow(name).start});
+    const was = raceNow(name).start, field = element("input", {type: "time", step: "1", "aria-label": text("finish.startTime"), value: was});
     const done = await choose(text("finish.startOf", {number: page.races[name]}), [element("label", {class: "field"}, text("finish.startTime"), field), wrong], [
       {value: "", label: text("common.cancel")}, {value: "at", label: text("finish.startAt")}, {value: "now", label: text("finish.startNow"), look: "main"}]);
-    if (done === "now") addTap(name, "START #");
+    if (done === "now") addTap(name, "START #", {was});
     if (done !== "at") return;
     if (field.value) {
-      if (await isMeant(field.value)) addTap(name, `START # ${field.value}`);
+      if (await isMeant(field.value)) addTap(name, `START # ${field.value}`, {was});
       return;
     }
     wrong = element("p", {class: "wrong", role: "alert"}, text("finish.startHow"));

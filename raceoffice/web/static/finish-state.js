@@ -28,7 +28,12 @@ export const page = {
   moments: kept("moments", []).filter(one => now() - one.at < DAY),
   mode: {kind: "finish"}, digits: "", link: "away", redraw: () => {}};
 
-export const queue = new Queue(item => { forgetIfShown(item); page.redraw(); });
+export const queue = new Queue(item => {
+  forgetIfShown(item);
+  // What is refused, or dropped, says of no moment whose it was.
+  if (queue.find(item.id) ? item.state === "refused" : item.state !== "gone") undoMoment(item);
+  page.redraw();
+});
 
 export const isWaiting = item => item.state === "unsent" || item.state === "sending";
 

@@ -106,8 +106,8 @@ export class Queue {
   async sendItem(item) {
     // From now on the office may have taken it, whatever becomes of the answer.
     this.change(item, {state: "sending", isSent: true});
-    const {id, line, at, seen, behind, agreed, by_clock, undoes} = item;
-    const said = await ask(`line/${encodeURIComponent(item.class)}`, {id, line, at, seen, behind, agreed, by_clock, undoes});
+    const {id, line, at, seen, behind, agreed, by_clock, undoes, was} = item;
+    const said = await ask(`line/${encodeURIComponent(item.class)}`, {id, line, at, seen, behind, agreed, by_clock, undoes, was});
     // Somebody may have dropped it meanwhile.
     return !this.items.includes(item) || this.answered(item, said);
   }

@@ -13,9 +13,15 @@ import {linesOfLevel, linesOfMove, linesOfSwap} from "./corrections.js";
 
 const cancel = () => ({value: "", label: text("common.cancel")});
 
+// The start that this page shows of a race that is given one
+function startShown(words) {
+  const number = /^\s*start\s+(\d+)/i.exec(words)?.[1];
+  return number ? {was: state().races[number]?.sheet?.start ?? ""} : {};
+}
+
 // Sends a line, and says what the office said of it.
 export async function line(words, more) {
-  const done = await send(words, more);
+  const done = await send(words, {...startShown(words), ...more});
   if (done && done.outcome !== "refused") say(saidWords(done.said).slice(0, 2).join("\n"));
   return done;
 }

@@ -65,18 +65,27 @@ function comparedLine(race, number) {
 
 // What is still to be done before a race counts
 function missingParts(race, away) {
-  const waiting = waitingIn(race).map(spaced);
   const unread = race.unread.map(gap => gap.mark), onlyPenalty = away.filter(sail => race.penalties[sail]?.length);
-  return [waiting.length ? text("said.sheet-waits", {fault: waiting.join(", ")}) : "", unread.length ? text("scorer.stillUnread", {n: unread.length, marks: unread}) : "",
+  return [unread.length ? text("scorer.stillUnread", {n: unread.length, marks: unread}) : "",
     onlyPenalty.length ? text("scorer.penaltyWithoutPlace", {n: onlyPenalty.length, sails: onlyPenalty.map(spaced)}) : ""].filter(Boolean)
     .map(words => element("p", {class: "waits"}, words));
 }
 
+// Boats that aren't in the order, each with a button
+function boatButtons(race, number, sails) {
+  return element("div", {class: "missing"}, sails.map(sail => element("button", {type: "button", "data-key": sail, "data-sail": sail,
+    onclick: () => correct(number, sail)}, called(sail), (race.penalties[sail] ?? []).map(code => [" ", codeTag(code)]))));
+}
+
+// The boats whose times or codes are in the sheet alone
+function waitingPart(race, number, waiting) {
+  return waiting.length ? element("div", {class: "waits", id: "in-sheet"}, element("p", {}, text("said.sheet-waits", {fault: ""})),
+    boatButtons(race, number, waiting)) : null;
+}
+
 function awayPart(race, number, away) {
   const title = away.length ? text(race.counts ? "scorer.scoredDnc" : "scorer.notRecordedYet") : text("scorer.allRecorded");
-  const buttons = away.map(sail => element("button", {type: "button", "data-key": sail, "data-sail": sail, onclick: () => correct(number, sail)},
-    called(sail), (race.penalties[sail] ?? []).map(code => [" ", codeTag(code)])));
-  return [element("h3", {}, title), element("div", {class: "missing"}, buttons)];
+  return [element("h3", {}, title), boatButtons(race, number, away)];
 }
 
 function typedForm() {
@@ -110,14 +119,15 @@ function actions(race, number, isEmpty) {
 
 export function racePane(number, draw) {
   drawAgain = draw;
-  const race = raceNumbered(number), away = missingFrom(race), rows = rowsOf(race, number);
+  const race = raceNumbered(number), waiting = waitingIn(race), rows = rowsOf(race, number);
+  const away = missingFrom(race).filter(sail => race.counts || !waiting.includes(sail));
   const counts = [text("scorer.finishedCount", {n: placed(race).length}), text("scorer.codedCount", {n: Object.keys(race.codes).length}),
     text(race.counts ? "scorer.dncCount" : "scorer.missingCount", {n: away.length})].join(" · ");
   return element("section", {class: "pane", "aria-labelledby": "race-title"},
     element("header", {}, element("h2", {id: "race-title"}, `${text("common.race")} ${number} `),
       element("span", {class: `chip ${race.counts ? "good" : "wait"}`}, text(race.counts ? "scorer.counts" : "scorer.doesntCount")),
       element("span", {class: "soft"}, counts)),
-    unfinishedPart(), actions(race, number, !rows.length), rows.length ? comparedLine(race, number) : null, missingParts(race, away),
+    unfinishedPart(), actions(race, number, !rows.length), rows.length ? comparedLine(race, number) : null, waitingPart(race, number, waiting), missingParts(race, away),
     stalePart(state().decisions),
     orderTable(rows), awayPart(race, number, away), unlistedPart(), typedForm(), entriesPart());
 }

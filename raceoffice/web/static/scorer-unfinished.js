@@ -12,12 +12,12 @@ import {path, state} from "./desk.js";
 
 const mono = lines => element("p", {class: "mono"}, lines.join("\n"));
 
-// Has the office do a correction, and asks what it asks; the answers to its lines, null if there are none.
-async function sendWhole(id, lines) {
-  const correction = {id, lines, at: now(), agreed: []}, address = path("correct");
+// Has the office do a correction, and asks what it asks; what came of it, null if nothing was sent.
+async function sendWhole(id, lines, more = {}) {
+  const correction = {id, lines, at: now(), agreed: [], ...more}, address = path("correct");
   for (let tries = 0; ; tries++) {
     const said = await ask(address, correction);
-    if (said.status === 200) return said.done;
+    if (said.status === 200) return {...said, agreed: correction.agreed};
     if (said.status === 409) {
       if (await agrees(said.question, said.said) !== "yes") return null;
       correction.agreed.push(agreedOf(said.question));
@@ -30,20 +30,29 @@ async function sendWhole(id, lines) {
 
 const leave = id => ask(path("correct"), {id, lines: [], leave: true});
 
-// Sends the lines of one correction. Whether all were taken; if one isn't, it is said which are left.
-export async function lines(several, id = newId()) {
-  const done = await sendWhole(id, several), last = done?.at(-1);
-  if (!last) return false;
-  if (last.outcome !== "refused") {
+// Asks what the office asks of a correction, of which nothing is sent; what was agreed to, null if something wasn't.
+export async function agreedOfLines(several) {
+  return (await sendWhole(newId(), several, {ask: true}))?.agreed ?? null;
+}
+
+// Sends the lines of one correction. Whether all were taken; if not, it is said which are left, and why.
+export async function lines(several, id = newId(), agreed = []) {
+  const came = several.length ? await sendWhole(id, several, {agreed}) : null;
+  if (!came) return false;
+  const {outcome, done, left} = came;
+  if (outcome === "taken") {
     say(text("scorer.linesSent", {n: done.length}));
     return true;
   }
-  told(last, last.said);
-  if (done.length > 1) {
-    await choose(text("scorer.stopped"), [text("scorer.notSent"), mono(several.slice(done.length - 1))], [{value: "ok", label: text("finish.understood"), look: "main"}]);
-    leave(id);
-  }
+  if (outcome === "refused") told(done.at(-1), done.at(-1).said);
+  if (outcome === "left" || done.length > 1) await sayLeft(outcome, done.length, left);
+  if (outcome === "refused") leave(id);
   return false;
+}
+
+function sayLeft(outcome, sent, left) {
+  return choose(text(sent ? "scorer.stopped" : "common.notSent"), [text(outcome === "left" ? "scorer.leftUnsent" : "scorer.notSent"), mono(left)],
+    [{value: "ok", label: text("finish.understood"), look: "main"}]);
 }
 
 // What is left of corrections that stopped half way
