@@ -86,7 +86,7 @@ class Correction(WebTrial):
             bea.click("#other-race")
             bea.choose("yes")
             if not line:
-                bea.until("document.body.textContent.includes('?1: a finisher without a sail')"
+                bea.until("document.querySelector('#alarm').textContent === '?1: a finisher without a sail'"
                           " && document.querySelector('dialog[open]') === null")
                 self.assertEqual(len(self.journal()), before)
         self.shown(bea)

@@ -440,6 +440,7 @@ class Timed(WebTrial):
         ann.click("#unread")
         ann.until(f"{unread} === 1")
         moment = ann.texts("#list li.unread .end b")[0]
+        self.settle(ann)
         line.cut()
         ann.until("document.querySelector('#link').dataset.state === 'away'")
         sue.type("#typed", "finish 1 7 00:00:01")
