@@ -42,6 +42,14 @@ def correct(room: Room, values: Mapping[str, Any], name: str) -> Values:
             room.news()
 
 
+def ask_first(room: Room, values: Mapping[str, Any]) -> None:
+    """Asks what is asked of the lines of a correction, of which none is sent."""
+    tap, lines = tap_of(values), lines_in(values)
+    with room.lock:
+        room.session("SCORER").look()
+        check(room, tap, lines)
+
+
 def leave_rest(room: Room, values: Mapping[str, Any]) -> None:
     """Leaves a correction as it is: what is left of it isn't shown any more."""
     tap = tap_of(values)

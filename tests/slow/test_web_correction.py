@@ -73,6 +73,25 @@ class Correction(WebTrial):
         bea.click("dialog [data-sail=NED12]")
         self.shown(bea, *SAILS[:2], SAILS[3], "?", "?", "NED12")
 
+    def test_another_race_and_a_place(self) -> None:
+        """Boats among whom a place is kept don't go to another race until it is known who she was."""
+        finish = web_devices.Device(self.port, "finish").come(self.links["finish"], "Ben")
+        finish.tap("? 1")
+        bea, before = self.device("scorer", "Bea"), len(self.journal())
+        self.shown(bea, *SAILS[:3], "?")
+        for line in ("", "?1 1 NONE"):
+            if line:
+                finish.tap(line)
+                self.shown(bea, *SAILS[:3])
+            bea.click("#other-race")
+            bea.choose("yes")
+            if not line:
+                bea.until("document.querySelector('#alarm').textContent === '?1: a finisher without a sail'"
+                          " && document.querySelector('dialog[open]') === null")
+                self.assertEqual(len(self.journal()), before)
+        self.shown(bea)
+        self.assertEqual(len(self.journal()), before + 6)
+
     def half_done(self) -> str:
         """The web dies after the first of two lines; the identity of the move."""
         raw, id = web_devices.Device(self.port, "scorer").come(self.links["scorer"], "Cy"), web_devices.new_id()

@@ -27,6 +27,7 @@ class TwoStarts(WebTrial):
 
     def part(self, phone: Device, line: Line) -> None:
         """Cuts a phone off, once it has what it needs for a start."""
+        phone.until("!!document.querySelector('#start')")
         phone.run("import('/office/static/finish-start.js').then(() => true)")
         line.cut()
         phone.until("document.querySelector('#link').dataset.state === 'away'")

@@ -11,7 +11,8 @@ const states = {};
 export let here = "";
 let drawing = () => {}, link = "away";
 
-export const state = () => states[here];
+// What the office shows of a class: of the one on the page, if none is named
+export const state = (name = here) => states[name];
 export const boatOf = sail => state()?.boats.find(boat => boat[0] === sail);
 export const path = what => `${what}/${encodeURIComponent(here)}`;
 export const send = (line, more) => sendLine(here, line, state().entries, more);

@@ -1,12 +1,12 @@
 'use strict';
 // What the office asks about a tap of this device, and what somebody answers.
 import {element} from "./elements.js";
-import {date, text, timeOfDay} from "./texts.js";
+import {byClock, language, text} from "./texts.js";
 import {momentNow} from "./office.js";
 import {choose} from "./dialogs.js";
 import {spaced} from "./sails.js";
 import {agreedOf, wordsOf} from "./questions.js";
-import {page, queue} from "./finish-state.js";
+import {clock, page, queue} from "./finish-state.js";
 
 export async function ask(item) {
   const done = item.clock ? await askWhen(item) : item.isWhere ? await askWhere(item) : await askWhether(item);
@@ -27,7 +27,8 @@ function askWhether(item) {
 // The clock of this device was set while the office wasn't reached, before the tap or after it.
 function askWhen(item) {
   const [mark, , sail] = item.line.split(" ");
-  const label = at => `${date(at)}, ${timeOfDay(at)}`;
+  const day = at => byClock(at, page.states[item.class].zone).toLocaleDateString(language, {dateStyle: "long", timeZone: "UTC"});
+  const label = at => `${day(at)}, ${clock(item.class, at)}`;
   return choose(text("finish.whenTapped", {sail: spaced(sail ?? mark)}), text("finish.clockWasSet"),
     [{value: "then", label: label(item.at)}, {value: "now", label: label(momentNow(item))}, {value: "drop", label: text("finish.dropTap"), look: "bad"}], "stack");
 }
@@ -43,10 +44,10 @@ function takeMoments({span}, isNow) {
 function askWhere(item) {
   const [mark, , boat] = item.line.split(" "), sail = boat ?? mark, [command, , , other] = (item.byClock ?? "").split(" ");
   const isAhead = command === "BEFORE";
-  const byClock = {value: "clock", label: text("finish.byClock", {sail: spaced(other ?? "")}), look: "main"};
+  const byTime = {value: "clock", label: text("finish.byClock", {sail: spaced(other ?? "")}), look: "main"};
   return choose(text("finish.whereDidSheFinish", {sail: spaced(sail)}),
-    [wordsOf(item.question), element("p", {class: "soft"}, text("finish.tappedAt", {time: timeOfDay(item.at)}))],
-    [...(isAhead ? [byClock] : []), {value: "after", label: text("finish.afterAll"), look: isAhead ? "" : "main"},
+    [wordsOf(item.question), element("p", {class: "soft"}, text("finish.tappedAt", {time: clock(item.class, item.at)}))],
+    [...(isAhead ? [byTime] : []), {value: "after", label: text("finish.afterAll"), look: isAhead ? "" : "main"},
       {value: "drop", label: text("finish.dropTap"), look: "bad"}], "stack");
 }
 

@@ -1,6 +1,6 @@
 'use strict';
 // Links, devices and offices: what the scorer looks after beside the races.
-import {byId, element} from "./elements.js";
+import {element} from "./elements.js";
 import {text} from "./texts.js";
 import {ask} from "./office.js";
 import {choose, hush, say} from "./dialogs.js";

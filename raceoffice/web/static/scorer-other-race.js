@@ -3,12 +3,12 @@
 // their rows of the sheet.
 import {element} from "./elements.js";
 import {text} from "./texts.js";
-import {ask} from "./office.js";
+import {ask, newId} from "./office.js";
 import {choose, say} from "./dialogs.js";
 import {remarkSentences, troubleWords} from "./remark-words.js";
 import {called, path, raceNumbered, state} from "./desk.js";
 import {atTheLine} from "./race-view.js";
-import {lines} from "./scorer-unfinished.js";
+import {agreedOfLines, lines} from "./scorer-unfinished.js";
 import {linesOfCodes, linesOfOtherRace, linesOfOtherSheet} from "./corrections.js";
 
 const RACES = 40;
@@ -41,10 +41,18 @@ async function asked(number, race, finishers) {
 // Moves finishers to another race.
 export async function toOtherRace(number) {
   const race = raceNumbered(number), found = await asked(number, race, finishersOf(race));
-  if (!found) return;
+  if (!found || haveUnread(race, found)) return;
   const codes = linesOfCodes(race, number, found.to, [...found.sails, ...found.coded]);
   if (state().handicap) sheetToOther(number, race, found, codes);
   else lines(linesOfOtherRace(race, number, found.to, found.sails, codes));
+}
+
+// Whether a place is kept among the boats, which is said: nobody knows of which race she is.
+function haveUnread(race, {sails, isAll}) {
+  const first = race.order.findIndex(group => group.includes(sails[0]));
+  const marks = race.unread.filter(gap => isAll || gap.after > first).map(gap => gap.mark);
+  if (marks.length) say(text("scorer.stillUnread", {n: marks.length, marks}), true);
+  return marks.length > 0;
 }
 
 const filled = values => [...new Set(values.filter(Boolean))];
@@ -56,7 +64,8 @@ function isTaken(answer) {
   return answer.status === 200;
 }
 
-// Moves rows of a sheet: their starts, laps, distances and elapsed times first, then a line for each finish.
+// Moves rows of a sheet: their starts, laps, distances and elapsed times first, then a line for each finish. What is asked of
+// these lines is asked before.
 async function sheetToOther(number, race, {to, sails, isAll}, codes) {
   const [from, other] = [await sheetOf(number), await sheetOf(to)];
   if (!isTaken(from) || !isTaken(other) || hasTwice(to, sails, other.rows)) return;
@@ -72,8 +81,9 @@ async function sheetToOther(number, race, {to, sails, isAll}, codes) {
     return [row.sail, {...Object.fromEntries(other.columns.map(key => [key, own[key]])), start, elapsed: own.finish ? "" : own.elapsed}];
   });
   const given = {race: to, rows: Object.fromEntries(rows), tag: other.tag, overnight: other.overnight || from.overnight};
-  if (!isTaken(await ask(path("sheet"), given))) return;
-  if (await lines(linesOfOtherSheet(race, number, to, sails, moved, codes)) && isAll) clearStart(number);
+  const several = linesOfOtherSheet(race, number, to, sails, moved, codes), agreed = await agreedOfLines(several);
+  if (!agreed || !isTaken(await ask(path("sheet"), given))) return;
+  if (await lines(several, newId(), agreed) && isAll) clearStart(number);
 }
 
 // Whether one of the boats is in the other sheet already, which is said

@@ -10,6 +10,8 @@ import {moveRows} from "./jury-preview.js";
 import {instructionsStep, settingsOf, wrongWords} from "./new-series-settings.js";
 import {rulesWords} from "./rules-words.js";
 import {openAsking} from "./scorer-links.js";
+import {sendLine} from "./sending.js";
+import {state} from "./desk.js";
 
 // Milliseconds: until the effect is asked for after a change, and for an answer that takes replays of the journal
 const SOON = 300, LONG = 130000;
@@ -82,17 +84,39 @@ class SettingsForm {
   async save() {
     if (this.button.disabled) return;
     this.button.disabled = true;
-    const done = await ask(at("save", this.name), this.values, LONG);
+    const races = this.retimed.map(({race}) => race), done = await ask(at("save", this.name), this.values, LONG);
     this.button.disabled = false;
     if (done.status !== 200) {
       say(troubleWords(done), true);
       return;
     }
-    say(text("settings.saved"));
-    for (const {race} of this.retimed) await sendLine(this.name, `TIMES ${race}`, state()?.entries ?? 0);
+    const left = await sendTimes(this.name, races);
+    if (!left.length) say(text("settings.saved"));
     await comeIn();
-    this.again(done);
+    this.again(done, left);
   }
+}
+
+// Sends the times of races by the rounding that was saved; the races of which that wasn't done
+async function sendTimes(name, races) {
+  const left = [];
+  for (const race of races) {
+    const done = await sendLine(name, `TIMES ${race}`, state(name)?.entries ?? 0);
+    if (!done || done.outcome === "refused") left.push(race);
+  }
+  return left;
+}
+
+// The races that still have the times by the rounding before
+function leftPart(name, races, again) {
+  if (!races.length) return null;
+  const send = async () => {
+    const left = await sendTimes(name, races);
+    if (!left.length) say(text("settings.saved"));
+    again(undefined, left);
+  };
+  return element("section", {class: "step", id: "times-left"}, element("p", {class: "waits"}, text("settings.timesLeft", {n: races.length, races})),
+    element("div", {class: "acts"}, element("button", {type: "button", id: "send-left", onclick: send}, text("settings.sendTimes"))));
 }
 
 async function reopen(name, again) {
@@ -113,12 +137,13 @@ function waitingPart(name, found, again) {
       : element("p", {class: "waits"}, text("settings.otherWindow")));
 }
 
-// Shows the settings of a class in a part of the page. `known` is what the office said of them just now, if it did.
-async function show(page, name, known) {
-  const found = known ?? await ask(at("rules", name)), again = said => show(page, name, said);
+// Shows the settings of a class in a part of the page. `known` is what the office said of them just now, if it did; `left`
+// are the races whose times weren't sent after that.
+async function show(page, name, known, left = []) {
+  const found = known ?? await ask(at("rules", name)), again = (said, races = left) => show(page, name, said, races);
   if (found.status !== 200) page.replaceChildren(element("p", {class: "card wrong"}, troubleWords(found)));
   else if (found.wrong.length) page.replaceChildren(element("p", {class: "card wrong"}, remarkSentences(found.wrong).join("\n")));
-  else page.replaceChildren(element("div", {class: "steps"}, waitingPart(name, found, again)), new SettingsForm(name, found, again).node);
+  else page.replaceChildren(element("div", {class: "steps"}, leftPart(name, left, again), waitingPart(name, found, again)), new SettingsForm(name, found, again).node);
 }
 
 // The page of a class; it has a life of its own.

@@ -13,11 +13,11 @@ import {path, state} from "./desk.js";
 const mono = lines => element("p", {class: "mono"}, lines.join("\n"));
 
 // Has the office do a correction, and asks what it asks; what came of it, null if nothing was sent.
-async function sendWhole(id, lines) {
-  const correction = {id, lines, at: now(), agreed: []}, address = path("correct");
+async function sendWhole(id, lines, more = {}) {
+  const correction = {id, lines, at: now(), agreed: [], ...more}, address = path("correct");
   for (let tries = 0; ; tries++) {
     const said = await ask(address, correction);
-    if (said.status === 200) return said;
+    if (said.status === 200) return {...said, agreed: correction.agreed};
     if (said.status === 409) {
       if (await agrees(said.question, said.said) !== "yes") return null;
       correction.agreed.push(agreedOf(said.question));
@@ -30,9 +30,14 @@ async function sendWhole(id, lines) {
 
 const leave = id => ask(path("correct"), {id, lines: [], leave: true});
 
+// Asks what the office asks of a correction, of which nothing is sent; what was agreed to, null if something wasn't.
+export async function agreedOfLines(several) {
+  return (await sendWhole(newId(), several, {ask: true}))?.agreed ?? null;
+}
+
 // Sends the lines of one correction. Whether all were taken; if not, it is said which are left, and why.
-export async function lines(several, id = newId()) {
-  const came = several.length ? await sendWhole(id, several) : null;
+export async function lines(several, id = newId(), agreed = []) {
+  const came = several.length ? await sendWhole(id, several, {agreed}) : null;
   if (!came) return false;
   const {outcome, done, left} = came;
   if (outcome === "taken") {
