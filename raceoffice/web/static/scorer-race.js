@@ -39,7 +39,7 @@ function boatRow(name, race, number, sail, place, placeWords) {
 
 // Her finish as the sheet of times has it, or the time of her tap
 function timeIn(name, race, sail) {
-  return state(name).handicap ? race.sheet?.rows[sail]?.finish : timeOfDay(race.at[sail]);
+  return state(name).handicap ? race.sheet?.rows[sail]?.finish : timeOfDay(race.at[sail], state(name).zone);
 }
 
 function unreadRow(name, number, {gap, place}) {
