@@ -5,6 +5,7 @@ from __future__ import annotations
 import json
 import os
 import random
+import time
 import unittest
 from collections.abc import Callable, Mapping
 from typing import Any
@@ -191,11 +192,15 @@ class OnWater(helpers.Series):
         self.addCleanup(self.window_bob.session.disconnect)
         self.scorer = Scorer(self.room)
 
-    def seen(self, race: int) -> list[list[str]]:
-        """The order of a race with the places that are kept."""
+    def shown(self, race: int) -> Any:
+        """What a page shows of a race."""
         self.room.look()
         values: Any = self.room.state(False)["races"]
-        shown = values.get(str(race), {"order": [], "unread": []})
+        return values.get(str(race), {"order": [], "unread": []})
+
+    def seen(self, race: int) -> list[list[str]]:
+        """The order of a race with the places that are kept."""
+        shown = self.shown(race)
         found = list[list[str]]()
         for at, group in enumerate([*shown["order"], []]):
             found += [[unread["mark"]] for unread in shown["unread"] if unread["after"] == at]
@@ -408,6 +413,28 @@ class AsRecorded(OnWater):
         self.at(300, "Bob", "?1 2 IRL5")
         self.assertEqual(self.at(90, "Ann", "FINISH 2 FRA9", behind="NED12"), "taken")
         self.assertEqual(self.seen(2), [["NED12"], ["IRL5"], ["FRA9"]])
+
+    def test_moments_that_are_shown(self) -> None:
+        """A boat that is known later is shown with the moment of her place, wherever that was kept and she is named."""
+        self.at(0, "Ann", "FINISH 1 NED12", behind="")
+        for second in (10, 20):
+            self.at(second, "Ann", "? 1", behind="NED12")
+        self.at(30, "Ann", "FINISH 1 FRA9", behind="NED12")
+        self.at(1800, "Bob", "?1 1 GBR7")
+        self.window_bob.send(1, "?2 1 IRL5")
+        moments = {"NED12": 1_000_000, "GBR7": 1_010_000, "IRL5": 1_020_000, "FRA9": 1_030_000}
+        self.assertEqual(self.shown(1)["at"], moments)
+        self.assertEqual([*self.shown(1)["by"].values()], ["Ann", "Bob", "Bob", "Ann"])
+        before = int(time.time()) * 1000
+        self.window_bob.send(2, "? 2")
+        after = int(time.time() * 1000)
+        time.sleep(1.1)
+        self.at(1800, "Ann", "?1 2 GBR7")
+        self.assertTrue(before <= self.shown(2)["at"]["GBR7"] <= after, self.shown(2))
+        # Once she has finished again, that doesn't count any more.
+        self.at(1810, "Ann", "STRIKE 2 GBR7")
+        self.at(1820, "Ann", "FINISH 2 GBR7", behind=None)
+        self.assertEqual(self.shown(2)["at"], {"GBR7": 2_820_000})
 
     # Lines that come some time after their boat was seen
 
