@@ -26,6 +26,7 @@ from raceoffice.session.undo import later_entry
 from raceoffice.traces import guarded
 from raceoffice.web.finish_order import Moments, later_in_order, line_in_order, without_place
 from raceoffice.web.preview import decided_shown
+from raceoffice.web.race_start import clock_shown
 from raceoffice.web.sheet_waits import with_reasons
 from raceoffice.web.states import (Values, boats_of, moves_of, races_of, rules_of, said_of, standing_of, unlisted)
 from raceoffice.web.tap_session import DROPPED, TapSession
@@ -136,7 +137,7 @@ class Room:
         found: Values = {
             "class": self.folder.name, "title": settings.title, "group": settings.group,
             "version": self.version, "entries": len(facts.sheet.journal), "trouble": self.trouble,
-            "handicap": settings.handicap, "rules": settings.in_words(), "settings": rules_of(settings),
+            "handicap": settings.handicap, "zone": clock_shown(self.folder), "rules": settings.in_words(), "settings": rules_of(settings),
             "boats": boats_of(facts), "races": self.races(facts)}
         if is_whole:
             found |= {"standing": standing_of(facts.standing), "last": self.last,

@@ -1,11 +1,11 @@
 'use strict';
 // What the office asks about a tap of this device, and what somebody answers.
 import {element} from "./elements.js";
-import {text, timeOfDay} from "./texts.js";
+import {text} from "./texts.js";
 import {choose} from "./dialogs.js";
 import {spaced} from "./sails.js";
 import {agreedOf, wordsOf} from "./questions.js";
-import {page, queue} from "./finish-state.js";
+import {clock, page, queue} from "./finish-state.js";
 
 export async function answer(item) {
   const done = item.isWhere ? await askWhere(item) : await askWhether(item);
@@ -28,7 +28,7 @@ function askWhere(item) {
   const isAhead = command === "BEFORE";
   const byClock = {value: "clock", label: text("finish.byClock", {sail: spaced(other ?? "")}), look: "main"};
   return choose(text("finish.whereDidSheFinish", {sail: spaced(sail)}),
-    [wordsOf(item.question), element("p", {class: "soft"}, text("finish.tappedAt", {time: timeOfDay(item.at)}))],
+    [wordsOf(item.question), element("p", {class: "soft"}, text("finish.tappedAt", {time: clock(item.class, item.at)}))],
     [...(isAhead ? [byClock] : []), {value: "after", label: text("finish.afterAll"), look: isAhead ? "" : "main"},
       {value: "drop", label: text("finish.dropTap"), look: "bad"}], "stack");
 }

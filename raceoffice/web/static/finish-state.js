@@ -1,7 +1,7 @@
 'use strict';
 // What the finish page knows: its classes, which race of each it records, and what somebody is about to tap.
 import {newId, now} from "./office.js";
-import {text} from "./texts.js";
+import {text, timeOfDay} from "./texts.js";
 import {spaced} from "./sails.js";
 import {atTheLine, isIn, lineThatUndoes, withTaps} from "./race-view.js";
 import {Queue} from "./queue.js";
@@ -103,6 +103,9 @@ export function undoMoment({id}) {
 export function isTimed(name) {
   return page.states[name]?.handicap === true;
 }
+
+// A moment by the clock of a class
+export const clock = (name, at = now()) => timeOfDay(at, page.states[name]?.zone);
 
 // The classes of which a race is being recorded
 export const sailing = () => page.classes.filter(one => page.races[one.class]);

@@ -2,10 +2,10 @@
 // The finish page: a tap is a finisher. What it shows is the office's race with the taps of this device that are
 // still on their way.
 import {byId, fill} from "./elements.js";
-import {loadTexts, text, timeOfDay} from "./texts.js";
+import {loadTexts, text} from "./texts.js";
 import {isOpen} from "./dialogs.js";
-import {comeIn, countUnsentBy, followNews, me, now, stateFollower} from "./office.js";
-import {LATE, askedItem, forgetIfShown, isWaiting, keep, kept, page, queue} from "./finish-state.js";
+import {comeIn, countUnsentBy, followNews, me, stateFollower} from "./office.js";
+import {LATE, askedItem, clock, forgetIfShown, isWaiting, keep, kept, page, queue} from "./finish-state.js";
 import {answer} from "./finish-answers.js";
 import {lastTapAt} from "./finish-taps.js";
 import {drawGrid} from "./finish-grid.js";
@@ -91,7 +91,7 @@ function askWhenCalm() {
 }
 
 function keepTime() {
-  setInterval(() => fill(byId("clock"), timeOfDay(now())), CLOCK);
+  setInterval(() => fill(byId("clock"), [...new Set(page.classes.map(one => clock(one.class)))].join(" ")), CLOCK);
   setInterval(() => { if (queue.items.some(isWaiting)) draw(); }, LATE / 2);
   setInterval(askWhenCalm, QUESTIONS);
 }

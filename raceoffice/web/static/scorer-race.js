@@ -39,7 +39,7 @@ function boatRow(race, number, sail, place, placeWords) {
 
 // Her finish as the sheet of times has it, or the time of her tap
 function timeIn(race, sail) {
-  return state().handicap ? race.sheet?.rows[sail]?.finish : timeOfDay(race.at[sail]);
+  return state().handicap ? race.sheet?.rows[sail]?.finish : timeOfDay(race.at[sail], state().zone);
 }
 
 function unreadRow(number, {gap, place}) {

@@ -1,7 +1,7 @@
 'use strict';
 // What the scorer declares of the results, the results as files and on paper, and the journal with its copies.
 import {byId, element} from "./elements.js";
-import {date, list, text, timeOfDay} from "./texts.js";
+import {byClock, language, list, text, timeOfDay} from "./texts.js";
 import {ask, me, newId} from "./office.js";
 import {here, path, state, withClass} from "./desk.js";
 import {choose, say} from "./dialogs.js";
@@ -22,8 +22,13 @@ const LONGEST = 200;
 // just declaring
 const known = {found: null, asked: "", isDeclaring: false};
 
-const moment = milliseconds => `${date(milliseconds)}, ${timeOfDay(milliseconds)}`;
 const entries = count => text("results.entries", {n: count});
+
+// A moment by the clock of the series
+function moment(milliseconds) {
+  const zone = state()?.zone;
+  return zone ? `${byClock(milliseconds, zone).toLocaleDateString(language, {dateStyle: "long", timeZone: "UTC"})}, ${timeOfDay(milliseconds, zone)}` : "";
+}
 
 // Asks how the results stand, and has it drawn.
 export async function lookAtResults(draw) {
