@@ -160,9 +160,9 @@ class Room:
         for race in {note.race for note in self.history.placed}:
             marks = self.times_of_places(self.history, race)
             for sail, mark in self.history.boats_in_places(race).items():
-                _, by = found.get((race, sail), (0, self.history.ended[race, mark].by))
-                if mark in marks:
-                    found[race, sail] = marks[mark], by
+                end = self.history.ended.get((race, mark))
+                if mark in marks and end:
+                    found[race, sail] = marks[mark], found.get((race, sail), (0, end.by))[1]
         return found
 
     # The office
