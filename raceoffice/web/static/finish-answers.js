@@ -11,10 +11,10 @@ import {clock, page, queue} from "./finish-state.js";
 export async function ask(item) {
   const done = item.clock ? await askWhen(item) : item.isWhere ? await askWhere(item) : await askWhether(item);
   if (done === "drop") queue.drop(item);
-  else if (done === "yes") queue.change(item, {state: "unsent", agreed: [...item.agreed, agreedOf(item.question)]});
   else if (done === "after") queue.change(item, {state: "unsent", behind: null});
-  else if (done === "clock") goByClock(item.class);
-  else if (done) takeMoments(item.clock, done === "now");
+  else if (item.clock && done) takeMoments(item.clock, done === "now");
+  else if (done) queue.change(item, {state: "unsent", agreed: [...item.agreed, agreedOf(item.question)]});
+  if (done === "clock") goByClock(item.class);
   queue.send();
   page.redraw();
 }
