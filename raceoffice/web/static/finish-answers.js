@@ -10,9 +10,9 @@ import {clock, page, queue} from "./finish-state.js";
 export async function answer(item) {
   const done = item.isWhere ? await askWhere(item) : await askWhether(item);
   if (done === "drop") queue.drop(item);
-  else if (done === "yes") queue.change(item, {state: "unsent", agreed: [...item.agreed, agreedOf(item.question)]});
   else if (done === "after") queue.change(item, {state: "unsent", behind: null});
-  else if (done === "clock") goByClock(item.class);
+  else if (done) queue.change(item, {state: "unsent", agreed: [...item.agreed, agreedOf(item.question)]});
+  if (done === "clock") goByClock(item.class);
   queue.send();
   page.redraw();
 }
