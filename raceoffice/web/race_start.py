@@ -8,6 +8,7 @@ from collections.abc import Iterator
 from raceoffice.corrected.sheets import with_seconds
 from raceoffice.corrected.write_sheet import SheetOfRace
 from raceoffice.series.folder import Folder
+from raceoffice.time_zones import changes_of
 from raceoffice.web.taps import Register, Sent, Tap
 
 Zone = datetime.tzinfo | None
@@ -85,6 +86,11 @@ def by_clock_of_start(folder: Folder, register: Register, race: int, sheet: Shee
         held = sheet.cells(words[2])["finish"]
         if held and held == sent.made.get("finish"):
             sheet.put(sheet.row(words[2]), "finish", clock_text(folder, sent.at, since))
+
+
+def clock_shown(folder: Folder) -> list[list[int]]:
+    """The clock of the series' zone, for pages: a device may be in another."""
+    return changes_of(zone_of(folder), datetime.datetime.now(datetime.timezone.utc))
 
 
 def utc(at: int) -> datetime.datetime:

@@ -220,6 +220,23 @@ class Finish(WebTrial):
         ben.until("document.querySelectorAll('#list li').length === 6")
         self.assertEqual(ben.texts(ROWS), ["GBR 101", "GBR 33", "?1", "GBR 7", "FRA 9", "NED 12"])
 
+    def test_typed_meanwhile(self) -> None:
+        """It is said that the clock knows nothing of a boat that was typed in a window; whoever goes by it all the same is
+        asked once."""
+        line, ann, ben = self.parted()
+        helpers.run("type", "cup", "--role", "finish", lines="FINISH 1 NED12\n", cwd=self.here)
+        ann.tap("GBR7")
+        ann.tap("IRL5")
+        time.sleep(0.5)
+        ben.tap("FRA9")
+        self.settle(ben)
+        line.mend()
+        ann.until("!!document.querySelector('dialog[open]')")
+        self.assertIn("By the clock GBR 7 is ahead of FRA 9. No tap shows when NED 12 finished.", ann.text("dialog"))
+        ann.choose("clock")
+        self.settle(ann)
+        self.assertEqual(self.journal()[2:], ["FINISH FINISH 1 FRA9", "FINISH BEFORE 1 GBR7 FRA9", "FINISH BEFORE 1 IRL5 FRA9"])
+
     def test_a_place_meanwhile(self) -> None:
         """A boat that was tapped without a connection is ahead of a place that the other device has kept since."""
         line, ann, ben = self.parted()
@@ -289,15 +306,39 @@ def keys_of(values: object) -> object:
 
 class Two(WebTrial):
     """Two classes at one line."""
-    classes = {"cup": entries_of(BOATS[:14]), "fleet": entries_of(FOLKBOATS)}
+    classes = {"cup": entries_of(BOATS[:14]), "fleet": entries_of([*FOLKBOATS, ["DEN-7", "Havlit", "B. Juhl"]])}
 
-    def test_one_page_for_both(self) -> None:
+    def phone_of_both(self) -> Device:
+        """A phone that records the first race of each."""
         ann = self.phone()
         for at in (0, 1):
             ann.until("document.querySelectorAll('.race').length === 2")
             ann.run(f"document.querySelectorAll('.race')[{at}].click()")
             ann.click("dialog [data-race='1']")
             ann.until("!document.querySelector('dialog')")
+        return ann
+
+    def test_level_with_the_last(self) -> None:
+        """Level is with the boat that finished last, of whichever class, also if her sail has a hyphen, or if no tap shows
+        when she finished."""
+        ann = self.phone_of_both()
+        ann.tap("GBR101", "cup")
+        ann.tap("DEN-7", "fleet")
+        self.settle(ann)
+        ann.click("#level")
+        ann.tap("NED80", "fleet")
+        self.settle(ann)
+        helpers.run("type", "fleet", "--role", "finish", lines="FINISH 1 SWE2\n", cwd=self.here)
+        ann.until("document.querySelectorAll('#list li').length === 4")
+        ann.click("#level")
+        ann.tap("GER19", "fleet")
+        self.settle(ann)
+        self.assertEqual(self.journal("fleet"), [*finishes("DEN-7"), "FINISH TIE 1 NED80 DEN-7", *finishes("SWE2"),
+                                                 "FINISH TIE 1 GER19 SWE2"])
+        self.need_no_faults()
+
+    def test_one_page_for_both(self) -> None:
+        ann = self.phone_of_both()
         ann.tap("GBR101")
         ann.tap("NED80")
         ann.tap("GBR33", "fleet")
