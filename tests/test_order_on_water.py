@@ -2,8 +2,10 @@
 and undos. Each order is compared with when everybody crossed the line, which the check knows by itself."""
 from __future__ import annotations
 
+import json
 import os
 import random
+import time
 import unittest
 from collections.abc import Callable, Mapping
 from typing import Any
@@ -190,11 +192,15 @@ class OnWater(helpers.Series):
         self.addCleanup(self.window_bob.session.disconnect)
         self.scorer = Scorer(self.room)
 
-    def seen(self, race: int) -> list[list[str]]:
-        """The order of a race with the places that are kept."""
+    def shown(self, race: int) -> Any:
+        """What a page shows of a race."""
         self.room.look()
         values: Any = self.room.state(False)["races"]
-        shown = values.get(str(race), {"order": [], "unread": []})
+        return values.get(str(race), {"order": [], "unread": []})
+
+    def seen(self, race: int) -> list[list[str]]:
+        """The order of a race with the places that are kept."""
+        shown = self.shown(race)
         found = list[list[str]]()
         for at, group in enumerate([*shown["order"], []]):
             found += [[unread["mark"]] for unread in shown["unread"] if unread["after"] == at]
@@ -408,6 +414,28 @@ class AsRecorded(OnWater):
         self.assertEqual(self.at(90, "Ann", "FINISH 2 FRA9", behind="NED12"), "taken")
         self.assertEqual(self.seen(2), [["NED12"], ["IRL5"], ["FRA9"]])
 
+    def test_moments_that_are_shown(self) -> None:
+        """A boat that is known later is shown with the moment of her place, wherever that was kept and she is named."""
+        self.at(0, "Ann", "FINISH 1 NED12", behind="")
+        for second in (10, 20):
+            self.at(second, "Ann", "? 1", behind="NED12")
+        self.at(30, "Ann", "FINISH 1 FRA9", behind="NED12")
+        self.at(1800, "Bob", "?1 1 GBR7")
+        self.window_bob.send(1, "?2 1 IRL5")
+        moments = {"NED12": 1_000_000, "GBR7": 1_010_000, "IRL5": 1_020_000, "FRA9": 1_030_000}
+        self.assertEqual(self.shown(1)["at"], moments)
+        self.assertEqual([*self.shown(1)["by"].values()], ["Ann", "Bob", "Bob", "Ann"])
+        before = int(time.time()) * 1000
+        self.window_bob.send(2, "? 2")
+        after = int(time.time() * 1000)
+        time.sleep(1.1)
+        self.at(1800, "Ann", "?1 2 GBR7")
+        self.assertTrue(before <= self.shown(2)["at"]["GBR7"] <= after, self.shown(2))
+        # Once she has finished again, that doesn't count any more.
+        self.at(1810, "Ann", "STRIKE 2 GBR7")
+        self.at(1820, "Ann", "FINISH 2 GBR7", behind=None)
+        self.assertEqual(self.shown(2)["at"], {"GBR7": 2_820_000})
+
     # Lines that come some time after their boat was seen
 
     def correct(self, race: int, second: float, lines: str) -> None:
@@ -421,11 +449,15 @@ class AsRecorded(OnWater):
         for at, sail in enumerate(order.split()):
             self.assertEqual(self.at(10 * at, "Bob", f"FINISH {race} {sail}", behind=None), "taken")
 
-    def untimed(self, second: float, line: str, **more: object) -> object:
-        """Of whom it is said that no tap shows when they finished."""
+    def told(self, second: float, line: str, **more: object) -> Any:
+        """What is asked of a late tap, as a page sends it back."""
         with self.assertRaises(Elsewhere) as found:
             self.room.do("FINISH", "Ann", Tap.read({"id": new_id(), "line": line, "at": 1_000_000 + 1000 * second, **more}))
-        return found.exception.question.values["untimed"]
+        return json.loads(json.dumps({"kind": found.exception.question.kind, "values": found.exception.question.values}))
+
+    def untimed(self, second: float, line: str, **more: object) -> object:
+        """Of whom it is said that no tap shows when they finished."""
+        return tuple(self.told(second, line, **more)["values"]["untimed"])
 
     def swap(self, race: int, one: str, other: str) -> bool:
         return self.scorer.correct(lines_of_swap(self.seen(race), race, one, other))
@@ -469,9 +501,10 @@ class AsRecorded(OnWater):
         late = {"line": "FINISH 1 IRL5", "behind": "GBR7"}
         self.assertEqual(self.at(15, "Ann", **late), (("NED12", "FRA9"), "BEFORE 1 IRL5 FRA9"))
         self.assertEqual(self.untimed(15, **late), ("NED12",))
+        agreed = [self.told(15, **late)]
         self.room.close()
         self.room = self.phone.room = Room(Folder(os.path.join(self.here, "cup")), lambda: None)
-        self.assertEqual(self.at(15, "Ann", **late, by_clock=True), "taken")
+        self.assertEqual(self.at(15, "Ann", **late, by_clock=True, agreed=agreed), "taken")
         self.assertEqual(self.seen(1), [["GBR7"], ["NED12"], ["IRL5"], ["FRA9"]])
         # Whoever is behind her by the scorer's hand is no earlier.
         self.finished(2, "NED12 GBR7 FRA9")
@@ -490,6 +523,26 @@ class AsRecorded(OnWater):
             self.assertEqual(self.at(100, "Ann", line, behind="NED12"), (("FRA9",), line))
             self.assertEqual(self.untimed(100, line, behind="NED12", by_clock=True), ("FRA9",))
             self.assertIn(self.at(100, "Ann", line, behind=None), ("taken", "noted"))
+            self.assertEqual(self.seen(race), [[name] for name in order.split()])
+
+    def test_typed_beside_a_late_tap(self) -> None:
+        """Of boats that were typed in a window the clock says nothing. Whoever goes by it for all late taps is asked about
+        those beside such a boat all the same."""
+        self.window_bob.send(1, "FINISH 1 GBR7")
+        self.assertEqual(self.at(-60, "Ann", "FINISH 1 IRL5", behind=""), (("GBR7",), "FINISH 1 IRL5"))
+        self.assertEqual(self.untimed(-60, "FINISH 1 IRL5", behind="", by_clock=True), ("GBR7",))
+        ways: list[tuple[str, str]] = [("FINISH {} IRL5", "NED12 GBR7 IRL5 FRA9 GBR33"), ("? {}", "NED12 GBR7 ?1 FRA9 GBR33")]
+        for race, (form, order) in enumerate(ways, 2):
+            self.finished(race, "NED12")
+            self.window_bob.send(race, f"FINISH {race} GBR7")
+            self.at(20, "Bob", f"FINISH {race} FRA9", behind=None)
+            self.window_bob.send(race, f"FINISH {race} GBR33")
+            late: dict[str, Any] = {"line": form.format(race), "behind": "NED12"}
+            asked = self.told(15, **late, by_clock=True)
+            self.assertEqual((asked["values"]["ahead"], asked["values"]["untimed"]), ("FRA9", ["GBR7"]))
+            of_none = {"kind": asked["kind"], "values": {**asked["values"], "untimed": ["GBR101"]}}
+            self.assertEqual(self.told(15, **late, by_clock=True, agreed=[of_none]), asked)
+            self.assertIn(self.at(15, "Ann", **late, by_clock=True, agreed=[asked]), ("taken", "noted"))
             self.assertEqual(self.seen(race), [[name] for name in order.split()])
 
     def test_moment_of_an_undo(self) -> None:

@@ -52,7 +52,7 @@ def line_in_order(facts: Facts, times: Times, own: Collection[str], tap: Tap, li
         return line, ""
     clock, ahead = line_ahead(order, line, later[0]) if later else (line, "")
     untimed = [name for name in untimed_before(order.order, later, times) if name in since]
-    if tap.by_clock and (later or not untimed):
+    if is_by_clock(tap, later, untimed):
         return clock, ahead
     others = [name for name in since if not is_mark(name) or name in close]
     next_one = ahead or (clock.split()[3] if later else "")
@@ -77,11 +77,18 @@ def later_in_order(facts: Facts, times: Times, tap: Tap, race: Race) -> str:
     if not later and are_before(others[-1:], times, tap.at):
         return ""
     ahead, untimed = later[0][0] if later else "", untimed_before(after, later, times)
-    if tap.by_clock and (later or not untimed):
+    if is_by_clock(tap, later, untimed):
         return ahead
     clock = f"BEFORE {race.number} ? {ahead}" if later else tap.line
     raise Elsewhere(question("others-recorded", facts.called, race=race.number, sail="?", others=others, ahead=ahead,
                              untimed=untimed), clock)
+
+
+def is_by_clock(tap: Tap, later: Sequence[object], untimed: Collection[str]) -> bool:
+    """Whether somebody goes by the clock, and was told of those of whom it says nothing."""
+    told = [one.values.get("untimed") for one in tap.agreed if one.kind == "others-recorded"]
+    is_told = any(isinstance(names, tuple) and {*untimed} <= {*names} for names in told)
+    return tap.by_clock and (not untimed or bool(later) and is_told)
 
 
 def are_before(names: Sequence[str], times: Times, at: int) -> bool:

@@ -24,7 +24,7 @@ from raceoffice.session.facts import Facts
 from raceoffice.session.question_words import question
 from raceoffice.session.undo import later_entry
 from raceoffice.traces import guarded
-from raceoffice.web.finish_order import later_in_order, line_in_order, without_place
+from raceoffice.web.finish_order import Moments, later_in_order, line_in_order, without_place
 from raceoffice.web.preview import decided_shown
 from raceoffice.web.race_start import clock_shown
 from raceoffice.web.sheet_waits import with_reasons
@@ -148,10 +148,22 @@ class Room:
 
     def races(self, facts: Facts) -> Values:
         """The races of which anything is recorded, with their sheets of times if the class has some."""
-        moments = self.register.moments(facts.sheet.journal)
+        moments = self.moments(facts)
         sheets = with_reasons(self.folder, sheets_shown(self.folder))
         return {number: values | ({"sheet": sheets[int(number)]} if int(number) in sheets else {})
                 for number, values in races_of(facts, self.history.waiting, moments, sheets).items()}
+
+    def moments(self, facts: Facts) -> Moments:
+        """When each finisher crossed the line, and who recorded her, as far as that is known. A boat that was put into a
+        place did when that was kept."""
+        found = self.register.moments(facts.sheet.journal)
+        for race in {note.race for note in self.history.placed}:
+            marks = self.times_of_places(self.history, race)
+            for sail, mark in self.history.boats_in_places(race).items():
+                end = self.history.ended.get((race, mark))
+                if mark in marks and end:
+                    found[race, sail] = marks[mark], found.get((race, sail), (0, end.by))[1]
+        return found
 
     # The office
 
@@ -391,9 +403,14 @@ class Room:
         """When each boat and each place of a race crossed the line, as far as that is known. A boat that was put into a
         place did when that was kept."""
         moments, history = self.register.moments_now(self.facts.sheet.journal), session.history
-        marks = history.moments(race) | {mark: at for (of, mark), at in self.register.moments_of_places().items() if of == race}
+        marks = self.times_of_places(history, race)
         boats = {sail: at for (of, sail), at in moments.items() if of == race}
         return boats | {sail: marks[mark] for sail, mark in history.boats_in_places(race).items() if mark in marks} | marks
+
+    def times_of_places(self, history: History, race: int) -> dict[str, int]:
+        """When each place of a race was kept, by a tap or in a window."""
+        tapped = {mark: at for (of, mark), at in self.register.moments_of_places().items() if of == race}
+        return history.moments(race) | tapped
 
     def line_of_undo(self, session: TapSession, tap: Tap) -> str:
         """The line that undoes a tap for a sheet of times; empty if it was none for one."""

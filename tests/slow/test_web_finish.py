@@ -220,6 +220,23 @@ class Finish(WebTrial):
         ben.until("document.querySelectorAll('#list li').length === 6")
         self.assertEqual(ben.texts(ROWS), ["GBR 101", "GBR 33", "?1", "GBR 7", "FRA 9", "NED 12"])
 
+    def test_typed_meanwhile(self) -> None:
+        """It is said that the clock knows nothing of a boat that was typed in a window; whoever goes by it all the same is
+        asked once."""
+        line, ann, ben = self.parted()
+        helpers.run("type", "cup", "--role", "finish", lines="FINISH 1 NED12\n", cwd=self.here)
+        ann.tap("GBR7")
+        ann.tap("IRL5")
+        time.sleep(0.5)
+        ben.tap("FRA9")
+        self.settle(ben)
+        line.mend()
+        ann.until("!!document.querySelector('dialog[open]')")
+        self.assertIn("By the clock GBR 7 is ahead of FRA 9. No tap shows when NED 12 finished.", ann.text("dialog"))
+        ann.choose("clock")
+        self.settle(ann)
+        self.assertEqual(self.journal()[2:], ["FINISH FINISH 1 FRA9", "FINISH BEFORE 1 GBR7 FRA9", "FINISH BEFORE 1 IRL5 FRA9"])
+
     def test_a_place_meanwhile(self) -> None:
         """A boat that was tapped without a connection is ahead of a place that the other device has kept since."""
         line, ann, ben = self.parted()
