@@ -67,7 +67,7 @@ export class Queue {
   // A key after those of all taps that are kept, whatever the clock says
   newKey(id) {
     const keys = [...Object.keys(localStorage), ...this.items.map(item => item.key)].filter(key => key.startsWith(PREFIX));
-    const last = Math.max(0, ...keys.map(key => parseInt(key.slice(PREFIX.length), 10)));
+    const last = Math.max(0, ...keys.map(key => Number(key.slice(PREFIX.length).split(".")[0])));
     return `${PREFIX}${String(last + 1).padStart(15, "0")}.${id}`;
   }
 
