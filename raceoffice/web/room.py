@@ -245,9 +245,9 @@ class Room:
             session = self.session(role)
             session.begin(tap, name)
             try:
-                session.look()
-                # What the journal has is known by now.
-                return self.done(tap) or self.done_now(session, tap)
+                with session.as_it_is():
+                    # What the journal has is known by now.
+                    return self.done(tap) or self.done_now(session, tap)
             except Trouble as trouble:
                 self.give_up(session, trouble)
                 raise
